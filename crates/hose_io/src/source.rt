@@ -1,5 +1,6 @@
 // What is read: its contract, and the same through a borrow.
-ghost use Rattle.std.specs.Prelude.{◌≡◌, ◌<◌, ◌≤◌, ℕ, Option, Ok, IfOk, MatchResult, length, take};
+ghost use Rattle.std.specs.Prelude.{◌≡◌, ◌<◌, ◌≤◌, ℕ, Option, None, Some, Ok, IfOk, MatchResult, length, take};
+ghost use Rattle.std.specs.Borrow.{GName};
 ghost use Rattle.hose_io.specs.Fault.{HasCause};
 ghost use Rattle.hose_io.specs.Stream.{Stream, Gives, IsAtEnd};
 
@@ -16,6 +17,9 @@ pub trait Source: Drop {
     /// Its number. The source and the sink of one connection have the same.
     ghost number: { Self → ℕ };
 
+    /// Which borrow it is, where it is one. As no call changes it, the lender is known to hold what the borrow held last.
+    ghost loan: { Self → Option GName } = { λ _. None };
+
     /// Puts the next bytes at the front of `into`, and says how many. What stands behind them is left open.
     fn take(&mut self, into: &mut [u8]) -> Result<usize, Failed>
         requires { 0 < length into.old }
@@ -28,7 +32,8 @@ pub trait Source: Drop {
         ensures none_only_at_end { result ≡ Ok 0 → IsAtEnd (content self.old) }
 
         ensures cause { HasCause (faults self.old) (faults self.new) result }
-        ensures number { number self.new ≡ number self.old };
+        ensures number { number self.new ≡ number self.old }
+        ensures loan { loan self.new ≡ loan self.old };
 }
 
 impl<S: Source> Source for &mut S {
@@ -37,6 +42,8 @@ impl<S: Source> Source for &mut S {
     ghost content = { λ s. S.content s.now };
 
     ghost number = { λ s. S.number s.now };
+
+    ghost loan = { λ s. Some s.ghost_name };
 
     fn take(&mut self, into: &mut [u8]) -> Result<usize, Failed> {
         Source::take(&mut **self, into)
