@@ -1,0 +1,18 @@
+-- Names of nodes and of customers, which contracts see as their bytes.
+use Rattle.std.specs.Prelude.{ℕ, ◌-◌, ◌≤◌, ◌==◌, ◌||◌, Bool, List, ◌++◌, length, replicate}
+use Rattle.std.specs.Char.{is_ascii_digit, is_ascii_lowercase}
+use Rattle.std.specs.List.{AllPass}
+
+-- a byte that a name may have: `a` to `z`, `0` to `9` or `-`
+abbrev pub is_name_byte : ℕ → Bool
+is_name_byte byte = is_ascii_lowercase byte || is_ascii_digit byte || byte == 45
+
+-- These bytes are a name: 1 to 16 of them, each one that a name may have.
+pub record IsName (bytes : List ℕ) : Type 0 where
+  pub some : 1 ≤ length bytes
+  pub short : length bytes ≤ 16
+  pub allowed : AllPass is_name_byte bytes
+
+-- a name's bytes, with zeros behind them up to the greatest length
+abbrev pub padded : List ℕ → List ℕ
+padded bytes = bytes ++ replicate (16 - length bytes) 0

@@ -1,0 +1,43 @@
+-- Networks: named nodes, and the links that join two of them. This is what contracts see of a topology.
+use Rattle.std.specs.Prelude.{◌≢◌, ℕ, ◌<◌, ◌≤◌, List, length, All, AllPairs}
+use Rattle.hose_graph.specs.Name.{IsName}
+use Rattle.hose_graph.specs.declared.link.Link.{Link}
+use Rattle.hose_graph.specs.declared.limits.TheConstants.{MOST_NODES, MOST_LINKS, MOST_CAPACITY, MOST_LENGTH, MOST_COST}
+
+-- the names of the nodes, and the links; nodes and links are numbered by their places
+pub record Network : Type 0 where
+  pub nodes : List (List ℕ)
+  pub links : List Link
+
+-- a number is at least 1 and at most the greatest
+abbrev pub IsUpTo : ℕ → ℕ → Type 0
+IsUpTo most n = (1 ≤ n) × (n ≤ most)
+
+-- The link's nodes are there, and its numbers are within the limits.
+pub record IsInRange (network : Network) (link : Link) : Type 0 where
+  pub a : link.a < length network.nodes
+  pub b : link.b < length network.nodes
+  pub capacity : IsUpTo MOST_CAPACITY link.capacity
+  pub distance : IsUpTo MOST_LENGTH link.length
+  pub cost : IsUpTo MOST_COST link.cost
+
+-- The network can have this link: its nodes and numbers are in range, and it joins two different nodes.
+pub record IsLink (network : Network) (link : Link) : Type 0 where
+  pub in_range : IsInRange network link
+  pub no_loop : link.a ≢ link.b
+
+-- There are no more nodes and links than the limits, no two nodes have one name, and each link is one that the
+-- network can have.
+pub record IsNetwork (network : Network) : Type 0 where
+  pub few_nodes : length network.nodes ≤ MOST_NODES
+  pub few_links : length network.links ≤ MOST_LINKS
+  pub names : All IsName network.nodes
+  pub differ : AllPairs ◌≢◌ network.nodes
+  pub links : All (IsLink network) network.links
+
+-- the network has room for a node, and for a link
+abbrev pub HasNodeRoom : Network → Type 0
+HasNodeRoom network = length network.nodes < MOST_NODES
+
+abbrev pub HasLinkRoom : Network → Type 0
+HasLinkRoom network = length network.links < MOST_LINKS

@@ -1,0 +1,125 @@
+// Names: what they are, how they are read, and when two are the same.
+ghost use Rattle.std.specs.Prelude.{◌≡◌, ◌↔◌, IsTrue, IsSome, IfSome};
+ghost use Rattle.std.specs.Str.{bytes_eq};
+ghost use Rattle.std.specs.Cmp.{partial_equiv_from_equiv};
+ghost use Rattle.std.specs.Cmp.Lexicographic.{nat_list_eq_equiv};
+ghost use Rattle.hose_graph.specs.Name.{IsName, is_name_byte};
+
+use std::marker::Model;
+
+/// The greatest number of bytes of a name.
+const MOST_BYTES: usize = 16;
+
+/// The name of a node or of a customer: 1 to 16 bytes of `a` to `z`, `0` to `9` and `-`.
+///
+/// A contract sees it as its bytes.
+#[derive(Clone, Copy, Debug)]
+pub struct Name {
+    // The bytes behind the name's own are zero, so that one name has one form.
+    bytes: [u8; MOST_BYTES],
+    len: u8,
+}
+
+impl Model for Name {
+    ghost use Rattle.std.specs.Prelude.{◌≡◌, ℕ, List, length, take};
+    ghost use Rattle.hose_graph.specs.Name.{IsName, padded};
+
+    ghost Value = { List ℕ };
+
+    ghost view = { λ name. take name.len name.bytes };
+
+    ghost invariant = { λ name. IsName (take name.len name.bytes)
+        × (name.bytes ≡ padded (take name.len name.bytes))
+        × (name.len ≡ length (take name.len name.bytes)) };
+
+    ghost inverse = { λ name. record { bytes = padded name; len = length name } };
+
+    ghost use Rattle.std.proofs.Common.{sym};
+
+    ghost inverse_ok = { λ name is i. record { bytes = sym is.1 i; len = sym is.2 i } };
+}
+
+impl Name {
+    /// The name that these bytes are.
+    pub fn read(bytes: &[u8]) -> Option<Name>
+        ensures is_name { IsSome result ↔ IsName bytes.now }
+        ensures same { IfSome result (λ name. name ≡ bytes.now) }
+    {
+        let is_short = (1..=MOST_BYTES).contains(&bytes.len());
+        if !is_short || !bytes.iter().all(|byte| is_allowed(*byte)) {
+            return None;
+        }
+        let mut padded = [0; MOST_BYTES];
+        padded[..bytes.len()].copy_from_slice(bytes);
+        Some(Name {
+            bytes: padded,
+            len: bytes.len() as u8,
+        })
+    }
+
+    /// The bytes of the name, without those that it is padded with.
+    pub fn bytes(&self) -> &[u8]
+        ensures value { result.now ≡ self.now }
+        ensures is_name { IsName self.now }
+    {
+        &self.bytes[..usize::from(self.len)]
+    }
+}
+
+impl PartialEq for Name {
+    ghost eq = { bytes_eq };
+
+    ghost laws = { partial_equiv_from_equiv nat_list_eq_equiv };
+
+    fn eq(&self, other: &Name) -> bool
+        ensures value { result ≡ bytes_eq self.now other.now }
+        ensures same { IsTrue result ↔ (self.now ≡ other.now) }
+    {
+        self.bytes() == other.bytes()
+    }
+}
+
+impl Eq for Name {
+    ghost laws = { nat_list_eq_equiv };
+}
+
+// Whether a name may have the byte.
+fn is_allowed(byte: u8) -> bool
+    ensures { result ≡ is_name_byte byte }
+{
+    byte.is_ascii_lowercase() || byte.is_ascii_digit() || byte == b'-'
+}
+
+#[cfg(test)]
+mod tests {
+    use super::*;
+
+    #[test]
+    fn reads_names_alone(rt: HostRuntime) {
+        let none: &[u8] = b"";
+        let table: [(&[u8], bool); 9] = [
+            (none, false),
+            (b"a", true),
+            (b"-", true),
+            (b"az-09", true),
+            (b"abcdefghijklmnop", true),
+            (b"abcdefghijklmnopq", false),
+            (b"Acme", false),
+            (b"a:3", false),
+            (b"a b", false),
+        ];
+        for (bytes, is_name) in table {
+            let name = Name::read(bytes);
+            assert_eq!(rt; name.is_some(), is_name, "at {bytes:?}");
+            if let Some(name) = name {
+                assert_eq!(rt; name.bytes(), bytes);
+            }
+        }
+    }
+
+    #[test]
+    fn compares_names_by_their_bytes(rt: HostRuntime) {
+        assert!(rt; Name::read(b"acme") == Name::read(b"acme"));
+        assert!(rt; Name::read(b"acme") != Name::read(b"acm"));
+    }
+}

@@ -1,0 +1,234 @@
+// Topologies: networks that grow, node by node and link by link, within the limits.
+ghost use Rattle.std.specs.Prelude.{◌≡◌, ℕ, ◌<◌, ◌≤◌, ◌↔◌, List, [], ◌∷◌, ◌++◌, length, vec_capacity, Some, Err, IsOk, IsTrue, IsSome, IfSome, IfOk, OnOk, OnErr, Contains, slice_get};
+ghost use Rattle.hose_graph.specs.Name.{IsName};
+ghost use Rattle.hose_graph.specs.Network.{Network, IsInRange, IsLink, IsNetwork, HasNodeRoom, HasLinkRoom};
+
+use crate::limits::{MOST_CAPACITY, MOST_COST, MOST_LENGTH, MOST_LINKS, MOST_NODES};
+use crate::link::Link;
+use crate::name::Name;
+use std::alloc::{AllocError, Global};
+use std::marker::Model;
+
+/// Why a node or a link was not added to a topology.
+#[derive(Clone, Copy, Debug, PartialEq, Eq)]
+pub enum TopologyFault {
+    /// There are as many as a topology can have.
+    Many,
+    /// A node has this name.
+    Repeat,
+    /// A node of the link isn't there, or a number of it is outside its limits.
+    Range,
+    /// The link joins a node to itself.
+    Loop,
+}
+
+/// Nodes by name and links between them, numbered from 0 in the order in which they were added.
+///
+/// A contract sees it as a `Network`.
+#[derive(Debug, Drop)]
+pub struct Topology {
+    names: Vec<Name>,
+    links: Vec<Link>,
+}
+
+impl Model for Topology {
+    ghost use Rattle.std.specs.Prelude.{◌≤◌, vec_capacity};
+    ghost use Rattle.hose_graph.specs.Network.{Network, IsNetwork};
+    ghost use Rattle.hose_graph.specs.declared.limits.TheConstants.{MOST_NODES, MOST_LINKS};
+
+    ghost Value = { Network };
+
+    ghost view = { λ top. record { nodes = top.names.items; links = top.links.items } };
+
+    // There is room for the greatest topology from the start, so that adding takes no memory.
+    ghost invariant = { λ top. IsNetwork (record { nodes = top.names.items; links = top.links.items })
+        × (MOST_NODES ≤ vec_capacity top.names)
+        × (MOST_LINKS ≤ vec_capacity top.links) };
+}
+
+impl Topology {
+    /// A topology without a node or a link, with room for the greatest one.
+    pub fn new(alloc: Global) -> Result<Topology, AllocError>
+        ensures empty { IfOk result (λ top. top ≡ record { nodes = []; links = [] }) }
+    {
+        Ok(Topology {
+            names: Vec::with_capacity(alloc, MOST_NODES as usize)?,
+            links: Vec::with_capacity(alloc, MOST_LINKS as usize)?,
+        })
+    }
+
+    /// Adds a node, and gives its number.
+    pub fn add_node(&mut self, name: Name) -> Result<u32, TopologyFault>
+        ensures number { IfOk result (λ node. node ≡ length self.old.nodes) }
+        ensures added { OnOk result (self.new ≡ record self.old { nodes = self.old.nodes ++ name ∷ [] }) }
+
+        // A name that is there already counts only where there is room.
+        ensures many { (result ≡ Err TopologyFault.Many) ↔ (¬ HasNodeRoom self.old) }
+        ensures repeat { (result ≡ Err TopologyFault.Repeat)
+            ↔ (HasNodeRoom self.old × Contains self.old.nodes name) }
+        ensures ok { IsOk result ↔ (HasNodeRoom self.old × (¬ Contains self.old.nodes name)) }
+        ensures err { OnErr result (self.new ≡ self.old) }
+    {
+        let node = self.nodes();
+        if node == MOST_NODES {
+            return Err(TopologyFault::Many);
+        }
+        if self.find(&name).is_some() {
+            return Err(TopologyFault::Repeat);
+        }
+        self.names.push_reserved(name);
+        Ok(node)
+    }
+
+    /// Adds a link, and gives its number.
+    pub fn add_link(&mut self, link: Link) -> Result<u32, TopologyFault>
+        ensures number { IfOk result (λ number. number ≡ length self.old.links) }
+        ensures added { OnOk result (self.new ≡ record self.old { links = self.old.links ++ link ∷ [] }) }
+
+        // Each refusal comes only where those before it do not.
+        ensures many { (result ≡ Err TopologyFault.Many) ↔ (¬ HasLinkRoom self.old) }
+        ensures range { (result ≡ Err TopologyFault.Range)
+            ↔ (HasLinkRoom self.old × (¬ IsInRange self.old link)) }
+        ensures loops { (result ≡ Err TopologyFault.Loop)
+            ↔ (HasLinkRoom self.old × IsInRange self.old link × (link.a ≡ link.b)) }
+        ensures ok { IsOk result ↔ (HasLinkRoom self.old × IsLink self.old link) }
+        ensures err { OnErr result (self.new ≡ self.old) }
+    {
+        let number = self.links();
+        if number == MOST_LINKS {
+            return Err(TopologyFault::Many);
+        }
+        if !self.is_in_range(&link) {
+            return Err(TopologyFault::Range);
+        }
+        if link.a == link.b {
+            return Err(TopologyFault::Loop);
+        }
+        self.links.push_reserved(link);
+        Ok(number)
+    }
+
+    /// How many nodes there are.
+    pub fn nodes(&self) -> u32
+        ensures count { result ≡ length self.now.nodes }
+        ensures network { IsNetwork self.now }
+    {
+        self.names.len() as u32
+    }
+
+    /// How many links there are.
+    pub fn links(&self) -> u32
+        ensures count { result ≡ length self.now.links }
+        ensures network { IsNetwork self.now }
+    {
+        self.links.len() as u32
+    }
+
+    /// The name of a node.
+    pub fn name(&self, node: u32) -> Name
+        requires { node < length self.now.nodes }
+        ensures { slice_get self.now.nodes node ≡ Some result }
+    {
+        self.names[node as usize]
+    }
+
+    /// A link by its number.
+    pub fn link(&self, link: u32) -> Link
+        requires { link < length self.now.links }
+        ensures value { slice_get self.now.links link ≡ Some result }
+        ensures is_link { IsLink self.now result }
+    {
+        self.links[link as usize]
+    }
+
+    /// The node that has this name.
+    pub fn find(&self, name: &Name) -> Option<u32>
+        ensures found { IsSome result ↔ Contains self.now.nodes name.now }
+        ensures named { IfSome result (λ node. slice_get self.now.nodes node ≡ Some name.now) }
+        ensures is_node { IfSome result (λ node. node < length self.now.nodes) }
+        ensures is_name { IsName name.now }
+    {
+        let bytes = name.bytes();
+        let place = self.names.iter().position(|other| other.bytes() == bytes)?;
+        Some(place as u32)
+    }
+
+    /// The same topology once more.
+    pub fn copy(&self, alloc: Global) -> Result<Topology, AllocError>
+        ensures { IfOk result (λ top. top ≡ self.now) }
+    {
+        let mut top = Topology::new(alloc)?;
+        top.names.extend_from_slice(&self.names)?;
+        top.links.extend_from_slice(&self.links)?;
+        Ok(top)
+    }
+
+    // Whether the link's nodes are there and its numbers within the limits.
+    fn is_in_range(&self, link: &Link) -> bool
+        ensures { IsTrue result ↔ IsInRange self.now link.now }
+    {
+        let nodes = self.nodes();
+        link.a < nodes
+            && link.b < nodes
+            && (1..=MOST_CAPACITY).contains(&link.capacity)
+            && (1..=MOST_LENGTH).contains(&link.length)
+            && (1..=MOST_COST).contains(&link.cost)
+    }
+}
+
+#[cfg(test)]
+mod tests {
+    use super::*;
+    use std::test::Fail;
+
+    fn named(text: &[u8]) -> Result<Name, Fail> {
+        Ok(Name::read(text).ok_or("no name")?)
+    }
+
+    #[test]
+    fn refuses_in_order(rt: HostRuntime) -> Result<(), Fail> {
+        let mut top = Topology::new(rt.alloc())?;
+        assert_eq!(rt; top.add_node(named(b"a")?), Ok(0));
+        assert_eq!(rt; top.add_node(named(b"a")?), Err(TopologyFault::Repeat));
+        for (capacity, fault) in [(1, TopologyFault::Loop), (0, TopologyFault::Range)] {
+            let link = Link {
+                a: 0,
+                b: 0,
+                capacity,
+                length: 1,
+                cost: 1,
+            };
+            assert_eq!(rt; top.add_link(link), Err(fault), "at {capacity}");
+        }
+        assert_eq!(rt; (top.nodes(), top.links()), (1, 0));
+        Ok(())
+    }
+
+    #[test]
+    fn copies_a_star(rt: HostRuntime) -> Result<(), Fail> {
+        let names: [&[u8]; 4] = [b"a", b"b", b"c", b"h"];
+        let mut star = Topology::new(rt.alloc())?;
+        for name in names {
+            star.add_node(named(name)?).map_err(|_| "a node")?;
+        }
+        for spoke in 0..3 {
+            let length = u64::from(spoke + 1);
+            let link = Link {
+                a: spoke,
+                b: 3,
+                capacity: 10,
+                length,
+                cost: length,
+            };
+            assert_eq!(rt; star.add_link(link), Ok(spoke));
+        }
+        let copy = star.copy(rt.alloc())?;
+        assert_eq!(rt;
+            format!(in rt.alloc(); "{copy:?}")?,
+            format!(in rt.alloc(); "{star:?}")?
+        );
+        assert_eq!(rt; copy.find(&named(b"h")?), Some(3));
+        assert_eq!(rt; copy.find(&named(b"z")?), None);
+        Ok(())
+    }
+}
