@@ -2,11 +2,19 @@
 //! failures are counted by.
 #![tactic(auto)]
 
+mod failing;
+mod mem_sink;
+mod mem_source;
 mod sink;
 mod source;
+mod writing;
 
+pub use failing::FailingCalls;
+pub use mem_sink::MemSink;
+pub use mem_source::MemSource;
 pub use sink::Sink;
 pub use source::Source;
+pub use writing::write_all;
 
 /// A call of a source or a sink failed. The object's count of faults rose in that call.
 #[derive(Clone, Copy, Debug, PartialEq, Eq)]

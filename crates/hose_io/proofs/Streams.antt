@@ -1,0 +1,31 @@
+-- Laws of what sources give and sinks are given.
+use Rattle.std.proofs.Common.{◌≡◌, ℕ, ◌+◌, List, [], ◌++◌, length, take, drop, Option, None, Some, sym, ◌∙◌, ap, append_assoc, append-nil}
+use Rattle.std.proofs.lemmas.List.{take_at, drop-drop, take-append-drop}
+use Rattle.std.proofs.Math.Seq.{take-add}
+use Rattle.hose_io.specs.Stream.{GoesOn, Grows}
+
+-- no byte
+pub Grows-nil : (content : Option (List ℕ)) → Grows content content []
+Grows-nil None = tt
+Grows-nil (Some bytes) = sym (append-nil bytes)
+
+-- two calls give what they give one after the other
+pub Grows-append : (old mid new : Option (List ℕ)) (xs ys : List ℕ) → Grows old mid xs → Grows mid new ys → Grows old new (xs ++ ys)
+Grows-append None None None xs ys p q = tt
+Grows-append None None (Some c) xs ys p q = q
+Grows-append None (Some b) new xs ys p q = absurd p
+Grows-append (Some a) None new xs ys p q = absurd p
+Grows-append (Some a) (Some b) None xs ys p q = absurd q
+Grows-append (Some a) (Some b) (Some c) xs ys p q = q ∙ ap (λ s. s ++ ys) p ∙ append_assoc a xs ys
+
+-- a further part of one text
+pub Grows-take : (old mid new : Option (List ℕ)) (bytes : List ℕ) (m n : ℕ) → Grows old mid (take m bytes) → Grows mid new (take n (drop m bytes)) → Grows old new (take (m + n) bytes)
+Grows-take old mid new bytes m n p q = rw take-add (Grows-append old mid new _ _ p q)
+
+-- a source in memory gives the next `count` of its bytes, of which it gave `given` before, into the front of a buffer
+pub GoesOn-next : (bytes copied behind : List ℕ) (given count : ℕ) → length copied ≡ count → copied ≡ take count (drop given bytes) → GoesOn (record { taken = take given bytes; left = drop given bytes }) (record { taken = take (given + count) bytes; left = drop (given + count) bytes }) (take count (copied ++ behind))
+GoesOn-next bytes copied behind given count len is =
+    let same : take count (copied ++ behind) ≡ take count (drop given bytes) = take_at copied behind count len ∙ is in
+    let split : take count (drop given bytes) ++ drop (given + count) bytes ≡ drop given bytes =
+    rw (← drop-drop count given bytes) (take-append-drop count (drop given bytes)) in
+    record { taken = rw same (take-add given count bytes); left = rw same (sym split) }

@@ -1,0 +1,13 @@
+use Rattle.std.proofs.Common.{rules}
+use Rattle.std.proofs.lemmas.List.{take_rest}
+use Rattle.hose_io.proofs.Streams.{Grows-take}
+use Rattle.hose_io.proofs.writing.write_all.Goals as goal
+
+pub loop-written-preserved : goal.loop-written-preserved
+loop-written-preserved g c = record {
+  within = search rules;
+  grows = Grows-take _ _ _ _ _ _ c.loop-written.invariant.grows
+      (rw take_rest at c.in_ok-written.ensures.appended);
+  never_falls = search rules;
+  number = search rules;
+}

@@ -1,0 +1,30 @@
+-- What contracts see of a source in memory.
+use Rattle.std.specs.Prelude.{ℕ, List, ◌++◌, take, drop}
+use Rattle.hose_io.specs.Count.{one_more}
+use Rattle.hose_io.specs.FailingCalls.{later_calls}
+use Rattle.hose_io.specs.Stream.{Stream}
+
+-- its bytes, how many it gives at most in one call, its faults, its calls that are to fail, and its number
+pub record SourceState : Type 0 where
+  pub content : Stream
+  pub piece : ℕ
+  pub faults : ℕ
+  pub failing : List ℕ
+  pub number : ℕ
+
+-- a source after a call that gave the next `count` bytes
+abbrev pub after_taking : SourceState → ℕ → SourceState
+after_taking source count = record source {
+  content = record {
+    taken = source.content.taken ++ take count source.content.left;
+    left = drop count source.content.left;
+  };
+  failing = later_calls source.failing;
+}
+
+-- a source after a call that failed
+abbrev pub after_fault : SourceState → SourceState
+after_fault source = record source {
+  faults = one_more source.faults;
+  failing = later_calls source.failing;
+}

@@ -1,0 +1,125 @@
+// Bytes in memory that are written.
+ghost use Rattle.std.specs.Prelude.{◌≡◌, ◌<◌, ◌≤◌, ℕ, Option, List, [], ◌∷◌, ◌++◌, IfOk, IsErr, OnOk, OnErr, MatchResult, Contains, length, take};
+ghost use Rattle.hose_io.specs.Fault.{HasCause};
+ghost use Rattle.hose_io.specs.SinkState.{SinkState, after_putting, after_fault, after_starving};
+ghost use Rattle.hose_io.specs.Stream.{Grows};
+
+use crate::{Failed, FailingCalls, Sink};
+use std::alloc::{AllocError, Global};
+use std::marker::Model;
+
+/// Bytes in memory that are written. A call fails where it was told to, and where no memory is left to grow.
+#[derive(Debug, Drop)]
+pub struct MemSink {
+    bytes: Vec<u8>,
+    faults: u64,
+    starved: u64,
+    failing: FailingCalls,
+    number: u64,
+}
+
+impl Model for MemSink {
+    ghost use Rattle.hose_io.specs.SinkState.{SinkState};
+
+    ghost Value = { SinkState };
+
+    ghost view = { λ s. record {
+      given = s.bytes.items;
+      faults = s.faults;
+      starved = s.starved;
+      failing = s.failing;
+      number = s.number;
+    } };
+}
+
+impl MemSink {
+    /// A sink that was given nothing. Its number is 0.
+    pub fn new(alloc: Global) -> Result<MemSink, AllocError>
+        ensures { IfOk result (λ sink. sink ≡ record {
+          given = [];
+          faults = 0;
+          starved = 0;
+          failing = [];
+          number = 0;
+        }) }
+    {
+        Ok(MemSink {
+            bytes: Vec::new(alloc),
+            faults: 0,
+            starved: 0,
+            failing: FailingCalls::new(alloc),
+            number: 0,
+        })
+    }
+
+    /// What was given.
+    pub fn bytes(&self) -> &[u8]
+        ensures { result.now ≡ self.now.given }
+    {
+        &self.bytes
+    }
+
+    /// How many calls have failed.
+    pub fn faults(&self) -> u64
+        ensures { result ≡ self.now.faults }
+    {
+        self.faults
+    }
+
+    /// How many of the failed calls found no memory.
+    pub fn starved(&self) -> u64
+        ensures { result ≡ self.now.starved }
+    {
+        self.starved
+    }
+
+    /// The `nth` call of `put` from now on, counted from 1, is to fail.
+    pub fn fail(&mut self, _alloc: Global, nth: u64) -> Result<(), AllocError>
+        ensures ok { OnOk result
+            (self.new ≡ record self.old { failing = self.old.failing ++ nth ∷ [] }) }
+        ensures err { OnErr result (self.new ≡ self.old) }
+    {
+        self.failing.add(nth)
+    }
+}
+
+impl Sink for MemSink {
+    ghost use Rattle.std.specs.Prelude.{Some};
+
+    ghost faults = { λ s. s.faults };
+
+    ghost content = { λ s. Some s.given };
+
+    ghost number = { λ s. s.number };
+
+    fn put(&mut self, bytes: &[u8]) -> Result<usize, Failed>
+        requires { 0 < length bytes.now }
+        ensures some { IfOk result (λ k. 0 < k) }
+        ensures room { IfOk result (λ k. k ≤ length bytes.now) }
+        ensures appended { MatchResult result
+            (λ k. Grows (Some self.old.given) (Some self.new.given) (take k bytes.now))
+            (λ _. Some self.new.given ≡ Some self.old.given) }
+        ensures cause { HasCause self.old.faults self.new.faults result }
+        ensures number { self.new.number ≡ self.old.number }
+
+        ensures all { IfOk result (λ k. k ≡ length bytes.now) }
+        ensures given { OnOk result (self.new ≡ after_putting self.old bytes.now) }
+
+        // On its list it fails for that reason, and else only for want of memory.
+        ensures listed { Contains self.old.failing 1 → IsErr result }
+        ensures fault { Contains self.old.failing 1 → self.new ≡ after_fault self.old }
+        ensures starved { ¬ Contains self.old.failing 1 →
+            OnErr result (self.new ≡ after_starving self.old) }
+    {
+        if self.failing.next() {
+            self.faults = self.faults.saturating_add(1);
+            return Err(Failed);
+        }
+        if self.bytes.extend_from_slice(bytes).is_err() {
+            self.faults = self.faults.saturating_add(1);
+            self.starved = self.starved.saturating_add(1);
+            return Err(Failed);
+        }
+        Ok(bytes.len())
+    }
+}

@@ -1,0 +1,128 @@
+// Bytes in memory that are read.
+ghost use Rattle.std.specs.Prelude.{◌≡◌, ◌↔◌, ◌<◌, ◌≤◌, ℕ, Option, Ok, List, [], ◌∷◌, ◌++◌, IfOk, IsErr, OnOk, OnErr, MatchResult, Contains, length, min, take};
+ghost use Rattle.hose_io.specs.Fault.{HasCause};
+ghost use Rattle.hose_io.specs.SourceState.{SourceState, after_taking, after_fault};
+ghost use Rattle.hose_io.specs.Stream.{Stream, Gives, IsAtEnd};
+
+use crate::{Failed, FailingCalls, Source};
+use std::alloc::{AllocError, Global};
+use std::marker::Model;
+
+/// Bytes in memory that are read. A call fails exactly where it was told to.
+#[derive(Debug, Drop)]
+pub struct MemSource {
+    bytes: Vec<u8>,
+    taken: usize,
+    piece: u64,
+    faults: u64,
+    failing: FailingCalls,
+    number: u64,
+}
+
+impl Model for MemSource {
+    ghost use Rattle.std.specs.Prelude.{◌≤◌, take, drop, vec_len};
+    ghost use Rattle.hose_io.specs.SourceState.{SourceState};
+
+    ghost Value = { SourceState };
+
+    ghost view = { λ s. record {
+      content = record { taken = take s.taken s.bytes.items; left = drop s.taken s.bytes.items };
+      piece = s.piece;
+      faults = s.faults;
+      failing = s.failing;
+      number = s.number;
+    } };
+
+    ghost invariant = { λ s. (s.taken ≤ vec_len s.bytes) × (1 ≤ s.piece) };
+}
+
+impl MemSource {
+    /// A source of these bytes, which gives at most `piece` of them in one call. Its number is 0.
+    pub fn new(alloc: Global, bytes: &[u8], piece: u64) -> Result<MemSource, AllocError>
+        requires { 1 ≤ piece }
+        ensures { IfOk result (λ source. source ≡ record {
+          content = record { taken = []; left = bytes.now };
+          piece = piece;
+          faults = 0;
+          failing = [];
+          number = 0;
+        }) }
+    {
+        Ok(MemSource {
+            bytes: Vec::from_slice(alloc, bytes)?,
+            taken: 0,
+            piece,
+            faults: 0,
+            failing: FailingCalls::new(alloc),
+            number: 0,
+        })
+    }
+
+    /// The bytes not yet taken.
+    pub fn left(&self) -> &[u8]
+        ensures { result.now ≡ self.now.content.left }
+    {
+        &self.bytes[self.taken..]
+    }
+
+    /// The bytes that were taken.
+    pub fn taken(&self) -> &[u8]
+        ensures { result.now ≡ self.now.content.taken }
+    {
+        &self.bytes[..self.taken]
+    }
+
+    /// How many calls have failed.
+    pub fn faults(&self) -> u64
+        ensures { result ≡ self.now.faults }
+    {
+        self.faults
+    }
+
+    /// The `nth` call of `take` from now on, counted from 1, is to fail.
+    pub fn fail(&mut self, _alloc: Global, nth: u64) -> Result<(), AllocError>
+        ensures ok { OnOk result
+            (self.new ≡ record self.old { failing = self.old.failing ++ nth ∷ [] }) }
+        ensures err { OnErr result (self.new ≡ self.old) }
+    {
+        self.failing.add(nth)
+    }
+}
+
+impl Source for MemSource {
+    ghost use Rattle.std.specs.Prelude.{Some};
+
+    ghost faults = { λ s. s.faults };
+
+    ghost content = { λ s. Some s.content };
+
+    ghost number = { λ s. s.number };
+
+    fn take(&mut self, into: &mut [u8]) -> Result<usize, Failed>
+        requires { 0 < length into.old }
+        ensures room { IfOk result (λ k. k ≤ length into.new) }
+        ensures taken { MatchResult result
+            (λ k. Gives (Some self.old.content) (Some self.new.content) (take k into.new))
+            (λ _. Some self.new.content ≡ Some self.old.content) }
+        ensures none_only_at_end { result ≡ Ok 0 → IsAtEnd (Some self.old.content) }
+        ensures cause { HasCause self.old.faults self.new.faults result }
+        ensures number { self.new.number ≡ self.old.number }
+
+        ensures fails { IsErr result ↔ Contains self.old.failing 1 }
+        ensures amount { IfOk result
+            (λ k. k ≡ min self.old.piece (min (length into.old) (length self.old.content.left))) }
+        ensures after { MatchResult result
+            (λ k. self.new ≡ after_taking self.old k)
+            (λ _. self.new ≡ after_fault self.old) }
+    {
+        if self.failing.next() {
+            self.faults = self.faults.saturating_add(1);
+            return Err(Failed);
+        }
+        let left = &self.bytes[self.taken..];
+        let count = left.len().min(into.len()).min(self.piece as usize);
+        into[..count].copy_from_slice(&left[..count]);
+        self.taken += count;
+        Ok(count)
+    }
+}
