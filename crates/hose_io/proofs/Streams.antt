@@ -1,8 +1,9 @@
 -- Laws of what sources give and sinks are given.
-use Rattle.std.proofs.Common.{◌≡◌, ℕ, ◌+◌, List, [], ◌++◌, length, take, drop, Option, None, Some, sym, ◌∙◌, ap, append_assoc, append-nil}
-use Rattle.std.proofs.lemmas.List.{take_at, drop-drop, take-append-drop}
-use Rattle.std.proofs.Math.Seq.{take-add}
+use Rattle.std.proofs.Common.{◌≡◌, ℕ, ◌+◌, List, [], ◌++◌, length, take, drop, Option, None, Some, sym, ◌∙◌, ap, append_assoc, append-nil, length-append, arith}
+use Rattle.std.proofs.lemmas.List.{take_at, drop-drop, take-append-drop, take-append-le}
+use Rattle.std.proofs.Math.Seq.{take-add, take-append-add}
 use Rattle.hose_io.specs.Stream.{GoesOn, Grows}
+use Rattle.hose_io.specs.Writing.{GrowsInPart}
 
 -- no byte
 pub Grows-nil : (content : Option (List ℕ)) → Grows content content []
@@ -29,3 +30,13 @@ GoesOn-next bytes copied behind given count len is =
     let split : take count (drop given bytes) ++ drop (given + count) bytes ≡ drop given bytes =
     rw (← drop-drop count given bytes) (take-append-drop count (drop given bytes)) in
     record { taken = rw same (take-add given count bytes); left = rw same (sym split) }
+
+-- the front of a text, of which more was to follow
+pub GrowsInPart-append : (old new : Option (List ℕ)) (text more : List ℕ) → GrowsInPart old new text → GrowsInPart old new (text ++ more)
+GrowsInPart-append old new text more part =
+    (part.0, omega (arith, length-append text more, part.1), rw (take-append-le part.0 text more (omega (arith, part.1))) part.2)
+
+-- a whole text, and the front of a further one
+pub GrowsInPart-after : (old mid new : Option (List ℕ)) (text more : List ℕ) → Grows old mid text → GrowsInPart mid new more → GrowsInPart old new (text ++ more)
+GrowsInPart-after old mid new text more whole part =
+    (length text + part.0, omega (arith, length-append text more, part.1), rw (take-append-add text more part.0) (Grows-append old mid new text (take part.0 more) whole part.2))

@@ -3,6 +3,7 @@
 #![tactic(auto)]
 
 mod failing;
+mod gather;
 mod mem_sink;
 mod mem_source;
 mod sink;
@@ -10,6 +11,7 @@ mod source;
 mod writing;
 
 pub use failing::FailingCalls;
+pub use gather::{GATHER_LIMIT, Gather};
 pub use mem_sink::MemSink;
 pub use mem_source::MemSource;
 pub use sink::Sink;
