@@ -8,6 +8,7 @@ mod mem_sink;
 mod mem_source;
 mod sink;
 mod source;
+mod std_streams;
 mod writing;
 
 pub use failing::FailingCalls;
@@ -16,6 +17,7 @@ pub use mem_sink::MemSink;
 pub use mem_source::MemSource;
 pub use sink::Sink;
 pub use source::Source;
+pub use std_streams::{StdSink, StdSource};
 pub use writing::write_all;
 
 /// A call of a source or a sink failed. The object's count of faults rose in that call.
