@@ -72,6 +72,7 @@ impl Gather {
         ensures emptied { self.new ≡ [] }
         ensures cause { HasCause (S.faults sink.old) (S.faults sink.new) result }
         ensures number { S.number sink.new ≡ S.number sink.old }
+        ensures calls_none { self.old ≡ [] → sink.new ≡ sink.old }
     {
         let held = self.len;
         self.len = 0;
