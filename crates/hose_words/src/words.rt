@@ -1,0 +1,96 @@
+// A line cut into words.
+ghost use Rattle.std.specs.Prelude.{◌≡◌, ◌==◌, ◌≤◌, [], ◌∷◌, length, IfSome, IfNone};
+ghost use Rattle.std.specs.Iterator.{YieldsFirstRef, item_count};
+ghost use Rattle.std.specs.List.{prefix_len, position_or_len};
+ghost use Rattle.hose_words.specs.Words.{words_of};
+
+use std::marker::Model;
+
+const SPACE: u8 = b' ';
+
+/// The words of a line that are still to come, of which contracts see the list.
+#[derive(Clone, Debug, Drop)]
+pub struct Words<'a> {
+    rest: &'a [u8],
+}
+
+impl<'a> Model for Words<'a> {
+    ghost use Rattle.std.specs.Prelude.{ℕ, List};
+    ghost use Rattle.hose_words.specs.Words.{words_of};
+
+    ghost Value = { List (List ℕ) };
+
+    ghost view = { λ words. words_of words.rest.now };
+}
+
+/// The words of a line.
+pub fn split(line: &[u8]) -> Words<'_>
+    ensures { result ≡ words_of line.now }
+{
+    Words { rest: line }
+}
+
+impl<'a> Iterator for Words<'a> {
+    type Item = &'a [u8];
+
+    ghost next_gives = { YieldsFirstRef (λ words. words) };
+
+    ghost remaining = { item_count (λ words. words) };
+
+    fn next(&mut self) -> Option<&'a [u8]> {
+        let (word, rest) = first_word(self.rest)?;
+        self.rest = rest;
+        Some(word)
+    }
+}
+
+// The first word and what follows it, where there is a word.
+fn first_word(bytes: &[u8]) -> Option<(&[u8], &[u8])>
+    ensures word { IfSome result (λ parts. words_of bytes.now ≡ parts.0.now ∷ words_of parts.1.now) }
+    ensures none { IfNone result (words_of bytes.now ≡ []) }
+{
+    let from_word = &bytes[spaces_before(bytes)..];
+    let len = word_len(from_word);
+    if len == 0 {
+        return None;
+    }
+    Some(from_word.split_at(len))
+}
+
+// How many spaces stand at the front.
+#[tactic(auto, using(crate::proofs::WordLemmas::front_bound))]
+fn spaces_before(bytes: &[u8]) -> usize
+    ensures spaces { result ≡ prefix_len (λ byte. byte == 32) bytes.now }
+    ensures bound { result ≤ length bytes.now }
+{
+    bytes.iter().take_while(|byte| **byte == SPACE).count()
+}
+
+// How many bytes stand before the first space.
+#[tactic(auto, using(crate::proofs::WordLemmas::front_bound))]
+fn word_len(bytes: &[u8]) -> usize
+    ensures word { result ≡ position_or_len (λ byte. byte == 32) bytes.now }
+    ensures bound { result ≤ length bytes.now }
+{
+    bytes.iter().take_while(|byte| **byte != SPACE).count()
+}
+
+#[cfg(test)]
+mod tests {
+    use super::*;
+
+    #[test]
+    fn splits_at_spaces(rt: HostRuntime) {
+        let cases: [(&[u8], &[&[u8]]); 6] = [
+            (b"", &[]),
+            (b"   ", &[]),
+            (b"link", &[b"link"]),
+            (b"link a b", &[b"link", b"a", b"b"]),
+            (b"  link  a ", &[b"link", b"a"]),
+            (b"link\ta\r", &[b"link\ta\r"]),
+        ];
+        for (line, want) in cases {
+            assert!(rt; split(line).eq(want.iter().copied()));
+        }
+    }
+}
