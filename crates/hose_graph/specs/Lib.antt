@@ -1,2 +1,5 @@
+pub mod Ascending
+pub mod Hose
+pub mod Limit
 pub mod Name
 pub mod Network

@@ -1,5 +1,6 @@
 -- Networks: named nodes, and the links that join two of them. This is what contracts see of a topology.
 use Rattle.std.specs.Prelude.{◌≢◌, ℕ, ◌<◌, ◌≤◌, List, length, All, AllPairs}
+use Rattle.hose_graph.specs.Limit.{IsUpTo}
 use Rattle.hose_graph.specs.Name.{IsName}
 use Rattle.hose_graph.specs.declared.link.Link.{Link}
 use Rattle.hose_graph.specs.declared.limits.TheConstants.{MOST_NODES, MOST_LINKS, MOST_CAPACITY, MOST_LENGTH, MOST_COST}
@@ -8,10 +9,6 @@ use Rattle.hose_graph.specs.declared.limits.TheConstants.{MOST_NODES, MOST_LINKS
 pub record Network : Type 0 where
   pub nodes : List (List ℕ)
   pub links : List Link
-
--- a number is at least 1 and at most the greatest
-abbrev pub IsUpTo : ℕ → ℕ → Type 0
-IsUpTo most n = (1 ≤ n) × (n ≤ most)
 
 -- The link's nodes are there, and its numbers are within the limits.
 pub record IsInRange (network : Network) (link : Link) : Type 0 where

@@ -2,12 +2,16 @@
 //! book. Each is valid by its own invariant, and contracts see it as plain lists and records.
 #![tactic(auto)]
 
+mod hose;
 mod limits;
 mod link;
 mod name;
 mod topology;
 
-pub use limits::{MOST_CAPACITY, MOST_COST, MOST_LENGTH, MOST_LINKS, MOST_NODES};
+pub use hose::{Hose, HoseFault};
+pub use limits::{
+    LEAST_ENDS, MOST_CAPACITY, MOST_COST, MOST_ENDS, MOST_LENGTH, MOST_LINKS, MOST_NODES, MOST_RATE,
+};
 pub use link::Link;
 pub use name::Name;
 pub use topology::{Topology, TopologyFault};

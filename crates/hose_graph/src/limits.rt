@@ -14,3 +14,12 @@ pub const MOST_LENGTH: u64 = 1_000_000;
 
 /// The greatest cost of a link.
 pub const MOST_COST: u64 = 1_000_000;
+
+/// The least number of endpoints of a hose.
+pub const LEAST_ENDS: usize = 2;
+
+/// The greatest number of endpoints of a hose.
+pub const MOST_ENDS: usize = 64;
+
+/// The greatest rate of an endpoint.
+pub const MOST_RATE: u64 = 1_000_000;

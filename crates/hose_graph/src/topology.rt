@@ -1,5 +1,5 @@
 // Topologies: networks that grow, node by node and link by link, within the limits.
-ghost use Rattle.std.specs.Prelude.{◌≡◌, ℕ, ◌<◌, ◌≤◌, ◌↔◌, List, [], ◌∷◌, ◌++◌, length, vec_capacity, Some, Err, IsOk, IsTrue, IsSome, IfSome, IfOk, OnOk, OnErr, Contains, slice_get};
+ghost use Rattle.std.specs.Prelude.{◌≡◌, ℕ, ◌<◌, ◌≤◌, ◌↔◌, List, [], ◌∷◌, ◌++◌, length, vec_capacity, Some, IsOk, IsErrOf, IsTrue, IsSome, IfSome, IfOk, OnOk, OnErr, Contains, slice_get};
 ghost use Rattle.hose_graph.specs.Name.{IsName};
 ghost use Rattle.hose_graph.specs.Network.{Network, IsInRange, IsLink, IsNetwork, HasNodeRoom, HasLinkRoom};
 
@@ -63,8 +63,8 @@ impl Topology {
         ensures added { OnOk result (self.new ≡ record self.old { nodes = self.old.nodes ++ name ∷ [] }) }
 
         // A name that is there already counts only where there is room.
-        ensures many { (result ≡ Err TopologyFault.Many) ↔ (¬ HasNodeRoom self.old) }
-        ensures repeat { (result ≡ Err TopologyFault.Repeat)
+        ensures many { IsErrOf result TopologyFault.Many ↔ (¬ HasNodeRoom self.old) }
+        ensures repeat { IsErrOf result TopologyFault.Repeat
             ↔ (HasNodeRoom self.old × Contains self.old.nodes name) }
         ensures ok { IsOk result ↔ (HasNodeRoom self.old × (¬ Contains self.old.nodes name)) }
         ensures err { OnErr result (self.new ≡ self.old) }
@@ -86,10 +86,10 @@ impl Topology {
         ensures added { OnOk result (self.new ≡ record self.old { links = self.old.links ++ link ∷ [] }) }
 
         // Each refusal comes only where those before it do not.
-        ensures many { (result ≡ Err TopologyFault.Many) ↔ (¬ HasLinkRoom self.old) }
-        ensures range { (result ≡ Err TopologyFault.Range)
+        ensures many { IsErrOf result TopologyFault.Many ↔ (¬ HasLinkRoom self.old) }
+        ensures range { IsErrOf result TopologyFault.Range
             ↔ (HasLinkRoom self.old × (¬ IsInRange self.old link)) }
-        ensures loops { (result ≡ Err TopologyFault.Loop)
+        ensures loops { IsErrOf result TopologyFault.Loop
             ↔ (HasLinkRoom self.old × IsInRange self.old link × (link.a ≡ link.b)) }
         ensures ok { IsOk result ↔ (HasLinkRoom self.old × IsLink self.old link) }
         ensures err { OnErr result (self.new ≡ self.old) }

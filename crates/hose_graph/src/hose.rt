@@ -1,0 +1,174 @@
+// Hoses: endpoints with their rates, checked and sorted.
+ghost use Rattle.std.specs.Prelude.{◌≡◌, ℕ, ◌*◌, ◌<◌, ◌≤◌, ◌↔◌, List, length, IsTrue, IsOk, IsErrOf, IfOk, All, Any, IsPermutation};
+ghost use Rattle.hose_graph.specs.Hose.{IsEnd, IsHose, IsCounted, MakesHose, HasDistinctNodes, total_rate};
+
+use crate::limits::{LEAST_ENDS, MOST_ENDS, MOST_NODES, MOST_RATE};
+use std::alloc::{AllocError, Global};
+use std::marker::Model;
+
+/// Why endpoints make no hose.
+#[derive(Clone, Copy, Debug, PartialEq, Eq)]
+pub enum HoseFault {
+    /// There are more endpoints than a hose can have.
+    Many,
+    /// There are fewer endpoints than a hose has.
+    Few,
+    /// A node is none that any network has, or a rate is outside its limits.
+    Range,
+    /// A node is named twice.
+    Repeat,
+    /// No memory was left.
+    Memory,
+}
+
+/// The endpoints of a customer's network, each a node and the rate that bounds the sum of its traffic, in ascending
+/// order of nodes.
+///
+/// A contract sees it as the list of its endpoints.
+#[derive(Debug, Drop)]
+pub struct Hose {
+    ends: Vec<(u32, u64)>,
+}
+
+impl Model for Hose {
+    ghost use Rattle.std.specs.Prelude.{ℕ, List};
+    ghost use Rattle.hose_graph.specs.Hose.{IsHose};
+
+    ghost Value = { List (ℕ × ℕ) };
+
+    ghost view = { λ hose. hose.ends.items };
+
+    ghost invariant = { λ hose. IsHose hose.ends.items };
+}
+
+impl Hose {
+    /// The hose of these endpoints, each a node and its rate, which may stand in any order.
+    pub fn build(alloc: Global, ends: &[(u32, u64)]) -> Result<Hose, HoseFault>
+        ensures hose { IfOk result IsHose }
+        ensures same_ends { IfOk result (λ hose. IsPermutation ends.now hose) }
+
+        // Each refusal comes only where those before it do not.
+        ensures many { IsErrOf result HoseFault.Many ↔ (MOST_ENDS < length ends.now) }
+        ensures few { IsErrOf result HoseFault.Few ↔ (length ends.now < LEAST_ENDS) }
+        ensures range { IsErrOf result HoseFault.Range ↔ (IsCounted ends.now × (¬ All IsEnd ends.now)) }
+        ensures repeat { IsErrOf result HoseFault.Repeat
+            ↔ (IsCounted ends.now × All IsEnd ends.now × (¬ HasDistinctNodes ends.now)) }
+        ensures memory { IsErrOf result HoseFault.Memory → MakesHose ends.now }
+    {
+        check(ends)?;
+        let mut sorted = Vec::from_slice(alloc, ends).map_err(|_| HoseFault::Memory)?;
+        sorted.sort_unstable_by_key(|end| end.0);
+        Ok(Hose { ends: sorted })
+    }
+
+    /// The endpoints in ascending order of nodes.
+    pub fn ends(&self) -> &[(u32, u64)]
+        ensures value { result.now ≡ self.now }
+        ensures hose { IsHose self.now }
+    {
+        &self.ends
+    }
+
+    /// The sum of the rates.
+    pub fn total(&self) -> u64
+        ensures sum { result ≡ total_rate self.now }
+        ensures bound { result ≤ MOST_ENDS * MOST_RATE }
+    {
+        self.ends.iter().map(|end| end.1).sum()
+    }
+
+    /// The same hose once more.
+    pub fn copy(&self, alloc: Global) -> Result<Hose, AllocError>
+        ensures { IfOk result (λ hose. hose ≡ self.now) }
+    {
+        Ok(Hose {
+            ends: Vec::from_slice(alloc, &self.ends)?,
+        })
+    }
+}
+
+// Says whether the endpoints make a hose, and if not, why.
+fn check(ends: &[(u32, u64)]) -> Result<(), HoseFault>
+    ensures ok { IsOk result ↔ MakesHose ends.now }
+    ensures many { IsErrOf result HoseFault.Many ↔ (MOST_ENDS < length ends.now) }
+    ensures few { IsErrOf result HoseFault.Few ↔ (length ends.now < LEAST_ENDS) }
+    ensures range { IsErrOf result HoseFault.Range ↔ (IsCounted ends.now × (¬ All IsEnd ends.now)) }
+    ensures repeat { IsErrOf result HoseFault.Repeat
+        ↔ (IsCounted ends.now × All IsEnd ends.now × (¬ HasDistinctNodes ends.now)) }
+    ensures no_memory { ¬ IsErrOf result HoseFault.Memory }
+{
+    if ends.len() > MOST_ENDS {
+        return Err(HoseFault::Many);
+    }
+    if ends.len() < LEAST_ENDS {
+        return Err(HoseFault::Few);
+    }
+    if !are_within(ends) {
+        return Err(HoseFault::Range);
+    }
+    if !has_distinct_nodes(ends) {
+        return Err(HoseFault::Repeat);
+    }
+    Ok(())
+}
+
+// Whether each endpoint's node and rate are within the limits.
+fn are_within(ends: &[(u32, u64)]) -> bool
+    ensures { IsTrue result ↔ All IsEnd ends.now }
+{
+    ends.iter().all(|end| end.0 < MOST_NODES && (1..=MOST_RATE).contains(&end.1))
+}
+
+// Whether no two of the endpoints are at one node.
+fn has_distinct_nodes(ends: &[(u32, u64)]) -> bool
+    ensures { IsTrue result ↔ HasDistinctNodes ends.now }
+{
+    for (place, end) in ends.iter().enumerate() {
+        if has_node(&ends[..place], end.0) {
+            return false;
+        }
+    }
+    true
+}
+
+// Whether one of the endpoints is at the node.
+fn has_node(ends: &[(u32, u64)], node: u32) -> bool
+    ensures { IsTrue result ↔ Any (λ end. end.0 ≡ node) ends.now }
+{
+    ends.iter().any(|end| end.0 == node)
+}
+
+#[cfg(test)]
+mod tests {
+    use super::*;
+    use std::test::Fail;
+
+    #[test]
+    fn sorts_ends_by_node(rt: HostRuntime) -> Result<(), Fail> {
+        let hose = Hose::build(rt.alloc(), &[(2, 5), (0, 3), (1, 4)])?;
+        let copy = hose.copy(rt.alloc())?;
+        for hose in [&hose, &copy] {
+            assert_eq!(rt; hose.ends(), [(0, 3), (1, 4), (2, 5)].as_slice());
+            assert_eq!(rt; hose.total(), 12);
+        }
+        Ok(())
+    }
+
+    #[test]
+    fn refuses_in_order(rt: HostRuntime) {
+        let many = [(600, 0); 65];
+        let table: [(&[(u32, u64)], HoseFault); 7] = [
+            (&many, HoseFault::Many),
+            (&[(0, 3)], HoseFault::Few),
+            (&[(0, 0), (1, 1)], HoseFault::Range),
+            (&[(0, 1_000_001), (1, 1)], HoseFault::Range),
+            (&[(512, 1), (512, 1)], HoseFault::Range),
+            (&[(0, 1), (0, 2)], HoseFault::Repeat),
+            (&[(511, 1), (3, 1), (511, 1)], HoseFault::Repeat),
+        ];
+        for (ends, fault) in table {
+            let refusal = Hose::build(rt.alloc(), ends).err();
+            assert_eq!(rt; refusal, Some(fault), "at {ends:?}");
+        }
+    }
+}
