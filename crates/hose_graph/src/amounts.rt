@@ -1,0 +1,69 @@
+// Amounts: what is reserved on links.
+ghost use Rattle.std.specs.Prelude.{◌≡◌, IfOk};
+ghost use Rattle.hose_graph.specs.Ascending.{IsAscending};
+
+use std::alloc::{AllocError, Global};
+use std::marker::Model;
+
+/// Amounts reserved on links, in ascending order of links.
+///
+/// A contract sees it as a list of pairs of a link and an amount.
+#[derive(Debug, Drop)]
+pub struct Amounts {
+    pairs: Vec<(u32, u64)>,
+}
+
+impl Model for Amounts {
+    ghost use Rattle.std.specs.Prelude.{ℕ, List};
+    ghost use Rattle.hose_graph.specs.Ascending.{IsAscending};
+
+    ghost Value = { List (ℕ × ℕ) };
+
+    ghost view = { λ amounts. amounts.pairs.items };
+
+    ghost invariant = { λ amounts. IsAscending amounts.pairs.items };
+}
+
+impl Amounts {
+    /// These amounts, each a link and what is reserved on it.
+    pub fn build(alloc: Global, pairs: &[(u32, u64)]) -> Result<Amounts, AllocError>
+        requires { IsAscending pairs.now }
+        ensures { IfOk result (λ amounts. amounts ≡ pairs.now) }
+    {
+        Ok(Amounts {
+            pairs: Vec::from_slice(alloc, pairs)?,
+        })
+    }
+
+    /// The links with their amounts, in ascending order of links.
+    pub fn pairs(&self) -> &[(u32, u64)]
+        ensures value { result.now ≡ self.now }
+        ensures ascending { IsAscending self.now }
+    {
+        &self.pairs
+    }
+
+    /// The same amounts once more.
+    pub fn copy(&self, alloc: Global) -> Result<Amounts, AllocError>
+        ensures { IfOk result (λ amounts. amounts ≡ self.now) }
+    {
+        Amounts::build(alloc, self.pairs())
+    }
+}
+
+#[cfg(test)]
+mod tests {
+    use super::*;
+    use std::test::Fail;
+
+    #[test]
+    fn keeps_and_copies_pairs(rt: HostRuntime) -> Result<(), Fail> {
+        let amounts = Amounts::build(rt.alloc(), &[(0, 3), (2, 5)])?;
+        assert_eq!(rt; amounts.pairs(), [(0, 3), (2, 5)].as_slice());
+        assert_eq!(rt;
+            amounts.copy(rt.alloc())?.pairs(),
+            [(0, 3), (2, 5)].as_slice()
+        );
+        Ok(())
+    }
+}
