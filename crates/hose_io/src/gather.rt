@@ -52,6 +52,7 @@ impl Gather {
         ensures emptied { OnErr result (self.new ≡ []) }
         ensures cause { HasCause (S.faults sink.old) (S.faults sink.new) result }
         ensures number { S.number sink.new ≡ S.number sink.old }
+        ensures loan { S.loan sink.new ≡ S.loan sink.old }
     {
         if bytes.len() <= GATHER_LIMIT - self.len {
             self.keep(bytes);
@@ -72,6 +73,7 @@ impl Gather {
         ensures emptied { self.new ≡ [] }
         ensures cause { HasCause (S.faults sink.old) (S.faults sink.new) result }
         ensures number { S.number sink.new ≡ S.number sink.old }
+        ensures loan { S.loan sink.new ≡ S.loan sink.old }
         ensures calls_none { self.old ≡ [] → sink.new ≡ sink.old }
     {
         let held = self.len;

@@ -12,6 +12,7 @@ pub fn write_all<S: Sink>(sink: &mut S, bytes: &[u8]) -> Result<(), Failed>
     ensures err { OnErr result (GrowsInPart (S.content sink.old) (S.content sink.new) bytes.now) }
     ensures cause { HasCause (S.faults sink.old) (S.faults sink.new) result }
     ensures number { S.number sink.new ≡ S.number sink.old }
+    ensures loan { S.loan sink.new ≡ S.loan sink.old }
     ensures calls_none { bytes.now ≡ [] → sink.new ≡ sink.old }
 {
     let mut written = 0;

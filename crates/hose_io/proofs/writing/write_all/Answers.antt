@@ -10,6 +10,7 @@ loop-written-preserved g c = record {
       (rw take_rest at c.in_ok-written.ensures.appended);
   never_falls = search rules;
   number = search rules;
+  loan = search rules;
   untouched = λ none. absurd (omega (arith, c.in_ok-written.ensures.some));
 }
 

@@ -8,6 +8,7 @@ invariant-loop-written g l = record {
   grows : Grows (g.S.Sink.content l.initial.sink) (g.S.Sink.content l.sink) (take l.written l.bytes);
   never_falls : g.S.Sink.faults l.initial.sink ≤ g.S.Sink.faults l.sink;
   number : g.S.Sink.number l.sink ≡ g.S.Sink.number l.initial.sink;
+  loan : g.S.Sink.loan l.sink ≡ g.S.Sink.loan l.initial.sink;
   untouched : l.written ≡ 0 → l.sink ≡ l.initial.sink;
 }
 
