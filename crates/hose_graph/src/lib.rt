@@ -3,16 +3,19 @@
 #![tactic(auto)]
 
 mod amounts;
+mod command;
 mod entry;
 mod hose;
 mod limits;
 mod link;
 mod name;
 mod node_list;
+mod reply;
 mod topology;
 mod vpn;
 
 pub use amounts::Amounts;
+pub use command::Command;
 pub use entry::Entry;
 pub use hose::{Hose, HoseFault};
 pub use limits::{
@@ -21,5 +24,6 @@ pub use limits::{
 pub use link::Link;
 pub use name::Name;
 pub use node_list::NodeList;
+pub use reply::Reply;
 pub use topology::{Topology, TopologyFault};
 pub use vpn::Vpn;
