@@ -1,1 +1,2 @@
+pub mod Sold
 pub mod Walks

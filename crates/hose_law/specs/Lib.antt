@@ -1,3 +1,11 @@
-pub mod Matrix
 pub mod Walk
+pub mod Matrix
+pub mod Plan
+pub mod Book
+pub mod Decision
+pub mod History
+pub mod Answer
+pub mod Script
 pub use Rattle.hose_graph.specs.Network
+pub use Rattle.hose_graph.specs.Hose
+pub use Rattle.hose_graph.specs.Ascending

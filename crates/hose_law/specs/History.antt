@@ -1,0 +1,61 @@
+-- Histories: lists of accepted entries, the books that they lead to, and which of them are sound and decided.
+use Rattle.std.specs.Prelude.{ℕ, zero, suc, ◌+◌, ◌<◌, List, [], ◌∷◌, ◌++◌, length, ⊤}
+use Rattle.hose_graph.specs.declared.entry.Entry.{Entry}
+use Rattle.hose_graph.specs.declared.entry.Entry.TheVariants.{Admit}
+use Rattle.hose_graph.specs.Network.{Network}
+use Rattle.hose_law.specs.Book.{Book}
+use Rattle.hose_law.specs.Decision.{IsPlanned}
+
+-- the book of an epoch with nothing live
+abbrev pub opening_book : ℕ → Book
+opening_book epoch = record { epoch = epoch; live = [] }
+
+-- The book after an entry: the epoch is one more, and an admitted VPN, whose id is the new epoch, is the last of the live.
+abbrev pub next_book : Book → Entry → Book
+next_book book (Admit customer hose amounts) = record {
+  epoch = book.epoch + 1;
+  live = book.live ++ record { id = book.epoch + 1; customer = customer; hose = hose; amounts = amounts } ∷ [];
+}
+
+-- the book after entries, in order
+abbrev pub book_after : Book → List Entry → Book
+book_after book [] = book
+book_after book (entry ∷ entries) = book_after (next_book book entry) entries
+
+-- the book of a history that begins at an epoch with nothing live
+abbrev pub book_of : ℕ → List Entry → Book
+book_of epoch history = book_after (opening_book epoch) history
+
+-- the greatest epoch, and the most VPNs that may be live
+abbrev pub last_epoch : ℕ
+last_epoch = 4000000000
+
+abbrev pub most_live : ℕ
+most_live = 20000
+
+-- An entry is sound at a book: an epoch is left, and an admission has room among the live and a plan that exists and fits.
+abbrev pub IsSoundAt : Network → Book → Entry → Type 0
+IsSoundAt network book (Admit customer hose amounts) = (book.epoch < last_epoch) × (length book.live < most_live) × IsPlanned network book hose amounts
+
+-- An entry is decided at a book: it is sound there, and an admission's plan is the decision's.
+abbrev pub IsDecidedAt : Network → Book → Entry → Type 0
+IsDecidedAt network book (Admit customer hose amounts) = IsSoundAt network book (Admit customer hose amounts) × IsPlanned network book hose amounts
+
+-- each entry is sound at the book of the entries before it
+abbrev pub IsSoundFrom : Network → Book → List Entry → Type 0
+IsSoundFrom network book [] = ⊤
+IsSoundFrom network book (entry ∷ entries) = IsSoundAt network book entry × IsSoundFrom network (next_book book entry) entries
+
+abbrev pub IsSound : Network → ℕ → List Entry → Type 0
+IsSound network epoch history = IsSoundFrom network (opening_book epoch) history
+
+-- each entry from a place on is decided at the book of the entries before it
+abbrev pub IsDecidedFrom : Network → Book → ℕ → List Entry → Type 0
+IsDecidedFrom network book place [] = ⊤
+IsDecidedFrom network book zero (entry ∷ entries) = IsDecidedAt network book entry × IsDecidedFrom network (next_book book entry) zero entries
+IsDecidedFrom network book (suc place) (entry ∷ entries) = IsDecidedFrom network (next_book book entry) place entries
+
+-- a history is sound, and decided from a place on
+pub record IsDecided (network : Network) (epoch : ℕ) (place : ℕ) (history : List Entry) : Type 0 where
+  pub sound : IsSound network epoch history
+  pub decided : IsDecidedFrom network (opening_book epoch) place history
