@@ -1,0 +1,298 @@
+-- How far a call of `next` has come, and what it answers from there.
+use Rattle.std.proofs.Common.{◌≡◌, ◌≢◌, ℕ, ◌+◌, ◌^◌, ◌<◌, ◌≤◌, ◌↔◌, Bool, true, false, nat_lt, eqb, cond, List, [], ◌∷◌, ◌++◌, length, sym, ap, ◌∙◌, refl, arith, le_refl, le_trans, inl, inr, ⊎_elim, Option, None, Some, IfSome, OnSome, Ok, Err, MatchBool, All}
+use Rattle.std.specs.List.{position_or_len}
+use Rattle.std.proofs.lemmas.List.{append-nil, append_assoc, length-append, length-drop, nil_from_length}
+use Rattle.std.proofs.lemmas.Bool.{ltb-true, ltb-false, eqb-true, eqb-false, cases_lt}
+use Rattle.hose_io.specs.Fault.{Rose}
+use Rattle.hose_io.specs.Stream.{Stream, Gives, IsAtEnd}
+use Rattle.hose_io.specs.declared.source.Source.{Ghosts}
+use Rattle.hose_words.specs.Buffer.{CutsLine}
+use Rattle.hose_words.specs.Intake.{found_of, last_of, ShowsFound, TakesBytes, IsTurn}
+use Rattle.hose_words.specs.Lines.{Reader, is_line_feed, GivesLine, StopsAt, IsNext}
+use Rattle.hose_words.specs.declared.intake.Found.TheVariants as found
+use Rattle.hose_words.specs.declared.lines.Line.{Line}
+use Rattle.hose_words.specs.declared.lines.LineFault.{LineFault}
+use Rattle.hose_words.specs.declared.lines.LineFault.TheVariants.{Read, TooLong}
+use Rattle.hose_words.proofs.FirstLine.{IsPlain, IsPlain-append, All-from_IsPlain, before_first-found, after_first-found, before_first-plain, after_first-plain, shows_found, GivesLine-shown}
+
+-- ---- what sources give
+
+pub Gives-nil : (o : Option Stream) → Gives o o []
+Gives-nil None = tt
+Gives-nil (Some s) = record { taken = sym (append-nil s.taken); left = refl }
+
+pub Gives-append : (o m n : Option Stream) (xs ys : List ℕ) → Gives o m xs → Gives m n ys → Gives o n (xs ++ ys)
+Gives-append None None None xs ys a b = tt
+Gives-append None None (Some n) xs ys a b = absurd b
+Gives-append None (Some m) n xs ys a b = absurd a
+Gives-append (Some o) None n xs ys a b = absurd a
+Gives-append (Some o) (Some m) None xs ys a b = absurd b
+Gives-append (Some o) (Some m) (Some n) xs ys a b = record {
+  taken = b.taken ∙ (ap (λ l. l ++ ys) a.taken ∙ append_assoc o.taken xs ys);
+  left = a.left ∙ (ap (λ l. xs ++ l) b.left ∙ sym (append_assoc xs ys n.left));
+}
+
+pub Gives-same : (o m n : Option Stream) (xs : List ℕ) → Gives o m xs → n ≡ m → Gives o n xs
+Gives-same o m n xs a same = rw same a
+
+-- what holds of all that may be left, where a source tells what it gave
+pub told : (o n : Option Stream) (bytes : List ℕ) (P : List ℕ → List ℕ → Type 0) → Gives o n bytes → ((rest : List ℕ) → P (bytes ++ rest) rest) → IfSome o (λ before. IfSome n (λ after. P before.left after.left))
+told None n bytes P gives holds = tt
+told (Some o) None bytes P gives holds = tt
+told (Some o) (Some n) bytes P gives holds = rw gives.left (holds n.left)
+
+-- the same at the end of the source
+pub told_at_end : (o m n : Option Stream) (bytes : List ℕ) (P : List ℕ → List ℕ → Type 0) → Gives o m bytes → IsAtEnd m → n ≡ m → P (bytes ++ []) [] → IfSome o (λ before. IfSome n (λ after. P before.left after.left))
+told_at_end None m n bytes P gives end same holds = tt
+told_at_end (Some o) None n bytes P gives end same holds = absurd gives
+told_at_end (Some o) (Some m) n bytes P gives end same holds = rw (same, gives.left, end) holds
+
+-- ---- the last line of a text
+
+last_by : (is_none : Bool) (pending : List ℕ) (shown : Option Line) → eqb (length pending) 0 ≡ is_none → IsPlain pending → ShowsFound (cond is_none found.End (found_of false pending)) pending shown → GivesLine shown pending []
+last_by true pending None none plain shows = (nil_from_length pending (eqb-true (length pending) 0 none), refl)
+last_by true pending (Some l) none plain shows = absurd shows
+last_by false pending shown none plain shows =
+    let some : length pending ≡ 0 → ⊥ = eqb-false (length pending) 0 none in
+    GivesLine-shown shown pending [] pending (shows_found false [] pending shown refl shows) (omega (arith, some)) (before_first-plain pending plain) (sym (after_first-plain pending plain))
+
+GivesLine-last : (is_long : Bool) (dropped pending : List ℕ) (shown : Option Line) → IsPlain (dropped ++ pending) → MatchBool is_long (4096 < length dropped) (dropped ≡ []) → ShowsFound (last_of is_long pending) pending shown → GivesLine shown (dropped ++ pending) []
+GivesLine-last true dropped pending shown plain long shows =
+    let text = dropped ++ pending in
+    GivesLine-shown shown text [] text (shows_found true dropped pending shown long shows) (omega (arith, length-append dropped pending)) (before_first-plain text plain) (sym (after_first-plain text plain))
+GivesLine-last false dropped pending shown plain none shows =
+    rw none (last_by (eqb (length pending) 0) pending shown refl (rw none at plain) shows)
+
+OnSome-from : (shown : Option Line) (P : Type 0) → P → OnSome shown P
+OnSome-from None P holds = tt
+OnSome-from (Some l) P holds = holds
+
+-- a line that is shown has bytes or a line feed
+OnSome-line : (shown : Option Line) (text rest : List ℕ) (P : Type 0) → GivesLine shown text rest → (0 < length text → P) → OnSome shown P
+OnSome-line None text rest P gives holds = tt
+OnSome-line (Some l) text rest P gives holds =
+    ⊎_elim holds (λ none. absurd (gives.0 (nil_from_length text (omega arith)))) (cases_lt 0 (length text))
+
+risen : {a b c : ℕ} → a ≤ b → Rose b c → Rose a c
+risen low (inl more) = inl (omega arith)
+risen low (inr full) = inr full
+
+-- ---- how far a call has come
+
+module _ {S : Type 0} (source : Ghosts S) where
+  -- The source gave these bytes since the call began, and of the line that is being read some were dropped.
+  pub record HasCome (old now : Reader S) (is_long : Bool) : Type 0 where
+    pub bytes : List ℕ
+    pub dropped : List ℕ
+    pub gives : Gives (source.content old.source) (source.content now.source) bytes
+    pub taken : now.taken ≡ old.taken + length bytes
+    pub split : old.pending ++ bytes ≡ dropped ++ now.pending
+    pub plain : IsPlain dropped
+    pub long : MatchBool is_long (4096 < length dropped) (dropped ≡ [])
+    pub limit : now.taken ≤ 2 ^ 30
+    pub was : old.fault ≡ None
+    pub fault : now.fault ≡ None
+    pub never_falls : source.faults old.source ≤ source.faults now.source
+    pub number : source.number now.source ≡ source.number old.source
+    pub loan : source.loan now.source ≡ source.loan old.source
+
+  pub HasCome-start : (old : Reader S) → old.fault ≡ None → old.taken ≤ 2 ^ 30 → HasCome old old false
+  HasCome-start old none limit = record {
+    bytes = [];
+    dropped = [];
+    gives = Gives-nil (source.content old.source);
+    taken = omega arith;
+    split = append-nil old.pending;
+    plain = refl;
+    long = refl;
+    limit = limit;
+    was = none;
+    fault = none;
+    never_falls = le_refl _;
+    number = refl;
+    loan = refl;
+  }
+
+  -- no line is pending whole, and what was too long was dropped
+  pub record HasPassed (old now : Reader S) (is_long : Bool) : Type 0 where
+    pub come : HasCome old now is_long
+    pub plain : IsPlain now.pending
+    pub short : length now.pending ≤ 4096
+
+  pub HasPassed-from : (old r now : Reader S) (was is_long is_over : Bool) (pending : List ℕ) → HasCome old r was → IsPlain r.pending → pending ≡ r.pending
+      → nat_lt 4096 (length pending) ≡ is_over → MatchBool is_over ((is_long ≡ true) × (now.pending ≡ [])) ((is_long ≡ was) × (now.pending ≡ pending))
+      → now.source ≡ r.source → now.taken ≡ r.taken → now.fault ≡ r.fault → HasPassed old now is_long
+  HasPassed-from old r now was is_long true pending h plain same over drops source' taken fault =
+      let long : 4096 < length r.pending = omega (arith, ltb-true 4096 (length pending) over, ap length same) in
+      rw drops.0 (record {
+        come = record {
+          bytes = h.bytes;
+          dropped = h.dropped ++ r.pending;
+          gives = rw source' h.gives;
+          taken = taken ∙ h.taken;
+          split = rw (drops.1, append-nil) h.split;
+          plain = IsPlain-append h.dropped r.pending h.plain plain;
+          long = omega (arith, length-append h.dropped r.pending);
+          limit = rw taken h.limit;
+          was = h.was;
+          fault = fault ∙ h.fault;
+          never_falls = rw source' h.never_falls;
+          number = rw source' h.number;
+          loan = rw source' h.loan;
+        };
+        plain = rw drops.1 refl;
+        short = rw drops.1 (omega arith);
+      })
+  HasPassed-from old r now was is_long false pending h plain same over drops source' taken fault =
+      let kept : now.pending ≡ r.pending = drops.1 ∙ same in
+      rw drops.0 (record {
+        come = record {
+          bytes = h.bytes;
+          dropped = h.dropped;
+          gives = rw source' h.gives;
+          taken = taken ∙ h.taken;
+          split = rw kept h.split;
+          plain = h.plain;
+          long = h.long;
+          limit = rw taken h.limit;
+          was = h.was;
+          fault = fault ∙ h.fault;
+          never_falls = rw source' h.never_falls;
+          number = rw source' h.number;
+          loan = rw source' h.loan;
+        };
+        plain = rw kept plain;
+        short = rw drops.1 (ltb-false 4096 (length pending) over);
+      })
+
+  pub HasCome-more : (old r now : Reader S) (is_long : Bool) → HasPassed old r is_long → TakesBytes source r now
+      → source.faults r.source ≤ source.faults now.source → source.number now.source ≡ source.number r.source → source.loan now.source ≡ source.loan r.source → HasCome old now is_long
+  HasCome-more old r now is_long p t falls number loan =
+      let h = p.come in
+      record {
+        bytes = h.bytes ++ t.bytes;
+        dropped = h.dropped;
+        gives = Gives-append _ _ _ h.bytes t.bytes h.gives t.gives;
+        taken = omega (arith, h.taken, t.taken, length-append h.bytes t.bytes);
+        split = sym (append_assoc old.pending h.bytes t.bytes) ∙ (ap (λ l. l ++ t.bytes) h.split
+            ∙ (append_assoc h.dropped r.pending t.bytes ∙ ap (λ l. h.dropped ++ l) (sym t.pending)));
+        plain = h.plain;
+        long = h.long;
+        limit = t.limit;
+        was = h.was;
+        fault = t.fault;
+        never_falls = le_trans h.never_falls falls;
+        number = number ∙ h.number;
+        loan = loan ∙ h.loan;
+      }
+
+  -- ---- what a call answers
+
+  seen : (old r : Reader S) (is_long : Bool) (p : HasPassed old r is_long) → All (λ byte. byte ≢ 10) (old.pending ++ p.come.bytes)
+  seen old r is_long p =
+      All-from_IsPlain (old.pending ++ p.come.bytes) (rw p.come.split (IsPlain-append p.come.dropped r.pending p.come.plain p.plain))
+
+  pub IsNext-again : (old : Reader S) (fault : LineFault) → old.fault ≡ Some fault → old.taken ≤ 2 ^ 30 + 1 → ((old.fault ≡ Some TooLong) ↔ (2 ^ 30 < old.taken)) → IsNext source old old (Err fault)
+  IsNext-again old fault was limit long = record {
+    after_fault = rw was (refl, refl);
+    answer = λ none. absurd (cc (was, none));
+    takes = ([], Gives-nil (source.content old.source), omega arith);
+    limit = limit;
+    too_long = (λ e. long.0 (cc (was, e)), λ over. cc (was, long.1 over));
+    read = λ e. inl (cc (was, e));
+    fault = was;
+    progress = tt;
+    never_falls = le_refl _;
+    number = refl;
+    loan = refl;
+  }
+
+  pub IsNext-line : (old r now : Reader S) (is_long : Bool) (line : List ℕ) (shown : Option Line) → HasCome old r is_long → CutsLine true r.pending line now.pending
+      → now.source ≡ r.source → now.taken ≡ r.taken → now.fault ≡ r.fault → ShowsFound (found_of is_long line) line shown → IsNext source old now (Ok shown)
+  IsNext-line old r now is_long line shown h cut source' taken fault shows =
+      let n = position_or_len is_line_feed r.pending in
+      let gives : Gives (source.content old.source) (source.content now.source) h.bytes = rw source' h.gives in
+      let is_shown = shows_found is_long h.dropped line shown h.long shows in
+      let text : (rest : List ℕ) → GivesLine shown (old.pending ++ (h.bytes ++ rest)) (now.pending ++ rest) = λ rest.
+      let same : old.pending ++ (h.bytes ++ rest) ≡ h.dropped ++ (r.pending ++ rest) =
+      sym (append_assoc old.pending h.bytes rest) ∙ (ap (λ l. l ++ rest) h.split ∙ append_assoc h.dropped r.pending rest) in
+      let some : 0 < length (h.dropped ++ (r.pending ++ rest)) = omega (arith, length-append h.dropped (r.pending ++ rest), length-append r.pending rest, cut.0) in
+      let before = before_first-found h.dropped r.pending rest h.plain cut.0 ∙ ap (λ l. h.dropped ++ l) (sym cut.1) in
+      let after = ap (λ l. l ++ rest) cut.2 ∙ sym (after_first-found h.dropped r.pending rest h.plain cut.0) in
+      rw same (GivesLine-shown shown _ _ (h.dropped ++ line) is_shown some before after) in
+      record {
+        after_fault = rw h.was tt;
+        answer = λ _. told (source.content old.source) (source.content now.source) h.bytes (λ before after. GivesLine shown (old.pending ++ before) (now.pending ++ after)) gives text;
+        takes = (h.bytes, gives, taken ∙ h.taken);
+        limit = omega (arith, taken, h.limit);
+        too_long = (λ e. absurd (cc e), λ over. absurd (omega (arith, taken, h.limit)));
+        read = λ e. absurd (cc e);
+        fault = (h.was, fault ∙ h.fault);
+        progress = OnSome-from shown _ (omega (arith, cut.0, ap length cut.2, length-drop (n + 1) r.pending, ap length h.split, length-append old.pending h.bytes, length-append h.dropped r.pending, taken, h.taken));
+        never_falls = rw source' h.never_falls;
+        number = rw source' h.number;
+        loan = rw source' h.loan;
+      }
+
+  pub IsNext-last : (old r m now : Reader S) (is_long : Bool) (shown : Option Line) → HasPassed old r is_long → IsTurn source r m (Ok false)
+      → now ≡ record { source = m.source; pending = []; taken = m.taken; fault = m.fault } → ShowsFound (last_of is_long m.pending) m.pending shown → IsNext source old now (Ok shown)
+  IsNext-last old r m now is_long shown p turn same shows =
+      let h = p.come in
+      let end = turn.cases in
+      let whole : IsPlain (h.dropped ++ r.pending) = IsPlain-append h.dropped r.pending h.plain p.plain in
+      let all : GivesLine shown (h.dropped ++ r.pending) [] =
+      GivesLine-last is_long h.dropped r.pending shown whole h.long (rw end.pending at shows) in
+      let text : old.pending ++ (h.bytes ++ []) ≡ h.dropped ++ r.pending = ap (λ l. old.pending ++ l) (append-nil h.bytes) ∙ h.split in
+      rw same (record {
+        after_fault = rw h.was tt;
+        answer = λ _. told_at_end (source.content old.source) (source.content r.source) (source.content m.source) h.bytes (λ before after. GivesLine shown (old.pending ++ before) ([] ++ after)) h.gives end.at_end end.content (rw text all);
+        takes = (h.bytes, rw end.content h.gives, end.taken ∙ h.taken);
+        limit = omega (arith, end.taken, h.limit);
+        too_long = (λ e. absurd (cc e), λ over. absurd (omega (arith, end.taken, h.limit)));
+        read = λ e. absurd (cc e);
+        fault = (h.was, end.fault);
+        progress = OnSome-line shown (h.dropped ++ r.pending) [] _ all (λ some. omega (arith, some, ap length h.split, length-append old.pending h.bytes, length-append h.dropped r.pending, end.taken, h.taken));
+        never_falls = le_trans h.never_falls turn.never_falls;
+        number = turn.number ∙ h.number;
+        loan = turn.loan ∙ h.loan;
+      })
+
+  pub IsNext-fault : (old r now : Reader S) (is_long : Bool) (fault : LineFault) → HasPassed old r is_long → IsTurn source r now (Err fault) → IsNext source old now (Err fault)
+  IsNext-fault old r now is_long Read p turn =
+      let h = p.come in
+      let met = turn.cases in
+      let gives : Gives (source.content old.source) (source.content now.source) h.bytes = rw met.0 h.gives in
+      record {
+        after_fault = rw h.was tt;
+        answer = λ _. told (source.content old.source) (source.content now.source) h.bytes (λ before after. StopsAt Read (old.pending ++ before) after) gives (λ rest.
+            (old.pending ++ h.bytes, sym (append_assoc old.pending h.bytes rest), seen old r is_long p));
+        takes = (h.bytes, gives, met.1 ∙ h.taken);
+        limit = omega (arith, met.1, h.limit);
+        too_long = (λ e. absurd (cc e), λ over. absurd (omega (arith, met.1, h.limit)));
+        read = λ _. inr (risen h.never_falls met.3);
+        fault = met.2;
+        progress = tt;
+        never_falls = le_trans h.never_falls turn.never_falls;
+        number = turn.number ∙ h.number;
+        loan = turn.loan ∙ h.loan;
+      }
+  IsNext-fault old r now is_long TooLong p turn =
+      let h = p.come in
+      let met = turn.cases in
+      let byte = met.0.0 in
+      let all = h.bytes ++ byte ∷ [] in
+      let gives = Gives-append _ _ _ h.bytes (byte ∷ []) h.gives met.0.1 in
+      record {
+        after_fault = rw h.was tt;
+        answer = λ _. told (source.content old.source) (source.content now.source) all (λ before after. StopsAt TooLong (old.pending ++ before) after) gives (λ rest.
+            (byte, (old.pending ++ h.bytes, ap (λ l. old.pending ++ l) (append_assoc h.bytes (byte ∷ []) rest) ∙ sym (append_assoc old.pending h.bytes (byte ∷ rest)), seen old r is_long p)));
+        takes = (all, gives, omega (arith, met.1, met.2, h.taken, length-append h.bytes (byte ∷ [])));
+        limit = omega (arith, met.2);
+        too_long = (λ _. omega (arith, met.2), λ _. refl);
+        read = λ e. absurd (cc e);
+        fault = met.3;
+        progress = tt;
+        never_falls = le_trans h.never_falls turn.never_falls;
+        number = turn.number ∙ h.number;
+        loan = turn.loan ∙ h.loan;
+      }

@@ -1,0 +1,77 @@
+-- What a reader keeps beside its source, and what one turn of its loop does.
+use Rattle.std.specs.Prelude.{◌≡◌, ◌+◌, ◌^◌, ◌<◌, ◌≤◌, ℕ, Bool, true, ◌||◌, not, ◌&&◌, ◌==◌, nat_lt, if◌then◌else◌, List, [], ◌∷◌, ◌++◌, length, Option, None, Some, Result, Ok, Err, MatchResult, ⊤}
+use Rattle.std.specs.Bool.{MatchBool}
+use Rattle.hose_io.specs.Fault.{Rose}
+use Rattle.hose_io.specs.Stream.{Gives, IsAtEnd}
+use Rattle.hose_io.specs.declared.source.Source.{Ghosts}
+use Rattle.hose_words.specs.declared.intake.Found.{Found}
+use Rattle.hose_words.specs.declared.intake.Found.TheVariants as found
+use Rattle.hose_words.specs.declared.lines.Line.{Line}
+use Rattle.hose_words.specs.declared.lines.Line.TheVariants.{Text, Long}
+use Rattle.hose_words.specs.declared.lines.LineFault.{LineFault}
+use Rattle.hose_words.specs.declared.lines.LineFault.TheVariants.{Read, TooLong}
+use Rattle.hose_words.specs.Lines.{Reader, IsNext}
+use Rattle.hose_words.specs.Kept.{Kept}
+
+-- a reader, by its source and what it keeps beside it
+abbrev pub reader_of : {S : Type 0} → S → Kept → Reader S
+reader_of source kept = record { source = source; pending = kept.pending; taken = kept.taken; fault = kept.fault }
+
+-- how a line is found, where its front was dropped already or not
+abbrev pub found_of : Bool → List ℕ → Found
+found_of is_long line = if is_long || nat_lt 4096 (length line) then found.Long else found.Text
+
+-- the same at the end of the text, where no bytes are no line
+abbrev pub last_of : Bool → List ℕ → Found
+last_of is_long line = if not is_long && (length line == 0) then found.End else found_of is_long line
+
+-- what is shown of the line that was cut off last
+abbrev pub ShowsFound : Found → List ℕ → Option Line → Type 0
+ShowsFound found.End line None = ⊤
+ShowsFound found.End line (Some shown) = ⊥
+ShowsFound found.Long line None = ⊥
+ShowsFound found.Long line (Some Long) = ⊤
+ShowsFound found.Long line (Some (Text bytes)) = ⊥
+ShowsFound found.Text line None = ⊥
+ShowsFound found.Text line (Some Long) = ⊥
+ShowsFound found.Text line (Some (Text bytes)) = bytes.now ≡ line
+
+-- whatever shows what was found answers a call of `next`
+abbrev pub FindsNext : {S : Type 0} → Ghosts S → Reader S → Reader S → List ℕ → Result Found LineFault → Type 0
+FindsNext source old new line (Ok found) = (shown : Option Line) → ShowsFound found line shown → IsNext source old new (Ok shown)
+FindsNext source old new line (Err fault) = IsNext source old new (Err fault)
+
+-- what is pending was dropped, where it is more than a line shows
+abbrev pub DropsLong : Bool → Bool → List ℕ → List ℕ → Type 0
+DropsLong was is_long old new = MatchBool (nat_lt 4096 (length old)) ((is_long ≡ true) × (new ≡ [])) ((is_long ≡ was) × (new ≡ old))
+
+module _ {S : Type 0} (source : Ghosts S) (old new : Reader S) where
+  -- one byte or more were taken, within the limit
+  pub record TakesBytes : Type 0 where
+    pub bytes : List ℕ
+    pub some : 0 < length bytes
+    pub gives : Gives (source.content old.source) (source.content new.source) bytes
+    pub pending : new.pending ≡ old.pending ++ bytes
+    pub taken : new.taken ≡ old.taken + length bytes
+    pub limit : new.taken ≤ 2 ^ 30
+    pub fault : new.fault ≡ None
+
+  -- the source met its end
+  pub record MeetsEnd : Type 0 where
+    pub content : source.content new.source ≡ source.content old.source
+    pub at_end : IsAtEnd (source.content old.source)
+    pub pending : new.pending ≡ old.pending
+    pub taken : new.taken ≡ old.taken
+    pub fault : new.fault ≡ None
+
+  -- a call failed, or the byte past the limit was taken
+  abbrev pub MeetsFault : LineFault → Type 0
+  MeetsFault Read = (source.content new.source ≡ source.content old.source) × (new.taken ≡ old.taken) × (new.fault ≡ Some Read) × Rose (source.faults old.source) (source.faults new.source)
+  MeetsFault TooLong = ((byte : ℕ) × Gives (source.content old.source) (source.content new.source) (byte ∷ [])) × (old.taken ≡ 2 ^ 30) × (new.taken ≡ 2 ^ 30 + 1) × (new.fault ≡ Some TooLong)
+
+  -- a turn takes at least one byte, meets the end, or meets a fault
+  pub record IsTurn (result : Result Bool LineFault) : Type 0 where
+    pub cases : MatchResult result (λ more. MatchBool more TakesBytes MeetsEnd) MeetsFault
+    pub never_falls : source.faults old.source ≤ source.faults new.source
+    pub number : source.number new.source ≡ source.number old.source
+    pub loan : source.loan new.source ≡ source.loan old.source

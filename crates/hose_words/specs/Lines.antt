@@ -1,0 +1,61 @@
+-- Lines of a source, as a reader gives them.
+use Rattle.std.specs.Prelude.{◌≡◌, ◌≢◌, ◌⊎◌, ◌↔◌, ◌+◌, ◌^◌, ◌<◌, ◌≤◌, ℕ, Bool, ◌==◌, List, [], ◌∷◌, ◌++◌, length, All, Option, None, Some, IfSome, OnSome, Result, Err, IfOk, MatchResult}
+use Rattle.std.specs.List.{before_first, after_first}
+use Rattle.hose_io.specs.Fault.{Rose}
+use Rattle.hose_io.specs.Stream.{Gives}
+use Rattle.hose_io.specs.declared.source.Source.{Ghosts}
+use Rattle.hose_words.specs.declared.lines.Line.{Line}
+use Rattle.hose_words.specs.declared.lines.Line.TheVariants.{Text, Long}
+use Rattle.hose_words.specs.declared.lines.LineFault.{LineFault}
+use Rattle.hose_words.specs.declared.lines.LineFault.TheVariants.{Read, TooLong}
+
+-- a reader of lines: its source, the bytes that it took and has not given in a line, how many it took, and the fault that it met
+pub record Reader (S : Type 0) : Type 0 where
+  pub source : S
+  pub pending : List ℕ
+  pub taken : ℕ
+  pub fault : Option LineFault
+
+abbrev pub is_line_feed : ℕ → Bool
+is_line_feed byte = byte == 10
+
+-- a line is shown by its bytes, where they are at most 4096
+abbrev pub Shows : Line → List ℕ → Type 0
+Shows (Text shown) line = (length line ≤ 4096) × (shown.now ≡ line)
+Shows Long line = 4096 < length line
+
+-- the next line of a text, and the text that is left; none comes exactly at the end
+abbrev pub GivesLine : Option Line → List ℕ → List ℕ → Type 0
+GivesLine None text rest = (text ≡ []) × (rest ≡ [])
+GivesLine (Some line) text rest = (text ≢ []) × Shows line (before_first is_line_feed text) × (rest ≡ after_first is_line_feed text)
+
+-- bytes were passed over that do not end a line
+abbrev pub PassesOver : List ℕ → List ℕ → Type 0
+PassesOver text rest = (seen : List ℕ) × (text ≡ seen ++ rest) × All (λ byte. byte ≢ 10) seen
+
+-- how far a text was taken at a fault: no whole line was lost, and the byte past the limit belongs to no line
+abbrev pub StopsAt : LineFault → List ℕ → List ℕ → Type 0
+StopsAt Read text rest = PassesOver text rest
+StopsAt TooLong text rest = (byte : ℕ) × PassesOver text (byte ∷ rest)
+
+-- what a call of `next` does to a reader, and what it answers
+pub record IsNext {S : Type 0} (source : Ghosts S) (old new : Reader S) (result : Result (Option Line) LineFault) : Type 0 where
+  -- after a fault the reader stays as it is and answers the same
+  pub after_fault : IfSome old.fault (λ fault. (result ≡ Err fault) × (new ≡ old))
+  -- where the source tells, the text that is to come is what is pending and what the source has left
+  pub answer : old.fault ≡ None → IfSome (source.content old.source) (λ before. IfSome (source.content new.source) (λ after.
+      MatchResult result (λ line. GivesLine line (old.pending ++ before.left) (new.pending ++ after.left)) (λ fault. StopsAt fault (old.pending ++ before.left) after.left)))
+  -- the source gave these bytes in this call
+  pub takes : (bytes : List ℕ) × Gives (source.content old.source) (source.content new.source) bytes × (new.taken ≡ old.taken + length bytes)
+  pub limit : new.taken ≤ 2 ^ 30 + 1
+  -- exactly where the source gave more than 1 GiB
+  pub too_long : (result ≡ Err TooLong) ↔ (2 ^ 30 < new.taken)
+  -- only where a call failed, now or before
+  pub read : result ≡ Err Read → (old.fault ≡ Some Read) ⊎ Rose (source.faults old.source) (source.faults new.source)
+  -- a fault is kept
+  pub fault : MatchResult result (λ _. (old.fault ≡ None) × (new.fault ≡ None)) (λ fault. new.fault ≡ Some fault)
+  -- each line uses up at least one byte
+  pub progress : IfOk result (λ line. OnSome line (length new.pending + old.taken < length old.pending + new.taken))
+  pub never_falls : source.faults old.source ≤ source.faults new.source
+  pub number : source.number new.source ≡ source.number old.source
+  pub loan : source.loan new.source ≡ source.loan old.source

@@ -1,0 +1,163 @@
+// The bytes that were taken of a source and not yet given in a line.
+ghost use Rattle.std.specs.Prelude.{◌≡◌, ◌+◌, ◌<◌, ◌≤◌, ◌^◌, [], length, take, drop, Ok, IfOk, MatchResult};
+ghost use Rattle.std.specs.Bool.{MatchBool};
+ghost use Rattle.std.specs.List.{position, position_or_len};
+ghost use Rattle.hose_io.specs.Fault.{HasCause};
+ghost use Rattle.hose_io.specs.Stream.{Gives, IsAtEnd};
+ghost use Rattle.hose_words.specs.Lines.{is_line_feed};
+ghost use Rattle.hose_words.specs.Buffer.{CutsLine, Appends};
+
+use hose_io::{Failed, Source};
+use std::marker::Model;
+
+const LINE_FEED: u8 = b'\n';
+
+// Room for two of the longest lines that are shown, so that bytes are moved seldom.
+const ROOM: usize = 8192;
+
+// `bytes[start..end]` is pending, of which the first `searched` bytes are no line feeds, and
+// `bytes[line_start..line_end]` is the line that was cut off last.
+#[derive(Drop)]
+pub(crate) struct Buffer {
+    bytes: [u8; ROOM],
+    line_start: usize,
+    line_end: usize,
+    start: usize,
+    end: usize,
+    searched: usize,
+}
+
+impl Model for Buffer {
+    ghost use Rattle.std.specs.Prelude.{◌-◌, slice_range};
+    ghost use Rattle.hose_words.specs.Buffer.{Held};
+
+    ghost Value = { Held };
+
+    ghost use Rattle.hose_words.specs.BufferInside.{IsInOrder};
+
+    ghost view = { λ buffer. record { line = slice_range buffer.bytes buffer.line_start buffer.line_end; pending = slice_range buffer.bytes buffer.start buffer.end; room = 8192 - buffer.end } };
+
+    ghost invariant = { IsInOrder };
+}
+
+impl Buffer {
+    pub(crate) fn new() -> Buffer
+        ensures { result.pending ≡ [] }
+    {
+        Buffer {
+            bytes: [0; ROOM],
+            line_start: 0,
+            line_end: 0,
+            start: 0,
+            end: 0,
+            searched: 0,
+        }
+    }
+
+    pub(crate) fn line(&self) -> &[u8]
+        ensures { result.now ≡ self.now.line }
+    {
+        &self.bytes[self.line_start..self.line_end]
+    }
+
+    // How many bytes are pending.
+    pub(crate) fn len(&self) -> usize
+        ensures { result ≡ length self.now.pending }
+    {
+        self.end - self.start
+    }
+
+    // Cuts off the first line that is pending whole, where there is one.
+    pub(crate) fn cut_line(&mut self) -> bool
+        ensures { CutsLine result self.old.pending self.new.line self.new.pending }
+    {
+        let fresh = &self.bytes[self.start + self.searched..self.end];
+        let len = self.searched + before_line_feed(fresh);
+        if self.start + len == self.end {
+            self.searched = len;
+            return false;
+        }
+        self.line_start = self.start;
+        self.line_end = self.start + len;
+        self.start = self.line_end + 1;
+        self.searched = 0;
+        true
+    }
+
+    // Cuts off all that is pending, as the last line.
+    pub(crate) fn cut_rest(&mut self)
+        ensures line { self.new.line ≡ self.old.pending }
+        ensures pending { self.new.pending ≡ [] }
+    {
+        self.line_start = self.start;
+        self.line_end = self.end;
+        self.start = self.end;
+        self.searched = 0;
+    }
+
+    // Moves what is pending to the front, where no room is left behind it.
+    pub(crate) fn make_room(&mut self)
+        requires { length self.old.pending < 8192 }
+        ensures pending { self.new.pending ≡ self.old.pending }
+        ensures room { 0 < self.new.room }
+    {
+        if self.end < ROOM {
+            return;
+        }
+        self.bytes.copy_within(self.start..self.end, 0);
+        self.line_start = 0;
+        self.line_end = 0;
+        self.end -= self.start;
+        self.start = 0;
+    }
+
+    // Takes at most `most` bytes of the source, behind those that are pending.
+    pub(crate) fn fill<S: Source>(&mut self, source: &mut S, most: usize) -> Result<usize, Failed>
+        requires some { 0 < most }
+        requires room { 0 < self.old.room }
+        ensures most { IfOk result (λ count. count ≤ most) }
+        ensures taken { MatchResult result
+            (λ count. Appends (S.content source.old) (S.content source.new) self.old.pending self.new.pending count)
+            (λ _. (S.content source.new ≡ S.content source.old) × (self.new.pending ≡ self.old.pending)) }
+        ensures none_only_at_end { result ≡ Ok 0 → IsAtEnd (S.content source.old) }
+        ensures cause { HasCause (S.faults source.old) (S.faults source.new) result }
+        ensures number { S.number source.new ≡ S.number source.old }
+        ensures loan { S.loan source.new ≡ S.loan source.old }
+    {
+        let most = most.min(ROOM - self.end);
+        let taken = take_behind(source, &mut self.bytes, self.end, most);
+        self.end += taken.unwrap_or(0);
+        taken
+    }
+}
+
+// How many bytes stand before the first line feed.
+#[tactic(auto, using(crate::proofs::WordLemmas::front_bound))]
+fn before_line_feed(bytes: &[u8]) -> usize
+    ensures place { result ≡ position_or_len is_line_feed bytes.now }
+    ensures bound { result ≤ length bytes.now }
+{
+    bytes.iter().take_while(|byte| **byte != LINE_FEED).count()
+}
+
+// Takes at most `most` bytes of the source, behind the first `end` bytes.
+fn take_behind<S: Source>(
+    source: &mut S,
+    bytes: &mut [u8],
+    end: usize,
+    most: usize,
+) -> Result<usize, Failed>
+    requires some { 0 < most }
+    requires room { end + most ≤ length bytes.old }
+    ensures most { IfOk result (λ count. count ≤ most) }
+    ensures before { take end bytes.new ≡ take end bytes.old }
+    ensures taken { MatchResult result
+        (λ count. Gives (S.content source.old) (S.content source.new) (take count (drop end bytes.new)))
+        (λ _. S.content source.new ≡ S.content source.old) }
+    ensures none_only_at_end { result ≡ Ok 0 → IsAtEnd (S.content source.old) }
+    ensures cause { HasCause (S.faults source.old) (S.faults source.new) result }
+    ensures number { S.number source.new ≡ S.number source.old }
+    ensures loan { S.loan source.new ≡ S.loan source.old }
+{
+    source.take(&mut bytes[end..end + most])
+}

@@ -1,0 +1,176 @@
+// What a reader of lines keeps beside its source: the bytes that it took, and how far it may go on.
+ghost use Rattle.std.specs.Prelude.{◌≡◌, ◌^◌, ◌<◌, ◌≤◌, [], length, None};
+ghost use Rattle.hose_words.specs.Buffer.{CutsLine};
+ghost use Rattle.hose_words.specs.Intake.{reader_of, found_of, last_of, ShowsFound, FindsNext, DropsLong, IsTurn};
+
+use crate::buffer::Buffer;
+use crate::lines::{Line, LineFault};
+use hose_io::{Failed, Source};
+use std::marker::Model;
+
+// How many bytes a reader takes before one more is too many: 1 GiB.
+const LIMIT: u64 = 1 << 30;
+
+// How many bytes a line that is shown has at most.
+const LONGEST: usize = 4096;
+
+// What a search for the next line came to. The bytes of a text are those that were cut off last.
+#[derive(Clone, Copy, Debug)]
+pub(crate) enum Found {
+    End,
+    Long,
+    Text,
+}
+
+#[derive(Drop)]
+pub(crate) struct Intake {
+    buffer: Buffer,
+    taken: u64,
+    fault: Option<LineFault>,
+}
+
+impl Model for Intake {
+    ghost use Rattle.std.specs.Prelude.{◌≡◌, ◌+◌, ◌^◌, ◌<◌, ◌≤◌, ◌↔◌, Some};
+    ghost use Rattle.hose_words.specs.declared.lines.LineFault.TheVariants.{TooLong};
+    ghost use Rattle.hose_words.specs.Kept.{Kept};
+
+    ghost Value = { Kept };
+
+    ghost view = { λ intake. record { line = intake.buffer.line; pending = intake.buffer.pending; taken = intake.taken; fault = intake.fault } };
+
+    ghost invariant = { λ intake. (intake.taken ≤ 2 ^ 30 + 1) × ((intake.fault ≡ Some TooLong) ↔ (2 ^ 30 < intake.taken)) };
+}
+
+impl Intake {
+    pub(crate) fn new() -> Intake
+        ensures pending { result.pending ≡ [] }
+        ensures taken { result.taken ≡ 0 }
+        ensures fault { result.fault ≡ None }
+    {
+        Intake {
+            buffer: Buffer::new(),
+            taken: 0,
+            fault: None,
+        }
+    }
+
+    // Finds the next line, and takes what it needs for that.
+    pub(crate) fn advance<S: Source>(&mut self, source: &mut S) -> Result<Found, LineFault>
+        ensures { FindsNext S.Source (reader_of source.old self.old) (reader_of source.new self.new) self.new.line result }
+    {
+        if let Some(fault) = self.fault {
+            return Err(fault);
+        }
+        let mut is_long = false;
+        loop {
+            if self.cut_line() {
+                return Ok(self.found(is_long));
+            }
+            is_long = self.drop_long(is_long);
+            if !self.take_more(source)? {
+                self.cut_rest();
+                return Ok(self.last(is_long));
+            }
+        }
+    }
+
+    pub(crate) fn shown(&self, found: Found) -> Option<Line<'_>>
+        ensures { ShowsFound found self.now.line result }
+    {
+        match found {
+            Found::End => None,
+            Found::Long => Some(Line::Long),
+            Found::Text => Some(Line::Text(self.buffer.line())),
+        }
+    }
+
+    fn cut_line(&mut self) -> bool
+        ensures cuts { CutsLine result self.old.pending self.new.line self.new.pending }
+        ensures taken { self.new.taken ≡ self.old.taken }
+        ensures fault { self.new.fault ≡ self.old.fault }
+    {
+        self.buffer.cut_line()
+    }
+
+    fn cut_rest(&mut self)
+        ensures { self.new ≡ record { line = self.old.pending; pending = []; taken = self.old.taken; fault = self.old.fault } }
+    {
+        self.buffer.cut_rest();
+    }
+
+    // Drops what is pending, where it is too long to be shown.
+    fn drop_long(&mut self, is_long: bool) -> bool
+        ensures drops { DropsLong is_long result self.old.pending self.new.pending }
+        ensures taken { self.new.taken ≡ self.old.taken }
+        ensures fault { self.new.fault ≡ self.old.fault }
+    {
+        if self.buffer.len() <= LONGEST {
+            return is_long;
+        }
+        self.buffer.cut_rest();
+        true
+    }
+
+    fn found(&self, is_long: bool) -> Found
+        ensures { result ≡ found_of is_long self.now.line }
+    {
+        if is_long || self.buffer.line().len() > LONGEST {
+            Found::Long
+        } else {
+            Found::Text
+        }
+    }
+
+    fn last(&self, is_long: bool) -> Found
+        ensures { result ≡ last_of is_long self.now.line }
+    {
+        if !is_long && self.buffer.line().is_empty() {
+            Found::End
+        } else {
+            self.found(is_long)
+        }
+    }
+
+    // Takes more of the source. `false` says that it met its end.
+    fn take_more<S: Source>(&mut self, source: &mut S) -> Result<bool, LineFault>
+        requires room { length self.old.pending ≤ 4096 }
+        requires fault { self.old.fault ≡ None }
+        ensures { IsTurn S.Source (reader_of source.old self.old) (reader_of source.new self.new) result }
+    {
+        if self.taken >= LIMIT {
+            return self.take_past_limit(source);
+        }
+        self.buffer.make_room();
+        match self.buffer.fill(source, (LIMIT - self.taken) as usize) {
+            Ok(count) => {
+                self.taken += count as u64;
+                Ok(count > 0)
+            }
+            Err(Failed) => {
+                self.fault = Some(LineFault::Read);
+                Err(LineFault::Read)
+            }
+        }
+    }
+
+    // Where a reader took all that it may, one byte more is too many.
+    fn take_past_limit<S: Source>(&mut self, source: &mut S) -> Result<bool, LineFault>
+        requires limit { self.old.taken ≡ 2 ^ 30 }
+        requires fault { self.old.fault ≡ None }
+        ensures { IsTurn S.Source (reader_of source.old self.old) (reader_of source.new self.new) result }
+    {
+        let mut byte = [0];
+        match source.take(&mut byte) {
+            Ok(0) => Ok(false),
+            Ok(_) => {
+                self.taken += 1;
+                self.fault = Some(LineFault::TooLong);
+                Err(LineFault::TooLong)
+            }
+            Err(Failed) => {
+                self.fault = Some(LineFault::Read);
+                Err(LineFault::Read)
+            }
+        }
+    }
+}

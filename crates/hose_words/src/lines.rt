@@ -1,0 +1,80 @@
+// A source read line by line.
+ghost use Rattle.std.specs.Prelude.{◌≡◌, [], None};
+ghost use Rattle.std.specs.Borrow.{sem};
+ghost use Rattle.std.specs.Io.BufRead.{Rests};
+
+#[cfg(test)]
+mod tests;
+
+use crate::fuse::Fuse;
+use crate::intake::Intake;
+use hose_io::Source;
+use std::marker::Model;
+
+/// A line, without its line feed.
+#[derive(Clone, Copy, Debug, PartialEq, Eq)]
+pub enum Line<'a> {
+    /// A line of at most 4096 bytes.
+    Text(&'a [u8]),
+    /// A longer line. It was passed over, to its end.
+    Long,
+}
+
+/// Why no more lines come. Each later call answers the same.
+#[derive(Clone, Copy, Debug, PartialEq, Eq)]
+pub enum LineFault {
+    /// A call of the source failed.
+    Read,
+    /// The source gave more than 1 GiB.
+    TooLong,
+}
+
+/// Reads a source line by line. A line ends at a line feed, and the last one may end with the input.
+///
+/// It takes no memory beside its own. It takes bytes only where no whole line is pending, and asks a source that has met
+/// its end no more.
+#[derive(Drop)]
+pub struct LineReader<S: Source> {
+    source: Fuse<S>,
+    intake: Intake,
+}
+
+impl<S: Source> Model for LineReader<S> {
+    ghost use Rattle.hose_words.specs.Lines.{Reader};
+    ghost use Rattle.hose_words.specs.Intake.{reader_of};
+
+    ghost Value = { Reader S };
+
+    ghost view = { λ reader. reader_of reader.source reader.intake };
+}
+
+impl<S: Source> LineReader<S> {
+    ghost use Rattle.hose_words.specs.Lines.{IsNext};
+    ghost use Rattle.hose_words.specs.contracts.lines.LineReader.{the_row};
+
+    /// A reader that has taken nothing.
+    pub fn new(source: S) -> LineReader<S>
+        ensures { result ≡ record { source = source; pending = []; taken = 0; fault = None } }
+    {
+        LineReader {
+            source: Fuse::new(source),
+            intake: Intake::new(),
+        }
+    }
+
+    /// The next line, or `None` at the end of the input.
+    pub fn next(&mut self) -> Result<Option<Line<'_>>, LineFault>
+        ensures* after { sem 𝓛 (Rests (the_row S.row S.Source) self.entry
+            (λ new. IsNext S.Source self.old new result)) }
+    {
+        let found = self.intake.advance(&mut self.source)?;
+        Ok(self.intake.shown(found))
+    }
+
+    /// The source, from behind the bytes that were taken.
+    pub fn into_source(self) -> S
+        ensures { result ≡ self.source }
+    {
+        self.source.into_inner()
+    }
+}
