@@ -18,7 +18,7 @@ pub total_rate-le : (ends : List (ℕ × ℕ)) → IsHose ends → total_rate en
 total_rate-le ends is =
     let rates : All (λ end. end.1 ≤ MOST_RATE) ends =
     All-weaker IsEnd (λ end. end.1 ≤ MOST_RATE) (λ end fits. fits.rate.1) ends is.within in
-    omega (arith, sum_by-le (λ end. end.1) MOST_RATE ends rates, is.few)
+    omega (arith, sum_by-le (λ end. end.1) MOST_RATE ends rates, is.counted.few)
 
 -- endpoints at distinct nodes, and one more that is at none of these
 pub HasDistinctNodes-more : (ends : List (ℕ × ℕ)) (k : ℕ) (d : ℕ × ℕ) → k < length ends →
@@ -58,8 +58,7 @@ IsHose-sorted ends sorted makes moved rises =
     (λ i j d order below. rw (before_at i d (omega arith), before_at j d (omega arith))
     (ne_eqb _ _ (makes.distinct i j (0, 0) order (omega arith)))) in
     record {
-      enough = omega (arith, makes.counted.enough);
-      few = omega (arith, makes.counted.few);
+      counted = record { enough = omega (arith, makes.counted.enough); few = omega (arith, makes.counted.few) };
       within = All-permutation IsEnd ends sorted moved makes.within;
       ascending = IsStrictlyIncreasing-from_distinct (firsts sorted) rising
           (IsDistinct-IsPermutation eqb nat_eq_equiv.symm (firsts ends) (firsts sorted) (IsPermutation-map (λ pair. pair.0) ends sorted moved) apart);

@@ -10,10 +10,14 @@ pub record IsEnd (end : ℕ × ℕ) : Type 0 where
   pub node : end.0 < MOST_NODES
   pub rate : IsUpTo MOST_RATE end.1
 
--- A hose has 2 to 64 endpoints in ascending order of nodes, no node twice.
-pub record IsHose (ends : List (ℕ × ℕ)) : Type 0 where
+-- how many endpoints there are is within the limits
+pub record IsCounted (ends : List (ℕ × ℕ)) : Type 0 where
   pub enough : LEAST_ENDS ≤ length ends
   pub few : length ends ≤ MOST_ENDS
+
+-- A hose has 2 to 64 endpoints in ascending order of nodes, no node twice.
+pub record IsHose (ends : List (ℕ × ℕ)) : Type 0 where
+  pub counted : IsCounted ends
   pub within : All IsEnd ends
   pub ascending : IsAscending ends
 
@@ -24,11 +28,6 @@ total_rate ends = sum_by (λ end. end.1) ends
 -- no two of these endpoints are at one node
 abbrev pub HasDistinctNodes : List (ℕ × ℕ) → Type 0
 HasDistinctNodes ends = AllPairs (λ one other. one.0 ≢ other.0) ends
-
--- how many endpoints there are is within the limits
-pub record IsCounted (ends : List (ℕ × ℕ)) : Type 0 where
-  pub enough : LEAST_ENDS ≤ length ends
-  pub few : length ends ≤ MOST_ENDS
 
 -- These endpoints, in any order, make a hose.
 pub record MakesHose (ends : List (ℕ × ℕ)) : Type 0 where
