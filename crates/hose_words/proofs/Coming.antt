@@ -1,5 +1,5 @@
 -- How far a call of `next` has come, and what it answers from there.
-use Rattle.std.proofs.Common.{◌≡◌, ◌≢◌, ℕ, ◌+◌, ◌^◌, ◌<◌, ◌≤◌, ◌↔◌, Bool, true, false, nat_lt, eqb, cond, List, [], ◌∷◌, ◌++◌, length, sym, ap, ◌∙◌, refl, arith, le_refl, le_trans, inl, inr, ⊎_elim, Option, None, Some, IfSome, OnSome, Ok, Err, MatchBool, All}
+use Rattle.std.proofs.Common.{◌≡◌, ◌≢◌, ℕ, ◌+◌, ◌^◌, ◌<◌, ◌≤◌, Bool, true, false, nat_lt, eqb, cond, List, [], ◌∷◌, ◌++◌, length, sym, ap, ◌∙◌, refl, arith, le_trans, inl, inr, ⊎_elim, Option, None, Some, IfSome, OnSome, Ok, Err, MatchBool, All}
 use Rattle.std.specs.List.{position_or_len}
 use Rattle.std.proofs.lemmas.List.{append-nil, append_assoc, length-append, length-drop, nil_from_length}
 use Rattle.std.proofs.lemmas.Bool.{ltb-true, ltb-false, eqb-true, eqb-false, cases_lt}
@@ -31,9 +31,6 @@ Gives-append (Some o) (Some m) (Some n) xs ys a b = record {
   taken = b.taken ∙ (ap (λ l. l ++ ys) a.taken ∙ append_assoc o.taken xs ys);
   left = a.left ∙ (ap (λ l. xs ++ l) b.left ∙ sym (append_assoc xs ys n.left));
 }
-
-pub Gives-same : (o m n : Option Stream) (xs : List ℕ) → Gives o m xs → n ≡ m → Gives o n xs
-Gives-same o m n xs a same = rw same a
 
 -- what holds of all that may be left, where a source tells what it gave
 pub told : (o n : Option Stream) (bytes : List ℕ) (P : List ℕ → List ℕ → Type 0) → Gives o n bytes → ((rest : List ℕ) → P (bytes ++ rest) rest) → IfSome o (λ before. IfSome n (λ after. P before.left after.left))
@@ -95,23 +92,6 @@ module _ {S : Type 0} (source : Ghosts S) where
     pub never_falls : source.faults old.source ≤ source.faults now.source
     pub number : source.number now.source ≡ source.number old.source
     pub loan : source.loan now.source ≡ source.loan old.source
-
-  pub HasCome-start : (old : Reader S) → old.fault ≡ None → old.taken ≤ 2 ^ 30 → HasCome old old false
-  HasCome-start old none limit = record {
-    bytes = [];
-    dropped = [];
-    gives = Gives-nil (source.content old.source);
-    taken = omega arith;
-    split = append-nil old.pending;
-    plain = refl;
-    long = refl;
-    limit = limit;
-    was = none;
-    fault = none;
-    never_falls = le_refl _;
-    number = refl;
-    loan = refl;
-  }
 
   -- no line is pending whole, and what was too long was dropped
   pub record HasPassed (old now : Reader S) (is_long : Bool) : Type 0 where
@@ -191,21 +171,6 @@ module _ {S : Type 0} (source : Ghosts S) where
   seen : (old r : Reader S) (is_long : Bool) (p : HasPassed old r is_long) → All (λ byte. byte ≢ 10) (old.pending ++ p.come.bytes)
   seen old r is_long p =
       All-from_IsPlain (old.pending ++ p.come.bytes) (rw p.come.split (IsPlain-append p.come.dropped r.pending p.come.plain p.plain))
-
-  pub IsNext-again : (old : Reader S) (fault : LineFault) → old.fault ≡ Some fault → old.taken ≤ 2 ^ 30 + 1 → ((old.fault ≡ Some TooLong) ↔ (2 ^ 30 < old.taken)) → IsNext source old old (Err fault)
-  IsNext-again old fault was limit long = record {
-    after_fault = rw was (refl, refl);
-    answer = λ none. absurd (cc (was, none));
-    takes = ([], Gives-nil (source.content old.source), omega arith);
-    limit = limit;
-    too_long = (λ e. long.0 (cc (was, e)), λ over. cc (was, long.1 over));
-    read = λ e. inl (cc (was, e));
-    fault = was;
-    progress = tt;
-    never_falls = le_refl _;
-    number = refl;
-    loan = refl;
-  }
 
   pub IsNext-line : (old r now : Reader S) (is_long : Bool) (line : List ℕ) (shown : Option Line) → HasCome old r is_long → CutsLine true r.pending line now.pending
       → now.source ≡ r.source → now.taken ≡ r.taken → now.fault ≡ r.fault → ShowsFound (found_of is_long line) line shown → IsNext source old now (Ok shown)

@@ -2,7 +2,8 @@ use Rattle.std.proofs.Common.{◌∙◌, nat_lt, length, refl}
 use Rattle.std.proofs.lemmas.Bool.{MatchBool-at_true}
 use Rattle.std.proofs.lemmas.Result.{err_from_is_err_and}
 use Rattle.hose_words.specs.Intake.{reader_of, TakesBytes, MeetsEnd}
-use Rattle.hose_words.proofs.Coming.{HasPassed-from, HasCome-more, IsNext-line, IsNext-last, IsNext-fault}
+use Rattle.hose_words.proofs.Coming.{HasPassed, HasPassed-from, HasCome-more, IsNext-line, IsNext-last, IsNext-fault}
+use Rattle.hose_words.proofs.intake.Intake.advance.Goals.{After-drop_long-is_long}
 use Rattle.hose_words.proofs.intake.Intake.advance.Goals as goal
 
 pub returns-then-cut_line : goal.returns-then-cut_line
@@ -12,39 +13,38 @@ returns-then-cut_line g c = λ shown shows.
     let now = reader_of c.loop-self.source c.cut_line.new.self in
     IsNext-line g.S.Source old r now c.loop-self.is_long c.cut_line.new.self.line shown c.loop-self.invariant c.if-cut_line.ensures.cuts refl c.cut_line.ensures.taken c.cut_line.ensures.fault (rw c.found.ensures at shows)
 
+-- before more is taken, no line is pending whole and nothing that is too long
+passed : (g : _) (c : After-drop_long-is_long g) → HasPassed g.S.Source (reader_of c.args.source.now c.args.self.now) (reader_of c.loop-self.source c.drop_long-is_long.new.self) c.drop_long-is_long.result
+passed g c =
+    let old = reader_of c.args.source.now c.args.self.now in
+    let r = reader_of c.loop-self.source c.loop-self.self in
+    let now = reader_of c.loop-self.source c.drop_long-is_long.new.self in
+    let cuts = c.if-cut_line.ensures.cuts in
+    let pending = c.cut_line.new.self.pending in
+    let drops = c.drop_long-is_long.ensures in
+    HasPassed-from g.S.Source old r now c.loop-self.is_long c.drop_long-is_long.result (nat_lt 4096 (length pending)) pending c.loop-self.invariant cuts.0 cuts.1 refl drops.drops refl (drops.taken ∙ c.cut_line.ensures.taken) (drops.fault ∙ c.cut_line.ensures.fault)
+
 pub returns-in_err-take_more : goal.returns-in_err-take_more
 returns-in_err-take_more g c =
     let old = reader_of c.args.source.now c.args.self.now in
-    let r = reader_of c.loop-self.source c.loop-self.self in
-    let passed = reader_of c.loop-self.source c.drop_long-is_long.new.self in
+    let r = reader_of c.loop-self.source c.drop_long-is_long.new.self in
     let now = reader_of c.take_more.new.source c.take_more.new.self in
-    let cuts = c.if-cut_line.ensures.cuts in
-    let pending = c.cut_line.new.self.pending in
-    let p = HasPassed-from g.S.Source old r passed c.loop-self.is_long c.drop_long-is_long.result (nat_lt 4096 (length pending)) pending c.loop-self.invariant cuts.0 cuts.1 refl c.drop_long-is_long.ensures.drops refl (c.drop_long-is_long.ensures.taken ∙ c.cut_line.ensures.taken) (c.drop_long-is_long.ensures.fault ∙ c.cut_line.ensures.fault) in
     let e = err_from_is_err_and c.from_residual.result c.from_residual.ensures.1 in
-    rw (e.1, e.2) (IsNext-fault g.S.Source old passed now c.drop_long-is_long.result _ p c.in_err-take_more.ensures)
+    rw (e.1, e.2) (IsNext-fault g.S.Source old r now c.drop_long-is_long.result _ (passed g (goal.at.returns-in_err-take_more g c).After-drop_long-is_long) c.in_err-take_more.ensures)
 
 pub returns-then-not-branch : goal.returns-then-not-branch
 returns-then-not-branch g c = λ shown shows.
     let old = reader_of c.args.source.now c.args.self.now in
-    let r = reader_of c.loop-self.source c.loop-self.self in
-    let passed = reader_of c.loop-self.source c.drop_long-is_long.new.self in
+    let r = reader_of c.loop-self.source c.drop_long-is_long.new.self in
     let m = reader_of c.take_more.new.source c.take_more.new.self in
     let now = reader_of c.take_more.new.source c.cut_rest.new.self in
-    let cuts = c.if-cut_line.ensures.cuts in
-    let pending = c.cut_line.new.self.pending in
-    let p = HasPassed-from g.S.Source old r passed c.loop-self.is_long c.drop_long-is_long.result (nat_lt 4096 (length pending)) pending c.loop-self.invariant cuts.0 cuts.1 refl c.drop_long-is_long.ensures.drops refl (c.drop_long-is_long.ensures.taken ∙ c.cut_line.ensures.taken) (c.drop_long-is_long.ensures.fault ∙ c.cut_line.ensures.fault) in
-    IsNext-last g.S.Source old passed m now c.drop_long-is_long.result shown p (rw c.if-not-branch.true at c.in_ok-take_more.ensures) (rw c.cut_rest.ensures refl) (rw (c.last.ensures, c.cut_rest.ensures) at shows)
+    IsNext-last g.S.Source old r m now c.drop_long-is_long.result shown (passed g (goal.at.returns-then-not-branch g c).After-drop_long-is_long) (rw c.if-not-branch.true at c.in_ok-take_more.ensures) (rw c.cut_rest.ensures refl) (rw (c.last.ensures, c.cut_rest.ensures) at shows)
 
 pub loop-self-preserved : goal.loop-self-preserved
 loop-self-preserved g c =
     let old = reader_of c.args.source.now c.args.self.now in
-    let r = reader_of c.loop-self.source c.loop-self.self in
-    let passed = reader_of c.loop-self.source c.drop_long-is_long.new.self in
+    let r = reader_of c.loop-self.source c.drop_long-is_long.new.self in
     let now = reader_of c.take_more.new.source c.take_more.new.self in
-    let cuts = c.if-cut_line.ensures.cuts in
-    let pending = c.cut_line.new.self.pending in
-    let p = HasPassed-from g.S.Source old r passed c.loop-self.is_long c.drop_long-is_long.result (nat_lt 4096 (length pending)) pending c.loop-self.invariant cuts.0 cuts.1 refl c.drop_long-is_long.ensures.drops refl (c.drop_long-is_long.ensures.taken ∙ c.cut_line.ensures.taken) (c.drop_long-is_long.ensures.fault ∙ c.cut_line.ensures.fault) in
     let turn = c.in_ok-take_more.ensures in
-    let took = MatchBool-at_true (TakesBytes g.S.Source passed now) (MeetsEnd g.S.Source passed now) c.if-not-branch.false turn.cases in
-    HasCome-more g.S.Source old passed now c.drop_long-is_long.result p took turn.never_falls turn.number turn.loan
+    let took = MatchBool-at_true (TakesBytes g.S.Source r now) (MeetsEnd g.S.Source r now) c.if-not-branch.false turn.cases in
+    HasCome-more g.S.Source old r now c.drop_long-is_long.result (passed g (goal.at.loop-self-preserved g c).After-drop_long-is_long) took turn.never_falls turn.number turn.loan
