@@ -62,10 +62,12 @@ reserved_fits network book (pair ∷ plan) l rises fits =
       | inr other ↦ grind (arith, nat_tests)
     ]
 
-abbrev NoneOversold : Network → Book → Type 0
+-- no link is oversold at a book
+abbrev pub NoneOversold : Network → Book → Type 0
 NoneOversold network book = (l : ℕ) → load_of book l ≤ capacity_of network l
 
-entry_keeps : (network : Network) (book : Book) (entry : Entry) → IsSoundAt network book entry → NoneOversold network book → NoneOversold network (next_book book entry)
+-- nor is one after a sound entry
+pub entry_keeps : (network : Network) (book : Book) (entry : Entry) → IsSoundAt network book entry → NoneOversold network book → NoneOversold network (next_book book entry)
 entry_keeps network book (Admit customer hose plan) sound kept l =
     let vpn : Vpn = record { id = book.epoch + 1; customer = customer; hose = hose; amounts = plan } in
     let more = sum_by_push (λ (v : Vpn). amount_on l v.amounts) book.live vpn in

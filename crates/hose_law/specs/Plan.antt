@@ -19,9 +19,12 @@ rate_on side hose = sum_by (λ (end : ℕ × ℕ). if slice_index_or side end.0 
 abbrev pub IsSideOf : Network → ℕ → List Bool → Type 0
 IsSideOf network l side = IsSomeAnd (slice_get network.links l) (λ (link : Link). IsSide network (without (all_links network) l) link.a side)
 
--- The network has a cycle: there is a link without which its nodes are still joined.
+-- A link is on a cycle where its nodes are joined without it, and a network with such a link has a cycle.
+abbrev pub IsOnCycle : Network → ℕ → Type 0
+IsOnCycle network l = IsSomeAnd (slice_get network.links l) (λ (link : Link). Reaches network (without (all_links network) l) link.a link.b)
+
 abbrev pub HasCycle : Network → Type 0
-HasCycle network = (l : ℕ) × IsSomeAnd (slice_get network.links l) (λ (link : Link). Reaches network (without (all_links network) l) link.a link.b)
+HasCycle network = (l : ℕ) × IsOnCycle network l
 
 -- What a link divides: a part of the rates is on its side and a part on the other, and the smaller part is the amount.
 pub record IsShare (network : Network) (hose : List (ℕ × ℕ)) (l amount : ℕ) : Type 0 where
