@@ -1,0 +1,4 @@
+//! The provisioning server as one call: what it answers on an output to what it reads on an input.
+#![tactic(auto)]
+
+mod reach;
