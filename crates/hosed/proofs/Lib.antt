@@ -1,1 +1,4 @@
+pub mod Costs
+pub mod Joining
 pub mod Reaching
+pub mod Sharing

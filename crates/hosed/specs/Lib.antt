@@ -1,1 +1,3 @@
 pub mod Reach
+pub mod Shares
+pub mod Sides

@@ -1,4 +1,5 @@
 //! The provisioning server as one call: what it answers on an output to what it reads on an input.
 #![tactic(auto)]
 
+mod plan;
 mod reach;
