@@ -1,4 +1,6 @@
 pub mod Costs
+pub mod Fitting
 pub mod Joining
+pub mod Listing
 pub mod Reaching
 pub mod Sharing

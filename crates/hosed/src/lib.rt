@@ -1,5 +1,6 @@
 //! The provisioning server as one call: what it answers on an output to what it reads on an input.
 #![tactic(auto)]
 
+mod book;
 mod plan;
 mod reach;

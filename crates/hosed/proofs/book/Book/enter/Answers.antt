@@ -1,0 +1,77 @@
+use Rattle.std.proofs.Common.{◌≡◌, ℕ, ◌+◌, ◌<◌, List, ◌++◌, length, get_or, take, drop, sym, ap, subst, arith}
+use Rattle.std.proofs.lemmas.List.{take_at, length_push}
+use Rattle.hose_graph.specs.declared.vpn.Vpn.{Vpn}
+use Rattle.hose_graph.specs.declared.entry.Entry.TheVariants.{Admit}
+use Rattle.hose_law.specs.Book.{Book, amount_on, load_of}
+use Rattle.hose_law.specs.History.{IsSoundAt, next_book}
+use Rattle.hose_law.proofs.Sold.{NoneOversold, entry_keeps}
+use Rattle.hosed.specs.Ledger.{Ledger, AreLoads}
+use Rattle.hosed.proofs.Fitting.{plan_links, capacity_small, load_more}
+use Rattle.hosed.proofs.book.Book.enter.Goals as goal
+
+pub add_amounts-requires-clause-links : goal.add_amounts-requires-clause-links
+add_amounts-requires-clause-links c = λ k d inside.
+    let ledger = c.args.self.now in
+    let links = plan_links ledger.network c.args.hose c.args.amounts c.requires.2.exists in
+    let link : (get_or c.args.amounts k d).0 < length ledger.network.links = links k d (omega (arith, ap length c.pairs.ensures.value)) in
+    omega (
+      arith,
+      link,
+      ap (λ (ps : List (ℕ × ℕ)). (get_or ps k d).0) c.pairs.ensures.value,
+      ap length c.deref_mut.ensures.value,
+      c.self.invariant.2.places,
+      ap (λ (s : Ledger). length s.network.links) c.self.view_is,
+    )
+
+pub add_amounts-requires-clause-fits : goal.add_amounts-requires-clause-fits
+add_amounts-requires-clause-fits c = λ l inside.
+    let network = c.self.inside.topology in
+    let book : Book = record { epoch = c.self.inside.epoch; live = c.self.inside.live.items } in
+    let entry = Admit c.args.customer c.args.hose c.args.amounts in
+    let sound : IsSoundAt network book entry = subst (λ (s : Ledger). IsSoundAt s.network s.book entry) (sym c.self.view_is) c.requires in
+    let kept : NoneOversold network (next_book book entry) = entry_keeps network book entry sound c.self.invariant.2.none_oversold in
+    let loads_is = c.deref_mut.ensures.value in
+    let here = c.self.invariant.2.each l (omega (arith, ap length loads_is, c.self.invariant.2.places)) in
+    omega (
+      arith,
+      kept l,
+      capacity_small network l c.self.invariant.0,
+      load_more book c.args.customer c.args.hose c.args.amounts l,
+      here,
+      ap (λ (s : List ℕ). get_or s l 0) loads_is,
+      ap (λ (ps : List (ℕ × ℕ)). amount_on l ps) c.pairs.ensures.value,
+    )
+
+pub invariant_of-self : goal.invariant_of-self
+invariant_of-self c =
+    let network = c.self.inside.topology in
+    let book : Book = record { epoch = c.self.inside.epoch; live = c.self.inside.live.items } in
+    let entry = Admit c.args.customer c.args.hose c.args.amounts in
+    let sound : IsSoundAt network book entry = subst (λ (s : Ledger). IsSoundAt s.network s.book entry) (sym c.self.view_is) c.requires in
+    let kept : NoneOversold network (next_book book entry) = entry_keeps network book entry sound c.self.invariant.2.none_oversold in
+    let old = c.self.invariant.2 in
+    let loads_is = c.deref_mut.ensures.value in
+    let new = c.add_amounts.new.loads in
+    let long : length new ≡ length network.links = omega (arith, c.add_amounts.auto.loads, ap length loads_is, old.places) in
+    let taken : take c.self.inside.loads.len (new ++ drop (length new) c.self.inside.loads.items) ≡ new =
+    take_at new (drop (length new) c.self.inside.loads.items) c.self.inside.loads.len (omega (arith, long, old.places, c.self.inside.loads.ok.0)) in
+    let next_is : next_book book entry ≡ record { epoch = c.self.inside.epoch + 1; live = c.push_reserved.new.self.items } =
+    ap (λ (live : List Vpn). record { epoch = c.self.inside.epoch + 1; live = live }) (sym c.push_reserved.ensures.items) in
+    let each : (l : ℕ) → l < length network.links → get_or new l 0 ≡ load_of (next_book book entry) l = λ l inside.
+    omega (
+      arith,
+      c.add_amounts.ensures l (omega (arith, ap length loads_is, old.places)),
+      ap (λ (s : List ℕ). get_or s l 0) loads_is,
+      old.each l inside,
+      ap (λ (ps : List (ℕ × ℕ)). amount_on l ps) c.pairs.ensures.value,
+      load_more book c.args.customer c.args.hose c.args.amounts l,
+    ) in
+    let loads : AreLoads network (next_book book entry) new = record { places = long; each = each; none_oversold = kept } in (
+      c.self.invariant.0,
+      c.self.invariant.1,
+      subst (λ (b : Book). AreLoads network b (take c.self.inside.loads.len (new ++ drop (length new) c.self.inside.loads.items))) next_is
+          (subst (AreLoads network (next_book book entry)) (sym taken) loads),
+      omega (arith, sound.0),
+      omega (arith, sound.1, ap length c.push_reserved.ensures.items, length_push c.self.inside.live.items (record { id = c.self.inside.epoch + 1; customer = c.args.customer; hose = c.args.hose; amounts = c.args.amounts })),
+      omega (arith, c.self.invariant.5, c.push_reserved.ensures.capacity),
+    )

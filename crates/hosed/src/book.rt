@@ -1,0 +1,247 @@
+// The book: the live VPNs, the loads that they make, and what is decided of a hose.
+ghost use Rattle.std.specs.Prelude.{◌≡◌, ◌+◌, ◌<◌, ◌↔◌, ◌^◌, ℕ, length, slice_index, List, All, IsTrue, IfOk, IfSome, IfNone};
+ghost use Rattle.hose_graph.specs.Network.{IsNetwork};
+ghost use Rattle.hose_law.specs.Book.{amount_on, free_rate, safe_links};
+ghost use Rattle.hose_law.specs.Decision.{Fits, IsPlanned, IsReachedList, lowest_end};
+ghost use Rattle.hose_law.specs.History.{IsSoundAt, last_epoch, most_live, next_book, opening_book};
+ghost use Rattle.hose_law.specs.Plan.{AreNodes, HasCycle};
+ghost use Rattle.hosed.specs.Deciding.{IsDecision};
+ghost use Rattle.hosed.specs.Ledger.{Answers};
+ghost use Rattle.hosed.specs.Nodes.{AreNodesBelow};
+
+use crate::plan::{Sides, plan_cost};
+use crate::reach::reached;
+use hose_graph::{Amounts, Command, Entry, Hose, Name, NodeList, Reply, Topology, Vpn};
+use std::alloc::{AllocError, Global};
+use std::marker::Model;
+
+/// The last epoch: entries are numbered up to it.
+pub const LAST_EPOCH: u64 = 4_000_000_000;
+
+/// How many VPNs can be live at once.
+pub const MOST_LIVE: usize = 20_000;
+
+/// The live VPNs of a network without a cycle, in the order of their admission, and the sum of what they reserve on each link.
+#[derive(Drop)]
+pub struct Book {
+    topology: Topology,
+    sides: Sides,
+    epoch: u64,
+    loads: Vec<u64>,
+    live: Vec<Vpn>,
+}
+
+impl Model for Book {
+    ghost use Rattle.std.specs.Prelude.{◌≤◌, length, vec_capacity};
+    ghost use Rattle.hose_graph.specs.Network.{IsNetwork};
+    ghost use Rattle.hosed.specs.Ledger.{Ledger, AreLoads};
+    ghost use Rattle.hosed.specs.Sides.{AreSides};
+    ghost use Rattle.hose_law.specs.History.{last_epoch, most_live};
+
+    ghost Value = { Ledger };
+
+    ghost view = { λ b. record { network = b.topology; book = record { epoch = b.epoch; live = b.live.items } } };
+
+    ghost invariant = { λ b. IsNetwork b.topology
+        × AreSides b.topology b.sides
+        × AreLoads b.topology (record { epoch = b.epoch; live = b.live.items }) b.loads.items
+        × (b.epoch ≤ last_epoch)
+        × (length b.live.items ≤ most_live)
+        × (most_live ≤ vec_capacity b.live) };
+}
+
+/// What is decided of a hose.
+#[derive(Drop)]
+pub enum Decision {
+    /// It is admitted, with this plan.
+    Plan(Amounts),
+    /// It is refused, with this side.
+    Refused(NodeList),
+}
+
+impl Book {
+    /// The book of a network at epoch 0, with nothing live; or nothing, where the network has a cycle.
+    pub fn new(alloc: Global, topology: Topology) -> Result<Option<Book>, AllocError>
+        ensures book { IfOk result (λ opened. IfSome opened (λ book. book ≡ record { network = topology; book = opening_book 0 })) }
+        ensures cycle { IfOk result (λ opened. IfNone opened (HasCycle topology)) }
+        ensures forest { IfOk result (λ opened. IfSome opened (λ _. HasCycle topology → ⊥)) }
+    {
+        let Some(sides) = Sides::new(alloc, &topology)? else {
+            return Ok(None);
+        };
+        let loads = Vec::from_elem(alloc, 0, topology.links() as usize)?;
+        let live = Vec::with_capacity(alloc, MOST_LIVE)?;
+        Ok(Some(Book {
+            topology,
+            sides,
+            epoch: 0,
+            loads,
+            live,
+        }))
+    }
+
+    /// The reply to a customer who asks that a hose be admitted. An admitted hose is live from then on; any other reply leaves the book as it was.
+    pub fn admit(&mut self, alloc: Global, customer: Name, hose: Hose) -> Reply
+        requires { AreNodes self.old.network hose }
+        ensures network { self.new.network ≡ self.old.network }
+        ensures answer { Answers self.old customer (Command.Admit hose) result self.new.book }
+    {
+        match self.decide(alloc, &hose) {
+            Err(_) => Reply::Memory,
+            Ok(Decision::Refused(side)) => Reply::Refused {
+                at: self.epoch,
+                side,
+            },
+            Ok(Decision::Plan(amounts)) => self.take(alloc, customer, hose, amounts),
+        }
+    }
+
+    // Admits a hose with its plan, where the epochs are not spent and the book is not full.
+    fn take(&mut self, alloc: Global, customer: Name, hose: Hose, amounts: Amounts) -> Reply
+        requires nodes { AreNodes self.old.network hose }
+        requires planned { IsPlanned self.old.network self.old.book hose amounts }
+        ensures network { self.new.network ≡ self.old.network }
+        ensures answer { Answers self.old customer (Command.Admit hose) result self.new.book }
+    {
+        let at = self.epoch;
+        if at == LAST_EPOCH {
+            return Reply::Spent { at };
+        }
+        if self.live.len() >= MOST_LIVE {
+            return Reply::Full { at };
+        }
+        let Ok(copy) = amounts.copy(alloc) else {
+            return Reply::Memory;
+        };
+        let cost = plan_cost(&self.topology, amounts.pairs());
+        let id = self.enter(customer, hose, amounts);
+        Reply::Admitted {
+            id,
+            cost,
+            at: id,
+            amounts: copy,
+        }
+    }
+
+    /// The network that it is of.
+    pub fn topology(&self) -> &Topology
+        ensures { result.now ≡ self.now.network }
+    {
+        &self.topology
+    }
+
+    // Enters an admission that is sound, and gives its number.
+    fn enter(&mut self, customer: Name, hose: Hose, amounts: Amounts) -> u64
+        requires { IsSoundAt self.old.network self.old.book (Entry.Admit customer hose amounts) }
+        ensures id { result ≡ self.old.book.epoch + 1 }
+        ensures network { self.new.network ≡ self.old.network }
+        ensures book { self.new.book ≡ next_book self.old.book (Entry.Admit customer hose amounts) }
+    {
+        add_amounts(&mut self.loads, amounts.pairs());
+        self.epoch += 1;
+        let id = self.epoch;
+        self.live.push_reserved(Vpn {
+            id,
+            customer,
+            hose,
+            amounts,
+        });
+        id
+    }
+
+    // What is decided of a hose: its plan, where that exists and fits.
+    fn decide(&self, alloc: Global, hose: &Hose) -> Result<Decision, AllocError>
+        requires { AreNodes self.now.network hose.now }
+        ensures { IfOk result (IsDecision self.now.network self.now.book hose.now) }
+    {
+        match self.fitting_plan(alloc, hose)? {
+            Some(amounts) => Ok(Decision::Plan(amounts)),
+            None => Ok(Decision::Refused(self.refused_side(alloc, hose)?)),
+        }
+    }
+
+    // The plan of a hose, where it exists and fits.
+    fn fitting_plan(&self, alloc: Global, hose: &Hose) -> Result<Option<Amounts>, AllocError>
+        requires { AreNodes self.now.network hose.now }
+        ensures plan { IfOk result (λ found. IfSome found (IsPlanned self.now.network self.now.book hose.now)) }
+        ensures none { IfOk result (λ found. IfNone found
+            ((plan : List (ℕ × ℕ)) → IsPlanned self.now.network self.now.book hose.now plan → ⊥)) }
+    {
+        let Some(amounts) = self.sides.plan(alloc, &self.topology, hose)? else {
+            return Ok(None);
+        };
+        if self.fits(&amounts) {
+            Ok(Some(amounts))
+        } else {
+            Ok(None)
+        }
+    }
+
+    // What a link has free.
+    fn free(&self, l: u32) -> u64
+        requires { l < length self.now.network.links }
+        ensures { result ≡ free_rate self.now.network self.now.book l }
+    {
+        self.topology.link(l).capacity - self.loads[l as usize]
+    }
+
+    // Whether each amount is at most what its link has free.
+    fn fits(&self, amounts: &Amounts) -> bool
+        requires { All (λ pair. pair.0 < length self.now.network.links) amounts.now }
+        ensures { IsTrue result ↔ Fits self.now.network self.now.book amounts.now }
+    {
+        amounts
+            .pairs()
+            .iter()
+            .all(|pair| pair.1 <= self.free(pair.0))
+    }
+
+    // The nodes that the lowest endpoint reaches over the safe links.
+    fn refused_side(&self, alloc: Global, hose: &Hose) -> Result<NodeList, AllocError>
+        requires { AreNodes self.now.network hose.now }
+        ensures { IfOk result (IsReachedList self.now.network
+            (safe_links self.now.network self.now.book hose.now) (lowest_end hose.now)) }
+    {
+        let safe = self.safe_links(alloc, hose)?;
+        let side = reached(alloc, &self.topology, &safe, hose.ends()[0].0)?;
+        nodes_on(alloc, &self.topology, &side)
+    }
+
+    // Whether each link has half of the hose's rates free.
+    fn safe_links(&self, alloc: Global, hose: &Hose) -> Result<Vec<bool>, AllocError>
+        ensures { IfOk result (λ safe. safe.items ≡ safe_links self.now.network self.now.book hose.now) }
+    {
+        let half = hose.total() / 2;
+        let mut safe = Vec::new(alloc);
+        for l in 0..self.topology.links() {
+            safe.push(half <= self.free(l))?;
+        }
+        Ok(safe)
+    }
+}
+
+// Adds what a plan reserves to the loads.
+fn add_amounts(loads: &mut [u64], amounts: &[(u32, u64)])
+    requires links { All (λ pair. pair.0 < length loads.old) amounts.now }
+    requires fits { (l : ℕ) → l < length loads.old → slice_index loads.old l + amount_on l amounts.now < 2 ^ 64 }
+    ensures { (l : ℕ) → l < length loads.old → slice_index loads.new l ≡ slice_index loads.old l + amount_on l amounts.now }
+{
+    for (l, amount) in amounts {
+        loads[*l as usize] += *amount;
+    }
+}
+
+// The nodes on a side, ascending.
+fn nodes_on(alloc: Global, topology: &Topology, side: &[bool]) -> Result<NodeList, AllocError>
+    requires { length side.now ≡ length topology.now.nodes }
+    ensures nodes { IfOk result (AreNodesBelow side.now (length side.now)) }
+    ensures network { IsNetwork topology.now }
+{
+    let mut nodes = Vec::new(alloc);
+    for v in 0..topology.nodes() {
+        if side[v as usize] {
+            nodes.push(v)?;
+        }
+    }
+    NodeList::build(alloc, &nodes)
+}
