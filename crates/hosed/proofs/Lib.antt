@@ -4,3 +4,4 @@ pub mod Joining
 pub mod Listing
 pub mod Reaching
 pub mod Sharing
+pub mod Spelling

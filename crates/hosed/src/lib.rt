@@ -1,6 +1,8 @@
 //! The provisioning server as one call: what it answers on an output to what it reads on an input.
 #![tactic(auto)]
 
+mod admit_line;
 mod book;
 mod plan;
 mod reach;
+mod words;
