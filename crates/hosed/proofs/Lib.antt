@@ -1,5 +1,6 @@
 pub mod Costs
 pub mod Fitting
+pub mod Gathered
 pub mod Joining
 pub mod Listing
 pub mod Reaching

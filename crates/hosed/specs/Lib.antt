@@ -1,8 +1,10 @@
 pub mod AdmitLine
 pub mod Deciding
+pub mod Fault
 pub mod Ledger
 pub mod Nodes
 pub mod ProgramWords
 pub mod Reach
+pub mod ReplyText
 pub mod Shares
 pub mod Sides

@@ -3,6 +3,8 @@
 
 mod admit_line;
 mod book;
+mod fault;
 mod plan;
 mod reach;
+mod reply_text;
 mod words;

@@ -1,0 +1,25 @@
+-- What tells a fault: the status with which the program ends, and the last line that it writes.
+use Rattle.std.specs.Prelude.{ℕ, List, [], ◌++◌, codes, decimal}
+use Rattle.hosed.specs.ReplyText.{line_of}
+use Rattle.hosed.specs.declared.fault.Fault.{Fault}
+use Rattle.hosed.specs.declared.fault.Fault.TheVariants.{Words, Topology, Cycle, Read, Write, Memory, TooLong}
+
+-- the status
+abbrev pub status_of : Fault → ℕ
+status_of (Words word) = 1
+status_of Topology = 2
+status_of Cycle = 2
+status_of Read = 3
+status_of Write = 4
+status_of Memory = 7
+status_of TooLong = 8
+
+-- the last line, with its line feed; none where the output failed
+abbrev pub last_line : Fault → List ℕ
+last_line (Words word) = line_of (codes "words " ++ decimal word)
+last_line Topology = line_of (codes "topology")
+last_line Cycle = line_of (codes "topology cycle")
+last_line Read = line_of (codes "read")
+last_line Write = []
+last_line Memory = line_of (codes "no memory")
+last_line TooLong = line_of (codes "too long")

@@ -1,0 +1,125 @@
+// What ends a run before its input is all read, and how that is told.
+ghost use Rattle.std.specs.Prelude.{◌≡◌, [], OnOk, OnErr};
+ghost use Rattle.hose_io.specs.Fault.{HasCause};
+ghost use Rattle.hose_io.specs.Stream.{Grows};
+ghost use Rattle.hose_io.specs.Writing.{GrowsInPart};
+ghost use Rattle.hosed.specs.declared.fault.Fault.TheVariants.{Memory, Write};
+ghost use Rattle.hosed.specs.Fault.{status_of, last_line};
+
+use crate::reply_text::{add_number, end_line};
+use hose_io::{Failed, Gather, Sink, write_all};
+use std::alloc::AllocError;
+
+/// Why a run ended early.
+#[derive(Clone, Copy, Debug, PartialEq, Eq)]
+pub enum Fault {
+    /// The program's word of this number, counted from 1, is not one that it takes there.
+    Words(u64),
+    /// The topology text was refused.
+    Topology,
+    /// The network has a cycle.
+    Cycle,
+    /// The input failed.
+    Read,
+    /// The output failed.
+    Write,
+    /// There was no memory to begin with.
+    Memory,
+    /// The input is too long.
+    TooLong,
+}
+
+impl Fault {
+    /// The status with which the program ends.
+    pub fn status(self) -> u8
+        ensures { result ≡ status_of self }
+    {
+        match self {
+            Fault::Words(_) => 1,
+            Fault::Topology | Fault::Cycle => 2,
+            Fault::Read => 3,
+            Fault::Write => 4,
+            Fault::Memory => 7,
+            Fault::TooLong => 8,
+        }
+    }
+
+    /// Writes the last line, which tells the fault. Where the output failed there is none.
+    pub fn put<O: Sink>(self, output: &mut O) -> Result<(), Failed>
+        ensures ok { OnOk result
+            (Grows (O.content output.old) (O.content output.new) (last_line self)) }
+        ensures err { OnErr result
+            (GrowsInPart (O.content output.old) (O.content output.new) (last_line self)) }
+        ensures calls_none { last_line self ≡ [] → output.new ≡ output.old }
+        ensures cause { HasCause (O.faults output.old) (O.faults output.new) result }
+        ensures number { O.number output.new ≡ O.number output.old }
+        ensures loan { O.loan output.new ≡ O.loan output.old }
+    {
+        match self {
+            Fault::Words(word) => put_words(output, word),
+            Fault::Topology => write_all(output, b"topology\n"),
+            Fault::Cycle => write_all(output, b"topology cycle\n"),
+            Fault::Read => write_all(output, b"read\n"),
+            Fault::Write => Ok(()),
+            Fault::Memory => write_all(output, b"no memory\n"),
+            Fault::TooLong => write_all(output, b"too long\n"),
+        }
+    }
+}
+
+impl From<AllocError> for Fault {
+    ghost from_gives = { λ _ fault. fault ≡ Memory };
+
+    fn from(_error: AllocError) -> Fault {
+        Fault::Memory
+    }
+}
+
+impl From<Failed> for Fault {
+    ghost from_gives = { λ _ fault. fault ≡ Write };
+
+    fn from(_error: Failed) -> Fault {
+        Fault::Write
+    }
+}
+
+// Writes the last line that tells which of the program's words is wrong.
+fn put_words<O: Sink>(output: &mut O, word: u64) -> Result<(), Failed>
+    ensures ok { OnOk result (Grows (O.content output.old) (O.content output.new)
+        (last_line (Fault.Words word))) }
+    ensures err { OnErr result (GrowsInPart (O.content output.old) (O.content output.new)
+        (last_line (Fault.Words word))) }
+    ensures cause { HasCause (O.faults output.old) (O.faults output.new) result }
+    ensures number { O.number output.new ≡ O.number output.old }
+    ensures loan { O.loan output.new ≡ O.loan output.old }
+{
+    let mut gather = Gather::new();
+    add_number(&mut gather, output, b"words ", word)?;
+    end_line(&mut gather, output)
+}
+
+#[cfg(test)]
+mod tests {
+    use super::*;
+    use hose_io::MemSink;
+    use std::test::Fail;
+
+    #[test]
+    fn faults_are_told(rt: HostRuntime) -> Result<(), Fail> {
+        for (fault, status, line) in [
+            (Fault::Words(2), 1, "words 2\n"),
+            (Fault::Topology, 2, "topology\n"),
+            (Fault::Cycle, 2, "topology cycle\n"),
+            (Fault::Read, 3, "read\n"),
+            (Fault::from(Failed), 4, ""),
+            (Fault::from(AllocError), 7, "no memory\n"),
+            (Fault::TooLong, 8, "too long\n"),
+        ] {
+            assert_eq!(rt; fault.status(), status, "at {fault:?}");
+            let mut output = MemSink::new(rt.alloc())?;
+            assert_eq!(rt; fault.put(&mut output), Ok(()), "at {fault:?}");
+            assert_eq!(rt; output.bytes(), line.as_bytes());
+        }
+        Ok(())
+    }
+}
