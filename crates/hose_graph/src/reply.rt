@@ -15,11 +15,18 @@ pub enum Reply {
         amounts: Amounts,
     },
     /// There is no room. `side` is what the lowest endpoint reaches over links with half of the rates free.
-    Refused { at: u64, side: NodeList },
+    Refused {
+        at: u64,
+        side: NodeList,
+    },
     /// No epoch is left.
-    Spent { at: u64 },
+    Spent {
+        at: u64,
+    },
     /// As many networks are live as can be.
-    Full { at: u64 },
+    Full {
+        at: u64,
+    },
     /// There was no memory, and nothing was done.
     Memory,
     /// The line is none of the grammar.
