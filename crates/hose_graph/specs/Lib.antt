@@ -3,3 +3,4 @@ pub mod Hose
 pub mod Limit
 pub mod Name
 pub mod Network
+pub mod Row

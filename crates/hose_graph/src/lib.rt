@@ -11,6 +11,7 @@ mod link;
 mod name;
 mod node_list;
 mod reply;
+mod row;
 mod topology;
 mod vpn;
 
@@ -25,5 +26,6 @@ pub use link::Link;
 pub use name::Name;
 pub use node_list::NodeList;
 pub use reply::Reply;
+pub use row::Row;
 pub use topology::{Topology, TopologyFault};
 pub use vpn::Vpn;

@@ -1,0 +1,23 @@
+// Rows: the distances of all nodes from one of them.
+use std::marker::Model;
+
+/// The distances of all nodes from a root over a set of links, with a place for each node.
+///
+/// A contract sees it as `Distances`.
+#[derive(Debug, Drop)]
+pub struct Row {
+    pub root: u32,
+    /// What a shortest walk from the root costs, or none where there is no walk.
+    pub dist: Vec<Option<u64>>,
+    /// The lowest-numbered link by which a shortest walk from the root comes to the node, or none for the root and where
+    /// there is no walk.
+    pub tight: Vec<Option<u32>>,
+}
+
+impl Model for Row {
+    ghost use Rattle.hose_graph.specs.Row.{Distances};
+
+    ghost Value = { Distances };
+
+    ghost view = { λ row. record { root = row.root; dist = row.dist.items; tight = row.tight.items } };
+}
