@@ -1,2 +1,6 @@
+pub mod Distances
+pub mod Joined
+pub mod Rows
+pub mod ShortWalks
 pub mod Sold
 pub mod Walks
