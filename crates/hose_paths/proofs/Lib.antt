@@ -1,0 +1,4 @@
+pub mod Lowering
+pub mod Made
+pub mod Marks
+pub mod Rounds

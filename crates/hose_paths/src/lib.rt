@@ -1,0 +1,35 @@
+//! Rows: the distances of all nodes of a topology from one of them, over a set of its links, and each node's tight link.
+//! The planner takes what makes them by its contract alone, and has the plain maker here.
+//!
+//! ```
+//! let row = PlainRows::new().row(alloc, &top, &links, root)?;
+//! ```
+#![tactic(auto)]
+
+ghost use Rattle.std.specs.Prelude.{◌≡◌, ◌<◌, IfOk, length};
+ghost use Rattle.hose_law.specs.Row.{IsRow};
+
+mod plain;
+#[cfg(test)]
+mod tests;
+mod tight;
+
+use hose_graph::{Row, Topology};
+use hose_links::LinkSet;
+pub use plain::PlainRows;
+use std::alloc::{AllocError, Global};
+
+/// What makes rows.
+pub trait RowMaker {
+    /// The row of a root over a set of the topology's links.
+    fn row(
+        &mut self,
+        alloc: Global,
+        top: &Topology,
+        links: &LinkSet,
+        root: u32,
+    ) -> Result<Row, AllocError>
+        requires places { length links.now ≡ length top.now.links }
+        requires is_node { root < length top.now.nodes }
+        ensures { IfOk result (IsRow top.now links.now root) };
+}
