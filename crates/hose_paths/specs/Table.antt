@@ -16,12 +16,12 @@ pub record IsFound (network : Network) (set : List Bool) (root : ℕ) (table : L
   pub walks : (v distance : ℕ) → entry table v ≡ Some distance
       → (walk : List ℕ) × IsWalk network set root v walk × (walk_cost network walk ≡ distance)
 
--- No entry is above what links between the nodes that have entries can cost, if each is used once.
+-- No entry is above what as many links can cost as there are other nodes with entries.
 abbrev pub IsBounded : List (Option ℕ) → Type 0
 IsBounded table = (v distance : ℕ) → entry table v ≡ Some distance
     → distance + MOST_COST ≤ count_by is_some table * MOST_COST
 
--- one node's entry, and this cost, are no less than the entry of another
+-- One node's entry and this cost do not lower the entry of another.
 abbrev pub CannotLower : List (Option ℕ) → ℕ → ℕ → ℕ → Type 0
 CannotLower table from to cost = IfSome (entry table from) (λ near. IsSomeAnd (entry table to) (λ far. far ≤ near + cost))
 
@@ -58,6 +58,6 @@ IsLowestTight network set table v place =
     MatchOption place ((l : ℕ) → ¬ IsTightIn network set table v l)
     (λ l. IsTightIn network set table v l × ((k : ℕ) → k < l → ¬ IsTightIn network set table v k))
 
--- Where a fact holds a link comes to where none stands, and else all stays.
+-- A link was put into a place where none stood, if a fact holds, and else the place stays.
 abbrev pub IsMark : Type 0 → Option ℕ → Option ℕ → ℕ → Type 0
 IsMark holds old new link = (holds × (new ≡ option_or old (Some link))) ⊎ ((¬ holds) × (new ≡ old))
