@@ -12,5 +12,4 @@ use hose_graph::{Entry, Topology};
 pub fn law_sold(top: &Topology, e0: u64, h: &[Entry])
     requires { IsSound top.now e0 h.now }
     ensures { (place l : ℕ) → place ≤ length h.now → IsOversold top.now (book_of e0 (take place h.now)) l → ⊥ }
-{
-}
+{}
