@@ -2,7 +2,11 @@ pub mod Costs
 pub mod Fitting
 pub mod Gathered
 pub mod Joining
+pub mod LinkLine
 pub mod Listing
+pub mod NodesByName
 pub mod Reaching
 pub mod Sharing
 pub mod Spelling
+pub mod TopologyLines
+pub mod TopologyReading

@@ -5,6 +5,10 @@ pub mod Ledger
 pub mod Nodes
 pub mod ProgramWords
 pub mod Reach
+pub mod Reading
 pub mod ReplyText
 pub mod Shares
 pub mod Sides
+pub mod Taken
+pub mod TopologyFault
+pub mod TopologyText

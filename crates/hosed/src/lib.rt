@@ -7,4 +7,5 @@ mod fault;
 mod plan;
 mod reach;
 mod reply_text;
+mod topology_text;
 mod words;
