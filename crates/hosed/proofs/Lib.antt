@@ -4,9 +4,12 @@ pub mod Gathered
 pub mod Joining
 pub mod LinkLine
 pub mod Listing
+pub mod Naming
 pub mod NodesByName
 pub mod Reaching
+pub mod Running
 pub mod Sharing
 pub mod Spelling
 pub mod TopologyLines
 pub mod TopologyReading
+pub mod Turns

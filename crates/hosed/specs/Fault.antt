@@ -1,5 +1,9 @@
 -- What tells a fault: the status with which the program ends, and the last line that it writes.
 use Rattle.std.specs.Prelude.{ℕ, List, [], ◌++◌, codes, decimal}
+use Rattle.hose_words.specs.declared.lines.LineFault.{LineFault}
+use Rattle.hose_words.specs.declared.lines.LineFault.TheVariants as line
+use Rattle.hosed.specs.declared.topology_text.TopologyFault.{TopologyFault}
+use Rattle.hosed.specs.declared.topology_text.TopologyFault.TheVariants as topology
 use Rattle.hosed.specs.ReplyText.{line_of}
 use Rattle.hosed.specs.declared.fault.Fault.{Fault}
 use Rattle.hosed.specs.declared.fault.Fault.TheVariants.{Words, Topology, Cycle, Read, Write, Memory, TooLong}
@@ -23,3 +27,15 @@ last_line Read = line_of (codes "read")
 last_line Write = []
 last_line Memory = line_of (codes "no memory")
 last_line TooLong = line_of (codes "too long")
+
+-- what a fault of reading lines is for a run
+abbrev pub of_line : LineFault → Fault
+of_line line.Read = Read
+of_line line.TooLong = TooLong
+
+-- what a fault of reading a topology is for a run
+abbrev pub of_topology : TopologyFault → Fault
+of_topology topology.Text = Topology
+of_topology topology.Read = Read
+of_topology topology.TooLong = TooLong
+of_topology topology.Memory = Memory

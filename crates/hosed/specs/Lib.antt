@@ -1,5 +1,6 @@
 pub mod AdmitLine
 pub mod Deciding
+pub mod Ending
 pub mod Fault
 pub mod Ledger
 pub mod Nodes
@@ -7,6 +8,8 @@ pub mod ProgramWords
 pub mod Reach
 pub mod Reading
 pub mod ReplyText
+pub mod Run
+pub mod Serving
 pub mod Shares
 pub mod Sides
 pub mod Taken

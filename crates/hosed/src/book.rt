@@ -125,7 +125,8 @@ impl Book {
 
     /// The network that it is of.
     pub fn topology(&self) -> &Topology
-        ensures { result.now ≡ self.now.network }
+        ensures value { result.now ≡ self.now.network }
+        ensures network { IsNetwork result.now }
     {
         &self.topology
     }

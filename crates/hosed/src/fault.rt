@@ -4,10 +4,12 @@ ghost use Rattle.hose_io.specs.Fault.{HasCause};
 ghost use Rattle.hose_io.specs.Stream.{Grows};
 ghost use Rattle.hose_io.specs.Writing.{GrowsInPart};
 ghost use Rattle.hosed.specs.declared.fault.Fault.TheVariants.{Memory, Write};
-ghost use Rattle.hosed.specs.Fault.{status_of, last_line};
+ghost use Rattle.hosed.specs.Fault.{status_of, last_line, of_line, of_topology};
 
 use crate::reply_text::{add_number, end_line};
+use crate::topology_text::TopologyFault;
 use hose_io::{Failed, Gather, Sink, write_all};
+use hose_words::LineFault;
 use std::alloc::AllocError;
 
 /// Why a run ended early.
@@ -80,6 +82,30 @@ impl From<Failed> for Fault {
 
     fn from(_error: Failed) -> Fault {
         Fault::Write
+    }
+}
+
+impl From<LineFault> for Fault {
+    ghost from_gives = { λ line fault. fault ≡ of_line line };
+
+    fn from(fault: LineFault) -> Fault {
+        match fault {
+            LineFault::Read => Fault::Read,
+            LineFault::TooLong => Fault::TooLong,
+        }
+    }
+}
+
+impl From<TopologyFault> for Fault {
+    ghost from_gives = { λ topology fault. fault ≡ of_topology topology };
+
+    fn from(fault: TopologyFault) -> Fault {
+        match fault {
+            TopologyFault::Text => Fault::Topology,
+            TopologyFault::Read => Fault::Read,
+            TopologyFault::TooLong => Fault::TooLong,
+            TopologyFault::Memory => Fault::Memory,
+        }
     }
 }
 

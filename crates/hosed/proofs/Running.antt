@@ -1,0 +1,80 @@
+-- A run as a whole, from its topology and the turns behind it.
+use Rattle.std.proofs.Common.{◌≡◌, ℕ, List, [], ◌++◌, Option, None, Some, Result, Ok, Err, refl, ap, subst, arith, length, length-append}
+use Rattle.std.specs.Prelude.{IfOk}
+use Rattle.std.proofs.lemmas.List.{nil_from_length}
+use Rattle.hose_io.specs.Stream.{Stream}
+use Rattle.hose_io.specs.declared.source.Source.{Ghosts}
+use Rattle.hose_words.specs.Lines.{Reader}
+use Rattle.hose_graph.specs.Network.{Network}
+use Rattle.hose_law.specs.Plan.{HasCycle}
+use Rattle.hose_law.specs.Book.{Book}
+use Rattle.hose_law.proofs.Sold.{sold}
+use Rattle.hosed.specs.Ending.{IsStatus, status_of_done}
+use Rattle.hosed.specs.Fault.{of_topology}
+use Rattle.hosed.specs.Reading.{WhereTold, ReadsOn}
+use Rattle.hosed.specs.Run.{IsRun}
+use Rattle.hosed.specs.Serving.{SayLines, HasServed}
+use Rattle.hosed.specs.TopologyText.{IsTopologyText}
+use Rattle.hosed.specs.declared.fault.Fault.{Fault}
+use Rattle.hosed.specs.declared.fault.Fault.TheVariants as fault
+use Rattle.hosed.specs.declared.topology_text.TopologyFault.{TopologyFault}
+use Rattle.hosed.specs.declared.topology_text.TopologyFault.TheVariants.{Text, Read, TooLong, Memory}
+use Rattle.hosed.proofs.Turns.{told_on}
+
+-- a run is told that its topology is none only where the reader of topologies said so
+pub text_alone : (topology : TopologyFault) → fault.Topology ≡ of_topology topology → topology ≡ Text
+text_alone Text same = refl
+text_alone Read same = cc
+text_alone TooLong same = cc
+text_alone Memory same = cc
+
+behind_nothing : (xs ys : List ℕ) → xs ++ ys ≡ [] → ys ≡ []
+behind_nothing xs ys none = nil_from_length ys (omega (arith, ap length none, length-append xs ys))
+
+-- a network was read and has no cycle, and then lines were answered up to the end
+pub run_of : {S B : Type 0} (source : Ghosts S) (start middle last : Reader S) (network : Network) (book : Book) (before after : Option (List ℕ)) (result : Result B Fault) → start.pending ≡ []
+    → WhereTold (source.content start.source) (source.content middle.source) (λ input left. IsTopologyText (start.pending ++ input) network (middle.pending ++ left))
+    → ReadsOn source start middle → (HasCycle network → ⊥)
+    → IfOk result (λ _. HasServed source middle last network book before after)
+    → IfOk result (λ _. WhereTold (source.content middle.source) (source.content last.source) (λ _ left. last.pending ++ left ≡ []))
+    → IfOk result (λ _. IsRun (source.content start.source) (source.content last.source) before after)
+run_of source start middle last network book before after (Err fault) empty text reads no_cycle served ended = tt
+run_of source start middle last network book before after (Ok done) empty text reads no_cycle served ended = record {
+  network = network;
+  lines = served.lines;
+  replies = served.replies;
+  history = served.answered.history;
+  text = told_on (source.content start.source) (source.content middle.source) (source.content last.source) reads.takes.0 _ _ _ reads.takes.1 text both
+      (λ a b c told said. (
+        middle.pending ++ b,
+        subst (λ (p : List ℕ). IsTopologyText (p ++ a) network (middle.pending ++ b)) empty told,
+        subst (SayLines network (middle.pending ++ b) served.lines) said.1 said.0,
+        behind_nothing last.pending c said.1,
+      ));
+  no_cycle = no_cycle;
+  script = served.answered.script;
+  decided = served.answered.decided;
+  none_oversold = λ place l. sold network 0 served.answered.history place l served.answered.decided.sound;
+  out = served.out;
+}
+  where
+    both : WhereTold (source.content middle.source) (source.content last.source) (λ was left. SayLines network (middle.pending ++ was) served.lines (last.pending ++ left) × (last.pending ++ left ≡ []))
+    both = at (source.content middle.source) (source.content last.source) served.said ended
+      where
+        at : (first second : Option Stream) → WhereTold first second (λ was left. SayLines network (middle.pending ++ was) served.lines (last.pending ++ left))
+            → WhereTold first second (λ _ left. last.pending ++ left ≡ [])
+            → WhereTold first second (λ was left. SayLines network (middle.pending ++ was) served.lines (last.pending ++ left) × (last.pending ++ left ≡ []))
+        at None second said end = tt
+        at (Some a) None said end = tt
+        at (Some a) (Some b) said end = (said, end)
+
+-- what was done has one of the program's statuses
+pub status_among : {T : Type 0} (done : Result T Fault) → IsStatus (status_of_done done)
+status_among (Ok _) = (0, omega arith, refl)
+status_among (Err (fault.Words word)) = (1, omega arith, refl)
+status_among (Err fault.Topology) = (2, omega arith, refl)
+status_among (Err fault.Cycle) = (2, omega arith, refl)
+status_among (Err fault.Read) = (3, omega arith, refl)
+status_among (Err fault.Write) = (4, omega arith, refl)
+status_among (Err fault.Memory) = (5, omega arith, refl)
+status_among (Err fault.TooLong) = (6, omega arith, refl)

@@ -1,0 +1,50 @@
+-- A run from its first byte to its last.
+use Rattle.std.specs.Prelude.{◌≡◌, ℕ, List, [], Option, ⊤, take}
+use Rattle.hose_io.specs.Stream.{Stream, Grows}
+use Rattle.hose_graph.specs.declared.entry.Entry.{Entry}
+use Rattle.hose_graph.specs.declared.reply.Reply.{Reply}
+use Rattle.hose_graph.specs.Network.{Network}
+use Rattle.hose_law.specs.Plan.{HasCycle}
+use Rattle.hose_law.specs.Book.{IsOversold}
+use Rattle.hose_law.specs.History.{book_of, IsDecided}
+use Rattle.hose_law.specs.Script.{ReadLine, IsScript}
+use Rattle.hosed.specs.TopologyText.{IsTopologyText}
+use Rattle.hosed.specs.Reading.{WhereTold}
+use Rattle.hosed.specs.Serving.{SayLines, texts_of}
+use Rattle.hosed.specs.declared.fault.Fault.{Fault}
+use Rattle.hosed.specs.declared.fault.Fault.TheVariants as fault
+
+-- The input was read to its end, and the output has the replies to its lines. The input is the text of a network without a cycle and then
+-- these lines; the replies are those of the script of the lines from the empty history. That history is decided from its start, and no
+-- link is oversold at any place of it.
+pub record IsRun (old new : Option Stream) (before after : Option (List ℕ)) : Type 0 where
+  pub network : Network
+  pub lines : List ReadLine
+  pub replies : List Reply
+  pub history : List Entry
+  pub text : WhereTold old new (λ input left. (rest : List ℕ) × IsTopologyText input network rest × SayLines network rest lines [] × (left ≡ []))
+  pub no_cycle : HasCycle network → ⊥
+  pub script : IsScript network 0 [] lines replies history
+  pub decided : IsDecided network 0 0 history
+  pub none_oversold : (place l : ℕ) → IsOversold network (book_of 0 (take place history)) l → ⊥
+  pub out : Grows before after (texts_of network replies)
+
+-- the input is the text of no network
+abbrev pub TellsNoNetwork : Option Stream → Option Stream → Type 0
+TellsNoNetwork old new = WhereTold old new (λ input _. (network : Network) (rest : List ℕ) → IsTopologyText input network rest → ⊥)
+
+-- the input begins with the text of a network that has a cycle
+abbrev pub TellsCycle : Option Stream → Option Stream → Type 0
+TellsCycle old new = WhereTold old new (λ input _. (network : Network) × (rest : List ℕ) × IsTopologyText input network rest × HasCycle network)
+
+-- the faults that a run meets before its first reply
+abbrev pub IsOpeningFault : Fault → Type 0
+IsOpeningFault fault.Topology = ⊤
+IsOpeningFault fault.Cycle = ⊤
+IsOpeningFault fault.Memory = ⊤
+IsOpeningFault _ = ⊥
+
+-- the faults of a run
+abbrev pub IsRunFault : Fault → Type 0
+IsRunFault (fault.Words word) = ⊥
+IsRunFault _ = ⊤

@@ -1,0 +1,94 @@
+-- What the lines behind a topology say, and what is answered to them.
+use Rattle.std.specs.Prelude.{◌≡◌, ◌≢◌, ℕ, ◌+◌, ◌<◌, ◌≤◌, List, [], ◌∷◌, ◌++◌, length, Option, ⊤}
+use Rattle.std.specs.List.{before_first, after_first, flat_map}
+use Rattle.hose_io.specs.Stream.{Grows}
+use Rattle.hose_io.specs.declared.source.Source.{Ghosts}
+use Rattle.hose_words.specs.Lines.{Reader, is_line_feed}
+use Rattle.hose_words.specs.declared.lines.Line.{Line}
+use Rattle.hose_words.specs.declared.lines.Line.TheVariants as line
+use Rattle.hose_graph.specs.declared.entry.Entry.{Entry}
+use Rattle.hose_graph.specs.declared.command.Command.TheVariants.{Admit}
+use Rattle.hose_graph.specs.declared.reply.Reply.{Reply}
+use Rattle.hose_graph.specs.declared.reply.Reply.TheVariants.{Memory, Bad, Long}
+use Rattle.hose_graph.specs.Network.{Network}
+use Rattle.hose_law.specs.Book.{Book}
+use Rattle.hose_law.specs.History.{book_of, IsDecided}
+use Rattle.hose_law.specs.Script.{ReadLine, IsScript}
+use Rattle.hose_law.specs.Script.ReadLine.{Asks, IsBad, IsLong, Unread}
+use Rattle.hosed.specs.AdmitLine.{IsAdmitLine}
+use Rattle.hosed.specs.ReplyText.{line_of, reply_text}
+use Rattle.hosed.specs.Ledger.{Ledger, Answers}
+use Rattle.hosed.specs.Reading.{WhereTold}
+use Rattle.hosed.specs.declared.fault.Fault.{Fault}
+use Rattle.hosed.specs.declared.fault.Fault.TheVariants as fault
+
+-- What a line of bytes says: a customer's admission, nothing of the grammar, or too much; or it is left unread for want of memory.
+abbrev pub Says : Network → List ℕ → ReadLine → Type 0
+Says network bytes (Asks customer (Admit hose)) = (length bytes ≤ 4096) × IsAdmitLine network bytes customer hose
+Says network bytes IsBad = (length bytes ≤ 4096) × ((customer : List ℕ) (hose : List (ℕ × ℕ)) → IsAdmitLine network bytes customer hose → ⊥)
+Says network bytes IsLong = 4096 < length bytes
+Says network bytes Unread = length bytes ≤ 4096
+
+-- the same of a line as a reader of lines gives it
+abbrev pub SaysRead : Network → Line → ReadLine → Type 0
+SaysRead network (line.Text bytes) (Asks customer (Admit hose)) = IsAdmitLine network bytes.now customer hose
+SaysRead network (line.Text bytes) IsBad = (customer : List ℕ) (hose : List (ℕ × ℕ)) → IsAdmitLine network bytes.now customer hose → ⊥
+SaysRead network (line.Text bytes) Unread = ⊤
+SaysRead network line.Long IsLong = ⊤
+SaysRead network _ _ = ⊥
+
+-- the lines at the front of a text say this, one after the other, and the rest of the text is left
+pub data SayLines (network : Network) : List ℕ → List ReadLine → List ℕ → Type 0 where
+  no_line : {text : List ℕ} → SayLines network text [] text
+  one_more : {text rest : List ℕ} {lines : List ReadLine} (line : ReadLine) → SayLines network text lines rest → rest ≢ []
+      → Says network (before_first is_line_feed rest) line → SayLines network text (lines ++ line ∷ []) (after_first is_line_feed rest)
+
+-- The book answered a line: a command with its answer, and any other line with the reply that stands for it, which changes nothing.
+abbrev pub AnswersLine : Ledger → ReadLine → Reply → Book → Type 0
+AnswersLine old (Asks customer command) reply new = Answers old customer command reply new
+AnswersLine old IsBad reply new = (reply ≡ Bad) × (new ≡ old.book)
+AnswersLine old IsLong reply new = (reply ≡ Long) × (new ≡ old.book)
+AnswersLine old Unread reply new = (reply ≡ Memory) × (new ≡ old.book)
+
+-- the texts of replies, a line each
+abbrev pub texts_of : Network → List Reply → List ℕ
+texts_of network replies = flat_map (λ reply. line_of (reply_text network reply)) replies
+
+-- Lines that were answered from the empty history on: the replies are those of a script, whose history is decided and led to this book.
+pub record AreAnswered (network : Network) (lines : List ReadLine) (replies : List Reply) (book : Book) : Type 0 where
+  pub history : List Entry
+  pub script : IsScript network 0 [] lines replies history
+  pub decided : IsDecided network 0 0 history
+  pub is_book : book ≡ book_of 0 history
+
+-- the faults that end the answering of lines
+abbrev pub IsStreamFault : Fault → Type 0
+IsStreamFault fault.Read = ⊤
+IsStreamFault fault.Write = ⊤
+IsStreamFault fault.TooLong = ⊤
+IsStreamFault _ = ⊥
+
+-- A turn: the first line that was to come was read, and its reply is out.
+pub record TakesTurn {S : Type 0} (source : Ghosts S) (old new : Reader S) (ledger : Ledger) (book : Book) (before after : Option (List ℕ)) : Type 0 where
+  pub said : ReadLine
+  pub reply : Reply
+  pub line : WhereTold (source.content old.source) (source.content new.source) (λ was now.
+      (old.pending ++ was ≢ []) × Says ledger.network (before_first is_line_feed (old.pending ++ was)) said
+      × (new.pending ++ now ≡ after_first is_line_feed (old.pending ++ was)))
+  pub answers : AnswersLine ledger said reply book
+  pub out : Grows before after (line_of (reply_text ledger.network reply))
+  pub progress : length new.pending + old.taken < length old.pending + new.taken
+
+-- No line was to come, so nothing was done.
+pub record IsOver {S : Type 0} (source : Ghosts S) (old new : Reader S) (ledger : Ledger) (book : Book) (before after : Option (List ℕ)) : Type 0 where
+  pub ended : WhereTold (source.content old.source) (source.content new.source) (λ was now. (old.pending ++ was ≡ []) × (new.pending ++ now ≡ []))
+  pub same_book : book ≡ ledger.book
+  pub same_output : after ≡ before
+
+-- Turns from the empty history on: lines that were to come were read and answered, each by a reply that is out.
+pub record HasServed {S : Type 0} (source : Ghosts S) (start now : Reader S) (network : Network) (book : Book) (before after : Option (List ℕ)) : Type 0 where
+  pub lines : List ReadLine
+  pub replies : List Reply
+  pub said : WhereTold (source.content start.source) (source.content now.source) (λ was left. SayLines network (start.pending ++ was) lines (now.pending ++ left))
+  pub answered : AreAnswered network lines replies book
+  pub out : Grows before after (texts_of network replies)
