@@ -127,22 +127,20 @@ fn take_line(topology: &mut Topology, line: &[u8]) -> Taken
 {
     let nodes = topology.nodes();
     let mut words = split(line);
-    let is_added = match words.next() {
-        Some(b"node") => add_node(topology, words).is_some(),
-        Some(b"link") => add_link(topology, words).is_some(),
-        Some(b"end") => {
-            return if words.next().is_none() && nodes > 0 {
-                Taken::End
-            } else {
-                Taken::Refused
-            };
-        }
-        _ => false,
-    };
-    if is_added {
-        Taken::Added
-    } else {
-        Taken::Refused
+    match words.next() {
+        Some(b"node") => match add_node(topology, words) {
+            Some(()) => Taken::Added,
+            None => Taken::Refused,
+        },
+        Some(b"link") => match add_link(topology, words) {
+            Some(()) => Taken::Added,
+            None => Taken::Refused,
+        },
+        Some(b"end") if nodes > 0 => match words.next() {
+            None => Taken::End,
+            Some(_) => Taken::Refused,
+        },
+        _ => Taken::Refused,
     }
 }
 
