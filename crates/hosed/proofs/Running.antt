@@ -4,7 +4,8 @@ use Rattle.std.specs.Prelude.{IfOk}
 use Rattle.std.proofs.lemmas.List.{nil_from_length}
 use Rattle.hose_io.specs.Stream.{Stream}
 use Rattle.hose_io.specs.declared.source.Source.{Ghosts}
-use Rattle.hose_words.specs.Lines.{Reader}
+use Rattle.hose_words.specs.Lines.{Reader, StopsAt}
+use Rattle.hose_words.specs.declared.lines.LineFault.{LineFault}
 use Rattle.hose_graph.specs.Network.{Network}
 use Rattle.hose_law.specs.Plan.{HasCycle}
 use Rattle.hose_law.specs.Book.{Book}
@@ -12,14 +13,14 @@ use Rattle.hose_law.proofs.Sold.{sold}
 use Rattle.hosed.specs.Ending.{IsStatus, status_of_done}
 use Rattle.hosed.specs.Fault.{of_topology}
 use Rattle.hosed.specs.Reading.{WhereTold, ReadsOn}
-use Rattle.hosed.specs.Run.{IsRun}
+use Rattle.hosed.specs.Run.{IsRun, StopsInTopology}
 use Rattle.hosed.specs.Serving.{SayLines, HasServed}
-use Rattle.hosed.specs.TopologyText.{IsTopologyText}
+use Rattle.hosed.specs.TopologyText.{AddLines, IsTopologyText, no_network}
 use Rattle.hosed.specs.declared.fault.Fault.{Fault}
 use Rattle.hosed.specs.declared.fault.Fault.TheVariants as fault
 use Rattle.hosed.specs.declared.topology_text.TopologyFault.{TopologyFault}
 use Rattle.hosed.specs.declared.topology_text.TopologyFault.TheVariants.{Text, Read, TooLong, Memory}
-use Rattle.hosed.proofs.Turns.{told_on}
+use Rattle.hosed.proofs.Turns.{told_as, told_on}
 
 -- a run is told that its topology is none only where the reader of topologies said so
 pub text_alone : (topology : TopologyFault) → fault.Topology ≡ of_topology topology → topology ≡ Text
@@ -27,6 +28,31 @@ text_alone Text same = refl
 text_alone Read same = cc
 text_alone TooLong same = cc
 text_alone Memory same = cc
+
+pub read_alone : (topology : TopologyFault) → fault.Read ≡ of_topology topology → topology ≡ Read
+read_alone Read same = refl
+read_alone Text same = cc
+read_alone TooLong same = cc
+read_alone Memory same = cc
+
+pub too_long_alone : (topology : TopologyFault) → fault.TooLong ≡ of_topology topology → topology ≡ TooLong
+too_long_alone TooLong same = refl
+too_long_alone Text same = cc
+too_long_alone Read same = cc
+too_long_alone Memory same = cc
+
+pub never_write : (topology : TopologyFault) → fault.Write ≡ of_topology topology → ⊥
+never_write Text same = cc
+never_write Read same = cc
+never_write TooLong same = cc
+never_write Memory same = cc
+
+-- reading stopped inside the topology
+pub stopped_told : {S : Type 0} (source : Ghosts S) (start last : Reader S) (fault : LineFault) → start.pending ≡ []
+    → WhereTold (source.content start.source) (source.content last.source) (λ input left. (network : Network) × (behind : List ℕ) × AddLines no_network (start.pending ++ input) network behind × StopsAt fault behind left)
+    → StopsInTopology fault (source.content start.source) (source.content last.source)
+stopped_told source start last fault empty told = told_as (source.content start.source) (source.content last.source) _ _ told
+    (λ a b stopped. (stopped.0, stopped.1, subst (λ (p : List ℕ). AddLines no_network (p ++ a) stopped.0 stopped.1) empty stopped.2, stopped.3))
 
 behind_nothing : (xs ys : List ℕ) → xs ++ ys ≡ [] → ys ≡ []
 behind_nothing xs ys none = nil_from_length ys (omega (arith, ap length none, length-append xs ys))

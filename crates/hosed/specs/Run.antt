@@ -1,6 +1,8 @@
 -- A run from its first byte to its last.
 use Rattle.std.specs.Prelude.{◌≡◌, ℕ, List, [], Option, ⊤, take}
 use Rattle.hose_io.specs.Stream.{Stream, Grows}
+use Rattle.hose_words.specs.Lines.{StopsAt}
+use Rattle.hose_words.specs.declared.lines.LineFault.{LineFault}
 use Rattle.hose_graph.specs.declared.entry.Entry.{Entry}
 use Rattle.hose_graph.specs.declared.reply.Reply.{Reply}
 use Rattle.hose_graph.specs.Network.{Network}
@@ -8,7 +10,7 @@ use Rattle.hose_law.specs.Plan.{HasCycle}
 use Rattle.hose_law.specs.Book.{IsOversold}
 use Rattle.hose_law.specs.History.{book_of, IsDecided}
 use Rattle.hose_law.specs.Script.{ReadLine, IsScript}
-use Rattle.hosed.specs.TopologyText.{IsTopologyText}
+use Rattle.hosed.specs.TopologyText.{AddLines, IsTopologyText, no_network}
 use Rattle.hosed.specs.Reading.{WhereTold}
 use Rattle.hosed.specs.Serving.{SayLines, texts_of}
 use Rattle.hosed.specs.declared.fault.Fault.{Fault}
@@ -36,6 +38,14 @@ TellsNoNetwork old new = WhereTold old new (λ input _. (network : Network) (res
 -- the input begins with the text of a network that has a cycle
 abbrev pub TellsCycle : Option Stream → Option Stream → Type 0
 TellsCycle old new = WhereTold old new (λ input _. (network : Network) × (rest : List ℕ) × IsTopologyText input network rest × HasCycle network)
+
+-- the input begins with the text of a network without a cycle
+abbrev pub TellsForest : Option Stream → Option Stream → Type 0
+TellsForest old new = WhereTold old new (λ input _. (network : Network) × (rest : List ℕ) × IsTopologyText input network rest × (HasCycle network → ⊥))
+
+-- Reading stopped at a fault before the topology was refused or ended: behind lines that add to a network no line was taken whole.
+abbrev pub StopsInTopology : LineFault → Option Stream → Option Stream → Type 0
+StopsInTopology fault old new = WhereTold old new (λ input left. (network : Network) × (behind : List ℕ) × AddLines no_network input network behind × StopsAt fault behind left)
 
 -- the faults that a run meets before its first reply
 abbrev pub IsOpeningFault : Fault → Type 0

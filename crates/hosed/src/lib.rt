@@ -8,10 +8,11 @@ ghost use Rattle.std.specs.Prelude.{◌≡◌, ◌⊎◌, ◌↔◌, ◌+◌, �
 ghost use Rattle.std.specs.String.{string_bytes};
 ghost use Rattle.hose_io.specs.Fault.{Rose};
 ghost use Rattle.hose_io.specs.Stream.{Gives};
+ghost use Rattle.hose_words.specs.declared.lines.LineFault.{LineFault};
 ghost use Rattle.hosed.specs.Ending.{IsStatus, IsOut, IsEarly, status_of_done};
 ghost use Rattle.hosed.specs.Fault.{last_line};
 ghost use Rattle.hosed.specs.ProgramWords.{AreRunWords, first_wrong};
-ghost use Rattle.hosed.specs.Run.{IsRun, IsRunFault, TellsNoNetwork, TellsCycle};
+ghost use Rattle.hosed.specs.Run.{IsRun, IsRunFault, StopsInTopology, TellsCycle, TellsForest, TellsNoNetwork};
 
 mod admit_line;
 mod book;
@@ -60,6 +61,13 @@ pub fn hosed<I: Source, O: Sink>(
     ensures too_long { (bytes : List ℕ) × Gives (I.content input.old) (I.content input.new) bytes
         × (length bytes ≤ 2 ^ 30 + 1) × ((result ≡ 8) ↔ (2 ^ 30 < length bytes)) }
 
+    // 3, 4 and 8 come only where the topology was not refused: it has no cycle, or the input stopped inside it.
+    ensures input_failed_where { result ≡ 3 → StopsInTopology LineFault.Read (I.content input.old) (I.content input.new)
+        ⊎ TellsForest (I.content input.old) (I.content input.new) }
+    ensures output_failed_where { result ≡ 4 → TellsForest (I.content input.old) (I.content input.new) }
+    ensures too_long_where { result ≡ 8 → StopsInTopology LineFault.TooLong (I.content input.old) (I.content input.new)
+        ⊎ TellsForest (I.content input.old) (I.content input.new) }
+
     ensures memory_line { result ≡ 7 → IsOut (O.content output.old) (O.content output.new)
         (O.faults output.old) (O.faults output.new) (last_line Fault.Memory) }
 
@@ -91,6 +99,11 @@ fn do_words<I: Source, O: Sink>(
     ensures write { result ≡ Err Fault.Write → Rose (O.faults output.old) (O.faults output.new) }
     ensures takes { (bytes : List ℕ) × Gives (I.content input.old) (I.content input.new) bytes
         × (length bytes ≤ 2 ^ 30 + 1) × ((result ≡ Err Fault.TooLong) ↔ (2 ^ 30 < length bytes)) }
+    ensures read_where { result ≡ Err Fault.Read → StopsInTopology LineFault.Read (I.content input.old) (I.content input.new)
+        ⊎ TellsForest (I.content input.old) (I.content input.new) }
+    ensures write_where { result ≡ Err Fault.Write → TellsForest (I.content input.old) (I.content input.new) }
+    ensures too_long_where { result ≡ Err Fault.TooLong → StopsInTopology LineFault.TooLong (I.content input.old) (I.content input.new)
+        ⊎ TellsForest (I.content input.old) (I.content input.new) }
     ensures early { IfErr result (λ fault. IsEarly fault → output.new ≡ output.old) }
     ensures input_never_falls { I.faults input.old ≤ I.faults input.new }
     ensures output_never_falls { O.faults output.old ≤ O.faults output.new }

@@ -7,7 +7,7 @@ ghost use Rattle.hose_law.specs.History.{opening_book};
 ghost use Rattle.hose_law.specs.Script.{ReadLine};
 ghost use Rattle.hosed.specs.Reading.{ReadsOn, WhereTold};
 ghost use Rattle.hosed.specs.ReplyText.{NamesNodes};
-ghost use Rattle.hosed.specs.Run.{IsRun, TellsNoNetwork, TellsCycle, IsOpeningFault, IsRunFault};
+ghost use Rattle.hosed.specs.Run.{IsRun, StopsInTopology, TellsCycle, TellsForest, TellsNoNetwork, IsOpeningFault, IsRunFault};
 ghost use Rattle.hosed.specs.Serving.{SaysRead, AnswersLine, IsStreamFault, TakesTurn, IsOver, HasServed};
 
 use crate::admit_line::{BadLine, read_admit};
@@ -32,6 +32,11 @@ pub fn run<I: Source, O: Sink>(alloc: Global, input: &mut I, output: &mut O) -> 
     ensures write { result ≡ Err Fault.Write → Rose (O.faults output.old) (O.faults output.new) }
     ensures takes { (bytes : List ℕ) × Gives (I.content input.old) (I.content input.new) bytes
         × (length bytes ≤ 2 ^ 30 + 1) × ((result ≡ Err Fault.TooLong) ↔ (2 ^ 30 < length bytes)) }
+    ensures read_where { result ≡ Err Fault.Read → StopsInTopology LineFault.Read (I.content input.old) (I.content input.new)
+        ⊎ TellsForest (I.content input.old) (I.content input.new) }
+    ensures write_where { result ≡ Err Fault.Write → TellsForest (I.content input.old) (I.content input.new) }
+    ensures too_long_where { result ≡ Err Fault.TooLong → StopsInTopology LineFault.TooLong (I.content input.old) (I.content input.new)
+        ⊎ TellsForest (I.content input.old) (I.content input.new) }
     ensures opening { IfErr result (λ fault. IsOpeningFault fault → output.new ≡ output.old) }
     ensures input_never_falls { I.faults input.old ≤ I.faults input.new }
     ensures output_never_falls { O.faults output.old ≤ O.faults output.new }
@@ -65,6 +70,11 @@ fn run_lines<S: Source, O: Sink>(
         → Rose (S.faults lines.old.source) (S.faults lines.new.source) }
     ensures write { result ≡ Err Fault.Write → Rose (O.faults output.old) (O.faults output.new) }
     ensures too_long { (result ≡ Err Fault.TooLong) ↔ (2 ^ 30 < lines.new.taken) }
+    ensures read_where { result ≡ Err Fault.Read → StopsInTopology LineFault.Read (S.content lines.old.source) (S.content lines.new.source)
+        ⊎ TellsForest (S.content lines.old.source) (S.content lines.new.source) }
+    ensures write_where { result ≡ Err Fault.Write → TellsForest (S.content lines.old.source) (S.content lines.new.source) }
+    ensures too_long_where { result ≡ Err Fault.TooLong → StopsInTopology LineFault.TooLong (S.content lines.old.source) (S.content lines.new.source)
+        ⊎ TellsForest (S.content lines.old.source) (S.content lines.new.source) }
     ensures opening { IfErr result (λ fault. IsOpeningFault fault → output.new ≡ output.old) }
     ensures reads_on { ReadsOn S.Source lines.old lines.new }
     ensures limit { lines.new.taken ≤ 2 ^ 30 + 1 }
