@@ -4,4 +4,5 @@ pub mod Rows
 pub mod Scripts
 pub mod ShortWalks
 pub mod Sold
+pub mod Unique
 pub mod Walks
