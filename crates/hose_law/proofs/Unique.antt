@@ -1,11 +1,20 @@
 -- One plan, one side, one answer: without want of memory the replies of a script are the only ones.
-use Rattle.std.proofs.Common.{◌≡◌, ◌↔◌, ◌⊎◌, ◌∙◌, ℕ, zero, suc, ◌<◌, List, [], ◌∷◌, length, get_or, Contains, refl, sym, ap, subst, inl, inr, arith}
+use Rattle.std.proofs.Common.{◌≡◌, ◌↔◌, ◌⊎◌, ◌∙◌, ℕ, zero, suc, ◌<◌, Bool, List, [], ◌∷◌, Option, None, Some, length, get_or, Contains, refl, sym, ap, subst, inl, inr, arith}
 use Rattle.std.specs.List.{AllPairs}
 use Rattle.std.proofs.lemmas.List.{get_or-map, length-map}
 use Rattle.std.proofs.lemmas.List.Kept.{AllPairs-from_increasing}
 use Rattle.hose_graph.specs.Ascending.{IsAscending, firsts}
 use Rattle.hose_graph.specs.Network.{Network}
-use Rattle.hose_law.specs.Plan.{IsTreePlan}
+use Rattle.hose_graph.specs.declared.entry.Entry.{Entry}
+use Rattle.hose_graph.specs.declared.entry.Entry.TheVariants.{Admit as AdmitEntry}
+use Rattle.hose_graph.specs.declared.command.Command.{Command}
+use Rattle.hose_graph.specs.declared.command.Command.TheVariants.{Admit}
+use Rattle.hose_graph.specs.declared.reply.Reply.{Reply}
+use Rattle.hose_graph.specs.declared.reply.Reply.TheVariants.{Admitted, Refused, Full, Spent}
+use Rattle.hose_law.specs.Plan.{IsTreePlan, plan_cost}
+use Rattle.hose_law.specs.Book.{Book, safe_links}
+use Rattle.hose_law.specs.Decision.{IsReachedList, lowest_end}
+use Rattle.hose_law.specs.Answer.{IsAdmitAnswer, IsAnswer}
 
 module _ {X : Type 0} (key : X → ℕ) where
   -- each number by which the list is in order is below all later ones
@@ -86,3 +95,75 @@ plan_unique network hose one other is_one is_other =
       λ there. (is_other.pairs l amount).1 ((is_one.pairs l amount).0 there),
       λ there. (is_one.pairs l amount).1 ((is_other.pairs l amount).0 there),
     ))
+
+-- What a node reaches over a set has one ascending list.
+pub side_unique : (network : Network) (set : List Bool) (from : ℕ) (one other : List ℕ) → IsReachedList network set from one → IsReachedList network set from other → one ≡ other
+side_unique network set from one other is_one is_other =
+    same_by_elements (λ v. v) one other (AllPairs-from_increasing one is_one.ascending) (AllPairs-from_increasing other is_other.ascending)
+    (λ v. (
+      λ there. (is_other.reached v).1 ((is_one.reached v).0 there),
+      λ there. (is_one.reached v).1 ((is_other.reached v).0 there),
+    ))
+
+module _ (network : Network) (book : Book) (customer : List ℕ) (hose : List (ℕ × ℕ)) where
+  -- where a hose is refused, each answer is that refusal
+  refused_alone : (at : ℕ) (side : List ℕ) (other : Reply) (more : Option Entry) → IsAdmitAnswer network book customer hose (Refused at side) None → IsAdmitAnswer network book customer hose other more
+      → (Refused at side ≡ other) × (None ≡ more)
+  refused_alone at side (Refused when nodes) None one two =
+      let times : at ≡ when = one.0 ∙ sym two.0 in
+      let sides : side ≡ nodes = side_unique network (safe_links network book hose) (lowest_end hose) side nodes one.1.is_side two.1.is_side in
+      (ap (λ (n : ℕ). Refused n side) times ∙ ap (λ (s : List ℕ). Refused when s) sides, refl)
+  refused_alone at side (Spent when) None one two = absurd (one.1.no_plan two.2.0 two.2.1)
+  refused_alone at side (Full when) None one two = absurd (one.1.no_plan two.3.0 two.3.1)
+  refused_alone at side (Admitted id cost when amounts) (Some entry) one two = absurd (one.1.no_plan amounts two.2)
+  refused_alone at side other more one two = absurd two
+
+  -- where no epoch is left for a hose that has a plan, each answer says so
+  spent_alone : (at : ℕ) (other : Reply) (more : Option Entry) → IsAdmitAnswer network book customer hose (Spent at) None → IsAdmitAnswer network book customer hose other more
+      → (Spent at ≡ other) × (None ≡ more)
+  spent_alone at (Refused when nodes) None one two = absurd (two.1.no_plan one.2.0 one.2.1)
+  spent_alone at (Spent when) None one two = let times : at ≡ when = one.0 ∙ sym two.0 in (ap Spent times, refl)
+  spent_alone at (Full when) None one two = absurd (omega (arith, one.1, two.1))
+  spent_alone at (Admitted id cost when amounts) (Some entry) one two = absurd (omega (arith, one.1, two.0))
+  spent_alone at other more one two = absurd two
+
+  -- where there is no room among the live for a hose that has a plan, each answer says so
+  full_alone : (at : ℕ) (other : Reply) (more : Option Entry) → IsAdmitAnswer network book customer hose (Full at) None → IsAdmitAnswer network book customer hose other more
+      → (Full at ≡ other) × (None ≡ more)
+  full_alone at (Refused when nodes) None one two = absurd (two.1.no_plan one.3.0 one.3.1)
+  full_alone at (Spent when) None one two = absurd (omega (arith, one.1, two.1))
+  full_alone at (Full when) None one two = let times : at ≡ when = one.0 ∙ sym two.0 in (ap Full times, refl)
+  full_alone at (Admitted id cost when amounts) (Some entry) one two = absurd (omega (arith, one.2, two.1))
+  full_alone at other more one two = absurd two
+
+  -- where a hose is admitted, each answer is that admission
+  admitted_alone : (id cost at : ℕ) (amounts : List (ℕ × ℕ)) (entry : Entry) (other : Reply) (more : Option Entry)
+      → IsAdmitAnswer network book customer hose (Admitted id cost at amounts) (Some entry) → IsAdmitAnswer network book customer hose other more
+      → (Admitted id cost at amounts ≡ other) × (Some entry ≡ more)
+  admitted_alone id cost at amounts entry (Refused when nodes) None one two = absurd (two.1.no_plan amounts one.2)
+  admitted_alone id cost at amounts entry (Spent when) None one two = absurd (omega (arith, one.0, two.1))
+  admitted_alone id cost at amounts entry (Full when) None one two = absurd (omega (arith, one.1, two.2))
+  admitted_alone id cost at amounts entry (Admitted id' cost' when amounts') (Some entry') one two =
+      let plans : amounts ≡ amounts' = plan_unique network hose amounts amounts' one.2.exists two.2.exists in
+      let ids : id ≡ id' = one.3 ∙ sym two.3 in
+      let times : at ≡ when = one.4 ∙ sym two.4 in
+      let costs : cost ≡ cost' = one.5 ∙ ap (plan_cost network) plans ∙ sym two.5 in
+      let entries : entry ≡ entry' = one.6 ∙ ap (AdmitEntry customer hose) plans ∙ sym two.6 in (
+        ap (λ (n : ℕ). Admitted n cost at amounts) ids ∙ ap (λ (n : ℕ). Admitted id' n at amounts) costs
+            ∙ ap (λ (n : ℕ). Admitted id' cost' n amounts) times ∙ ap (Admitted id' cost' when) plans,
+        ap Some entries,
+      )
+  admitted_alone id cost at amounts entry other more one two = absurd two
+
+  admit_answer_unique : (reply other : Reply) (entry more : Option Entry) → IsAdmitAnswer network book customer hose reply entry → IsAdmitAnswer network book customer hose other more
+      → (reply ≡ other) × (entry ≡ more)
+  admit_answer_unique (Refused at side) other None more one two = refused_alone at side other more one two
+  admit_answer_unique (Spent at) other None more one two = spent_alone at other more one two
+  admit_answer_unique (Full at) other None more one two = full_alone at other more one two
+  admit_answer_unique (Admitted id cost at amounts) other (Some entry) more one two = admitted_alone id cost at amounts entry other more one two
+  admit_answer_unique reply other entry more one two = absurd one
+
+-- A command has one answer at a book, and one entry of it.
+pub answer_unique : (network : Network) (book : Book) (customer : List ℕ) (command : Command) (reply other : Reply) (entry more : Option Entry)
+    → IsAnswer network book customer command reply entry → IsAnswer network book customer command other more → (reply ≡ other) × (entry ≡ more)
+answer_unique network book customer (Admit hose) reply other entry more one two = admit_answer_unique network book customer hose reply other entry more one two
