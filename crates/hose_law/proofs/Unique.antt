@@ -10,17 +10,20 @@ use Rattle.hose_graph.specs.declared.entry.Entry.TheVariants.{Admit as AdmitEntr
 use Rattle.hose_graph.specs.declared.command.Command.{Command}
 use Rattle.hose_graph.specs.declared.command.Command.TheVariants.{Admit}
 use Rattle.hose_graph.specs.declared.reply.Reply.{Reply}
-use Rattle.hose_graph.specs.declared.reply.Reply.TheVariants.{Admitted, Refused, Full, Spent}
+use Rattle.hose_graph.specs.declared.reply.Reply.TheVariants.{Admitted, Refused, Full, Spent, Memory}
 use Rattle.hose_law.specs.Plan.{IsTreePlan, plan_cost}
 use Rattle.hose_law.specs.Book.{Book, safe_links}
 use Rattle.hose_law.specs.Decision.{IsReachedList, lowest_end}
-use Rattle.hose_law.specs.Answer.{IsAdmitAnswer, IsAnswer}
+use Rattle.hose_law.specs.History.{book_of}
+use Rattle.hose_law.specs.Answer.{IsAdmitAnswer, IsAnswer, IsStep, with_entry}
+use Rattle.hose_law.specs.Script.{ReadLine, Asks, IsBad, IsLong, Unread, IsLineStep, IsScript, WithoutMemory}
 
 module _ {X : Type 0} (key : X → ℕ) where
   -- each number by which the list is in order is below all later ones
   abbrev Rises : List X → Type 0
   Rises xs = AllPairs (λ x y. key x < key y) xs
 
+  -- what rises goes on rising behind its first
   rises_behind : (x : X) (xs : List X) → Rises (x ∷ xs) → Rises xs
   rises_behind x xs rises i j d less below = rises (suc i) (suc j) d (omega arith) (omega arith)
 
@@ -29,6 +32,7 @@ module _ {X : Type 0} (key : X → ℕ) where
   above_first x z xs rises there =
       subst (λ (y : X). key x < key y) there.2 (rises 0 (suc there.0) z (omega arith) (omega (arith, there.1)))
 
+  -- what is in a list is in it behind one more
   contains_behind : (x z : X) (xs : List X) → Contains xs z → Contains (x ∷ xs) z
   contains_behind x z xs there = (suc there.0, omega (arith, there.1), there.2)
 
@@ -155,6 +159,7 @@ module _ (network : Network) (book : Book) (customer : List ℕ) (hose : List (�
       )
   admitted_alone id cost at amounts entry other more one two = absurd two
 
+  -- an admission has one answer at a book, and one entry of it
   admit_answer_unique : (reply other : Reply) (entry more : Option Entry) → IsAdmitAnswer network book customer hose reply entry → IsAdmitAnswer network book customer hose other more
       → (reply ≡ other) × (entry ≡ more)
   admit_answer_unique (Refused at side) other None more one two = refused_alone at side other more one two
@@ -167,3 +172,43 @@ module _ (network : Network) (book : Book) (customer : List ℕ) (hose : List (�
 pub answer_unique : (network : Network) (book : Book) (customer : List ℕ) (command : Command) (reply other : Reply) (entry more : Option Entry)
     → IsAnswer network book customer command reply entry → IsAnswer network book customer command other more → (reply ≡ other) × (entry ≡ more)
 answer_unique network book customer (Admit hose) reply other entry more one two = admit_answer_unique network book customer hose reply other entry more one two
+
+-- behind a reply that is not for want of memory
+free_behind : (reply : Reply) (replies : List Reply) → WithoutMemory (reply ∷ replies) → WithoutMemory replies
+free_behind Memory replies free = absurd free
+free_behind reply replies free = free
+
+-- a step whose reply is not for want of memory has an answer
+answered : (network : Network) (epoch : ℕ) (history : List Entry) (customer : List ℕ) (command : Command) (reply : Reply) (replies : List Reply) (next : List Entry)
+    → WithoutMemory (reply ∷ replies) → IsStep network epoch history customer command reply next
+    → (entry : Option Entry) × IsAnswer network (book_of epoch history) customer command reply entry × (next ≡ with_entry history entry)
+answered network epoch history customer command Memory replies next free step = absurd free
+answered network epoch history customer command reply replies next free step = step
+
+-- a line has one step that is not for want of memory
+line_unique : (network : Network) (epoch : ℕ) (history : List Entry) (line : ReadLine) (reply other : Reply) (replies others : List Reply) (next after : List Entry)
+    → IsLineStep network epoch history line reply next → IsLineStep network epoch history line other after → WithoutMemory (reply ∷ replies) → WithoutMemory (other ∷ others)
+    → (reply ≡ other) × (next ≡ after)
+line_unique network epoch history (Asks customer command) reply other replies others next after one two free without =
+    let mine = answered network epoch history customer command reply replies next free one in
+    let theirs = answered network epoch history customer command other others after without two in
+    let same = answer_unique network (book_of epoch history) customer command reply other mine.0 theirs.0 mine.1 theirs.1 in
+    (same.0, mine.2 ∙ ap (with_entry history) same.1 ∙ sym theirs.2)
+line_unique network epoch history IsBad reply other replies others next after one two free without = (one.0 ∙ sym two.0, one.1 ∙ sym two.1)
+line_unique network epoch history IsLong reply other replies others next after one two free without = (one.0 ∙ sym two.0, one.1 ∙ sym two.1)
+line_unique network epoch history Unread reply other replies others next after one two free without = (one.0 ∙ sym two.0, one.1 ∙ sym two.1)
+
+-- Without want of memory the replies of a script are the only ones, and so is the history that it leads to.
+pub script_unique : (network : Network) (epoch : ℕ) (history : List Entry) (lines : List ReadLine) (replies others : List Reply) (last end : List Entry)
+    → IsScript network epoch history lines replies last → IsScript network epoch history lines others end → WithoutMemory replies → WithoutMemory others
+    → (replies ≡ others) × (last ≡ end)
+script_unique network epoch history [] [] [] last end one two free without = (refl, one ∙ sym two)
+script_unique network epoch history (line ∷ lines) (reply ∷ replies) (other ∷ others) last end one two free without =
+    let same = line_unique network epoch history line reply other replies others one.0 two.0 one.1 two.1 free without in
+    let goes_on = subst (λ (h : List Entry). IsScript network epoch h lines others end) (sym same.1) two.2 in
+    let rest = script_unique network epoch one.0 lines replies others last end one.2 goes_on (free_behind reply replies free) (free_behind other others without) in
+    (ap (λ (r : Reply). r ∷ replies) same.0 ∙ ap (λ (rs : List Reply). other ∷ rs) rest.0, rest.1)
+script_unique network epoch history [] (reply ∷ replies) others last end one two free without = absurd one
+script_unique network epoch history [] [] (other ∷ others) last end one two free without = absurd two
+script_unique network epoch history (line ∷ lines) [] others last end one two free without = absurd one
+script_unique network epoch history (line ∷ lines) (reply ∷ replies) [] last end one two free without = absurd two

@@ -1,5 +1,5 @@
 -- Scripts of lines and their replies, and the transcript of one customer along a history.
-use Rattle.std.specs.Prelude.{◌≡◌, ◌⊎◌, ℕ, ◌+◌, ◌<◌, ◌≤◌, List, [], ◌∷◌, ◌++◌, length, take}
+use Rattle.std.specs.Prelude.{◌≡◌, ◌⊎◌, ℕ, ◌+◌, ◌<◌, ◌≤◌, List, [], ◌∷◌, ◌++◌, length, take, ⊤}
 use Rattle.hose_graph.specs.declared.entry.Entry.{Entry}
 use Rattle.hose_graph.specs.declared.command.Command.{Command}
 use Rattle.hose_graph.specs.declared.reply.Reply.{Reply}
@@ -28,6 +28,12 @@ IsScript network epoch history (line ∷ lines) (reply ∷ replies) last =
     (next : List Entry) × IsLineStep network epoch history line reply next × IsScript network epoch next lines replies last
 IsScript network epoch history [] (reply ∷ replies) last = ⊥
 IsScript network epoch history (line ∷ lines) [] last = ⊥
+
+-- no reply is for want of memory
+abbrev pub WithoutMemory : List Reply → Type 0
+WithoutMemory [] = ⊤
+WithoutMemory (Memory ∷ replies) = ⊥
+WithoutMemory (reply ∷ replies) = WithoutMemory replies
 
 -- A step at a place of a history, the place after it, and the places that it adds to the customer's own: where it has an entry, the history has that entry there.
 pub record IsPlacedStep (network : Network) (epoch : ℕ) (history : List Entry) (line : ReadLine) (reply : Reply) (place after : ℕ) (own : List ℕ) : Type 0 where
