@@ -6,6 +6,7 @@ pub mod LinkLine
 pub mod Listing
 pub mod Naming
 pub mod NodesByName
+pub mod OneReading
 pub mod Reaching
 pub mod Running
 pub mod Sharing

@@ -27,7 +27,7 @@ adds_same network words one two differ (inr first) (inr second) =
     first.added ∙ ap (λ l. record network { links = network.links ++ l ∷ [] }) link ∙ sym second.added
 
 -- a line that adds does not end the text
-adds_no_end : (network : Network) (words : List (List ℕ)) (next : Network) → AddsLine network words next → IsEnd network words → ⊥
+pub adds_no_end : (network : Network) (words : List (List ℕ)) (next : Network) → AddsLine network words next → IsEnd network words → ⊥
 adds_no_end network words next (inl adds) end = let line = sym adds.line ∙ end.0 in cc
 adds_no_end network words next (inr adds) end = let line = sym adds.tells.line ∙ end.0 in cc
 
@@ -38,7 +38,7 @@ distinct_more network words next differ (inl adds) =
 distinct_more network words next differ (inr adds) = rw adds.added differ
 
 -- a text has one first line at most
-line_same : (text : List ℕ) (one two : List (List ℕ)) → HasLine text one → HasLine text two → one ≡ two
+pub line_same : (text : List ℕ) (one two : List (List ℕ)) → HasLine text one → HasLine text two → one ≡ two
 line_same text one two first second = first.is_split ∙ sym second.is_split
 
 -- ---- lines
@@ -49,7 +49,7 @@ AddLines-push words next no_more line adds = one_more words line adds no_more
 AddLines-push words next (one_more before has first more) line adds = one_more before has first (AddLines-push words next more line adds)
 
 -- lines that lead to an end go on from wherever lines of the same text lead
-goes_on : {first now last : Network} {text behind rest : List ℕ} (words : List (List ℕ)) → HasDistinctNames first → AddLines first text now behind → AddLines first text last rest → HasLine rest words → IsEnd last words → AddLines now behind last rest
+pub goes_on : {first now last : Network} {text behind rest : List ℕ} (words : List (List ℕ)) → HasDistinctNames first → AddLines first text now behind → AddLines first text last rest → HasLine rest words → IsEnd last words → AddLines now behind last rest
 goes_on words differ no_more whole line end = whole
 goes_on {first = first} {text = text} words differ (one_more {next = next} mine has adds more) no_more line end =
     absurd (adds_no_end first words next (subst (λ w. AddsLine first w next) (line_same text mine words has line) adds) end)
