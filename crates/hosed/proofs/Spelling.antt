@@ -94,7 +94,7 @@ same_end network word one two is first second =
 -- ---- all the words
 
 -- words spell one list of endpoints at most
-same_ends : (network : Network) (words : List (List ℕ)) (ends others : List (ℕ × ℕ)) → IsNetwork network → AllZip (IsEndpoint network) words ends → AllZip (IsEndpoint network) words others → ends ≡ others
+pub same_ends : (network : Network) (words : List (List ℕ)) (ends others : List (ℕ × ℕ)) → IsNetwork network → AllZip (IsEndpoint network) words ends → AllZip (IsEndpoint network) words others → ends ≡ others
 same_ends network [] [] [] is first second = refl
 same_ends network [] [] (o ∷ os) is first second = absurd second
 same_ends network [] (e ∷ es) others is first second = absurd first

@@ -37,6 +37,11 @@ SaysRead network (line.Text bytes) Unread = ⊤
 SaysRead network line.Long IsLong = ⊤
 SaysRead network _ _ = ⊥
 
+-- the line was read
+abbrev pub IsRead : ReadLine → Type 0
+IsRead Unread = ⊥
+IsRead _ = ⊤
+
 -- the lines at the front of a text say this, one after the other, and the rest of the text is left
 pub data SayLines (network : Network) : List ℕ → List ReadLine → List ℕ → Type 0 where
   no_line : {text : List ℕ} → SayLines network text [] text
