@@ -1,6 +1,6 @@
 -- A text is read in one way.
-use Rattle.std.proofs.Common.{◌≡◌, ◌∙◌, ◌⊎◌, ℕ, ◌+◌, ◌<◌, zero, suc, List, [], ◌∷◌, length, get_or, refl, sym, ap, subst, inl, inr, arith}
-use Rattle.std.specs.List.{AllZip, Contains, after_first, slice_index}
+use Rattle.std.proofs.Common.{◌≡◌, ◌≢◌, ◌∙◌, ◌++◌, ◌⊎◌, ℕ, ◌+◌, ◌<◌, zero, suc, List, [], ◌∷◌, length, get_or, refl, sym, ap, subst, inl, inr, arith, append_assoc, append-nil}
+use Rattle.std.specs.List.{All, AllZip, Contains, before_first, after_first, slice_index}
 use Rattle.std.specs.List.Sorted.{IsPermutation}
 use Rattle.std.proofs.lemmas.List.{get_or-map, length-map}
 use Rattle.std.proofs.lemmas.List.Elements.{Contains-append_right}
@@ -14,7 +14,7 @@ use Rattle.hose_law.specs.Script.{ReadLine}
 use Rattle.hose_law.specs.Script.ReadLine.{Asks, IsBad, IsLong, Unread}
 use Rattle.hosed.specs.TopologyText.{IsEnd, HasLine, AddLines, no_more, one_more, no_network, IsTopologyText}
 use Rattle.hosed.specs.AdmitLine.{IsEndpoint, IsAdmitLine}
-use Rattle.hosed.specs.Serving.{Says, IsRead}
+use Rattle.hosed.specs.Serving.{Says, IsRead, SayLines, no_line, one_more as one_line}
 use Rattle.hosed.proofs.Spelling.{same_ends}
 use Rattle.hosed.proofs.TopologyLines.{HasDistinctNames, goes_on, line_same, adds_no_end}
 
@@ -51,6 +51,7 @@ first_below p q ps ascending (k, below, is) =
     let there : get_or (firsts ps) k 0 ≡ q.0 = get_or-map (λ pair. pair.0) ps k q 0 below ∙ ap (λ (pair : ℕ × ℕ). pair.0) is in
     omega (arith, rises, there)
 
+-- where pairs ascend, those behind the first do
 later_ascend : (p : ℕ × ℕ) (ps : List (ℕ × ℕ)) → IsAscending (p ∷ ps) → IsAscending ps
 later_ascend p ps ascending k below =
     let next : suc k + 1 ≡ suc (k + 1) = omega arith in
@@ -119,3 +120,34 @@ says_unique network line Unread other is says says' read read' = absurd read
 says_unique network line (Asks customer (Admit hose)) Unread is says says' read read' = absurd read'
 says_unique network line IsBad Unread is says says' read read' = absurd read'
 says_unique network line IsLong Unread is says says' read read' = absurd read'
+
+-- ---- the lines of a text
+
+-- the lines of a text, from the first on: each says this, and nothing is left behind the last
+abbrev SayAll : Network → List ℕ → List ReadLine → Type 0
+SayAll network text [] = text ≡ []
+SayAll network text (line ∷ lines) = (text ≢ []) × Says network (before_first is_line_feed text) line × SayAll network (after_first is_line_feed text) lines
+
+-- lines that are told at their end are told from the first on
+from_first : (network : Network) {text rest : List ℕ} {lines : List ReadLine} (more : List ReadLine) → SayLines network text lines rest → SayAll network rest more → SayAll network text (lines ++ more)
+from_first network more no_line all = all
+from_first network {text = text} more (one_line {lines = lines} line before some says) all =
+    subst (SayAll network text) (sym (append_assoc lines (line ∷ []) more)) (from_first network (line ∷ more) before (some, says, all))
+
+-- what a text says from its first line on is one thing, where all is read
+all_unique : (network : Network) (text : List ℕ) (lines others : List ReadLine) → IsNetwork network → SayAll network text lines → SayAll network text others → All IsRead lines → All IsRead others → lines ≡ others
+all_unique network text [] [] is says says' read read' = refl
+all_unique network text [] (o ∷ os) is says says' read read' = absurd (says'.0 says)
+all_unique network text (l ∷ ls) [] is says says' read read' = absurd (says.0 says')
+all_unique network text (l ∷ ls) (o ∷ os) is says says' read read' =
+    let first = says_unique network (before_first is_line_feed text) l o is says.1 says'.1 (read 0 l (omega arith)) (read' 0 o (omega arith)) in
+    let rest = all_unique network (after_first is_line_feed text) ls os is says.2 says'.2 (λ k d below. read (suc k) d (omega (arith, below))) (λ k d below. read' (suc k) d (omega (arith, below))) in
+    λ i. first i ∷ rest i
+
+-- a whole text says one list of lines, where all of them are read
+pub lines_unique : (network : Network) (text : List ℕ) (lines others : List ReadLine) → IsNetwork network → SayLines network text lines [] → SayLines network text others [] → All IsRead lines → All IsRead others → lines ≡ others
+lines_unique network text lines others is says says' read read' =
+    all_unique network text lines others is (whole lines says) (whole others says') read read'
+  where
+    whole : (said : List ReadLine) → SayLines network text said [] → SayAll network text said
+    whole said says = subst (SayAll network text) (append-nil said) (from_first network [] says refl)
