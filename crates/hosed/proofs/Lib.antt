@@ -7,6 +7,7 @@ pub mod Listing
 pub mod Naming
 pub mod NodesByName
 pub mod OneReading
+pub mod OneRun
 pub mod Reaching
 pub mod Running
 pub mod Sharing

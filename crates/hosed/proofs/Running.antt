@@ -6,7 +6,7 @@ use Rattle.hose_io.specs.Stream.{Stream}
 use Rattle.hose_io.specs.declared.source.Source.{Ghosts}
 use Rattle.hose_words.specs.Lines.{Reader, StopsAt}
 use Rattle.hose_words.specs.declared.lines.LineFault.{LineFault}
-use Rattle.hose_graph.specs.Network.{Network}
+use Rattle.hose_graph.specs.Network.{Network, IsNetwork}
 use Rattle.hose_law.specs.Plan.{HasCycle}
 use Rattle.hose_law.specs.Book.{Book}
 use Rattle.hose_law.proofs.Sold.{sold}
@@ -20,6 +20,7 @@ use Rattle.hosed.specs.declared.fault.Fault.{Fault}
 use Rattle.hosed.specs.declared.fault.Fault.TheVariants as fault
 use Rattle.hosed.specs.declared.topology_text.TopologyFault.{TopologyFault}
 use Rattle.hosed.specs.declared.topology_text.TopologyFault.TheVariants.{Text, Read, TooLong, Memory}
+use Rattle.hosed.proofs.OneRun.{right_alone}
 use Rattle.hosed.proofs.Turns.{told_as, told_on}
 
 -- a run is told that its topology is none only where the reader of topologies said so
@@ -60,28 +61,24 @@ behind_nothing xs ys none = nil_from_length ys (omega (arith, ap length none, le
 -- a network was read and has no cycle, and then lines were answered up to the end
 pub run_of : {S B : Type 0} (source : Ghosts S) (start middle last : Reader S) (network : Network) (book : Book) (before after : Option (List ℕ)) (result : Result B Fault) → start.pending ≡ []
     → WhereTold (source.content start.source) (source.content middle.source) (λ input left. IsTopologyText (start.pending ++ input) network (middle.pending ++ left))
-    → ReadsOn source start middle → (HasCycle network → ⊥)
+    → ReadsOn source start middle → IsNetwork network → (HasCycle network → ⊥)
     → IfOk result (λ _. HasServed source middle last network book before after)
     → IfOk result (λ _. WhereTold (source.content middle.source) (source.content last.source) (λ _ left. last.pending ++ left ≡ []))
     → IfOk result (λ _. IsRun (source.content start.source) (source.content last.source) before after)
-run_of source start middle last network book before after (Err fault) empty text reads no_cycle served ended = tt
-run_of source start middle last network book before after (Ok done) empty text reads no_cycle served ended = record {
+run_of source start middle last network book before after (Err fault) empty text reads is no_cycle served ended = tt
+run_of source start middle last network book before after (Ok done) empty text reads is no_cycle served ended = record {
   network = network;
   lines = served.lines;
   replies = served.replies;
   history = served.answered.history;
-  text = told_on (source.content start.source) (source.content middle.source) (source.content last.source) reads.takes.0 _ _ _ reads.takes.1 text both
-      (λ a b c told said. (
-        middle.pending ++ b,
-        subst (λ (p : List ℕ). IsTopologyText (p ++ a) network (middle.pending ++ b)) empty told,
-        subst (SayLines network (middle.pending ++ b) served.lines) said.1 said.0,
-        behind_nothing last.pending c said.1,
-      ));
+  text = whole;
   no_cycle = no_cycle;
   script = served.answered.script;
   decided = served.answered.decided;
   none_oversold = λ place l. sold network 0 served.answered.history place l served.answered.decided.sound;
   out = served.out;
+  alone = λ without. told_as (source.content start.source) (source.content last.source) _ _ whole
+      (λ input left text output right. right_alone network input text.0 output served.lines served.replies served.answered.history is text.1 text.2 served.answered.script without right);
 }
   where
     both : WhereTold (source.content middle.source) (source.content last.source) (λ was left. SayLines network (middle.pending ++ was) served.lines (last.pending ++ left) × (last.pending ++ left ≡ []))
@@ -93,6 +90,15 @@ run_of source start middle last network book before after (Ok done) empty text r
         at None second said end = tt
         at (Some a) None said end = tt
         at (Some a) (Some b) said end = (said, end)
+
+    whole : WhereTold (source.content start.source) (source.content last.source) (λ input left. (rest : List ℕ) × IsTopologyText input network rest × SayLines network rest served.lines [] × (left ≡ []))
+    whole = told_on (source.content start.source) (source.content middle.source) (source.content last.source) reads.takes.0 _ _ _ reads.takes.1 text both
+        (λ a b c told said. (
+          middle.pending ++ b,
+          subst (λ (p : List ℕ). IsTopologyText (p ++ a) network (middle.pending ++ b)) empty told,
+          subst (SayLines network (middle.pending ++ b) served.lines) said.1 said.0,
+          behind_nothing last.pending c said.1,
+        ))
 
 -- what was done has one of the program's statuses
 pub status_among : {T : Type 0} (done : Result T Fault) → IsStatus (status_of_done done)

@@ -9,16 +9,29 @@ use Rattle.hose_graph.specs.Network.{Network}
 use Rattle.hose_law.specs.Plan.{HasCycle}
 use Rattle.hose_law.specs.Book.{IsOversold}
 use Rattle.hose_law.specs.History.{book_of, IsDecided}
-use Rattle.hose_law.specs.Script.{ReadLine, IsScript}
+use Rattle.hose_law.specs.Script.{ReadLine, IsScript, WithoutMemory}
 use Rattle.hosed.specs.TopologyText.{AddLines, IsTopologyText, no_network}
 use Rattle.hosed.specs.Reading.{WhereTold}
 use Rattle.hosed.specs.Serving.{SayLines, texts_of}
 use Rattle.hosed.specs.declared.fault.Fault.{Fault}
 use Rattle.hosed.specs.declared.fault.Fault.TheVariants as fault
 
+-- This output is right for this input: the input is the text of a network and then lines, the output is the replies of their script, and none is for want of memory.
+pub record IsRightFor (input output : List ℕ) : Type 0 where
+  pub network : Network
+  pub rest : List ℕ
+  pub lines : List ReadLine
+  pub replies : List Reply
+  pub history : List Entry
+  pub topology : IsTopologyText input network rest
+  pub said : SayLines network rest lines []
+  pub script : IsScript network 0 [] lines replies history
+  pub without : WithoutMemory replies
+  pub out : output ≡ texts_of network replies
+
 -- The input was read to its end, and the output has the replies to its lines. The input is the text of a network without a cycle and then
 -- these lines; the replies are those of the script of the lines from the empty history. That history is decided from its start, and no
--- link is oversold at any place of it.
+-- link is oversold at any place of it. Without a reply for want of memory no other output is right for the input.
 pub record IsRun (old new : Option Stream) (before after : Option (List ℕ)) : Type 0 where
   pub network : Network
   pub lines : List ReadLine
@@ -30,6 +43,7 @@ pub record IsRun (old new : Option Stream) (before after : Option (List ℕ)) : 
   pub decided : IsDecided network 0 0 history
   pub none_oversold : (place l : ℕ) → IsOversold network (book_of 0 (take place history)) l → ⊥
   pub out : Grows before after (texts_of network replies)
+  pub alone : WithoutMemory replies → WhereTold old new (λ input _. (output : List ℕ) → IsRightFor input output → output ≡ texts_of network replies)
 
 -- the input is the text of no network
 abbrev pub TellsNoNetwork : Option Stream → Option Stream → Type 0

@@ -48,7 +48,7 @@ returns-clause-ran g c =
     let opened = rw c.in-Some.is at c.in_ok-book.ensures.book in
     let network : c.in-Some.book.network ≡ c.in_ok-topology.topology = ap (λ (l : Ledger). l.network) opened in
     run_of g.S.Source c.args.lines.now c.read_topology.new.lines c.serve.new.lines c.in_ok-topology.topology c.serve.new.book.book
-    (g.O.Sink.content c.args.output.now) (g.O.Sink.content c.serve.new.output) c.serve.result c.requires.pending c.in_ok-topology.ensures.topology c.read_topology.ensures.reads_on
+    (g.O.Sink.content c.args.output.now) (g.O.Sink.content c.serve.new.output) c.serve.result c.requires.pending c.in_ok-topology.ensures.topology c.read_topology.ensures.reads_on c.in_ok-topology.ensures.network
     (rw c.in-Some.is at c.in_ok-book.ensures.forest)
     (subst (λ (n : Network). IfOk c.serve.result (λ _. HasServed g.S.Source c.read_topology.new.lines c.serve.new.lines n c.serve.new.book.book
     (g.O.Sink.content c.args.output.now) (g.O.Sink.content c.serve.new.output))) network c.serve.ensures.served)

@@ -1,0 +1,50 @@
+-- Without want of memory no other output is right for an input.
+use Rattle.std.proofs.Common.{◌≡◌, ℕ, List, [], ◌∷◌, All, ◌∙◌, ap, subst}
+use Rattle.std.proofs.lemmas.List.Elements.{All-nil, All-cons}
+use Rattle.hose_graph.specs.declared.entry.Entry.{Entry}
+use Rattle.hose_graph.specs.declared.reply.Reply.{Reply}
+use Rattle.hose_graph.specs.declared.reply.Reply.TheVariants.{Admitted, Refused, Full, Spent, Memory, Bad, Long}
+use Rattle.hose_graph.specs.Network.{Network, IsNetwork}
+use Rattle.hose_law.specs.Script.{ReadLine, IsLineStep, IsScript, WithoutMemory}
+use Rattle.hose_law.specs.Script.ReadLine.{Asks, IsBad, IsLong, Unread}
+use Rattle.hose_law.proofs.Unique.{script_unique}
+use Rattle.hosed.specs.Run.{IsRightFor}
+use Rattle.hosed.specs.Serving.{IsRead, SayLines, texts_of}
+use Rattle.hosed.specs.TopologyText.{IsTopologyText}
+use Rattle.hosed.proofs.OneReading.{topology_unique, lines_unique}
+
+without_rest : (reply : Reply) (replies : List Reply) → WithoutMemory (reply ∷ replies) → WithoutMemory replies
+without_rest (Admitted id cost at amounts) replies without = without
+without_rest (Refused at side) replies without = without
+without_rest (Full at) replies without = without
+without_rest (Spent at) replies without = without
+without_rest Memory replies without = absurd without
+without_rest Bad replies without = without
+without_rest Long replies without = without
+
+-- a line that was left unread has a reply for want of memory
+line_read : (network : Network) (history next : List Entry) (line : ReadLine) (reply : Reply) (replies : List Reply) → IsLineStep network 0 history line reply next → WithoutMemory (reply ∷ replies) → IsRead line
+line_read network history next (Asks customer command) reply replies step without = tt
+line_read network history next IsBad reply replies step without = tt
+line_read network history next IsLong reply replies step without = tt
+line_read network history next Unread reply replies step without = absurd (subst (λ (r : Reply). WithoutMemory (r ∷ replies)) step.0 without)
+
+-- where no reply is for want of memory, each line was read
+lines_read : (network : Network) (history last : List Entry) (lines : List ReadLine) (replies : List Reply) → IsScript network 0 history lines replies last → WithoutMemory replies → All IsRead lines
+lines_read network history last [] replies script without = All-nil IsRead
+lines_read network history last (line ∷ lines) [] script without = absurd script
+lines_read network history last (line ∷ lines) (reply ∷ replies) script without =
+    All-cons IsRead line lines (line_read network history script.0 line reply replies script.1 without) (lines_read network script.0 last lines replies script.2 (without_rest reply replies without))
+
+-- an output that is right for an input is the only one
+pub right_alone : (network : Network) (input rest output : List ℕ) (lines : List ReadLine) (replies : List Reply) (history : List Entry) → IsNetwork network
+    → IsTopologyText input network rest → SayLines network rest lines [] → IsScript network 0 [] lines replies history → WithoutMemory replies → IsRightFor input output → output ≡ texts_of network replies
+right_alone network input rest output lines replies history is topology said script without right =
+    let same = topology_unique input right.network network right.rest rest right.topology topology in
+    let their_said : SayLines network rest right.lines [] = subst (λ (r : List ℕ). SayLines network r right.lines []) same.1 (subst (λ (n : Network). SayLines n right.rest right.lines []) same.0 right.said) in
+    let their_script : IsScript network 0 [] right.lines right.replies right.history = subst (λ (n : Network). IsScript n 0 [] right.lines right.replies right.history) same.0 right.script in
+    let same_lines = lines_unique network rest right.lines lines is their_said said
+    (lines_read network [] right.history right.lines right.replies their_script right.without) (lines_read network [] history lines replies script without) in
+    let moved : IsScript network 0 [] lines right.replies right.history = subst (λ (l : List ReadLine). IsScript network 0 [] l right.replies right.history) same_lines their_script in
+    let same_replies = script_unique network 0 [] lines right.replies replies right.history history moved script right.without without in
+    right.out ∙ (ap (λ (n : Network). texts_of n right.replies) same.0 ∙ ap (texts_of network) same_replies.0)
