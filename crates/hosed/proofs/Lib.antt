@@ -9,6 +9,7 @@ pub mod NodesByName
 pub mod OneReading
 pub mod OneRun
 pub mod Reaching
+pub mod Refused
 pub mod Running
 pub mod Sharing
 pub mod Spelling

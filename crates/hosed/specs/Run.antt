@@ -1,8 +1,9 @@
 -- A run from its first byte to its last.
-use Rattle.std.specs.Prelude.{◌≡◌, ℕ, List, [], Option, ⊤, take}
+use Rattle.std.specs.Prelude.{◌≡◌, ◌⊎◌, ℕ, List, [], Option, Some, ⊤, take}
 use Rattle.hose_io.specs.Stream.{Stream, Grows}
 use Rattle.hose_words.specs.Lines.{StopsAt}
 use Rattle.hose_words.specs.declared.lines.LineFault.{LineFault}
+use Rattle.hose_words.specs.declared.lines.LineFault.TheVariants.{Read, TooLong}
 use Rattle.hose_graph.specs.declared.entry.Entry.{Entry}
 use Rattle.hose_graph.specs.declared.reply.Reply.{Reply}
 use Rattle.hose_graph.specs.Network.{Network}
@@ -60,6 +61,15 @@ TellsForest old new = WhereTold old new (λ input _. (network : Network) × (res
 -- Reading stopped at a fault before the topology was refused or ended: behind lines that add to a network no line was taken whole.
 abbrev pub StopsInTopology : LineFault → Option Stream → Option Stream → Type 0
 StopsInTopology fault old new = WhereTold old new (λ input left. (network : Network) × (behind : List ℕ) × AddLines no_network input network behind × StopsAt fault behind left)
+
+-- The input is told, and each network that it begins with the text of has a cycle; it may be the text of none.
+abbrev pub IsRefusedText : Option Stream → Option Stream → Type 0
+IsRefusedText (Some old) (Some new) = (network : Network) (rest : List ℕ) → IsTopologyText old.left network rest → HasCycle network
+IsRefusedText _ _ = ⊥
+
+-- What comes of such an input: status 2; or want of memory; or the input stopped before its topology was refused.
+abbrev pub EndsRefused : ℕ → Option Stream → Option Stream → Type 0
+EndsRefused status old new = (status ≡ 2) ⊎ ((status ≡ 7) ⊎ (((status ≡ 3) × StopsInTopology Read old new) ⊎ ((status ≡ 8) × StopsInTopology TooLong old new)))
 
 -- the faults that a run meets before its first reply
 abbrev pub IsOpeningFault : Fault → Type 0

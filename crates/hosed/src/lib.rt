@@ -12,7 +12,7 @@ ghost use Rattle.hose_words.specs.declared.lines.LineFault.{LineFault};
 ghost use Rattle.hosed.specs.Ending.{IsStatus, IsOut, IsEarly, status_of_done};
 ghost use Rattle.hosed.specs.Fault.{last_line};
 ghost use Rattle.hosed.specs.ProgramWords.{AreRunWords, first_wrong};
-ghost use Rattle.hosed.specs.Run.{IsRun, IsRunFault, StopsInTopology, TellsCycle, TellsForest, TellsNoNetwork};
+ghost use Rattle.hosed.specs.Run.{EndsRefused, IsRefusedText, IsRun, IsRunFault, StopsInTopology, TellsCycle, TellsForest, TellsNoNetwork};
 
 mod admit_line;
 mod book;
@@ -56,6 +56,12 @@ pub fn hosed<I: Source, O: Sink>(
         ⊎ (TellsCycle (I.content input.old) (I.content input.new)
         × IsOut (O.content output.old) (O.content output.new) (O.faults output.old) (O.faults output.new)
         (last_line Fault.Cycle)) }
+
+    // A topology that is refused gives 2, but for want of memory and an input that stopped inside it.
+    ensures refused { AreRunWords (map string_bytes words.now)
+        → IsRefusedText (I.content input.old) (I.content input.new)
+        → EndsRefused result (I.content input.old) (I.content input.new) }
+
     ensures input_failed { result ≡ 3 → Rose (I.faults input.old) (I.faults input.new) }
     ensures output_failed { result ≡ 4 → Rose (O.faults output.old) (O.faults output.new) }
     ensures too_long { (bytes : List ℕ) × Gives (I.content input.old) (I.content input.new) bytes
