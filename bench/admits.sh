@@ -1,19 +1,12 @@
 #!/usr/bin/env bash
 # Seconds that 20,001 admissions take from start to end, the last of them at a full book.
-# usage: bench/admits.sh [PROGRAM]        PROGRAM (./hosed) is seen from the top of the repository
-set -euo pipefail
-export LC_ALL=C
-cd "$(dirname "$0")/.."
-program=${1:-./hosed}
-work=$(mktemp -d)
-trap 'rm -rf "$work"' EXIT
+# usage: bench/admits.sh [PROGRAM]
+. "$(dirname "$0")/setup.sh"
 
 {
     printf 'node a\nnode b\nlink a b 1000000000 1\nend\n'
     python3 -c 'print("acme admit a:1 b:1\n" * 20001, end="")'
 } >"$work/input"
-printf 'node a\nend\n' | "$program" run # where the program is not built yet, that is no part of the figure
-
 start=$EPOCHREALTIME
 "$program" run <"$work/input" >"$work/replies"
 end=$EPOCHREALTIME

@@ -1,12 +1,7 @@
 #!/usr/bin/env bash
 # Megabytes a second of input that is all lines too long to be commands.
-# usage: bench/long_lines.sh [PROGRAM]    PROGRAM (./hosed) is seen from the top of the repository
-set -euo pipefail
-export LC_ALL=C
-cd "$(dirname "$0")/.."
-program=${1:-./hosed}
-work=$(mktemp -d)
-trap 'rm -rf "$work"' EXIT
+# usage: bench/long_lines.sh [PROGRAM]
+. "$(dirname "$0")/setup.sh"
 
 python3 - >"$work/input" <<'PY'
 import sys
@@ -14,8 +9,6 @@ sys.stdout.write("node a\nend\n")
 for _ in range(40_000):
     sys.stdout.write("x" * 4_999 + "\n")
 PY
-printf 'node a\nend\n' | "$program" run # where the program is not built yet, that is no part of the figure
-
 start=$EPOCHREALTIME
 replies=$("$program" run <"$work/input" | wc -l)
 end=$EPOCHREALTIME

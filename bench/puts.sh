@@ -1,16 +1,11 @@
 #!/usr/bin/env bash
 # How many writes to standard output 100 short replies take: one each, where a reply goes out whole.
-# usage: bench/puts.sh [PROGRAM]          PROGRAM (./hosed) is seen from the top of the repository
-set -euo pipefail
-export LC_ALL=C
-cd "$(dirname "$0")/.."
-program=${1:-./hosed}
+# usage: bench/puts.sh [PROGRAM]
+. "$(dirname "$0")/setup.sh"
 if ! command -v strace >/dev/null; then
     echo "puts: no figure, since strace is not installed"
     exit 0
 fi
-work=$(mktemp -d)
-trap 'rm -rf "$work"' EXIT
 
 {
     printf 'node a\nnode b\nlink a b 1000000000 1\nend\n'
