@@ -1,55 +1,97 @@
 // A text on its way to a sink, in few pieces.
-ghost use Rattle.std.specs.Prelude.{◌≡◌, ◌+◌, ◌≤◌, ℕ, IsOk, List, [], ◌++◌, OnOk, OnErr, length, take};
+ghost use Rattle.std.specs.Prelude.{◌≡◌, ◌+◌, ◌≤◌, ℕ, IsFalse, List, [], ◌++◌, OnOk, IsOk, OnErr, decimal, false, length, take};
 ghost use Rattle.hose_io.specs.Fault.{HasCause};
-ghost use Rattle.hose_io.specs.Gather.{GoesOut};
+ghost use Rattle.hose_io.specs.Gather.{GoesOut, IsAdded, IsFinished};
 ghost use Rattle.hose_io.specs.Stream.{Grows};
 ghost use Rattle.hose_io.specs.Writing.{GrowsInPart};
 
 use crate::{Failed, Sink, write_all};
+use itoa::Buffer;
 use std::marker::Model;
 
 /// How many bytes a gatherer holds at most.
 pub const GATHER_LIMIT: usize = 4_096;
 
-/// A text on its way to a sink, gathered so that it goes out in few pieces. It takes no heap memory. What it holds goes
-/// out with a `flush`, and is lost without one.
+/// A text on its way to a sink, gathered so that it goes out in few pieces. It takes no heap memory.
+///
+/// Where the sink fails it is broken: what it held is lost, what is added from then on is dropped, and `finish` answers
+/// `Failed`. What it holds goes out with `finish`, and is lost without.
 #[derive(Drop)]
 pub struct Gather {
     buffer: [u8; GATHER_LIMIT],
     len: usize,
+    broke: bool,
 }
 
 impl Model for Gather {
-    ghost Value = { List ℕ };
+    ghost use Rattle.std.specs.Prelude.{◌≤◌, take};
+    ghost use Rattle.hose_io.specs.Gather.{Gathered};
 
-    ghost view = { λ g. take g.len g.buffer };
+    ghost Value = { Gathered };
+
+    ghost view = { λ g. record { held = take g.len g.buffer; broke = g.broke } };
 
     ghost invariant = { λ g. g.len ≤ 4096 };
 }
 
 impl Gather {
-    /// It holds nothing.
+    /// It holds nothing, and is not broken.
     pub fn new() -> Gather
-        ensures { result ≡ [] }
+        ensures { result ≡ record { held = []; broke = false } }
     {
         Gather {
             buffer: [0; GATHER_LIMIT],
             len: 0,
+            broke: false,
         }
     }
 
     /// Adds `bytes` to the text. They are only kept where there is room for them.
-    pub fn add<S: Sink>(&mut self, sink: &mut S, bytes: &[u8]) -> Result<(), Failed>
-        // Where they fit, nothing goes out.
-        ensures keeps { length (self.old ++ bytes.now) ≤ GATHER_LIMIT → IsOk result }
-        ensures held { length (self.old ++ bytes.now) ≤ GATHER_LIMIT → self.new ≡ self.old ++ bytes.now }
-        ensures calls_none { length (self.old ++ bytes.now) ≤ GATHER_LIMIT → sink.new ≡ sink.old }
+    pub fn add<S: Sink>(&mut self, sink: &mut S, bytes: &[u8])
+        ensures added { IsAdded S.Sink self.old sink.old self.new sink.new bytes.now }
 
-        ensures ok { OnOk result
-            (GoesOut (S.content sink.old) (S.content sink.new) (self.old ++ bytes.now) self.new) }
+        // Where they fit, nothing goes out.
+        ensures held { IsFalse self.old.broke → length (self.old.held ++ bytes.now) ≤ GATHER_LIMIT →
+            self.new ≡ record self.old { held = self.old.held ++ bytes.now } }
+        ensures calls_none { length (self.old.held ++ bytes.now) ≤ GATHER_LIMIT →
+            sink.new ≡ sink.old }
+    {
+        if self.broke {
+            return;
+        }
+        self.broke = self.try_add(sink, bytes).is_err();
+    }
+
+    /// Adds a number in decimal.
+    pub fn add_number<S: Sink>(&mut self, sink: &mut S, number: u64)
+        ensures { IsAdded S.Sink self.old sink.old self.new sink.new (decimal number) }
+    {
+        let mut buffer = Buffer::new();
+        self.add(sink, buffer.format(number).as_bytes());
+    }
+
+    /// Gives all that it holds to the sink. Fails where the sink fails, now or before.
+    pub fn finish<S: Sink>(mut self, sink: &mut S) -> Result<(), Failed>
+        ensures { IsFinished S.Sink self sink.old sink.new result }
+    {
+        if self.broke {
+            return Err(Failed);
+        }
+        self.flush(sink)
+    }
+
+    // Adds `bytes`, if the sink does not fail.
+    fn try_add<S: Sink>(&mut self, sink: &mut S, bytes: &[u8]) -> Result<(), Failed>
+        ensures held { length (self.old.held ++ bytes.now) ≤ GATHER_LIMIT →
+            self.new.held ≡ self.old.held ++ bytes.now }
+        ensures keeps { length (self.old.held ++ bytes.now) ≤ GATHER_LIMIT → IsOk result }
+        ensures calls_none { length (self.old.held ++ bytes.now) ≤ GATHER_LIMIT →
+            sink.new ≡ sink.old }
+        ensures ok { OnOk result (GoesOut (S.content sink.old) (S.content sink.new)
+            (self.old.held ++ bytes.now) self.new.held) }
         ensures err { OnErr result
-            (GrowsInPart (S.content sink.old) (S.content sink.new) (self.old ++ bytes.now)) }
-        ensures emptied { OnErr result (self.new ≡ []) }
+            (GrowsInPart (S.content sink.old) (S.content sink.new) (self.old.held ++ bytes.now)) }
+        ensures broke { self.new.broke ≡ self.old.broke }
         ensures cause { HasCause (S.faults sink.old) (S.faults sink.new) result }
         ensures number { S.number sink.new ≡ S.number sink.old }
         ensures loan { S.loan sink.new ≡ S.loan sink.old }
@@ -66,15 +108,15 @@ impl Gather {
         write_all(sink, bytes)
     }
 
-    /// Gives all that it holds to the sink. It then holds nothing, also where the sink failed.
-    pub fn flush<S: Sink>(&mut self, sink: &mut S) -> Result<(), Failed>
-        ensures ok { OnOk result (Grows (S.content sink.old) (S.content sink.new) self.old) }
-        ensures err { OnErr result (GrowsInPart (S.content sink.old) (S.content sink.new) self.old) }
-        ensures emptied { self.new ≡ [] }
+    // Gives all that it holds to the sink. It then holds nothing, also where the sink failed.
+    fn flush<S: Sink>(&mut self, sink: &mut S) -> Result<(), Failed>
+        ensures ok { OnOk result (Grows (S.content sink.old) (S.content sink.new) self.old.held) }
+        ensures err { OnErr result
+            (GrowsInPart (S.content sink.old) (S.content sink.new) self.old.held) }
+        ensures emptied { self.new ≡ record self.old { held = [] } }
         ensures cause { HasCause (S.faults sink.old) (S.faults sink.new) result }
         ensures number { S.number sink.new ≡ S.number sink.old }
         ensures loan { S.loan sink.new ≡ S.loan sink.old }
-        ensures calls_none { self.old ≡ [] → sink.new ≡ sink.old }
     {
         let held = self.len;
         self.len = 0;
@@ -82,8 +124,8 @@ impl Gather {
     }
 
     fn keep(&mut self, bytes: &[u8])
-        requires { length (self.old ++ bytes.now) ≤ GATHER_LIMIT }
-        ensures { self.new ≡ self.old ++ bytes.now }
+        requires { length (self.old.held ++ bytes.now) ≤ GATHER_LIMIT }
+        ensures { self.new ≡ record self.old { held = self.old.held ++ bytes.now } }
     {
         let end = self.len + bytes.len();
         self.buffer[self.len..end].copy_from_slice(bytes);

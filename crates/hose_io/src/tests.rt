@@ -92,7 +92,6 @@ fn a_whole_text_is_written_or_the_sink_failed(rt: HostRuntime) -> Result<(), Fai
 #[test]
 fn a_text_goes_out_in_few_pieces(rt: HostRuntime) -> Result<(), Fail> {
     let mut sink = MemSink::new(rt.alloc())?;
-    sink.fail(rt.alloc(), 4)?;
     let mut text = Gather::new();
     let letters = [b'a'; 4_097];
     for (bytes, given) in [
@@ -101,13 +100,33 @@ fn a_text_goes_out_in_few_pieces(rt: HostRuntime) -> Result<(), Fail> {
         (&letters[..1], 4_096),
         (&letters[..], 8_194),
     ] {
-        assert_eq!(rt; text.add(&mut sink, bytes), Ok(()));
+        text.add(&mut sink, bytes);
         assert_eq!(rt; sink.bytes().len(), given);
     }
-    assert_eq!(rt; text.flush(&mut sink), Ok(()));
-    assert_eq!(rt; text.add(&mut sink, b"b"), Ok(()));
-    assert_eq!(rt; text.flush(&mut sink), Err(Failed));
-    assert_eq!(rt; sink.bytes().len(), 8_194);
+    text.add_number(&mut sink, 10);
+    assert_eq!(rt; text.finish(&mut sink), Ok(()));
+    assert_eq!(rt; sink.bytes().ends_with(b"a10"), true);
+    assert_eq!(rt; sink.bytes().len(), 8_196);
+    Ok(())
+}
+
+#[test]
+fn a_broken_text_is_dropped(rt: HostRuntime) -> Result<(), Fail> {
+    let letters = [b'a'; 4_096];
+    for (failing, want, given) in [
+        (1, Err(Failed), 0),
+        (2, Err(Failed), 4_096),
+        (3, Ok(()), 4_098),
+    ] {
+        let mut sink = MemSink::new(rt.alloc())?;
+        sink.fail(rt.alloc(), failing)?;
+        let mut text = Gather::new();
+        text.add(&mut sink, &letters);
+        text.add(&mut sink, b"b");
+        text.add(&mut sink, b"c");
+        assert_eq!(rt; text.finish(&mut sink), want, "at {failing}");
+        assert_eq!(rt; sink.bytes().len(), given);
+    }
     Ok(())
 }
 

@@ -2,7 +2,7 @@ use Rattle.std.proofs.Common.{rules}
 use Rattle.std.proofs.lemmas.Result.{on_err_weaker}
 use Rattle.hose_io.proofs.Gathering.{GoesOut-all}
 use Rattle.hose_io.proofs.Streams.{GrowsInPart-append, GrowsInPart-after}
-use Rattle.hose_io.proofs.gather.Gather.add.Goals as goal
+use Rattle.hose_io.proofs.gather.Gather.try_add.Goals as goal
 
 pub returns-in_err-flush-clause-err : goal.returns-in_err-flush-clause-err
 returns-in_err-flush-clause-err g c = search (rules, GrowsInPart-append)
