@@ -1,2 +1,3 @@
 pub mod Endpoints
 pub mod Growth
+pub mod NodesByName

@@ -7,4 +7,10 @@ use crate::hose::Hose;
 pub enum Command {
     /// To admit a network of these endpoints.
     Admit(Hose),
+    /// To give up the network of this number.
+    Release(u64),
+    /// To tell the network of this number.
+    Show(u64),
+    /// To tell a link and what is reserved on it.
+    Link(u32),
 }

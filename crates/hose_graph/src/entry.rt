@@ -15,6 +15,11 @@ pub enum Entry {
         hose: Hose,
         amounts: Amounts,
     },
+    /// A customer gave up the network of this number.
+    Release {
+        customer: Name,
+        id: u64,
+    },
 }
 
 impl Entry {
@@ -31,6 +36,10 @@ impl Entry {
                 customer: *customer,
                 hose: hose.copy(alloc)?,
                 amounts: amounts.copy(alloc)?,
+            }),
+            Entry::Release { customer, id } => Ok(Entry::Release {
+                customer: *customer,
+                id: *id,
             }),
         }
     }
@@ -53,7 +62,10 @@ mod tests {
             customer,
             hose,
             amounts,
-        } = entry.copy(rt.alloc())?;
+        } = entry.copy(rt.alloc())?
+        else {
+            return Err("no admission".into());
+        };
         assert_eq!(rt; customer.bytes(), b"acme".as_slice());
         assert_eq!(rt; hose.ends(), pairs.as_slice());
         assert_eq!(rt; amounts.pairs(), pairs.as_slice());

@@ -12,6 +12,7 @@ mod name;
 mod node_list;
 mod reply;
 mod row;
+mod step;
 mod topology;
 mod vpn;
 
@@ -20,12 +21,14 @@ pub use command::Command;
 pub use entry::Entry;
 pub use hose::{Hose, HoseFault};
 pub use limits::{
-    LEAST_ENDS, MOST_CAPACITY, MOST_COST, MOST_ENDS, MOST_LENGTH, MOST_LINKS, MOST_NODES, MOST_RATE,
+    LEAST_ENDS, MOST_CAPACITY, MOST_COST, MOST_ENDS, MOST_EPOCH, MOST_LENGTH, MOST_LINKS,
+    MOST_LIVE, MOST_NODES, MOST_RATE,
 };
 pub use link::Link;
 pub use name::Name;
 pub use node_list::NodeList;
 pub use reply::Reply;
 pub use row::Row;
+pub use step::Step;
 pub use topology::{Topology, TopologyFault};
 pub use vpn::Vpn;

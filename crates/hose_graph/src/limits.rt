@@ -23,3 +23,9 @@ pub const MOST_ENDS: usize = 64;
 
 /// The greatest rate of an endpoint.
 pub const MOST_RATE: u64 = 1_000_000;
+
+/// The greatest epoch, and so the greatest number of a VPN.
+pub const MOST_EPOCH: u64 = 4_000_000_000;
+
+/// The greatest number of live VPNs.
+pub const MOST_LIVE: usize = 20_000;

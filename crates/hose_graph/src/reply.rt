@@ -1,15 +1,27 @@
 // What a line is answered.
 
 use crate::amounts::Amounts;
+use crate::hose::Hose;
 use crate::node_list::NodeList;
 
 /// What a line is answered. `at` is the epoch at which the reply holds: the one after the entry where there is one, and
 /// that of the decision for all others.
 #[derive(Debug, Drop)]
 pub enum Reply {
+    /// A session began.
+    Welcome {
+        at: u64,
+    },
     /// The network has the number `id`. Each link of its tree reserves its amount, and `cost` is what these cost.
     Admitted {
         id: u64,
+        cost: u64,
+        at: u64,
+        amounts: Amounts,
+    },
+    /// As `Admitted`, but only offered, under the number `quote`.
+    Quoted {
+        quote: u64,
         cost: u64,
         at: u64,
         amounts: Amounts,
@@ -19,18 +31,64 @@ pub enum Reply {
         at: u64,
         side: NodeList,
     },
-    /// No epoch is left.
-    Spent {
+    /// What a quote of the epoch `seen` rests on has changed.
+    Stale {
+        seen: u64,
+        now: u64,
+    },
+    /// The network of this number was given up.
+    Released {
+        id: u64,
+        at: u64,
+    },
+    /// The customer has no live network of this number.
+    NoVpn {
+        id: u64,
+        at: u64,
+    },
+    /// The customer holds no quote of this number.
+    NoQuote {
+        quote: u64,
+        at: u64,
+    },
+    /// The customer holds as many quotes as can be.
+    TooMany {
+        at: u64,
+    },
+    /// The network of this number: what it costs, its endpoints, and what its links reserve.
+    Shown {
+        id: u64,
+        cost: u64,
+        at: u64,
+        hose: Hose,
+        amounts: Amounts,
+    },
+    /// A link, with what is reserved on it.
+    LinkState {
+        link: u64,
+        load: u64,
         at: u64,
     },
     /// As many networks are live as can be.
     Full {
         at: u64,
     },
+    /// No epoch is left.
+    Spent {
+        at: u64,
+    },
+    /// The disk failed, and the command may or may not be kept.
+    Disk {
+        at: u64,
+    },
     /// There was no memory, and nothing was done.
     Memory,
-    /// The line is none of the grammar.
-    Bad,
+    /// The line is none of the grammar. `word` is the first one that is not allowed, counted from 1.
+    Bad {
+        word: u64,
+    },
     /// The line is too long.
     Long,
+    /// The session ends.
+    Bye,
 }
