@@ -1,7 +1,9 @@
 pub mod Buffer
 pub mod BufferInside
+pub mod Grammar
 pub mod Intake
 pub mod Kept
 pub mod Lines
 pub mod Number
+pub mod Reading
 pub mod Words

@@ -62,7 +62,8 @@ impl Buffer {
 
     // How many bytes are pending.
     pub(crate) fn len(&self) -> usize
-        ensures { result ≡ length self.now.pending }
+        ensures count { result ≡ length self.now.pending }
+        ensures limit { result ≤ 8192 }
     {
         self.end - self.start
     }

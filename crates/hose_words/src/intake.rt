@@ -84,6 +84,14 @@ impl Intake {
         }
     }
 
+    // How many bytes are pending.
+    pub(crate) fn pending(&self) -> usize
+        ensures count { result ≡ length self.now.pending }
+        ensures limit { result ≤ 8192 }
+    {
+        self.buffer.len()
+    }
+
     fn cut_line(&mut self) -> bool
         ensures cuts { CutsLine result self.old.pending self.new.line self.new.pending }
         ensures taken { self.new.taken ≡ self.old.taken }

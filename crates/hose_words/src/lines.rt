@@ -1,5 +1,5 @@
 // A source read line by line.
-ghost use Rattle.std.specs.Prelude.{◌≡◌, [], None};
+ghost use Rattle.std.specs.Prelude.{◌≡◌, ◌≤◌, [], None, length};
 ghost use Rattle.std.specs.Borrow.{sem};
 ghost use Rattle.std.specs.Io.BufRead.{Rests};
 
@@ -69,6 +69,14 @@ impl<S: Source> LineReader<S> {
     {
         let found = self.intake.advance(&mut self.source)?;
         Ok(self.intake.shown(found))
+    }
+
+    /// How many bytes were taken and belong to no line yet that was given. They are never more than the buffer holds.
+    pub fn pending(&self) -> usize
+        ensures count { result ≡ length self.now.pending }
+        ensures limit { result ≤ 8192 }
+    {
+        self.intake.pending()
     }
 
     /// The source, from behind the bytes that were taken.
