@@ -1,11 +1,11 @@
 -- Scripts and histories that go on by one line.
 use Rattle.std.proofs.Common.{◌≡◌, ℕ, List, [], ◌∷◌, ◌++◌, Option, None, Some, refl, sym, subst}
 use Rattle.hose_graph.specs.declared.entry.Entry.{Entry}
-use Rattle.hose_graph.specs.declared.entry.Entry.TheVariants.{Admit as AdmitEntry}
+use Rattle.hose_graph.specs.declared.entry.Entry.TheVariants.{Admit as AdmitEntry, Release as ReleaseEntry}
 use Rattle.hose_graph.specs.declared.command.Command.{Command}
-use Rattle.hose_graph.specs.declared.command.Command.TheVariants.{Admit}
+use Rattle.hose_graph.specs.declared.command.Command.TheVariants.{Admit, Release, Show, Link}
 use Rattle.hose_graph.specs.declared.reply.Reply.{Reply}
-use Rattle.hose_graph.specs.declared.reply.Reply.TheVariants.{Admitted, Refused, Full, Spent, Memory, Bad, Long}
+use Rattle.hose_graph.specs.declared.reply.Reply.TheVariants.{Admitted, Released, NoVpn, LinkState}
 use Rattle.hose_graph.specs.Network.{Network}
 use Rattle.hose_law.specs.Book.{Book}
 use Rattle.hose_law.specs.History.{next_book, book_after, book_of, opening_book, IsSoundAt, IsDecidedAt, IsSoundFrom, IsDecidedFrom, IsDecided}
@@ -25,6 +25,16 @@ decided_from_push : (network : Network) (book : Book) (entries : List Entry) (en
 decided_from_push network book [] entry decided at = (at, tt)
 decided_from_push network book (first ∷ entries) entry decided at = (decided.0, decided_from_push network (next_book book first) entries entry decided.1 at)
 
+-- a decided history, and an entry that is decided at its end, are a decided history
+decided_with : (network : Network) (epoch : ℕ) (history : List Entry) (added entry : Entry)
+    → IsDecided network epoch 0 history → IsDecidedAt network (book_of epoch history) added → IsSoundAt network (book_of epoch history) added → entry ≡ added → IsDecided network epoch 0 (history ++ entry ∷ [])
+decided_with network epoch history added entry decided decided_at sound_at is =
+    let whole : IsDecided network epoch 0 (history ++ added ∷ []) = record {
+      sound = sound_push network (opening_book epoch) history added decided.sound sound_at;
+      decided = decided_from_push network (opening_book epoch) history added decided.decided decided_at;
+    } in
+    subst (λ (e : Entry). IsDecided network epoch 0 (history ++ e ∷ [])) (sym is) whole
+
 -- a decided history, and the entry of an answer at its end, are a decided history
 pub decided_push : (network : Network) (epoch : ℕ) (history : List Entry) (customer : List ℕ) (command : Command) (reply : Reply) (entry : Option Entry)
     → IsDecided network epoch 0 history → IsAnswer network (book_of epoch history) customer command reply entry → IsDecided network epoch 0 (with_entry history entry)
@@ -32,20 +42,19 @@ decided_push network epoch history customer command reply None decided answer = 
 decided_push network epoch history customer (Admit hose) (Admitted id cost at amounts) (Some entry) decided answer =
     let book : Book = book_of epoch history in
     let admit : Entry = AdmitEntry customer hose amounts in
-    let is : entry ≡ admit = answer.6 in
     let sound_at : IsSoundAt network book admit = (answer.0, answer.1, answer.2) in
-    let decided_at : IsDecidedAt network book admit = (sound_at, answer.2) in
-    let whole : IsDecided network epoch 0 (history ++ admit ∷ []) = record {
-      sound = sound_push network (opening_book epoch) history admit decided.sound sound_at;
-      decided = decided_from_push network (opening_book epoch) history admit decided.decided decided_at;
-    } in
-    subst (λ (e : Entry). IsDecided network epoch 0 (history ++ e ∷ [])) (sym is) whole
-decided_push network epoch history customer (Admit hose) (Refused at side) (Some entry) decided answer = absurd answer
-decided_push network epoch history customer (Admit hose) (Full at) (Some entry) decided answer = absurd answer
-decided_push network epoch history customer (Admit hose) (Spent at) (Some entry) decided answer = absurd answer
-decided_push network epoch history customer (Admit hose) Memory (Some entry) decided answer = absurd answer
-decided_push network epoch history customer (Admit hose) Bad (Some entry) decided answer = absurd answer
-decided_push network epoch history customer (Admit hose) Long (Some entry) decided answer = absurd answer
+    decided_with network epoch history admit entry decided (sound_at, answer.2) sound_at answer.6
+decided_push network epoch history customer (Release id) (Released told at) (Some entry) decided answer =
+    let book : Book = book_of epoch history in
+    let release : Entry = ReleaseEntry customer id in
+    let sound_at : IsSoundAt network book release = (answer.0, answer.1) in
+    decided_with network epoch history release entry decided sound_at sound_at answer.4
+decided_push network epoch history customer (Admit hose) reply (Some entry) decided answer = absurd answer
+decided_push network epoch history customer (Release id) reply (Some entry) decided answer = absurd answer
+decided_push network epoch history customer (Show id) (NoVpn told at) (Some entry) decided answer = absurd answer
+decided_push network epoch history customer (Show id) reply (Some entry) decided answer = absurd answer
+decided_push network epoch history customer (Link link) (LinkState told load at) (Some entry) decided answer = absurd answer
+decided_push network epoch history customer (Link link) reply (Some entry) decided answer = absurd answer
 
 -- a script, and a step of one line more from its last history, are a script
 pub script_push : (network : Network) (epoch : ℕ) (history : List Entry) (lines : List ReadLine) (replies : List Reply) (middle : List Entry) (line : ReadLine) (reply : Reply) (last : List Entry)

@@ -7,12 +7,13 @@ use Rattle.std.proofs.lemmas.Bool.Decides.{nat_tests}
 use Rattle.std.specs.List.Sorted.{IsStrictlyIncreasing}
 use Rattle.hose_graph.specs.declared.vpn.Vpn.{Vpn}
 use Rattle.hose_graph.specs.declared.entry.Entry.{Entry}
-use Rattle.hose_graph.specs.declared.entry.Entry.TheVariants.{Admit}
+use Rattle.hose_graph.specs.declared.entry.Entry.TheVariants.{Admit, Release}
 use Rattle.hose_graph.specs.Network.{Network}
 use Rattle.hose_law.specs.Walk.{capacity_of}
 use Rattle.hose_law.specs.Book.{Book, amount_on, load_of, free_rate, IsOversold}
 use Rattle.hose_law.specs.Decision.{Fits}
 use Rattle.hose_law.specs.History.{opening_book, next_book, book_after, IsSoundAt, IsSoundFrom}
+use Rattle.hose_law.proofs.Releases.{load_after_release}
 
 abbrev Plan : Type 0
 Plan = List (ℕ × ℕ)
@@ -73,6 +74,7 @@ entry_keeps network book (Admit customer hose plan) sound kept l =
     let more = sum_by_push (λ (v : Vpn). amount_on l v.amounts) book.live vpn in
     let fits = reserved_fits network book plan l sound.2.exists.ascending sound.2.fits in
     omega (arith, more, fits, kept l)
+entry_keeps network book (Release customer id) sound kept l = omega (arith, load_after_release book customer id l, kept l)
 
 sound_keeps : (network : Network) (book : Book) (history : List Entry) (place : ℕ) → IsSoundFrom network book history → NoneOversold network book → NoneOversold network (book_after book (take place history))
 sound_keeps network book history zero sound kept = kept

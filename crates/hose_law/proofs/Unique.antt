@@ -1,21 +1,24 @@
 -- One plan, one side, one answer: without want of memory the replies of a script are the only ones.
-use Rattle.std.proofs.Common.{◌≡◌, ◌↔◌, ◌⊎◌, ◌∙◌, ℕ, zero, suc, ◌<◌, Bool, List, [], ◌∷◌, Option, None, Some, length, get_or, Contains, refl, sym, ap, subst, inl, inr, arith}
+use Rattle.std.proofs.Common.{◌≡◌, ◌↔◌, ◌∙◌, ℕ, suc, ◌<◌, Bool, List, [], ◌∷◌, Option, None, Some, get_or, Contains, refl, sym, ap, subst, inl, inr, arith}
 use Rattle.std.specs.List.{AllPairs}
 use Rattle.std.proofs.lemmas.List.{get_or-map, length-map}
 use Rattle.std.proofs.lemmas.List.Kept.{AllPairs-from_increasing}
 use Rattle.hose_graph.specs.Ascending.{IsAscending, firsts}
 use Rattle.hose_graph.specs.Network.{Network}
+use Rattle.hose_graph.specs.declared.vpn.Vpn.{Vpn}
 use Rattle.hose_graph.specs.declared.entry.Entry.{Entry}
 use Rattle.hose_graph.specs.declared.entry.Entry.TheVariants.{Admit as AdmitEntry}
 use Rattle.hose_graph.specs.declared.command.Command.{Command}
-use Rattle.hose_graph.specs.declared.command.Command.TheVariants.{Admit}
+use Rattle.hose_graph.specs.declared.command.Command.TheVariants.{Admit, Release, Show, Link}
 use Rattle.hose_graph.specs.declared.reply.Reply.{Reply}
-use Rattle.hose_graph.specs.declared.reply.Reply.TheVariants.{Admitted, Refused, Full, Spent, Memory}
+use Rattle.hose_graph.specs.declared.reply.Reply.TheVariants.{Admitted, Refused, Full, Spent, Released, NoVpn, Shown, LinkState, Memory}
+use Rattle.hose_law.proofs.LiveIds.{HasDistinctIds, live_ids, vpn_unique}
+use Rattle.hose_law.proofs.Members.{contains_behind, first_or_behind}
 use Rattle.hose_law.specs.Plan.{IsTreePlan, plan_cost}
 use Rattle.hose_law.specs.Book.{Book, safe_links}
 use Rattle.hose_law.specs.Decision.{IsReachedList, lowest_end}
 use Rattle.hose_law.specs.History.{book_of}
-use Rattle.hose_law.specs.Answer.{IsAdmitAnswer, IsAnswer, IsStep, with_entry}
+use Rattle.hose_law.specs.Answer.{IsAdmitAnswer, IsReleaseAnswer, IsShowAnswer, IsLinkAnswer, IsAnswer, IsStep, with_entry}
 use Rattle.hose_law.specs.Script.{ReadLine, Asks, IsBad, IsLong, Unread, IsLineStep, IsScript, WithoutMemory}
 
 module _ {X : Type 0} (key : X → ℕ) where
@@ -31,18 +34,6 @@ module _ {X : Type 0} (key : X → ℕ) where
   above_first : (x z : X) (xs : List X) → Rises (x ∷ xs) → Contains xs z → key x < key z
   above_first x z xs rises there =
       subst (λ (y : X). key x < key y) there.2 (rises 0 (suc there.0) z (omega arith) (omega (arith, there.1)))
-
-  -- what is in a list is in it behind one more
-  contains_behind : (x z : X) (xs : List X) → Contains xs z → Contains (x ∷ xs) z
-  contains_behind x z xs there = (suc there.0, omega (arith, there.1), there.2)
-
-  -- an element is the first or behind it
-  first_or_behind : (x z : X) (xs : List X) → Contains (x ∷ xs) z → (x ≡ z) ⊎ Contains xs z
-  first_or_behind x z xs there = at there.0 there.1 there.2
-    where
-      at : (k : ℕ) → k < length (x ∷ xs) → get_or (x ∷ xs) k z ≡ z → (x ≡ z) ⊎ Contains xs z
-      at zero below same = inl same
-      at (suc k) below same = inr (k, omega arith, same)
 
   -- each first is among the other list's elements, and no two elements are below one another
   same_first : (x y : X) (xs ys : List X) → Rises (x ∷ xs) → Rises (y ∷ ys) → Contains (y ∷ ys) x → Contains (x ∷ xs) y → x ≡ y
@@ -168,10 +159,109 @@ module _ (network : Network) (book : Book) (customer : List ℕ) (hose : List (�
   admit_answer_unique (Admitted id cost at amounts) other (Some entry) more one two = admitted_alone id cost at amounts entry other more one two
   admit_answer_unique reply other entry more one two = absurd one
 
--- A command has one answer at a book, and one entry of it.
-pub answer_unique : (network : Network) (book : Book) (customer : List ℕ) (command : Command) (reply other : Reply) (entry more : Option Entry)
+module _ (book : Book) (customer : List ℕ) (id : ℕ) where
+  -- where the customer has no VPN of the number to give up, each answer says so
+  no_vpn_alone : (told at : ℕ) (other : Reply) (more : Option Entry) → IsReleaseAnswer book customer id (NoVpn told at) None → IsReleaseAnswer book customer id other more
+      → (NoVpn told at ≡ other) × (None ≡ more)
+  no_vpn_alone told at (NoVpn tells when) None one two =
+      let ids : told ≡ tells = one.0 ∙ sym two.0 in
+      let times : at ≡ when = one.1 ∙ sym two.1 in
+      (ap (λ (n : ℕ). NoVpn n at) ids ∙ ap (NoVpn tells) times, refl)
+  no_vpn_alone told at (Spent when) None one two = absurd (one.2 two.2)
+  no_vpn_alone told at (Released tells when) (Some entry) one two = absurd (one.2 two.1)
+  no_vpn_alone told at other more one two = absurd two
+
+  -- where no epoch is left for a release, each answer says so
+  release_spent_alone : (at : ℕ) (other : Reply) (more : Option Entry) → IsReleaseAnswer book customer id (Spent at) None → IsReleaseAnswer book customer id other more
+      → (Spent at ≡ other) × (None ≡ more)
+  release_spent_alone at (NoVpn tells when) None one two = absurd (two.2 one.2)
+  release_spent_alone at (Spent when) None one two = let times : at ≡ when = one.0 ∙ sym two.0 in (ap Spent times, refl)
+  release_spent_alone at (Released tells when) (Some entry) one two = absurd (omega (arith, one.1, two.0))
+  release_spent_alone at other more one two = absurd two
+
+  -- where a VPN is given up, each answer is that release
+  released_alone : (told at : ℕ) (entry : Entry) (other : Reply) (more : Option Entry)
+      → IsReleaseAnswer book customer id (Released told at) (Some entry) → IsReleaseAnswer book customer id other more → (Released told at ≡ other) × (Some entry ≡ more)
+  released_alone told at entry (NoVpn tells when) None one two = absurd (two.2 one.1)
+  released_alone told at entry (Spent when) None one two = absurd (omega (arith, one.0, two.1))
+  released_alone told at entry (Released tells when) (Some entry') one two =
+      let ids : told ≡ tells = one.2 ∙ sym two.2 in
+      let times : at ≡ when = one.3 ∙ sym two.3 in
+      let entries : entry ≡ entry' = one.4 ∙ sym two.4 in
+      (ap (λ (n : ℕ). Released n at) ids ∙ ap (Released tells) times, ap Some entries)
+  released_alone told at entry other more one two = absurd two
+
+  -- a release has one answer at a book, and one entry of it
+  release_answer_unique : (reply other : Reply) (entry more : Option Entry) → IsReleaseAnswer book customer id reply entry → IsReleaseAnswer book customer id other more
+      → (reply ≡ other) × (entry ≡ more)
+  release_answer_unique (NoVpn told at) other None more one two = no_vpn_alone told at other more one two
+  release_answer_unique (Spent at) other None more one two = release_spent_alone at other more one two
+  release_answer_unique (Released told at) other (Some entry) more one two = released_alone told at entry other more one two
+  release_answer_unique reply other entry more one two = absurd one
+
+module _ (network : Network) (book : Book) (customer : List ℕ) (id : ℕ) where
+  -- where the customer has no VPN of the number to be told, each answer says so
+  none_to_show : (told at : ℕ) (other : Reply) (more : Option Entry) → IsShowAnswer network book customer id (NoVpn told at) None → IsShowAnswer network book customer id other more
+      → (NoVpn told at ≡ other) × (None ≡ more)
+  none_to_show told at (NoVpn tells when) None one two =
+      let ids : told ≡ tells = one.0 ∙ sym two.0 in
+      let times : at ≡ when = one.1 ∙ sym two.1 in
+      (ap (λ (n : ℕ). NoVpn n at) ids ∙ ap (NoVpn tells) times, refl)
+  none_to_show told at (Shown tells cost when hose amounts) None one two = absurd (one.2 (two.0, two.1))
+  none_to_show told at other more one two = absurd two
+
+  -- where ids are distinct and a VPN is told, each answer tells that one
+  shown_alone : (told cost at : ℕ) (hose amounts : List (ℕ × ℕ)) (other : Reply) (more : Option Entry) → HasDistinctIds book
+      → IsShowAnswer network book customer id (Shown told cost at hose amounts) None → IsShowAnswer network book customer id other more
+      → (Shown told cost at hose amounts ≡ other) × (None ≡ more)
+  shown_alone told cost at hose amounts (NoVpn tells when) None distinct one two = absurd (two.2 (one.0, one.1))
+  shown_alone told cost at hose amounts (Shown told' cost' at' hose' amounts') None distinct one two =
+      let same : one.0 ≡ two.0 = vpn_unique book one.0 two.0 distinct one.1.live two.1.live (one.1.is_id ∙ sym two.1.is_id) in
+      let ids : told ≡ told' = one.2 ∙ sym two.2 in
+      let times : at ≡ at' = one.3 ∙ sym two.3 in
+      let costs : cost ≡ cost' = one.4 ∙ ap (λ (v : Vpn). plan_cost network v.amounts) same ∙ sym two.4 in
+      let hoses : hose ≡ hose' = one.5 ∙ ap (λ (v : Vpn). v.hose) same ∙ sym two.5 in
+      let plans : amounts ≡ amounts' = one.6 ∙ ap (λ (v : Vpn). v.amounts) same ∙ sym two.6 in (
+        ap (λ (n : ℕ). Shown n cost at hose amounts) ids ∙ ap (λ (n : ℕ). Shown told' n at hose amounts) costs
+            ∙ ap (λ (n : ℕ). Shown told' cost' n hose amounts) times ∙ ap (λ (h : List (ℕ × ℕ)). Shown told' cost' at' h amounts) hoses
+            ∙ ap (Shown told' cost' at' hose') plans,
+        refl,
+      )
+  shown_alone told cost at hose amounts other more distinct one two = absurd two
+
+  -- a question after a VPN has one answer at a book with distinct ids
+  show_answer_unique : (reply other : Reply) (entry more : Option Entry) → HasDistinctIds book
+      → IsShowAnswer network book customer id reply entry → IsShowAnswer network book customer id other more → (reply ≡ other) × (entry ≡ more)
+  show_answer_unique (NoVpn told at) other None more distinct one two = none_to_show told at other more one two
+  show_answer_unique (Shown told cost at hose amounts) other None more distinct one two = shown_alone told cost at hose amounts other more distinct one two
+  show_answer_unique reply other entry more distinct one two = absurd one
+
+module _ (book : Book) (link : ℕ) where
+  -- what a link is told as, is told alike
+  link_state_alone : (told load at : ℕ) (other : Reply) (more : Option Entry) → IsLinkAnswer book link (LinkState told load at) None → IsLinkAnswer book link other more
+      → (LinkState told load at ≡ other) × (None ≡ more)
+  link_state_alone told load at (LinkState told' load' at') None one two =
+      let links : told ≡ told' = one.0 ∙ sym two.0 in
+      let loads : load ≡ load' = one.1 ∙ sym two.1 in
+      let times : at ≡ at' = one.2 ∙ sym two.2 in (
+        ap (λ (n : ℕ). LinkState n load at) links ∙ ap (λ (n : ℕ). LinkState told' n at) loads ∙ ap (LinkState told' load') times,
+        refl,
+      )
+  link_state_alone told load at other more one two = absurd two
+
+  -- a question after a link has one answer at a book
+  link_answer_unique : (reply other : Reply) (entry more : Option Entry) → IsLinkAnswer book link reply entry → IsLinkAnswer book link other more
+      → (reply ≡ other) × (entry ≡ more)
+  link_answer_unique (LinkState told load at) other None more one two = link_state_alone told load at other more one two
+  link_answer_unique reply other entry more one two = absurd one
+
+-- A command has one answer at a book with distinct ids, and one entry of it.
+pub answer_unique : (network : Network) (book : Book) (customer : List ℕ) (command : Command) (reply other : Reply) (entry more : Option Entry) → HasDistinctIds book
     → IsAnswer network book customer command reply entry → IsAnswer network book customer command other more → (reply ≡ other) × (entry ≡ more)
-answer_unique network book customer (Admit hose) reply other entry more one two = admit_answer_unique network book customer hose reply other entry more one two
+answer_unique network book customer (Admit hose) reply other entry more distinct one two = admit_answer_unique network book customer hose reply other entry more one two
+answer_unique network book customer (Release id) reply other entry more distinct one two = release_answer_unique book customer id reply other entry more one two
+answer_unique network book customer (Show id) reply other entry more distinct one two = show_answer_unique network book customer id reply other entry more distinct one two
+answer_unique network book customer (Link link) reply other entry more distinct one two = link_answer_unique book link reply other entry more one two
 
 -- behind a reply that is not for want of memory
 free_behind : (reply : Reply) (replies : List Reply) → WithoutMemory (reply ∷ replies) → WithoutMemory replies
@@ -192,9 +282,9 @@ line_unique : (network : Network) (epoch : ℕ) (history : List Entry) (line : R
 line_unique network epoch history (Asks customer command) reply other replies others next after one two free without =
     let mine = answered network epoch history customer command reply replies next free one in
     let theirs = answered network epoch history customer command other others after without two in
-    let same = answer_unique network (book_of epoch history) customer command reply other mine.0 theirs.0 mine.1 theirs.1 in
+    let same = answer_unique network (book_of epoch history) customer command reply other mine.0 theirs.0 (live_ids epoch history) mine.1 theirs.1 in
     (same.0, mine.2 ∙ ap (with_entry history) same.1 ∙ sym theirs.2)
-line_unique network epoch history IsBad reply other replies others next after one two free without = (one.0 ∙ sym two.0, one.1 ∙ sym two.1)
+line_unique network epoch history (IsBad word) reply other replies others next after one two free without = (one.0 ∙ sym two.0, one.1 ∙ sym two.1)
 line_unique network epoch history IsLong reply other replies others next after one two free without = (one.0 ∙ sym two.0, one.1 ∙ sym two.1)
 line_unique network epoch history Unread reply other replies others next after one two free without = (one.0 ∙ sym two.0, one.1 ∙ sym two.1)
 

@@ -1,14 +1,15 @@
 -- What the sequential book answers to a command, and the steps that this allows.
 use Rattle.std.specs.Prelude.{◌≡◌, ℕ, ◌+◌, ◌<◌, ◌≤◌, List, [], ◌∷◌, ◌++◌, length, None, Some, Option}
 use Rattle.hose_graph.specs.declared.entry.Entry.{Entry}
-use Rattle.hose_graph.specs.declared.entry.Entry.TheVariants.{Admit as AdmitEntry}
+use Rattle.hose_graph.specs.declared.entry.Entry.TheVariants.{Admit as AdmitEntry, Release as ReleaseEntry}
 use Rattle.hose_graph.specs.declared.command.Command.{Command}
-use Rattle.hose_graph.specs.declared.command.Command.TheVariants.{Admit}
+use Rattle.hose_graph.specs.declared.command.Command.TheVariants.{Admit, Release, Show, Link}
 use Rattle.hose_graph.specs.declared.reply.Reply.{Reply}
-use Rattle.hose_graph.specs.declared.reply.Reply.TheVariants.{Admitted, Refused, Full, Spent, Memory}
+use Rattle.hose_graph.specs.declared.reply.Reply.TheVariants.{Admitted, Refused, Full, Spent, Released, NoVpn, Shown, LinkState, Memory}
+use Rattle.hose_graph.specs.declared.vpn.Vpn.{Vpn}
 use Rattle.hose_graph.specs.Network.{Network}
 use Rattle.hose_law.specs.Plan.{plan_cost}
-use Rattle.hose_law.specs.Book.{Book}
+use Rattle.hose_law.specs.Book.{Book, IsLiveVpn, HasVpn, load_of}
 use Rattle.hose_law.specs.Decision.{IsPlanned, IsRefused}
 use Rattle.hose_law.specs.History.{book_of, last_epoch, most_live}
 
@@ -22,9 +23,32 @@ IsAdmitAnswer network book customer hose (Admitted id cost at amounts) (Some ent
     × (id ≡ book.epoch + 1) × (at ≡ book.epoch + 1) × (cost ≡ plan_cost network amounts) × (entry ≡ AdmitEntry customer hose amounts)
 IsAdmitAnswer network book customer hose reply entry = ⊥
 
+-- The answer to a release at a book: the first of no VPN, spent that applies, else released. The entry is what joins the history.
+abbrev pub IsReleaseAnswer : Book → List ℕ → ℕ → Reply → Option Entry → Type 0
+IsReleaseAnswer book customer id (NoVpn told at) None = (told ≡ id) × (at ≡ book.epoch) × (HasVpn book customer id → ⊥)
+IsReleaseAnswer book customer id (Spent at) None = (at ≡ book.epoch) × (book.epoch ≡ last_epoch) × HasVpn book customer id
+IsReleaseAnswer book customer id (Released told at) (Some entry) =
+    (book.epoch < last_epoch) × HasVpn book customer id × (told ≡ id) × (at ≡ book.epoch + 1) × (entry ≡ ReleaseEntry customer id)
+IsReleaseAnswer book customer id reply entry = ⊥
+
+-- the answer to a question after a VPN at a book: none of the customer's has the number, or what it is
+abbrev pub IsShowAnswer : Network → Book → List ℕ → ℕ → Reply → Option Entry → Type 0
+IsShowAnswer network book customer id (NoVpn told at) None = (told ≡ id) × (at ≡ book.epoch) × (HasVpn book customer id → ⊥)
+IsShowAnswer network book customer id (Shown told cost at hose amounts) None =
+    (vpn : Vpn) × IsLiveVpn book customer id vpn × (told ≡ id) × (at ≡ book.epoch) × (cost ≡ plan_cost network vpn.amounts) × (hose ≡ vpn.hose) × (amounts ≡ vpn.amounts)
+IsShowAnswer network book customer id reply entry = ⊥
+
+-- the answer to a question after a link at a book: what is reserved on it
+abbrev pub IsLinkAnswer : Book → ℕ → Reply → Option Entry → Type 0
+IsLinkAnswer book link (LinkState told load at) None = (told ≡ link) × (load ≡ load_of book link) × (at ≡ book.epoch)
+IsLinkAnswer book link reply entry = ⊥
+
 -- the answer to a customer's command at a book
 abbrev pub IsAnswer : Network → Book → List ℕ → Command → Reply → Option Entry → Type 0
 IsAnswer network book customer (Admit hose) reply entry = IsAdmitAnswer network book customer hose reply entry
+IsAnswer network book customer (Release id) reply entry = IsReleaseAnswer book customer id reply entry
+IsAnswer network book customer (Show id) reply entry = IsShowAnswer network book customer id reply entry
+IsAnswer network book customer (Link link) reply entry = IsLinkAnswer book link reply entry
 
 -- a history with an entry, if there is one
 abbrev pub with_entry : List Entry → Option Entry → List Entry

@@ -1,5 +1,5 @@
 -- The book: what is admitted and live, and what it leaves free.
-use Rattle.std.specs.Prelude.{ℕ, ◌-◌, ◌/◌, ◌<◌, Bool, List, map, length, sum_by, if◌then◌else◌, ◌==◌, nat_le}
+use Rattle.std.specs.Prelude.{◌≡◌, ℕ, ◌-◌, ◌/◌, ◌<◌, Bool, List, map, length, Contains, sum_by, if◌then◌else◌, ◌==◌, nat_le}
 use Rattle.std.specs.List.{range_with_len}
 use Rattle.hose_graph.specs.declared.vpn.Vpn.{Vpn}
 use Rattle.hose_graph.specs.Network.{Network}
@@ -10,6 +10,16 @@ use Rattle.hose_graph.specs.Hose.{total_rate}
 pub record Book : Type 0 where
   pub epoch : ℕ
   pub live : List Vpn
+
+-- a live VPN is the one of this number, and is this customer's
+pub record IsLiveVpn (book : Book) (customer : List ℕ) (id : ℕ) (vpn : Vpn) : Type 0 where
+  pub live : Contains book.live vpn
+  pub is_id : vpn.id ≡ id
+  pub is_customer : vpn.customer ≡ customer
+
+-- the customer has a live VPN of this number
+abbrev pub HasVpn : Book → List ℕ → ℕ → Type 0
+HasVpn book customer id = (vpn : Vpn) × IsLiveVpn book customer id vpn
 
 -- what a plan reserves on a link
 abbrev pub amount_on : ℕ → List (ℕ × ℕ) → ℕ

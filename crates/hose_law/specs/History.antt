@@ -1,20 +1,32 @@
 -- Histories: lists of accepted entries, the books that they lead to, and which of them are sound and decided.
-use Rattle.std.specs.Prelude.{ℕ, zero, suc, ◌+◌, ◌<◌, List, [], ◌∷◌, ◌++◌, length, ⊤}
+use Rattle.std.specs.Prelude.{ℕ, zero, suc, ◌+◌, ◌<◌, ◌==◌, ◌&&◌, not, Bool, List, [], ◌∷◌, ◌++◌, filter, length, ⊤}
+use Rattle.std.specs.Str.{bytes_eq}
 use Rattle.hose_graph.specs.declared.entry.Entry.{Entry}
-use Rattle.hose_graph.specs.declared.entry.Entry.TheVariants.{Admit}
+use Rattle.hose_graph.specs.declared.entry.Entry.TheVariants.{Admit, Release}
+use Rattle.hose_graph.specs.declared.vpn.Vpn.{Vpn}
+use Rattle.hose_graph.specs.declared.limits.TheConstants.{MOST_EPOCH, MOST_LIVE}
 use Rattle.hose_graph.specs.Network.{Network}
-use Rattle.hose_law.specs.Book.{Book}
+use Rattle.hose_law.specs.Book.{Book, HasVpn}
 use Rattle.hose_law.specs.Decision.{IsPlanned}
 
 -- the book of an epoch with nothing live
 abbrev pub opening_book : ℕ → Book
 opening_book epoch = record { epoch = epoch; live = [] }
 
--- The book after an entry: the epoch is one more, and an admitted VPN, whose id is the new epoch, is the last of the live.
+-- the VPN is the one of this number and of this customer
+abbrev pub is_vpn : List ℕ → ℕ → Vpn → Bool
+is_vpn customer id vpn = (vpn.id == id) && bytes_eq vpn.customer customer
+
+-- The book after an entry: the epoch is one more. An admitted VPN, whose id is the new epoch, is the last of the live, and a released one is none
+-- of them.
 abbrev pub next_book : Book → Entry → Book
 next_book book (Admit customer hose amounts) = record {
   epoch = book.epoch + 1;
   live = book.live ++ record { id = book.epoch + 1; customer = customer; hose = hose; amounts = amounts } ∷ [];
+}
+next_book book (Release customer id) = record {
+  epoch = book.epoch + 1;
+  live = filter (λ vpn. not (is_vpn customer id vpn)) book.live;
 }
 
 -- the book after entries, in order
@@ -28,18 +40,21 @@ book_of epoch history = book_after (opening_book epoch) history
 
 -- the greatest epoch, and the most VPNs that may be live
 abbrev pub last_epoch : ℕ
-last_epoch = 4000000000
+last_epoch = MOST_EPOCH
 
 abbrev pub most_live : ℕ
-most_live = 20000
+most_live = MOST_LIVE
 
--- An entry is sound at a book: an epoch is left, and an admission has room among the live and a plan that exists and fits.
+-- An entry is sound at a book: an epoch is left, an admission has room among the live and a plan that exists and fits, and a release has a VPN of its
+-- customer to give up.
 abbrev pub IsSoundAt : Network → Book → Entry → Type 0
 IsSoundAt network book (Admit customer hose amounts) = (book.epoch < last_epoch) × (length book.live < most_live) × IsPlanned network book hose amounts
+IsSoundAt network book (Release customer id) = (book.epoch < last_epoch) × HasVpn book customer id
 
 -- An entry is decided at a book: it is sound there, and an admission's plan is the decision's.
 abbrev pub IsDecidedAt : Network → Book → Entry → Type 0
 IsDecidedAt network book (Admit customer hose amounts) = IsSoundAt network book (Admit customer hose amounts) × IsPlanned network book hose amounts
+IsDecidedAt network book (Release customer id) = IsSoundAt network book (Release customer id)
 
 -- each entry is sound at the book of the entries before it
 abbrev pub IsSoundFrom : Network → Book → List Entry → Type 0

@@ -2,9 +2,12 @@ pub mod Walk
 pub mod Row
 pub mod Matrix
 pub mod Plan
+pub mod Tree
+pub mod CanonicalPlan
 pub mod Book
 pub mod Decision
 pub mod History
+pub mod Live
 pub mod Answer
 pub mod Script
 pub use Rattle.hose_graph.specs.Network

@@ -7,17 +7,17 @@ use Rattle.hose_graph.specs.declared.reply.Reply.TheVariants.{Memory, Bad, Long}
 use Rattle.hose_graph.specs.Network.{Network}
 use Rattle.hose_law.specs.Answer.{IsStep}
 
--- a line as it was read: a customer's command, or what stands in its place
+-- A line as it was read: a customer's command, or what stands in its place. A bad line is told by its first word that is not allowed.
 pub data ReadLine : Type 0 where
   Asks : List ℕ → Command → ReadLine
-  IsBad : ReadLine
+  IsBad : ℕ → ReadLine
   IsLong : ReadLine
   Unread : ReadLine
 
 -- One line of a script: a step of its customer's command, or a reply that changes nothing.
 abbrev pub IsLineStep : Network → ℕ → List Entry → ReadLine → Reply → List Entry → Type 0
 IsLineStep network epoch history (Asks customer command) reply next = IsStep network epoch history customer command reply next
-IsLineStep network epoch history IsBad reply next = (reply ≡ Bad) × (next ≡ history)
+IsLineStep network epoch history (IsBad word) reply next = (reply ≡ Bad word) × (next ≡ history)
 IsLineStep network epoch history IsLong reply next = (reply ≡ Long) × (next ≡ history)
 IsLineStep network epoch history Unread reply next = (reply ≡ Memory) × (next ≡ history)
 
