@@ -1,0 +1,147 @@
+-- What the sum over a row's distances is of a weight.
+use Rattle.std.proofs.Common.{◌≡◌, ◌≢◌, ◌∙◌, ℕ, zero, suc, ◌+◌, ◌*◌, ◌<◌, ◌≤◌, Bool, List, [], ◌∷◌, Option, None, Some, All, length, get_or, take, refl, sym, ap, subst, inl, inr, arith}
+use Rattle.std.specs.Option.{IfSome, unwrap_or}
+use Rattle.std.proofs.lemmas.Bool.{cases_eq, cases_lt}
+use Rattle.std.proofs.lemmas.List.{get_or-take, get_or_default, length-take, get_or_past}
+use Rattle.std.proofs.lemmas.List.Sums.{sum_by_more, sum_by-cons}
+use Rattle.std.proofs.lemmas.Nat.{mul-le}
+use Rattle.std.proofs.lemmas.Option.{MatchOption-at_some, MatchOption-at_none, none-some}
+use Rattle.hose_graph.specs.Hose.{IsEnd}
+use Rattle.hose_graph.specs.Network.{Network, IsNetwork}
+use Rattle.hose_graph.specs.Row.{Distances, distance_of}
+use Rattle.hose_law.specs.Row.{IsRow}
+use Rattle.hose_law.specs.Walk.{IsDistance, Reaches}
+use Rattle.hose_law.specs.CanonicalPlan.{IsWeight}
+use Rattle.hose_law.proofs.Distances.{distance_unique}
+use Rattle.hose_law.proofs.Rows.{row_bound}
+use Rattle.hose_root.specs.Weight.{IsBounded, LeavesOut, weight_of}
+
+-- a node's distance is bounded where those of the row are
+bounded_at : (row : Distances) → IsBounded row → (v distance : ℕ) → distance_of row v ≡ Some distance → distance ≤ 511000000
+bounded_at row bounded v distance there = elim (cases_lt v (length row.dist)) [
+  | inl below ↦
+      let P : Option ℕ → Type 0 = λ o. IfSome o (λ d. d ≤ 511000000) in
+      subst P there (bounded v None below)
+  | inr past ↦ absurd (none-some distance (sym (get_or_past row.dist v None past) ∙ there))
+]
+
+module _ (row : Distances) (hose : List (ℕ × ℕ)) (i distance : ℕ) (below : i < length hose) (there : distance_of row (get_or hose i (0, 0)).0 ≡ Some distance) where
+  -- one more endpoint weighs its rate times its distance
+  pub weight_more : weight_of row (take (i + 1) hose) ≡ weight_of row (take i hose) + (get_or hose i (0, 0)).1 * distance
+  weight_more =
+      let weigh : ℕ × ℕ → ℕ = λ end. end.1 * unwrap_or (distance_of row end.0) 0 in
+      sum_by_more weigh hose i (0, 0) below
+      ∙ ap (λ (o : Option ℕ). weight_of row (take i hose) + (get_or hose i (0, 0)).1 * unwrap_or o 0) there
+
+  -- and is not left out
+  pub none_left_out_more : (¬ LeavesOut row (take i hose)) → ¬ LeavesOut row (take (i + 1) hose)
+  none_left_out_more before out =
+      let k = out.0 in
+      let x = out.1 in
+      let inside : k < i + 1 = omega (arith, out.2, length-take (i + 1) hose) in
+      elim (cases_eq k i) [
+        | inl same ↦
+            let last : get_or hose i (0, 0) ≡ x =
+            get_or_default hose i (0, 0) x below
+            ∙ ap (λ (n : ℕ). get_or hose n x) (sym same)
+            ∙ sym (get_or-take (i + 1) hose k x inside)
+            ∙ out.3 in
+            none-some distance (sym out.4 ∙ ap (λ (end : ℕ × ℕ). distance_of row end.0) (sym last) ∙ there)
+        | inr differ ↦
+            let less : k < i = omega (arith, differ) in
+            before (
+              k,
+              x,
+              omega (arith, length-take i hose, less, below),
+              get_or-take i hose k x less ∙ sym (get_or-take (i + 1) hose k x inside) ∙ out.3,
+              out.4,
+            )
+      ]
+
+  -- it weighs no more than the greatest rate at the greatest distance
+  pub weight_small : IsBounded row → All IsEnd hose → (get_or hose i (0, 0)).1 * distance ≤ 511000000000000
+  weight_small bounded within =
+      let end = get_or hose i (0, 0) in
+      mul-le end.1 distance 1000000 511000000 (within i (0, 0) below).rate.1 (bounded_at row bounded end.0 distance there)
+
+-- an endpoint without a distance is left out of all
+pub left_out : (row : Distances) (hose : List (ℕ × ℕ)) (i : ℕ) → i < length hose → distance_of row (get_or hose i (0, 0)).0 ≡ None
+    → LeavesOut row hose
+left_out row hose i below none = (i, get_or hose i (0, 0), below, get_or_default hose i (get_or hose i (0, 0)) (0, 0) below, none)
+
+module _ (network : Network) (set : List Bool) (root : ℕ) (row : Distances) (is_row : IsRow network set root row) where
+  -- all endpoints are places of the row
+  abbrev AreIn : List (ℕ × ℕ) → Type 0
+  AreIn hose = All (λ (end : ℕ × ℕ). end.0 < length row.dist) hose
+
+  in_behind : (end : ℕ × ℕ) (hose : List (ℕ × ℕ)) → AreIn (end ∷ hose) → AreIn hose
+  in_behind end hose are k d below = are (suc k) d (omega (arith, below))
+
+  row_distance : (v d : ℕ) → v < length network.nodes → distance_of row v ≡ Some d → IsDistance network set root v d
+  row_distance v d node there = MatchOption-at_some (¬ Reaches network set root v) (IsDistance network set root v) d there (is_row.distances v node)
+
+  row_unreached : (v : ℕ) → v < length network.nodes → distance_of row v ≡ None → ¬ Reaches network set root v
+  row_unreached v node there = MatchOption-at_none (¬ Reaches network set root v) (IsDistance network set root v) there (is_row.distances v node)
+
+  in_network : (end : ℕ × ℕ) (hose : List (ℕ × ℕ)) → AreIn (end ∷ hose) → end.0 < length network.nodes
+  in_network end hose are =
+      let first : end.0 < length row.dist = are zero end (omega arith) in
+      omega (arith, first, is_row.dist_places)
+
+  -- where an endpoint has no distance there is no weight
+  no_weight_at : (hose : List (ℕ × ℕ)) (k : ℕ) → AreIn hose → k < length hose → distance_of row (get_or hose k (0, 0)).0 ≡ None
+      → (weight : ℕ) → ¬ IsWeight network set root hose weight
+  no_weight_at [] k are below none weight is = absurd (omega (arith, below))
+  no_weight_at (end ∷ hose) zero are below none weight is =
+      row_unreached end.0 (in_network end hose are) none (is.2.walk, is.2.walks)
+  no_weight_at (end ∷ hose) (suc k) are below none weight is =
+      no_weight_at hose k (in_behind end hose are) (omega (arith, below)) none is.1 is.3
+
+  pub no_weight : (hose : List (ℕ × ℕ)) → AreIn hose → LeavesOut row hose → (weight : ℕ) → ¬ IsWeight network set root hose weight
+  no_weight hose are out =
+      let same : get_or hose out.0 (0, 0) ≡ out.1 = get_or_default hose out.0 (0, 0) out.1 out.2 ∙ out.3 in
+      no_weight_at hose out.0 are out.2 (ap (λ (end : ℕ × ℕ). distance_of row end.0) same ∙ out.4)
+
+  -- where none is left out, the sum is the weight
+  has_distance : (v : ℕ) (found : Option ℕ) → distance_of row v ≡ found → found ≢ None → (d : ℕ) × (distance_of row v ≡ Some d)
+  has_distance v None there some = absurd (some refl)
+  has_distance v (Some d) there some = (d, there)
+
+  behind_left_out : (end : ℕ × ℕ) (hose : List (ℕ × ℕ)) → LeavesOut row hose → LeavesOut row (end ∷ hose)
+  behind_left_out end hose out = (suc out.0, out.1, omega (arith, out.2), out.3, out.4)
+
+  pub is_weight : (hose : List (ℕ × ℕ)) → AreIn hose → (¬ LeavesOut row hose) → IsWeight network set root hose (weight_of row hose)
+  is_weight [] are all = refl
+  is_weight (end ∷ hose) are all =
+      let found = has_distance end.0 (distance_of row end.0) refl (λ none. all (zero, end, omega arith, refl, none)) in
+      let weigh : ℕ × ℕ → ℕ = λ e. e.1 * unwrap_or (distance_of row e.0) 0 in (
+        found.0,
+        weight_of row hose,
+        row_distance end.0 found.0 (in_network end hose are) found.1,
+        is_weight hose (in_behind end hose are) (λ out. all (behind_left_out end hose out)),
+        sum_by-cons weigh end hose ∙ ap (λ (o : Option ℕ). end.1 * unwrap_or o 0 + weight_of row hose) found.1,
+      )
+
+-- a root has one weight for a hose
+pub weight_unique : (network : Network) (set : List Bool) (root : ℕ) (hose : List (ℕ × ℕ)) (one other : ℕ) → IsWeight network set root hose one
+    → IsWeight network set root hose other → one ≡ other
+weight_unique network set root [] one other is also = is ∙ sym also
+weight_unique network set root (end ∷ hose) one other is also =
+    let distances : is.0 ≡ also.0 = distance_unique network set root end.0 is.0 also.0 is.2 also.2 in
+    let rests : is.1 ≡ also.1 = weight_unique network set root hose is.1 also.1 is.3 also.3 in
+    is.4 ∙ ap (λ (d : ℕ). end.1 * d + is.1) distances ∙ ap (λ (r : ℕ). end.1 * also.0 + r) rests ∙ sym also.4
+
+-- the distances of a network's row are bounded
+pub row_is_bounded : (network : Network) → IsNetwork network → (set : List Bool) (root : ℕ) (row : Distances) → IsRow network set root row
+    → IsBounded row
+row_is_bounded network is set root row is_row v d below =
+    subst P (sym (get_or_default row.dist v d None below)) (at (distance_of row v) refl)
+  where
+    P : Option ℕ → Type 0
+    P o = IfSome o (λ d. d ≤ 511000000)
+
+    at : (found : Option ℕ) → distance_of row v ≡ found → IfSome (distance_of row v) (λ d. d ≤ 511000000)
+    at None there = rw there tt
+    at (Some distance) there =
+        let bound = row_bound network is set root row is_row v distance (omega (arith, below, is_row.dist_places)) there in
+        rw there bound

@@ -1,0 +1,123 @@
+//! Roots of trees: what a hose costs from a root, and which root costs least.
+//!
+//! ```
+//! let weights = [weight(&row_of_a, &hose), weight(&row_of_b, &hose)];
+//! let root = choose(&weights);
+//! ```
+#![tactic(auto)]
+
+ghost use Rattle.std.specs.Prelude.{◌≡◌, ℕ, ◌<◌, ◌≤◌, ◌↔◌, Bool, List, None, All, IfSome, IsNone, IsTrue, MatchOption, length};
+ghost use Rattle.hose_graph.specs.Network.{Network};
+ghost use Rattle.hose_graph.specs.Row.{distance_of};
+ghost use Rattle.hose_law.specs.CanonicalPlan.{IsWeight};
+ghost use Rattle.hose_law.specs.Row.{IsRow};
+ghost use Rattle.hose_root.specs.Choice.{IsLowestLeast};
+ghost use Rattle.hose_root.specs.Weight.{IsBounded, LeavesOut, weight_of};
+
+use hose_graph::{Hose, Row};
+
+/// What the hose costs from the row's root: the sum of each endpoint's rate times its distance. None where an endpoint
+/// has no distance.
+pub fn weight(row: &Row, hose: &Hose) -> Option<u64>
+    requires bounded { IsBounded row.now }
+    requires nodes { All (λ end. end.0 < length row.now.dist) hose.now }
+    ensures none { IsNone result ↔ LeavesOut row.now hose.now }
+    ensures sum { IfSome result (λ weight. weight ≡ weight_of row.now hose.now) }
+    ensures weight { (network : Network) (set : List Bool) → IsRow network set row.now.root row.now
+        → MatchOption result
+        ((weight : ℕ) → ¬ IsWeight network set row.now.root hose.now weight)
+        (IsWeight network set row.now.root hose.now) }
+{
+    let mut weight = 0;
+    for (node, rate) in hose.ends() {
+        let distance = distance(row, *node)?;
+        weight += *rate * distance;
+    }
+    Some(weight)
+}
+
+// The distance of a node in the row.
+fn distance(row: &Row, node: u32) -> Option<u64>
+    requires { node < length row.now.dist }
+    ensures { result ≡ distance_of row.now node }
+{
+    row.dist[node as usize]
+}
+
+/// The lowest place of the least weight. None where no place has a weight.
+pub fn choose(weights: &[Option<u64>]) -> Option<u32>
+    requires { length weights.now ≤ 512 }
+    ensures none { IsNone result ↔ All (λ weight. weight ≡ None) weights.now }
+    ensures least { IfSome result (IsLowestLeast weights.now) }
+{
+    let mut best: Option<(u32, u64)> = None;
+    for place in 0..weights.len() {
+        if let Some(weight) = weights[place] {
+            if is_less(weight, &best) {
+                best = Some((place as u32, weight));
+            }
+        }
+    }
+    Some(best?.0)
+}
+
+// Whether a weight is less than the best so far.
+fn is_less(weight: u64, best: &Option<(u32, u64)>) -> bool
+    ensures { IsTrue result ↔ IfSome best.now (λ other. weight < other.1) }
+{
+    match best {
+        Some((_, least)) => weight < *least,
+        None => true,
+    }
+}
+
+#[cfg(test)]
+mod tests {
+    use super::*;
+    use std::test::Fail;
+
+    #[test]
+    fn weighs_the_roots_of_a_star(rt: HostRuntime) -> Result<(), Fail> {
+        let hose = Hose::build(rt.alloc(), &[(0, 3), (1, 4), (2, 5)])?;
+        let table = [
+            ("a", [Some(0), Some(3), Some(4), Some(1)], Some(32)),
+            ("b", [Some(3), Some(0), Some(5), Some(2)], Some(34)),
+            ("c", [Some(4), Some(5), Some(0), Some(3)], Some(32)),
+            ("h", [Some(1), Some(2), Some(3), Some(0)], Some(26)),
+            ("h without b", [Some(1), None, Some(3), Some(0)], None),
+        ];
+        for (what, distances, expected) in table {
+            let row = Row {
+                root: 0,
+                dist: Vec::from_slice(rt.alloc(), &distances)?,
+                tight: Vec::new(rt.alloc()),
+            };
+            let bounded = row
+                .dist
+                .iter()
+                .all(|distance| distance.is_none_or(|d| d <= 511_000_000));
+            let nodes = row.dist.len();
+            assert!(rt; bounded, "{what}");
+            assert!(rt;
+                hose.ends().iter().all(|end| (end.0 as usize) < nodes),
+                "{what}"
+            );
+            assert_eq!(rt; weight(&row, &hose), expected, "{what}");
+        }
+        Ok(())
+    }
+
+    #[test]
+    fn chooses_the_lowest_of_the_least(rt: HostRuntime) {
+        let table: [(&[Option<u64>], Option<u32>); 4] = [
+            (&[Some(32), Some(34), Some(32), Some(26)], Some(3)),
+            (&[None, Some(3), Some(3)], Some(1)),
+            (&[None, None], None),
+            (&[], None),
+        ];
+        for (weights, place) in table {
+            assert!(rt; weights.len() <= 512);
+            assert_eq!(rt; choose(weights), place);
+        }
+    }
+}
