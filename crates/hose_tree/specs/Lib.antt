@@ -1,0 +1,5 @@
+pub mod Amounts
+pub mod Attached
+pub mod Nodes
+pub mod Rates
+pub mod Reach

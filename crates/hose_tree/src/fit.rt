@@ -1,0 +1,29 @@
+// Whether amounts fit beside loads.
+ghost use Rattle.std.specs.Prelude.{◌≡◌, ◌-◌, ◌<◌, ◌≤◌, ◌↔◌, length, slice_index, All, IsTrue};
+ghost use Rattle.hose_law.specs.Walk.{capacity_of};
+ghost use Rattle.hose_tree.specs.Amounts.{AreOnLinks, AreCarried};
+
+use hose_graph::{Amounts, Topology};
+
+/// Whether each amount is at most what its link has free: the link's capacity without the load there. There is a load for
+/// each link of the topology, at most the link's capacity.
+pub fn fits(top: &Topology, loads: &[u64], amounts: &Amounts) -> bool
+    requires loads { AreCarried top.now loads.now }
+    requires links { AreOnLinks top.now amounts.now }
+    ensures { IsTrue result
+        ↔ All (λ pair. pair.1 ≤ capacity_of top.now pair.0 - slice_index loads.now pair.0) amounts.now }
+{
+    amounts
+        .pairs()
+        .iter()
+        .all(|pair| pair.1 <= free(top, loads, pair.0))
+}
+
+// What a link has free.
+fn free(top: &Topology, loads: &[u64], link: u32) -> u64
+    requires loads { AreCarried top.now loads.now }
+    requires link { link < length top.now.links }
+    ensures { result ≡ capacity_of top.now link - slice_index loads.now link }
+{
+    top.link(link).capacity - loads[link as usize]
+}

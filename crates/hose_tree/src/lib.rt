@@ -1,0 +1,62 @@
+//! Trees of links: the one that joins a hose by shortest walks to a root, what a hose reserves on the links of any tree, and what fits.
+//! The planner stands on it.
+#![tactic(auto)]
+
+ghost use Rattle.std.specs.Prelude.{◌≡◌};
+ghost use Rattle.hose_law.specs.Tree.{Growth, IsTree};
+ghost use Rattle.hose_graph.specs.Network.{Network, IsNetwork};
+
+mod canonical;
+mod costing;
+mod fit;
+mod reach;
+mod reserve;
+#[cfg(test)]
+mod tests;
+
+pub use costing::cost;
+pub use fit::fits;
+pub use hose_graph::Step;
+pub use reach::reached;
+pub use reserve::reservations;
+use std::marker::Model;
+
+/// A tree of links: a start node, and the steps by which it grows.
+///
+/// A contract sees it as a `Growth`.
+#[derive(Debug, Drop)]
+pub struct Tree {
+    start: u32,
+    steps: Vec<Step>,
+}
+
+impl Model for Tree {
+    ghost use Rattle.hose_graph.specs.Network.{Network, IsNetwork};
+    ghost use Rattle.hose_law.specs.Tree.{Growth, IsTree};
+
+    ghost Value = { Growth };
+
+    ghost view = { λ tree. record { start = tree.start; steps = tree.steps.items } };
+
+    // It is a tree of some network.
+    ghost invariant = { λ tree. (network : Network) × IsNetwork network
+        × IsTree network (record { start = tree.start; steps = tree.steps.items }) };
+}
+
+impl Tree {
+    /// The node from which it grows.
+    pub fn start(&self) -> u32
+        ensures start { result ≡ self.now.start }
+        ensures is_tree { (network : Network) × IsNetwork network × IsTree network self.now }
+    {
+        self.start
+    }
+
+    /// The steps, each behind the one that leads to its old node.
+    pub fn steps(&self) -> &[Step]
+        ensures steps { result.now ≡ self.now.steps }
+        ensures is_tree { (network : Network) × IsNetwork network × IsTree network self.now }
+    {
+        &self.steps
+    }
+}
