@@ -1,0 +1,5 @@
+pub mod Canonical
+pub mod Hashing
+pub mod Reading
+pub mod Taken
+pub mod TopologyText

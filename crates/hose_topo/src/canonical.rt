@@ -1,0 +1,165 @@
+// The canonical text of a topology and its digest.
+ghost use Rattle.std.specs.Prelude.{◌≡◌, ℕ, ◌<◌, List, ◌++◌, OnOk, OnErr, [], codes, length, slice_index_or};
+ghost use Rattle.std.specs.List.{flat_map};
+ghost use Rattle.sha2.specs.Sha256.{sha256};
+ghost use Rattle.hose_io.specs.Fault.{HasCause};
+ghost use Rattle.hose_io.specs.Stream.{Grows};
+ghost use Rattle.hose_io.specs.Writing.{GrowsInPart};
+ghost use Rattle.hose_graph.specs.Network.{IsLink};
+ghost use Rattle.hose_topo.specs.Canonical.{canonical_text, node_line, link_line};
+ghost use Rattle.hose_topo.specs.TopologyText.{IsTopologyText};
+
+use crate::pieces::{Outgoing, Pieces};
+use hose_graph::{Link, Topology};
+use hose_io::{Failed, Gather, Sink};
+use sha2::{Digest, Sha256};
+
+/// Writes the canonical text of a topology: its nodes, then its links, in order, each link with its cost.
+///
+/// It takes no memory, and goes out in pieces of up to 4,096 bytes.
+pub fn put_canonical<S: Sink>(sink: &mut S, top: &Topology) -> Result<(), Failed>
+    requires some { 0 < length top.now.nodes }
+    ensures ok { OnOk result
+        (Grows (S.content sink.old) (S.content sink.new) (canonical_text top.now)) }
+    ensures err { OnErr result
+        (GrowsInPart (S.content sink.old) (S.content sink.new) (canonical_text top.now)) }
+    ensures cause { HasCause (S.faults sink.old) (S.faults sink.new) result }
+    ensures number { S.number sink.new ≡ S.number sink.old }
+    ensures loan { S.loan sink.new ≡ S.loan sink.old }
+
+    // Whatever follows the text, it is read as this topology.
+    ensures reads { (rest : List ℕ) → IsTopologyText (canonical_text top.now ++ rest) top.now rest }
+{
+    let nodes = top.nodes();
+    prove!(nodes > 0);
+    let mut out = Outgoing {
+        gather: Gather::new(),
+        sink,
+    };
+    add_canonical(&mut out, top);
+    let Outgoing { gather, sink } = out;
+    gather.finish(sink)
+}
+
+/// The SHA-256 digest of the canonical text of a topology.
+pub fn digest(top: &Topology) -> [u8; 32]
+    ensures { result ≡ sha256 (canonical_text top.now) }
+{
+    let mut hasher = Sha256::new();
+    add_canonical(&mut hasher, top);
+    hasher.finalize()
+}
+
+// Adds the whole text.
+fn add_canonical<P: Pieces>(pieces: &mut P, top: &Topology)
+    ensures { P.adds pieces.old pieces.new (canonical_text top.now) }
+{
+    add_nodes(pieces, top);
+    add_links(pieces, top);
+    pieces.add(b"end\n");
+}
+
+// Adds the lines of the nodes.
+fn add_nodes<P: Pieces>(pieces: &mut P, top: &Topology)
+    ensures { P.adds pieces.old pieces.new (flat_map node_line top.now.nodes) }
+{
+    for node in 0..top.nodes() {
+        pieces.add(b"node ");
+        pieces.add(top.name(node).bytes());
+        pieces.add(b"\n");
+    }
+}
+
+// Adds the lines of the links.
+fn add_links<P: Pieces>(pieces: &mut P, top: &Topology)
+    ensures { P.adds pieces.old pieces.new (flat_map (link_line top.now) top.now.links) }
+{
+    for number in 0..top.links() {
+        let link = top.link(number);
+        add_link(pieces, top, &link);
+    }
+}
+
+// Adds the line of a link.
+fn add_link<P: Pieces>(pieces: &mut P, top: &Topology, link: &Link)
+    requires { IsLink top.now link.now }
+    ensures { P.adds pieces.old pieces.new (link_line top.now link.now) }
+{
+    add_ends(pieces, top, link);
+    pieces.add(b" ");
+    pieces.add_number(link.capacity);
+    pieces.add(b" ");
+    pieces.add_number(link.length);
+    pieces.add(b" ");
+    pieces.add_number(link.cost);
+    pieces.add(b"\n");
+}
+
+// Adds the front of a link's line, up to the names of its nodes.
+fn add_ends<P: Pieces>(pieces: &mut P, top: &Topology, link: &Link)
+    requires { IsLink top.now link.now }
+    ensures { P.adds pieces.old pieces.new
+        (codes "link " ++ slice_index_or top.now.nodes link.now.a []
+        ++ codes " " ++ slice_index_or top.now.nodes link.now.b []) }
+{
+    pieces.add(b"link ");
+    pieces.add(top.name(link.a).bytes());
+    pieces.add(b" ");
+    pieces.add(top.name(link.b).bytes());
+}
+
+#[cfg(test)]
+mod tests {
+    use super::*;
+    use hose_graph::Name;
+    use hose_io::MemSink;
+    use std::alloc::Global;
+    use std::test::Fail;
+
+    // The nodes a, b and c, each with a link of capacity 10 to h.
+    fn star(alloc: Global) -> Result<Topology, Fail> {
+        let mut top = Topology::new(alloc)?;
+        for name in ["a", "b", "c", "h"] {
+            top.add_node(Name::read(name.as_bytes()).ok_or("no name")?)?;
+        }
+        for (a, length) in [(0, 1), (1, 2), (2, 3)] {
+            top.add_link(Link {
+                a,
+                b: 3,
+                capacity: 10,
+                length,
+                cost: length,
+            })?;
+        }
+        Ok(top)
+    }
+
+    #[test]
+    fn a_star_is_written(rt: HostRuntime) -> Result<(), Fail> {
+        let top = star(rt.alloc())?;
+        if top.nodes() == 0 {
+            return Err(Fail::from("no node"));
+        }
+        let mut sink = MemSink::new(rt.alloc())?;
+        assert_eq!(rt; put_canonical(&mut sink, &top), Ok(()));
+        let text = "node a\nnode b\nnode c\nnode h\n\
+            link a h 10 1 1\n\
+            link b h 10 2 2\n\
+            link c h 10 3 3\n\
+            end\n";
+        assert_eq!(rt; sink.bytes(), text.as_bytes());
+        Ok(())
+    }
+
+    // What `sha256sum` gives for these 80 bytes.
+    #[test]
+    fn a_star_has_a_digest(rt: HostRuntime) -> Result<(), Fail> {
+        let want: [u8; 32] = [
+            0x24, 0xfc, 0xb7, 0x58, 0x77, 0xab, 0xb3, 0xe7, 0x84, 0x4a, 0x79, 0x3b, 0xdf, 0x78,
+            0x4d, 0x86, 0x2d, 0xa4, 0x70, 0x0e, 0x66, 0xd9, 0xe0, 0xec, 0x6f, 0xbc, 0xf8, 0xc5,
+            0x02, 0x49, 0xed, 0xa4,
+        ];
+        assert_eq!(rt; digest(&star(rt.alloc())?), want);
+        Ok(())
+    }
+}
