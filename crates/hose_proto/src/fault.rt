@@ -1,0 +1,23 @@
+// Why a line was not read.
+ghost use Rattle.std.specs.Prelude.{◌≡◌};
+ghost use Rattle.hose_proto.specs.declared.fault.ReadFault.TheVariants.{Memory};
+
+use std::alloc::AllocFailed;
+
+/// Why a line was not read.
+#[derive(Clone, Copy, Debug, PartialEq, Eq)]
+pub enum ReadFault {
+    /// The first word that is not allowed, by its number in the line, counted from 1. One more than the words where
+    /// the line ends too early.
+    Bad { word: u64 },
+    /// There was too little memory.
+    Memory,
+}
+
+impl<T: Drop> From<AllocFailed<T>> for ReadFault {
+    ghost from_gives = { λ _ fault. fault ≡ Memory };
+
+    fn from(_failed: AllocFailed<T>) -> ReadFault {
+        ReadFault::Memory
+    }
+}

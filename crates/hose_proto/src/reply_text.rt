@@ -1,0 +1,206 @@
+// The texts of replies on their way to a sink.
+ghost use Rattle.std.specs.Prelude.{◌≡◌, ◌<◌, ℕ, All, OnOk, OnErr, ◌++◌, codes, decimal, length, Some};
+ghost use Rattle.std.specs.List.{flat_map};
+ghost use Rattle.hose_io.specs.Fault.{HasCause};
+ghost use Rattle.hose_io.specs.Gather.{IsAdded};
+ghost use Rattle.hose_io.specs.Stream.{Grows};
+ghost use Rattle.hose_io.specs.Writing.{GrowsInPart};
+ghost use Rattle.hose_proto.specs.ReplyText.{NamesPlaces, line_of, reply_text, priced_text, pair_text, node_text, end_text, link_text};
+ghost use Rattle.hose_proto.specs.ReplyWords.{IsOfKind, IsReply};
+ghost use Rattle.hose_words.specs.Words.{words_of};
+
+use hose_graph::{Amounts, Link, Reply, Topology};
+use hose_io::{Failed, Gather, Sink};
+
+/// Writes a reply as a line. A line of up to 4,096 bytes is given to the sink as one piece, and none takes memory.
+pub fn put_reply<S: Sink>(sink: &mut S, top: &Topology, reply: &Reply) -> Result<(), Failed>
+    requires { NamesPlaces top.now reply.now }
+    ensures ok { OnOk result
+        (Grows (S.content sink.old) (S.content sink.new) (line_of (reply_text top.now reply.now))) }
+    ensures err { OnErr result
+        (GrowsInPart (S.content sink.old) (S.content sink.new) (line_of (reply_text top.now reply.now))) }
+    ensures cause { HasCause (S.faults sink.old) (S.faults sink.new) result }
+    ensures number { S.number sink.new ≡ S.number sink.old }
+    ensures loan { S.loan sink.new ≡ S.loan sink.old }
+
+    // The words of the text tell this reply again.
+    ensures read_again { IsOfKind top.now reply.now
+        → IsReply top.now (words_of (reply_text top.now reply.now)) reply.now }
+{
+    // The call tells the proof what holds of each network: that its names are words.
+    let _nodes = top.nodes();
+    let mut gather = Gather::new();
+    add_reply(&mut gather, sink, top, reply);
+    gather.add(sink, b"\n");
+    gather.finish(sink)
+}
+
+// Adds the text of a reply.
+fn add_reply<S: Sink>(gather: &mut Gather, sink: &mut S, top: &Topology, reply: &Reply)
+    requires { NamesPlaces top.now reply.now }
+    ensures { IsAdded S.Sink gather.old sink.old gather.new sink.new (reply_text top.now reply.now) }
+{
+    match reply {
+        Reply::Welcome { at } => add_number(gather, sink, b"welcome at ", *at),
+        Reply::Admitted {
+            id,
+            cost,
+            at,
+            amounts,
+        } => {
+            add_number(gather, sink, b"admitted ", *id);
+            add_priced(gather, sink, *cost, *at, amounts);
+        }
+        Reply::Quoted {
+            quote,
+            cost,
+            at,
+            amounts,
+        } => {
+            add_number(gather, sink, b"quoted ", *quote);
+            add_priced(gather, sink, *cost, *at, amounts);
+        }
+        Reply::Refused { at, side } => {
+            add_number(gather, sink, b"refused at ", *at);
+            gather.add(sink, b" side");
+            add_side(gather, sink, top, side.nodes());
+        }
+        Reply::Stale { seen, now } => {
+            add_number(gather, sink, b"stale ", *seen);
+            add_number(gather, sink, b" ", *now);
+        }
+        Reply::Released { id, at } => {
+            add_number(gather, sink, b"released ", *id);
+            add_number(gather, sink, b" at ", *at);
+        }
+        Reply::NoVpn { id, at } => {
+            add_number(gather, sink, b"no vpn ", *id);
+            add_number(gather, sink, b" at ", *at);
+        }
+        Reply::NoQuote { quote, at } => {
+            add_number(gather, sink, b"no quote ", *quote);
+            add_number(gather, sink, b" at ", *at);
+        }
+        Reply::TooMany { at } => add_number(gather, sink, b"too many quotes at ", *at),
+        Reply::Shown {
+            id,
+            cost,
+            at,
+            hose,
+            amounts,
+        } => {
+            add_number(gather, sink, b"vpn ", *id);
+            add_number(gather, sink, b" cost ", *cost);
+            add_number(gather, sink, b" at ", *at);
+            gather.add(sink, b" ends");
+            add_ends(gather, sink, top, hose.ends());
+            gather.add(sink, b" links");
+            add_links(gather, sink, amounts.pairs());
+        }
+        Reply::LinkState { link, load, at } => {
+            // The call tells the proof that each network has few links, so that their numbers fit.
+            let _links = top.links();
+            add_number(gather, sink, b"link ", *link);
+            add_link(gather, sink, top, &top.link(*link as u32));
+            add_number(gather, sink, b" load ", *load);
+            add_number(gather, sink, b" at ", *at);
+        }
+        Reply::Full { at } => add_number(gather, sink, b"full at ", *at),
+        Reply::Spent { at } => add_number(gather, sink, b"spent at ", *at),
+        Reply::Disk { at } => add_number(gather, sink, b"disk at ", *at),
+        Reply::Memory => gather.add(sink, b"memory"),
+        Reply::Bad { word } => add_number(gather, sink, b"bad ", *word),
+        Reply::Long => gather.add(sink, b"long"),
+        Reply::Bye => gather.add(sink, b"bye"),
+    }
+}
+
+// Adds some words and the number behind them.
+fn add_number<S: Sink>(gather: &mut Gather, sink: &mut S, words: &[u8], number: u64)
+    ensures { IsAdded S.Sink gather.old sink.old gather.new sink.new (words.now ++ decimal number) }
+{
+    gather.add(sink, words);
+    gather.add_number(sink, number);
+}
+
+// Adds a cost, an epoch, and links with their amounts.
+fn add_priced<S: Sink>(gather: &mut Gather, sink: &mut S, cost: u64, at: u64, amounts: &Amounts)
+    ensures { IsAdded S.Sink gather.old sink.old gather.new sink.new (priced_text cost at amounts.now) }
+{
+    add_number(gather, sink, b" cost ", cost);
+    add_number(gather, sink, b" at ", at);
+    gather.add(sink, b" links");
+    add_links(gather, sink, amounts.pairs());
+}
+
+// Adds links with their amounts.
+fn add_links<S: Sink>(gather: &mut Gather, sink: &mut S, pairs: &[(u32, u64)])
+    ensures { IsAdded S.Sink gather.old sink.old gather.new sink.new (flat_map pair_text pairs.now) }
+{
+    for pair in pairs {
+        add_pair(gather, sink, pair);
+    }
+}
+
+// Adds one link with its amount.
+fn add_pair<S: Sink>(gather: &mut Gather, sink: &mut S, pair: &(u32, u64))
+    ensures { IsAdded S.Sink gather.old sink.old gather.new sink.new (pair_text pair.now) }
+{
+    add_number(gather, sink, b" ", u64::from(pair.0));
+    add_number(gather, sink, b":", pair.1);
+}
+
+// Adds the names of a side's nodes.
+fn add_side<S: Sink>(gather: &mut Gather, sink: &mut S, top: &Topology, nodes: &[u32])
+    requires { All (λ node. node < length top.now.nodes) nodes.now }
+    ensures { IsAdded S.Sink gather.old sink.old gather.new sink.new
+        (flat_map (node_text top.now) nodes.now) }
+{
+    for node in nodes {
+        add_node(gather, sink, top, *node);
+    }
+}
+
+// Adds endpoints with their rates.
+fn add_ends<S: Sink>(gather: &mut Gather, sink: &mut S, top: &Topology, ends: &[(u32, u64)])
+    requires { All (λ (end : ℕ × ℕ). end.0 < length top.now.nodes) ends.now }
+    ensures { IsAdded S.Sink gather.old sink.old gather.new sink.new
+        (flat_map (end_text top.now) ends.now) }
+{
+    for end in ends {
+        add_end(gather, sink, top, end);
+    }
+}
+
+// Adds one endpoint with its rate.
+fn add_end<S: Sink>(gather: &mut Gather, sink: &mut S, top: &Topology, end: &(u32, u64))
+    requires { end.now.0 < length top.now.nodes }
+    ensures { IsAdded S.Sink gather.old sink.old gather.new sink.new (end_text top.now end.now) }
+{
+    add_node(gather, sink, top, end.0);
+    add_number(gather, sink, b":", end.1);
+}
+
+// Adds the name of one node.
+fn add_node<S: Sink>(gather: &mut Gather, sink: &mut S, top: &Topology, node: u32)
+    requires { node < length top.now.nodes }
+    ensures { IsAdded S.Sink gather.old sink.old gather.new sink.new (node_text top.now node) }
+{
+    gather.add(sink, b" ");
+    gather.add(sink, top.name(node).bytes());
+}
+
+// Adds the nodes of a link, and what it can carry and costs.
+fn add_link<S: Sink>(gather: &mut Gather, sink: &mut S, top: &Topology, link: &Link)
+    requires a { link.now.a < length top.now.nodes }
+    requires b { link.now.b < length top.now.nodes }
+    ensures { IsAdded S.Sink gather.old sink.old gather.new sink.new (link_text top.now (Some link.now)) }
+{
+    add_node(gather, sink, top, link.a);
+    add_node(gather, sink, top, link.b);
+    add_number(gather, sink, b" capacity ", link.capacity);
+    add_number(gather, sink, b" cost ", link.cost);
+}
+
+#[cfg(test)]
+mod tests;
