@@ -3,29 +3,41 @@ use Rattle.std.proofs.Common.{◌≡◌, ℕ, List, [], ◌∷◌, All, ◌∙�
 use Rattle.std.proofs.lemmas.List.Elements.{All-nil, All-cons}
 use Rattle.hose_graph.specs.declared.entry.Entry.{Entry}
 use Rattle.hose_graph.specs.declared.reply.Reply.{Reply}
-use Rattle.hose_graph.specs.declared.reply.Reply.TheVariants.{Admitted, Refused, Full, Spent, Memory, Bad, Long}
+use Rattle.hose_graph.specs.declared.reply.Reply.TheVariants.{Welcome, Admitted, Quoted, Refused, Stale, Released, NoVpn, NoQuote, TooMany, Shown, LinkState, Full, Spent, Disk, Memory, Bad, Long, Bye}
 use Rattle.hose_graph.specs.Network.{Network, IsNetwork}
 use Rattle.hose_law.specs.Script.{ReadLine, IsLineStep, IsScript, WithoutMemory}
 use Rattle.hose_law.specs.Script.ReadLine.{Asks, IsBad, IsLong, Unread}
 use Rattle.hose_law.proofs.Unique.{script_unique}
 use Rattle.hosed.specs.Run.{IsRightFor}
 use Rattle.hosed.specs.Serving.{IsRead, SayLines, texts_of}
-use Rattle.hosed.specs.TopologyText.{IsTopologyText}
-use Rattle.hosed.proofs.OneReading.{topology_unique, lines_unique}
+use Rattle.hose_topo.specs.TopologyText.{IsTopologyText}
+use Rattle.hose_topo.proofs.TopologyLines.{topology_unique}
+use Rattle.hosed.proofs.OneReading.{lines_unique}
 
 without_rest : (reply : Reply) (replies : List Reply) → WithoutMemory (reply ∷ replies) → WithoutMemory replies
 without_rest (Admitted id cost at amounts) replies without = without
 without_rest (Refused at side) replies without = without
+without_rest (Welcome at) replies without = without
+without_rest (Quoted quote cost at amounts) replies without = without
+without_rest (Stale seen now) replies without = without
+without_rest (Released id at) replies without = without
+without_rest (NoVpn id at) replies without = without
+without_rest (NoQuote quote at) replies without = without
+without_rest (TooMany at) replies without = without
+without_rest (Shown id cost at hose amounts) replies without = without
+without_rest (LinkState link load at) replies without = without
 without_rest (Full at) replies without = without
 without_rest (Spent at) replies without = without
+without_rest (Disk at) replies without = without
 without_rest Memory replies without = absurd without
-without_rest Bad replies without = without
+without_rest (Bad word) replies without = without
 without_rest Long replies without = without
+without_rest Bye replies without = without
 
 -- a line that was left unread has a reply for want of memory
 line_read : (network : Network) (history next : List Entry) (line : ReadLine) (reply : Reply) (replies : List Reply) → IsLineStep network 0 history line reply next → WithoutMemory (reply ∷ replies) → IsRead line
 line_read network history next (Asks customer command) reply replies step without = tt
-line_read network history next IsBad reply replies step without = tt
+line_read network history next (IsBad word) reply replies step without = tt
 line_read network history next IsLong reply replies step without = tt
 line_read network history next Unread reply replies step without = absurd (subst (λ (r : Reply). WithoutMemory (r ∷ replies)) step.0 without)
 

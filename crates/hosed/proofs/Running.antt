@@ -1,110 +1,143 @@
 -- A run as a whole, from its topology and the turns behind it.
-use Rattle.std.proofs.Common.{◌≡◌, ℕ, List, [], ◌++◌, Option, None, Some, Result, Ok, Err, refl, ap, subst, arith, length, length-append}
+use Rattle.std.proofs.Common.{◌≡◌, ℕ, List, [], ◌++◌, Option, Result, Ok, Err, refl, subst, arith}
 use Rattle.std.specs.Prelude.{IfOk}
-use Rattle.std.proofs.lemmas.List.{nil_from_length}
-use Rattle.hose_io.specs.Stream.{Stream}
+use Rattle.hose_io.specs.Stream.{Stream, Grows}
 use Rattle.hose_io.specs.declared.source.Source.{Ghosts}
 use Rattle.hose_words.specs.Lines.{Reader, StopsAt}
+use Rattle.hose_words.specs.Reading.{WhereTold, ReadsOn}
 use Rattle.hose_words.specs.declared.lines.LineFault.{LineFault}
+use Rattle.hose_words.specs.declared.lines.LineFault.TheVariants as line
+use Rattle.hose_words.proofs.OnReading.{WhereTold-both, WhereTold-map, WhereTold-then}
 use Rattle.hose_graph.specs.Network.{Network, IsNetwork}
+use Rattle.hose_graph.specs.declared.reply.Reply.{Reply}
 use Rattle.hose_law.specs.Plan.{HasCycle}
-use Rattle.hose_law.specs.Book.{Book}
+use Rattle.hose_law.specs.Script.{ReadLine}
+use Rattle.hose_law.proofs.Lives.{stays_live}
 use Rattle.hose_law.proofs.Sold.{sold}
 use Rattle.hosed.specs.Ending.{IsStatus, status_of_done}
-use Rattle.hosed.specs.Fault.{of_topology}
-use Rattle.hosed.specs.Reading.{WhereTold, ReadsOn}
-use Rattle.hosed.specs.Run.{IsRun, StopsInTopology}
-use Rattle.hosed.specs.Serving.{SayLines, HasServed}
-use Rattle.hosed.specs.TopologyText.{AddLines, IsTopologyText, no_network}
+use Rattle.hosed.specs.Fault.{of_line, of_topology}
+use Rattle.hosed.specs.Run.{HasRun, IsCutOff, IsRun, StopsInTopology, TellsNoNetwork}
+use Rattle.hosed.specs.Serving.{CutsLast, IsAllTaken, IsEndOf, SayLines, ServesUpTo, texts_of}
+use Rattle.hose_topo.specs.Reading.{fault_of}
+use Rattle.hose_topo.specs.TopologyText.{AddLines, IsTopologyText, IsWrongAt, no_network}
 use Rattle.hosed.specs.declared.fault.Fault.{Fault}
 use Rattle.hosed.specs.declared.fault.Fault.TheVariants as fault
-use Rattle.hosed.specs.declared.topology_text.TopologyFault.{TopologyFault}
-use Rattle.hosed.specs.declared.topology_text.TopologyFault.TheVariants.{Text, Read, TooLong, Memory}
+use Rattle.hose_topo.specs.declared.fault.TopoFault.{TopoFault}
+use Rattle.hose_topo.specs.declared.fault.TopoFault.TheVariants.{At, Read, TooLong, Memory}
 use Rattle.hosed.proofs.OneRun.{right_alone}
-use Rattle.hosed.proofs.Turns.{told_as, told_on}
 
--- a run is told that its topology is none only where the reader of topologies said so
-pub text_alone : (topology : TopologyFault) → fault.Topology ≡ of_topology topology → topology ≡ Text
-text_alone Text same = refl
-text_alone Read same = cc
-text_alone TooLong same = cc
-text_alone Memory same = cc
+-- a run is told that its topology is wrong at a word only where the reader of topologies said so
+pub wrong_alone : (line word : ℕ) (topology : TopoFault) → fault.Topology line word ≡ of_topology topology → topology ≡ At line word
+wrong_alone line word (At l w) same = cc
+wrong_alone line word Read same = cc
+wrong_alone line word TooLong same = cc
+wrong_alone line word Memory same = cc
 
-pub read_alone : (topology : TopologyFault) → fault.Read ≡ of_topology topology → topology ≡ Read
-read_alone Read same = refl
-read_alone Text same = cc
-read_alone TooLong same = cc
-read_alone Memory same = cc
+-- and of a fault of reading only where that was one
+pub line_alone : (topology : TopoFault) (fault : LineFault) → of_line fault ≡ of_topology topology → topology ≡ fault_of fault
+line_alone Read line.Read same = refl
+line_alone Read line.TooLong same = cc
+line_alone TooLong line.Read same = cc
+line_alone TooLong line.TooLong same = refl
+line_alone (At l w) line.Read same = cc
+line_alone (At l w) line.TooLong same = cc
+line_alone Memory line.Read same = cc
+line_alone Memory line.TooLong same = cc
 
-pub too_long_alone : (topology : TopologyFault) → fault.TooLong ≡ of_topology topology → topology ≡ TooLong
-too_long_alone TooLong same = refl
-too_long_alone Text same = cc
-too_long_alone Read same = cc
-too_long_alone Memory same = cc
+pub same_line : (fault other : LineFault) → of_line fault ≡ of_line other → fault ≡ other
+same_line line.Read line.Read same = refl
+same_line line.Read line.TooLong same = cc
+same_line line.TooLong line.Read same = cc
+same_line line.TooLong line.TooLong same = refl
 
-pub never_write : (topology : TopologyFault) → fault.Write ≡ of_topology topology → ⊥
-never_write Text same = cc
+pub never_write : (topology : TopoFault) → fault.Write ≡ of_topology topology → ⊥
+never_write (At l w) same = cc
 never_write Read same = cc
 never_write TooLong same = cc
 never_write Memory same = cc
 
+pub line_never_writes : (met : LineFault) → of_line met ≡ fault.Write → ⊥
+line_never_writes line.Read same = cc
+line_never_writes line.TooLong same = cc
+
 -- reading stopped inside the topology
 pub stopped_told : {S : Type 0} (source : Ghosts S) (start last : Reader S) (fault : LineFault) → start.pending ≡ []
-    → WhereTold (source.content start.source) (source.content last.source) (λ input left. (network : Network) × (behind : List ℕ) × AddLines no_network (start.pending ++ input) network behind × StopsAt fault behind left)
+    → WhereTold (source.content start.source) (source.content last.source) (λ input left. (network : Network) × (count : ℕ) × (behind : List ℕ) × AddLines no_network (start.pending ++ input) count network behind × StopsAt fault behind left)
     → StopsInTopology fault (source.content start.source) (source.content last.source)
-stopped_told source start last fault empty told = told_as (source.content start.source) (source.content last.source) _ _ told
-    (λ a b stopped. (stopped.0, stopped.1, subst (λ (p : List ℕ). AddLines no_network (p ++ a) stopped.0 stopped.1) empty stopped.2, stopped.3))
+stopped_told source start last fault empty told = WhereTold-map (source.content start.source) (source.content last.source) _ _ told
+    (λ a b stopped. (stopped.0, stopped.1, stopped.2, subst (λ (p : List ℕ). AddLines no_network (p ++ a) stopped.1 stopped.0 stopped.2) empty stopped.3, stopped.4))
 
-behind_nothing : (xs ys : List ℕ) → xs ++ ys ≡ [] → ys ≡ []
-behind_nothing xs ys none = nil_from_length ys (omega (arith, ap length none, length-append xs ys))
+-- the topology is wrong
+pub wrong_told : {S : Type 0} (source : Ghosts S) (start last : Reader S) (line word : ℕ) → start.pending ≡ []
+    → WhereTold (source.content start.source) (source.content last.source) (λ before after. IsWrongAt (start.pending ++ before) line word (last.pending ++ after))
+    → WhereTold (source.content start.source) (source.content last.source) (λ before _. (network : Network) (rest : List ℕ) → IsTopologyText (start.pending ++ before) network rest → ⊥)
+    → TellsNoNetwork line word (source.content start.source) (source.content last.source)
+wrong_told source start last line word empty wrong none =
+    WhereTold-map (source.content start.source) (source.content last.source) _ _
+    (WhereTold-both (source.content start.source) (source.content last.source) _ _ wrong none)
+    (λ a b both. (
+      (last.pending ++ b, subst (λ (p : List ℕ). IsWrongAt (p ++ a) line word (last.pending ++ b)) empty both.0),
+      subst (λ (p : List ℕ). (network : Network) (rest : List ℕ) → IsTopologyText (p ++ a) network rest → ⊥) empty both.1,
+    ))
 
--- a network was read and has no cycle, and then lines were answered up to the end
-pub run_of : {S B : Type 0} (source : Ghosts S) (start middle last : Reader S) (network : Network) (book : Book) (before after : Option (List ℕ)) (result : Result B Fault) → start.pending ≡ []
+-- a network was read and has no cycle, and then lines were answered
+pub has_run : {S : Type 0} (source : Ghosts S) (start middle last : Reader S) (network : Network) (stops : List ℕ → List ℕ → Type 0) (puts : List Reply → Type 0) → start.pending ≡ []
     → WhereTold (source.content start.source) (source.content middle.source) (λ input left. IsTopologyText (start.pending ++ input) network (middle.pending ++ left))
-    → ReadsOn source start middle → IsNetwork network → (HasCycle network → ⊥)
-    → IfOk result (λ _. HasServed source middle last network book before after)
-    → IfOk result (λ _. WhereTold (source.content middle.source) (source.content last.source) (λ _ left. last.pending ++ left ≡ []))
-    → IfOk result (λ _. IsRun (source.content start.source) (source.content last.source) before after)
-run_of source start middle last network book before after (Err fault) empty text reads is no_cycle served ended = tt
-run_of source start middle last network book before after (Ok done) empty text reads is no_cycle served ended = record {
-  network = network;
-  lines = served.lines;
-  replies = served.replies;
+    → ReadsOn source start middle → (HasCycle network → ⊥)
+    → (served : ServesUpTo source middle last network stops puts)
+    → HasRun (source.content start.source) (source.content last.source) network served.lines served.replies stops
+has_run source start middle last network stops puts empty text reads no_cycle served = record {
   history = served.answered.history;
-  text = whole;
+  text = WhereTold-then (source.content start.source) (source.content middle.source) (source.content last.source) reads.takes.0 _ _ _ reads.takes.1 text served.said
+      (λ a b c told said. (
+        middle.pending ++ b,
+        said.0,
+        subst (λ (p : List ℕ). IsTopologyText (p ++ a) network (middle.pending ++ b)) empty told,
+        said.1,
+        said.2,
+      ));
   no_cycle = no_cycle;
   script = served.answered.script;
   decided = served.answered.decided;
   none_oversold = λ place l. sold network 0 served.answered.history place l served.answered.decided.sound;
-  out = served.out;
-  alone = λ without. told_as (source.content start.source) (source.content last.source) _ _ whole
-      (λ input left text output right. right_alone network input text.0 output served.lines served.replies served.answered.history is text.1 text.2 served.answered.script without right);
+  kept = stays_live 0 served.answered.history;
 }
-  where
-    both : WhereTold (source.content middle.source) (source.content last.source) (λ was left. SayLines network (middle.pending ++ was) served.lines (last.pending ++ left) × (last.pending ++ left ≡ []))
-    both = at (source.content middle.source) (source.content last.source) served.said ended
-      where
-        at : (first second : Option Stream) → WhereTold first second (λ was left. SayLines network (middle.pending ++ was) served.lines (last.pending ++ left))
-            → WhereTold first second (λ _ left. last.pending ++ left ≡ [])
-            → WhereTold first second (λ was left. SayLines network (middle.pending ++ was) served.lines (last.pending ++ left) × (last.pending ++ left ≡ []))
-        at None second said end = tt
-        at (Some a) None said end = tt
-        at (Some a) (Some b) said end = (said, end)
 
-    whole : WhereTold (source.content start.source) (source.content last.source) (λ input left. (rest : List ℕ) × IsTopologyText input network rest × SayLines network rest served.lines [] × (left ≡ []))
-    whole = told_on (source.content start.source) (source.content middle.source) (source.content last.source) reads.takes.0 _ _ _ reads.takes.1 text both
-        (λ a b c told said. (
-          middle.pending ++ b,
-          subst (λ (p : List ℕ). IsTopologyText (p ++ a) network (middle.pending ++ b)) empty told,
-          subst (SayLines network (middle.pending ++ b) served.lines) said.1 said.0,
-          behind_nothing last.pending c said.1,
-        ))
+-- up to the end of the input
+pub run_of : (old new : Option Stream) (network : Network) (lines : List ReadLine) (replies : List Reply) (before after : Option (List ℕ)) → IsNetwork network
+    → HasRun old new network lines replies IsAllTaken → Grows before after (texts_of network replies) → IsRun old new before after
+run_of old new network lines replies before after is run out = record {
+  network = network;
+  lines = lines;
+  replies = replies;
+  run = run;
+  out = out;
+  alone = λ without. WhereTold-map old new _ _ run.text
+      (λ input left text output right. right_alone network input text.0 output lines replies run.history is text.2
+      (subst (SayLines network text.0 lines) text.4.0 text.3) run.script without right);
+}
+
+-- up to a reply that was cut off
+pub cut_of : (old new : Option Stream) (network : Network) (lines : List ReadLine) (replies : List Reply) (before after : Option (List ℕ))
+    → HasRun old new network lines replies IsEndOf → CutsLast network before after replies → IsCutOff old new before after
+cut_of old new network lines replies before after run cuts = record {
+  network = network;
+  lines = lines;
+  replies = cuts.0;
+  reply = cuts.1;
+  run = subst (λ (r : List Reply). HasRun old new network lines r IsEndOf) cuts.2 run;
+  out = cuts.3;
+}
+
+pub ok_so : {T : Type 0} (result : Result T Fault) (A B : Type 0) → IfOk result (λ _. A) → (A → B) → IfOk result (λ _. B)
+ok_so (Ok _) A B holds other = other holds
+ok_so (Err _) A B holds other = tt
 
 -- what was done has one of the program's statuses
 pub status_among : {T : Type 0} (done : Result T Fault) → IsStatus (status_of_done done)
 status_among (Ok _) = (0, omega arith, refl)
 status_among (Err (fault.Words word)) = (1, omega arith, refl)
-status_among (Err fault.Topology) = (2, omega arith, refl)
+status_among (Err (fault.Topology line word)) = (2, omega arith, refl)
 status_among (Err fault.Cycle) = (2, omega arith, refl)
 status_among (Err fault.Read) = (3, omega arith, refl)
 status_among (Err fault.Write) = (4, omega arith, refl)

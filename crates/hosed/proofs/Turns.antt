@@ -1,20 +1,24 @@
 -- Turns, one behind another.
-use Rattle.std.proofs.Common.{◌≡◌, ◌≢◌, ℕ, List, [], ◌∷◌, ◌++◌, Option, None, Some, Ok, refl, sym, ◌∙◌, ap, subst, arith, le_refl, length-append, append-nil}
+use Rattle.std.proofs.Common.{◌≡◌, ◌≢◌, ℕ, List, [], ◌∷◌, ◌++◌, Option, None, Some, Ok, refl, sym, ◌∙◌, ap, subst, arith, length, length-append, take, append-nil}
+use Rattle.std.proofs.lemmas.List.{nil_from_length}
 use Rattle.std.specs.Prelude.{IfSome}
 use Rattle.std.specs.List.{before_first, after_first}
 use Rattle.std.proofs.lemmas.Grind.{flat_map-append}
-use Rattle.hose_io.specs.Stream.{Stream, Gives, Grows}
+use Rattle.hose_io.specs.Stream.{Stream, Grows}
 use Rattle.hose_io.proofs.Streams.{Grows-nil, Grows-append}
-use Rattle.hose_words.proofs.Coming.{Gives-nil, Gives-append}
+use Rattle.hose_io.specs.Writing.{GrowsInPart}
+use Rattle.hose_words.proofs.OnReading.{WhereTold-map, WhereTold-then}
 use Rattle.hose_io.specs.declared.source.Source.{Ghosts}
-use Rattle.hose_words.specs.Lines.{is_line_feed, Shows, Reader, IsNext, GivesLine}
+use Rattle.hose_words.specs.Grammar.{IsFirstNotAllowed}
+use Rattle.hose_words.specs.Words.{words_of}
+use Rattle.hose_words.specs.Lines.{is_line_feed, Shows, Reader, IsNext, GivesLine, StopsAt}
+use Rattle.hose_words.specs.declared.lines.LineFault.{LineFault}
 use Rattle.hose_words.specs.declared.lines.Line.{Line}
 use Rattle.hose_words.specs.declared.lines.Line.TheVariants as line
 use Rattle.hose_graph.specs.declared.entry.Entry.{Entry}
 use Rattle.hose_graph.specs.declared.command.Command.{Command}
-use Rattle.hose_graph.specs.declared.command.Command.TheVariants.{Admit}
 use Rattle.hose_graph.specs.declared.reply.Reply.{Reply}
-use Rattle.hose_graph.specs.declared.reply.Reply.TheVariants.{Admitted, Refused, Spent, Full, Memory, Bad, Long}
+use Rattle.hose_graph.specs.declared.reply.Reply.TheVariants.{Welcome, Admitted, Quoted, Refused, Stale, Released, NoVpn, NoQuote, TooMany, Shown, LinkState, Full, Spent, Disk, Memory, Bad, Long, Bye}
 use Rattle.hose_graph.specs.Network.{Network}
 use Rattle.hose_law.specs.Book.{Book}
 use Rattle.hose_law.specs.History.{opening_book, book_of, IsDecided}
@@ -22,32 +26,26 @@ use Rattle.hose_law.specs.Answer.{IsAnswer, IsStep, with_entry}
 use Rattle.hose_law.proofs.Scripts.{book_after_push, decided_push, script_push}
 use Rattle.hose_law.specs.Script.{ReadLine, IsLineStep}
 use Rattle.hose_law.specs.Script.ReadLine.{Asks, IsBad, IsLong, Unread}
-use Rattle.hosed.specs.AdmitLine.{IsAdmitLine}
-use Rattle.hosed.specs.Reading.{WhereTold, ReadsOn}
-use Rattle.hosed.specs.ReplyText.{line_of, reply_text}
-use Rattle.hosed.specs.Ledger.{book_with}
-use Rattle.hosed.specs.Serving.{Says, SaysRead, SayLines, no_line, one_more, AnswersLine, AreAnswered, HasServed, TakesTurn, texts_of}
+use Rattle.hosed.specs.ScriptLine.{IsAsking, script_grammar}
+use Rattle.hose_words.specs.Reading.{WhereTold, ReadsOn}
+use Rattle.hose_proto.specs.ReplyText.{line_of, reply_text}
+use Rattle.hosed.specs.Ledger.{Ledger, book_with}
+use Rattle.hosed.specs.Serving.{Says, SaysRead, SayLines, no_line, one_more, AnswersLine, AreAnswered, CutsLast, HasServed, IsAllTaken, IsEndOf, IsOver, MeetsFault, ServesUpTo, TakesTurn, texts_of}
 
 -- what a reader shows of a line says what the line says
 pub says_shown : (network : Network) (shown : Line) (bytes : List ℕ) (said : ReadLine) → Shows shown bytes → SaysRead network shown said → Says network bytes said
-says_shown network (line.Text text) bytes (Asks customer (Admit hose)) shows says = (shows.0, subst (λ (b : List ℕ). IsAdmitLine network b customer hose) shows.1 says)
-says_shown network (line.Text text) bytes IsBad shows says =
-    (shows.0, subst (λ (b : List ℕ). (customer : List ℕ) (hose : List (ℕ × ℕ)) → IsAdmitLine network b customer hose → ⊥) shows.1 says)
+says_shown network (line.Text text) bytes (Asks customer command) shows says = (shows.0, subst (λ (b : List ℕ). IsAsking network b customer command) shows.1 says)
+says_shown network (line.Text text) bytes (IsBad word) shows says =
+    (shows.0, subst (λ (b : List ℕ). IsFirstNotAllowed (script_grammar network) [] (words_of b) word) shows.1 says)
 says_shown network (line.Text text) bytes IsLong shows says = absurd says
 says_shown network (line.Text text) bytes Unread shows says = shows.0
 says_shown network line.Long bytes (Asks customer command) shows says = absurd says
-says_shown network line.Long bytes IsBad shows says = absurd says
+says_shown network line.Long bytes (IsBad word) shows says = absurd says
 says_shown network line.Long bytes IsLong shows says = shows
 says_shown network line.Long bytes Unread shows says = absurd says
 
--- what is told may be told in other words
-pub told_as : (first second : Option Stream) (P Q : List ℕ → List ℕ → Type 0) → WhereTold first second P → ((a b : List ℕ) → P a b → Q a b) → WhereTold first second Q
-told_as None second P Q told other = tt
-told_as (Some a) None P Q told other = tt
-told_as (Some a) (Some b) P Q told other = other a.left b.left told
-
 -- the next line of a reader says what is read from it
-pub line_said : {S : Type 0} (source : Ghosts S) (old new : Reader S) (network : Network) (shown : Line) (said : ReadLine) → IsNext source old new (Ok (Some shown)) → SaysRead network shown said
+line_said : {S : Type 0} (source : Ghosts S) (old new : Reader S) (network : Network) (shown : Line) (said : ReadLine) → IsNext source old new (Ok (Some shown)) → SaysRead network shown said
     → WhereTold (source.content old.source) (source.content new.source) (λ was now. (old.pending ++ was ≢ [])
     × Says network (before_first is_line_feed (old.pending ++ was)) said × (new.pending ++ now ≡ after_first is_line_feed (old.pending ++ was)))
 line_said source old new network shown said next says = at (source.content old.source) (source.content new.source) (next.answer next.fault.0)
@@ -60,29 +58,17 @@ line_said source old new network shown said next says = at (source.content old.s
     at (Some b) None gives = tt
     at (Some b) (Some a) gives = (gives.0, says_shown network shown (before_first is_line_feed (old.pending ++ b.left)) said gives.1 says, gives.2)
 
--- what is told of two stretches of a source, one behind the other, is told of both together
-pub told_on : (first second third : Option Stream) (bytes : List ℕ) (P Q R : List ℕ → List ℕ → Type 0) → Gives first second bytes
-    → WhereTold first second P → WhereTold second third Q → ((a b c : List ℕ) → P a b → Q b c → R a c) → WhereTold first third R
-told_on None second third bytes P Q R gives one other both = tt
-told_on (Some a) (Some b) None bytes P Q R gives one other both = tt
-told_on (Some a) None third bytes P Q R gives one other both = absurd gives
-told_on (Some a) (Some b) (Some c) bytes P Q R gives one other both = both a.left b.left c.left one other
-
--- ---- what reading does to a reader
-
-pub reads_itself : {S : Type 0} (source : Ghosts S) (reader : Reader S) → ReadsOn source reader reader
-reads_itself source reader = record { takes = ([], Gives-nil (source.content reader.source), omega arith); never_falls = le_refl _; number = refl; loan = refl }
-
-pub reads_then : {S : Type 0} (source : Ghosts S) (old mid new : Reader S) → ReadsOn source old mid → ReadsOn source mid new → ReadsOn source old new
-reads_then source old mid new first second = record {
-  takes = (
-    first.takes.0 ++ second.takes.0,
-    Gives-append (source.content old.source) (source.content mid.source) (source.content new.source) first.takes.0 second.takes.0 first.takes.1 second.takes.1,
-    omega (arith, first.takes.2, second.takes.2, length-append first.takes.0 second.takes.0),
-  );
-  never_falls = omega (arith, first.never_falls, second.never_falls);
-  number = second.number ∙ first.number;
-  loan = second.loan ∙ first.loan;
+-- a line that was read, and answered, makes a turn
+pub turn_of : {S : Type 0} (source : Ghosts S) (old new : Reader S) (ledger : Ledger) (shown : Line) (reply : Reply) (book : Book) (network : Network) (puts : List ℕ → Type 0)
+    → IsNext source old new (Ok (Some shown)) → (said : ReadLine) × SaysRead ledger.network shown said × AnswersLine ledger said reply book
+    → network ≡ ledger.network → puts (line_of (reply_text network reply)) → TakesTurn source old new ledger book puts
+turn_of source old new ledger shown reply book network puts next answers same out = record {
+  said = answers.0;
+  reply = reply;
+  line = line_said source old new ledger.network shown answers.0 next answers.1;
+  answers = answers.2;
+  out = subst (λ (n : Network). puts (line_of (reply_text n reply))) same out;
+  progress = next.progress;
 }
 
 -- ---- histories that turns lead to
@@ -117,13 +103,24 @@ unchanged network history said reply book decided step is = record { next = hist
 stepped : (network : Network) (history : List Entry) (said : ReadLine) (reply : Reply) (book : Book) → IsDecided network 0 0 history → AnswersLine (record { network = network; book = book_of 0 history }) said reply book
     → Stepped network history said reply book
 stepped network history (Asks customer command) Memory book decided answers = unchanged network history (Asks customer command) Memory book decided refl answers
+stepped network history (Asks customer command) (Welcome at) book decided answers = answered network history customer command (Welcome at) book answers.0 decided answers.1 answers.2 (λ next step. step)
 stepped network history (Asks customer command) (Admitted id cost at amounts) book decided answers = answered network history customer command (Admitted id cost at amounts) book answers.0 decided answers.1 answers.2 (λ next step. step)
+stepped network history (Asks customer command) (Quoted quote cost at amounts) book decided answers = answered network history customer command (Quoted quote cost at amounts) book answers.0 decided answers.1 answers.2 (λ next step. step)
 stepped network history (Asks customer command) (Refused at side) book decided answers = answered network history customer command (Refused at side) book answers.0 decided answers.1 answers.2 (λ next step. step)
-stepped network history (Asks customer command) (Spent at) book decided answers = answered network history customer command (Spent at) book answers.0 decided answers.1 answers.2 (λ next step. step)
+stepped network history (Asks customer command) (Stale seen now) book decided answers = answered network history customer command (Stale seen now) book answers.0 decided answers.1 answers.2 (λ next step. step)
+stepped network history (Asks customer command) (Released id at) book decided answers = answered network history customer command (Released id at) book answers.0 decided answers.1 answers.2 (λ next step. step)
+stepped network history (Asks customer command) (NoVpn id at) book decided answers = answered network history customer command (NoVpn id at) book answers.0 decided answers.1 answers.2 (λ next step. step)
+stepped network history (Asks customer command) (NoQuote quote at) book decided answers = answered network history customer command (NoQuote quote at) book answers.0 decided answers.1 answers.2 (λ next step. step)
+stepped network history (Asks customer command) (TooMany at) book decided answers = answered network history customer command (TooMany at) book answers.0 decided answers.1 answers.2 (λ next step. step)
+stepped network history (Asks customer command) (Shown id cost at hose amounts) book decided answers = answered network history customer command (Shown id cost at hose amounts) book answers.0 decided answers.1 answers.2 (λ next step. step)
+stepped network history (Asks customer command) (LinkState link load at) book decided answers = answered network history customer command (LinkState link load at) book answers.0 decided answers.1 answers.2 (λ next step. step)
 stepped network history (Asks customer command) (Full at) book decided answers = answered network history customer command (Full at) book answers.0 decided answers.1 answers.2 (λ next step. step)
-stepped network history (Asks customer command) Bad book decided answers = answered network history customer command Bad book answers.0 decided answers.1 answers.2 (λ next step. step)
+stepped network history (Asks customer command) (Spent at) book decided answers = answered network history customer command (Spent at) book answers.0 decided answers.1 answers.2 (λ next step. step)
+stepped network history (Asks customer command) (Disk at) book decided answers = answered network history customer command (Disk at) book answers.0 decided answers.1 answers.2 (λ next step. step)
+stepped network history (Asks customer command) (Bad word) book decided answers = answered network history customer command (Bad word) book answers.0 decided answers.1 answers.2 (λ next step. step)
 stepped network history (Asks customer command) Long book decided answers = answered network history customer command Long book answers.0 decided answers.1 answers.2 (λ next step. step)
-stepped network history IsBad reply book decided answers = unchanged network history IsBad reply book decided (answers.0, refl) answers.1
+stepped network history (Asks customer command) Bye book decided answers = answered network history customer command Bye book answers.0 decided answers.1 answers.2 (λ next step. step)
+stepped network history (IsBad word) reply book decided answers = unchanged network history (IsBad word) reply book decided (answers.0, refl) answers.1
 stepped network history IsLong reply book decided answers = unchanged network history IsLong reply book decided (answers.0, refl) answers.1
 stepped network history Unread reply book decided answers = unchanged network history Unread reply book decided (answers.0, refl) answers.1
 
@@ -157,15 +154,73 @@ nothing_served source reader network content = record {
     at None = tt
     at (Some stream) = no_line
 
--- a turn more is served
-pub served_more : {S : Type 0} (source : Ghosts S) (start now new : Reader S) (network : Network) (book next : Book) (first middle last : Option (List ℕ)) → HasServed source start now network book first middle
-    → ReadsOn source start now → TakesTurn source now new (record { network = network; book = book }) next middle last → HasServed source start new network next first last
-served_more source start now new network book next first middle last served reads turn = record {
-  lines = served.lines ++ turn.said ∷ [];
-  replies = served.replies ++ turn.reply ∷ [];
-  said = told_on (source.content start.source) (source.content now.source) (source.content new.source) reads.takes.0 _ _ _ reads.takes.1 served.said turn.line
-      (λ a b c before here. subst (SayLines network (start.pending ++ a) (served.lines ++ turn.said ∷ [])) (sym here.2) (one_more turn.said before here.0 here.1));
-  answered = answered_more network served.lines served.replies book next turn.said turn.reply served.answered turn.answers;
-  out = subst (Grows first last) (sym (texts_more network served.replies turn.reply))
-      (Grows-append first middle last (texts_of network served.replies) (line_of (reply_text network turn.reply)) served.out turn.out);
-}
+module _ {S : Type 0} (source : Ghosts S) (start now new : Reader S) (network : Network) (book next : Book) (first middle last : Option (List ℕ)) where
+  -- the line of a turn stands behind those that were said
+  said_more : (puts : List ℕ → Type 0) (served : HasServed source start now network book first middle) → ReadsOn source start now
+      → (turn : TakesTurn source now new (record { network = network; book = book }) next puts)
+      → WhereTold (source.content start.source) (source.content new.source) (λ was left. SayLines network (start.pending ++ was) (served.lines ++ turn.said ∷ []) (new.pending ++ left))
+  said_more puts served reads turn =
+      WhereTold-then (source.content start.source) (source.content now.source) (source.content new.source) reads.takes.0 _ _ _ reads.takes.1 served.said turn.line
+      (λ a b c before here. subst (SayLines network (start.pending ++ a) (served.lines ++ turn.said ∷ [])) (sym here.2) (one_more turn.said before here.0 here.1))
+
+  -- a turn more is served
+  pub served_more : HasServed source start now network book first middle → ReadsOn source start now
+      → TakesTurn source now new (record { network = network; book = book }) next (Grows middle last) → HasServed source start new network next first last
+  served_more served reads turn = record {
+    lines = served.lines ++ turn.said ∷ [];
+    replies = served.replies ++ turn.reply ∷ [];
+    said = said_more (Grows middle last) served reads turn;
+    answered = answered_more network served.lines served.replies book next turn.said turn.reply served.answered turn.answers;
+    out = subst (Grows first last) (sym (texts_more network served.replies turn.reply))
+        (Grows-append first middle last (texts_of network served.replies) (line_of (reply_text network turn.reply)) served.out turn.out);
+  }
+
+  -- a turn more is taken, and its reply is cut off
+  pub served_cut : HasServed source start now network book first middle → ReadsOn source start now
+      → TakesTurn source now new (record { network = network; book = book }) next (GrowsInPart middle last) → ServesUpTo source start new network IsEndOf (CutsLast network first last)
+  served_cut served reads turn = record {
+    lines = served.lines ++ turn.said ∷ [];
+    replies = served.replies ++ turn.reply ∷ [];
+    book = next;
+    said = WhereTold-map (source.content start.source) (source.content new.source) _ _ (said_more (GrowsInPart middle last) served reads turn)
+        (λ was left said. (new.pending ++ left, said, (new.pending, refl)));
+    answered = answered_more network served.lines served.replies book next turn.said turn.reply served.answered turn.answers;
+    out = (
+      served.replies,
+      turn.reply,
+      refl,
+      (
+        turn.out.0,
+        turn.out.1,
+        Grows-append first middle last (texts_of network served.replies) (take turn.out.0 (line_of (reply_text network turn.reply))) served.out turn.out.2,
+      ),
+    );
+  }
+
+  -- no turn more is taken
+  pub served_up_to : (stops : List ℕ → List ℕ → Type 0) → HasServed source start now network book first middle → ReadsOn source start now
+      → WhereTold (source.content now.source) (source.content new.source) (λ was left. (behind : List ℕ) × (now.pending ++ was ≡ behind) × stops behind left)
+      → last ≡ middle → ServesUpTo source start new network stops (λ replies. Grows first last (texts_of network replies))
+  served_up_to stops served reads ends same = record {
+    lines = served.lines;
+    replies = served.replies;
+    book = book;
+    said = WhereTold-then (source.content start.source) (source.content now.source) (source.content new.source) reads.takes.0 _ _ _ reads.takes.1 served.said ends
+        (λ a b c said end. (end.0, subst (SayLines network (start.pending ++ a) served.lines) end.1 said, end.2));
+    answered = served.answered;
+    out = subst (λ (content : Option (List ℕ)). Grows first content (texts_of network served.replies)) (sym same) served.out;
+  }
+
+-- reading ended, or met a fault
+behind_nothing : (xs ys : List ℕ) → xs ++ ys ≡ [] → ys ≡ []
+behind_nothing xs ys none = nil_from_length ys (omega (arith, ap length none, length-append xs ys))
+
+pub ends_over : {S : Type 0} (source : Ghosts S) (now new : Reader S) (ledger : Ledger) (book : Book) (before after : Option (List ℕ)) → IsOver source now new ledger book before after
+    → WhereTold (source.content now.source) (source.content new.source) (λ was left. (behind : List ℕ) × (now.pending ++ was ≡ behind) × IsAllTaken behind left)
+ends_over source now new ledger book before after over = WhereTold-map (source.content now.source) (source.content new.source) _ _ over.ended
+    (λ was left ended. ([], ended.0, (refl, behind_nothing new.pending left ended.1)))
+
+pub ends_broke : {S : Type 0} (source : Ghosts S) (now new : Reader S) (fault : LineFault) (before after : Option (List ℕ)) → MeetsFault source now new fault before after
+    → WhereTold (source.content now.source) (source.content new.source) (λ was left. (behind : List ℕ) × (now.pending ++ was ≡ behind) × StopsAt fault behind left)
+ends_broke source now new fault before after met = WhereTold-map (source.content now.source) (source.content new.source) _ _ met.stops
+    (λ was left stops. (now.pending ++ was, refl, stops))

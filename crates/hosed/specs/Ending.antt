@@ -1,5 +1,5 @@
 -- How the program ends: its status, and the last line of its output.
-use Rattle.std.specs.Prelude.{◌⊎◌, ℕ, List, [], ◌∷◌, Option, Result, Ok, Err, Contains, ⊤}
+use Rattle.std.specs.Prelude.{◌⊎◌, ℕ, ◌<◌, List, [], ◌∷◌, ◌++◌, length, take, Option, Result, Ok, Err, Contains, ⊤}
 use Rattle.hose_io.specs.Fault.{Rose}
 use Rattle.hose_io.specs.Stream.{Grows}
 use Rattle.hose_io.specs.Writing.{GrowsInPart}
@@ -20,10 +20,14 @@ status_of_done (Err fault) = status_of fault
 abbrev pub IsOut : Option (List ℕ) → Option (List ℕ) → ℕ → ℕ → List ℕ → Type 0
 IsOut before after faults more_faults text = Grows before after text ⊎ (Rose faults more_faults × GrowsInPart before after text)
 
+-- A text is out, and of a further one a part that is not all of it.
+abbrev pub GrowsShort : Option (List ℕ) → Option (List ℕ) → List ℕ → List ℕ → Type 0
+GrowsShort before after text more = (count : ℕ) × (count < length more) × Grows before after (text ++ take count more)
+
 -- the faults before the first reply
 abbrev pub IsEarly : Fault → Type 0
 IsEarly (fault.Words word) = ⊤
-IsEarly fault.Topology = ⊤
+IsEarly (fault.Topology line word) = ⊤
 IsEarly fault.Cycle = ⊤
 IsEarly fault.Memory = ⊤
 IsEarly _ = ⊥

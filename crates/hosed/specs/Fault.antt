@@ -2,16 +2,16 @@
 use Rattle.std.specs.Prelude.{ℕ, List, [], ◌++◌, codes, decimal}
 use Rattle.hose_words.specs.declared.lines.LineFault.{LineFault}
 use Rattle.hose_words.specs.declared.lines.LineFault.TheVariants as line
-use Rattle.hosed.specs.declared.topology_text.TopologyFault.{TopologyFault}
-use Rattle.hosed.specs.declared.topology_text.TopologyFault.TheVariants as topology
-use Rattle.hosed.specs.ReplyText.{line_of}
+use Rattle.hose_topo.specs.declared.fault.TopoFault.{TopoFault}
+use Rattle.hose_topo.specs.declared.fault.TopoFault.TheVariants as topology
+use Rattle.hose_proto.specs.ReplyText.{line_of}
 use Rattle.hosed.specs.declared.fault.Fault.{Fault}
 use Rattle.hosed.specs.declared.fault.Fault.TheVariants.{Words, Topology, Cycle, Read, Write, Memory, TooLong}
 
 -- the status
 abbrev pub status_of : Fault → ℕ
 status_of (Words word) = 1
-status_of Topology = 2
+status_of (Topology line word) = 2
 status_of Cycle = 2
 status_of Read = 3
 status_of Write = 4
@@ -21,7 +21,7 @@ status_of TooLong = 8
 -- the last line, with its line feed; none where the output failed
 abbrev pub last_line : Fault → List ℕ
 last_line (Words word) = line_of (codes "words " ++ decimal word)
-last_line Topology = line_of (codes "topology")
+last_line (Topology line word) = line_of (codes "topology " ++ decimal line ++ codes " " ++ decimal word)
 last_line Cycle = line_of (codes "topology cycle")
 last_line Read = line_of (codes "read")
 last_line Write = []
@@ -34,8 +34,8 @@ of_line line.Read = Read
 of_line line.TooLong = TooLong
 
 -- what a fault of reading a topology is for a run
-abbrev pub of_topology : TopologyFault → Fault
-of_topology topology.Text = Topology
+abbrev pub of_topology : TopoFault → Fault
+of_topology (topology.At line word) = Topology line word
 of_topology topology.Read = Read
 of_topology topology.TooLong = TooLong
 of_topology topology.Memory = Memory

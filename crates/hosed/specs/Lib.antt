@@ -1,4 +1,3 @@
-pub mod AdmitLine
 pub mod Deciding
 pub mod Ending
 pub mod Fault
@@ -6,12 +5,8 @@ pub mod Ledger
 pub mod Nodes
 pub mod ProgramWords
 pub mod Reach
-pub mod Reading
-pub mod ReplyText
 pub mod Run
+pub mod ScriptLine
 pub mod Serving
 pub mod Shares
 pub mod Sides
-pub mod Taken
-pub mod TopologyFault
-pub mod TopologyText

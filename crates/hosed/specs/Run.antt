@@ -1,5 +1,6 @@
 -- A run from its first byte to its last.
-use Rattle.std.specs.Prelude.{◌≡◌, ◌⊎◌, ℕ, List, [], Option, Some, ⊤, take}
+use Rattle.std.specs.Prelude.{◌≡◌, ◌⊎◌, ℕ, ◌^◌, ◌≤◌, List, [], ◌∷◌, ◌++◌, length, Option, None, Some, ⊤, take}
+use Rattle.hose_io.specs.Fault.{Rose}
 use Rattle.hose_io.specs.Stream.{Stream, Grows}
 use Rattle.hose_words.specs.Lines.{StopsAt}
 use Rattle.hose_words.specs.declared.lines.LineFault.{LineFault}
@@ -10,10 +11,13 @@ use Rattle.hose_graph.specs.Network.{Network}
 use Rattle.hose_law.specs.Plan.{HasCycle}
 use Rattle.hose_law.specs.Book.{IsOversold}
 use Rattle.hose_law.specs.History.{book_of, IsDecided}
+use Rattle.hose_law.specs.Live.{StaysLive}
 use Rattle.hose_law.specs.Script.{ReadLine, IsScript, WithoutMemory}
-use Rattle.hosed.specs.TopologyText.{AddLines, IsTopologyText, no_network}
-use Rattle.hosed.specs.Reading.{WhereTold}
-use Rattle.hosed.specs.Serving.{SayLines, texts_of}
+use Rattle.hose_topo.specs.TopologyText.{AddLines, IsTopologyText, IsWrongAt, no_network}
+use Rattle.hose_words.specs.Reading.{WhereTold}
+use Rattle.hosed.specs.Ending.{GrowsShort}
+use Rattle.hose_proto.specs.ReplyText.{line_of, reply_text}
+use Rattle.hosed.specs.Serving.{IsAllTaken, IsEndOf, SayLines, texts_of}
 use Rattle.hosed.specs.declared.fault.Fault.{Fault}
 use Rattle.hosed.specs.declared.fault.Fault.TheVariants as fault
 
@@ -30,37 +34,65 @@ pub record IsRightFor (input output : List ℕ) : Type 0 where
   pub without : WithoutMemory replies
   pub out : output ≡ texts_of network replies
 
--- The input was read to its end, and the output has the replies to its lines. The input is the text of a network without a cycle and then
--- these lines; the replies are those of the script of the lines from the empty history. That history is decided from its start, and no
--- link is oversold at any place of it. Without a reply for want of memory no other output is right for the input.
-pub record IsRun (old new : Option Stream) (before after : Option (List ℕ)) : Type 0 where
-  pub network : Network
-  pub lines : List ReadLine
-  pub replies : List Reply
+-- The input is the text of a network without a cycle and then lines, all of which were answered: the replies are those of the script of
+-- the lines from the empty history, that history is decided from its start, no link is oversold at any place of it, and each VPN is live and
+-- unchanged from its admission up to its own release. `stops` says how what stands behind the lines stands to what the input has left.
+pub record HasRun (old new : Option Stream) (network : Network) (lines : List ReadLine) (replies : List Reply) (stops : List ℕ → List ℕ → Type 0) : Type 0 where
   pub history : List Entry
-  pub text : WhereTold old new (λ input left. (rest : List ℕ) × IsTopologyText input network rest × SayLines network rest lines [] × (left ≡ []))
+  pub text : WhereTold old new (λ input left. (rest : List ℕ) × (behind : List ℕ) × IsTopologyText input network rest × SayLines network rest lines behind × stops behind left)
   pub no_cycle : HasCycle network → ⊥
   pub script : IsScript network 0 [] lines replies history
   pub decided : IsDecided network 0 0 history
   pub none_oversold : (place l : ℕ) → IsOversold network (book_of 0 (take place history)) l → ⊥
+  pub kept : (place : ℕ) → StaysLive 0 history place
+
+-- The input was read to its end, and the output has the replies to its lines. Without a reply for want of memory no other output is right for the input.
+pub record IsRun (old new : Option Stream) (before after : Option (List ℕ)) : Type 0 where
+  pub network : Network
+  pub lines : List ReadLine
+  pub replies : List Reply
+  pub run : HasRun old new network lines replies IsAllTaken
   pub out : Grows before after (texts_of network replies)
   pub alone : WithoutMemory replies → WhereTold old new (λ input _. (output : List ℕ) → IsRightFor input output → output ≡ texts_of network replies)
 
--- the input is the text of no network
-abbrev pub TellsNoNetwork : Option Stream → Option Stream → Type 0
-TellsNoNetwork old new = WhereTold old new (λ input _. (network : Network) (rest : List ℕ) → IsTopologyText input network rest → ⊥)
+-- Reading stopped at a fault behind the topology, and the output has the replies to the lines before.
+pub record IsRunUpTo (fault : LineFault) (old new : Option Stream) (before after : Option (List ℕ)) : Type 0 where
+  pub network : Network
+  pub lines : List ReadLine
+  pub replies : List Reply
+  pub run : HasRun old new network lines replies (StopsAt fault)
+  pub out : Grows before after (texts_of network replies)
+
+-- Reading stopped at a fault behind the topology. The output has the replies to the lines before and then a last line, whole; or its count of
+-- faults rose, and a part of the last line is out behind the replies.
+pub record BreaksOff (fault : LineFault) (old new : Option Stream) (before after : Option (List ℕ)) (faults more_faults : ℕ) (last : List ℕ) : Type 0 where
+  pub network : Network
+  pub lines : List ReadLine
+  pub replies : List Reply
+  pub run : HasRun old new network lines replies (StopsAt fault)
+  pub out : Grows before after (texts_of network replies ++ last) ⊎ (Rose faults more_faults × GrowsShort before after (texts_of network replies) last)
+
+-- The output was cut off in a reply: it has the replies before, and a part of this one. Bytes behind the lines may have been taken.
+pub record IsCutOff (old new : Option Stream) (before after : Option (List ℕ)) : Type 0 where
+  pub network : Network
+  pub lines : List ReadLine
+  pub replies : List Reply
+  pub reply : Reply
+  pub run : HasRun old new network lines (replies ++ reply ∷ []) IsEndOf
+  pub out : GrowsShort before after (texts_of network replies) (line_of (reply_text network reply))
+
+-- the input is the text of no network, and is wrong first at this word of this line
+abbrev pub TellsNoNetwork : ℕ → ℕ → Option Stream → Option Stream → Type 0
+TellsNoNetwork line word old new =
+    WhereTold old new (λ input _. ((rest : List ℕ) × IsWrongAt input line word rest) × ((network : Network) (rest : List ℕ) → IsTopologyText input network rest → ⊥))
 
 -- the input begins with the text of a network that has a cycle
 abbrev pub TellsCycle : Option Stream → Option Stream → Type 0
 TellsCycle old new = WhereTold old new (λ input _. (network : Network) × (rest : List ℕ) × IsTopologyText input network rest × HasCycle network)
 
--- the input begins with the text of a network without a cycle
-abbrev pub TellsForest : Option Stream → Option Stream → Type 0
-TellsForest old new = WhereTold old new (λ input _. (network : Network) × (rest : List ℕ) × IsTopologyText input network rest × (HasCycle network → ⊥))
-
 -- Reading stopped at a fault before the topology was refused or ended: behind lines that add to a network no line was taken whole.
 abbrev pub StopsInTopology : LineFault → Option Stream → Option Stream → Type 0
-StopsInTopology fault old new = WhereTold old new (λ input left. (network : Network) × (behind : List ℕ) × AddLines no_network input network behind × StopsAt fault behind left)
+StopsInTopology fault old new = WhereTold old new (λ input left. (network : Network) × (count : ℕ) × (behind : List ℕ) × AddLines no_network input count network behind × StopsAt fault behind left)
 
 -- The input is told, and each network that it begins with the text of has a cycle; it may be the text of none.
 abbrev pub IsRefusedText : Option Stream → Option Stream → Type 0
@@ -71,14 +103,13 @@ IsRefusedText _ _ = ⊥
 abbrev pub EndsRefused : ℕ → Option Stream → Option Stream → Type 0
 EndsRefused status old new = (status ≡ 2) ⊎ ((status ≡ 7) ⊎ (((status ≡ 3) × StopsInTopology Read old new) ⊎ ((status ≡ 8) × StopsInTopology TooLong old new)))
 
--- the faults that a run meets before its first reply
-abbrev pub IsOpeningFault : Fault → Type 0
-IsOpeningFault fault.Topology = ⊤
-IsOpeningFault fault.Cycle = ⊤
-IsOpeningFault fault.Memory = ⊤
-IsOpeningFault _ = ⊥
-
 -- the faults of a run
 abbrev pub IsRunFault : Fault → Type 0
 IsRunFault (fault.Words word) = ⊥
 IsRunFault _ = ⊤
+
+-- The input is told: it begins with the text of a network without a cycle, and is not too long.
+abbrev pub IsServable : Option Stream → Type 0
+IsServable None = ⊥
+IsServable (Some stream) =
+    (network : Network) × (rest : List ℕ) × IsTopologyText stream.left network rest × (HasCycle network → ⊥) × (length stream.left ≤ 2 ^ 30)

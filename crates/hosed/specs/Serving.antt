@@ -3,11 +3,13 @@ use Rattle.std.specs.Prelude.{◌≡◌, ◌≢◌, ℕ, ◌+◌, ◌<◌, ◌�
 use Rattle.std.specs.List.{before_first, after_first, flat_map}
 use Rattle.hose_io.specs.Stream.{Grows}
 use Rattle.hose_io.specs.declared.source.Source.{Ghosts}
-use Rattle.hose_words.specs.Lines.{Reader, is_line_feed}
+use Rattle.hose_words.specs.Grammar.{IsFirstNotAllowed}
+use Rattle.hose_words.specs.Words.{words_of}
+use Rattle.hose_words.specs.Lines.{Reader, StopsAt, is_line_feed}
+use Rattle.hose_words.specs.declared.lines.LineFault.{LineFault}
 use Rattle.hose_words.specs.declared.lines.Line.{Line}
 use Rattle.hose_words.specs.declared.lines.Line.TheVariants as line
 use Rattle.hose_graph.specs.declared.entry.Entry.{Entry}
-use Rattle.hose_graph.specs.declared.command.Command.TheVariants.{Admit}
 use Rattle.hose_graph.specs.declared.reply.Reply.{Reply}
 use Rattle.hose_graph.specs.declared.reply.Reply.TheVariants.{Memory, Bad, Long}
 use Rattle.hose_graph.specs.Network.{Network}
@@ -15,24 +17,25 @@ use Rattle.hose_law.specs.Book.{Book}
 use Rattle.hose_law.specs.History.{book_of, IsDecided}
 use Rattle.hose_law.specs.Script.{ReadLine, IsScript}
 use Rattle.hose_law.specs.Script.ReadLine.{Asks, IsBad, IsLong, Unread}
-use Rattle.hosed.specs.AdmitLine.{IsAdmitLine}
-use Rattle.hosed.specs.ReplyText.{line_of, reply_text}
+use Rattle.hosed.specs.ScriptLine.{IsAsking, script_grammar}
+use Rattle.hosed.specs.Ending.{GrowsShort}
+use Rattle.hose_proto.specs.ReplyText.{line_of, reply_text}
 use Rattle.hosed.specs.Ledger.{Ledger, Answers}
-use Rattle.hosed.specs.Reading.{WhereTold}
+use Rattle.hose_words.specs.Reading.{WhereTold}
 use Rattle.hosed.specs.declared.fault.Fault.{Fault}
 use Rattle.hosed.specs.declared.fault.Fault.TheVariants as fault
 
--- What a line of bytes says: a customer's admission, nothing of the grammar, or too much; or it is left unread for want of memory.
+-- What a line of bytes says: a customer's command, a first word that is not allowed, or too much; or it is left unread for want of memory.
 abbrev pub Says : Network → List ℕ → ReadLine → Type 0
-Says network bytes (Asks customer (Admit hose)) = (length bytes ≤ 4096) × IsAdmitLine network bytes customer hose
-Says network bytes IsBad = (length bytes ≤ 4096) × ((customer : List ℕ) (hose : List (ℕ × ℕ)) → IsAdmitLine network bytes customer hose → ⊥)
+Says network bytes (Asks customer command) = (length bytes ≤ 4096) × IsAsking network bytes customer command
+Says network bytes (IsBad word) = (length bytes ≤ 4096) × IsFirstNotAllowed (script_grammar network) [] (words_of bytes) word
 Says network bytes IsLong = 4096 < length bytes
 Says network bytes Unread = length bytes ≤ 4096
 
 -- the same of a line as a reader of lines gives it
 abbrev pub SaysRead : Network → Line → ReadLine → Type 0
-SaysRead network (line.Text bytes) (Asks customer (Admit hose)) = IsAdmitLine network bytes.now customer hose
-SaysRead network (line.Text bytes) IsBad = (customer : List ℕ) (hose : List (ℕ × ℕ)) → IsAdmitLine network bytes.now customer hose → ⊥
+SaysRead network (line.Text bytes) (Asks customer command) = IsAsking network bytes.now customer command
+SaysRead network (line.Text bytes) (IsBad word) = IsFirstNotAllowed (script_grammar network) [] (words_of bytes.now) word
 SaysRead network (line.Text bytes) Unread = ⊤
 SaysRead network line.Long IsLong = ⊤
 SaysRead network _ _ = ⊥
@@ -51,7 +54,7 @@ pub data SayLines (network : Network) : List ℕ → List ReadLine → List ℕ 
 -- The book answered a line: a command with its answer, and any other line with the reply that stands for it, which changes nothing.
 abbrev pub AnswersLine : Ledger → ReadLine → Reply → Book → Type 0
 AnswersLine old (Asks customer command) reply new = Answers old customer command reply new
-AnswersLine old IsBad reply new = (reply ≡ Bad) × (new ≡ old.book)
+AnswersLine old (IsBad word) reply new = (reply ≡ Bad word) × (new ≡ old.book)
 AnswersLine old IsLong reply new = (reply ≡ Long) × (new ≡ old.book)
 AnswersLine old Unread reply new = (reply ≡ Memory) × (new ≡ old.book)
 
@@ -73,21 +76,26 @@ IsStreamFault fault.Write = ⊤
 IsStreamFault fault.TooLong = ⊤
 IsStreamFault _ = ⊥
 
--- A turn: the first line that was to come was read, and its reply is out.
-pub record TakesTurn {S : Type 0} (source : Ghosts S) (old new : Reader S) (ledger : Ledger) (book : Book) (before after : Option (List ℕ)) : Type 0 where
+-- A turn: the first line that was to come was read and answered. `puts` says how much is out of the line of its reply.
+pub record TakesTurn {S : Type 0} (source : Ghosts S) (old new : Reader S) (ledger : Ledger) (book : Book) (puts : List ℕ → Type 0) : Type 0 where
   pub said : ReadLine
   pub reply : Reply
   pub line : WhereTold (source.content old.source) (source.content new.source) (λ was now.
       (old.pending ++ was ≢ []) × Says ledger.network (before_first is_line_feed (old.pending ++ was)) said
       × (new.pending ++ now ≡ after_first is_line_feed (old.pending ++ was)))
   pub answers : AnswersLine ledger said reply book
-  pub out : Grows before after (line_of (reply_text ledger.network reply))
+  pub out : puts (line_of (reply_text ledger.network reply))
   pub progress : length new.pending + old.taken < length old.pending + new.taken
 
 -- No line was to come, so nothing was done.
 pub record IsOver {S : Type 0} (source : Ghosts S) (old new : Reader S) (ledger : Ledger) (book : Book) (before after : Option (List ℕ)) : Type 0 where
   pub ended : WhereTold (source.content old.source) (source.content new.source) (λ was now. (old.pending ++ was ≡ []) × (new.pending ++ now ≡ []))
   pub same_book : book ≡ ledger.book
+  pub same_output : after ≡ before
+
+-- Reading met a fault before the next line ended, so nothing was answered.
+pub record MeetsFault {S : Type 0} (source : Ghosts S) (old new : Reader S) (fault : LineFault) (before after : Option (List ℕ)) : Type 0 where
+  pub stops : WhereTold (source.content old.source) (source.content new.source) (λ was left. StopsAt fault (old.pending ++ was) left)
   pub same_output : after ≡ before
 
 -- Turns from the empty history on: lines that were to come were read and answered, each by a reply that is out.
@@ -97,3 +105,27 @@ pub record HasServed {S : Type 0} (source : Ghosts S) (start now : Reader S) (ne
   pub said : WhereTold (source.content start.source) (source.content now.source) (λ was left. SayLines network (start.pending ++ was) lines (now.pending ++ left))
   pub answered : AreAnswered network lines replies book
   pub out : Grows before after (texts_of network replies)
+
+-- nothing stands behind the lines of a text, and nothing is left
+abbrev pub IsAllTaken : List ℕ → List ℕ → Type 0
+IsAllTaken behind left = (behind ≡ []) × (left ≡ [])
+
+-- what is left is the end of what stands behind the lines of a text
+abbrev pub IsEndOf : List ℕ → List ℕ → Type 0
+IsEndOf behind left = (seen : List ℕ) × (behind ≡ seen ++ left)
+
+-- the replies are out, but for a part of the last
+abbrev pub CutsLast : Network → Option (List ℕ) → Option (List ℕ) → List Reply → Type 0
+CutsLast network before after replies = (whole : List Reply) × (reply : Reply) × (replies ≡ whole ++ reply ∷ [])
+    × GrowsShort before after (texts_of network whole) (line_of (reply_text network reply))
+
+-- Lines that were to come were answered from the empty history on. `stops` says how what stands behind them stands to what the source has left,
+-- and `puts` how much is out of the replies.
+pub record ServesUpTo {S : Type 0} (source : Ghosts S) (start now : Reader S) (network : Network) (stops : List ℕ → List ℕ → Type 0) (puts : List Reply → Type 0) : Type 0 where
+  pub lines : List ReadLine
+  pub replies : List Reply
+  pub book : Book
+  pub said : WhereTold (source.content start.source) (source.content now.source)
+      (λ was left. (behind : List ℕ) × SayLines network (start.pending ++ was) lines behind × stops behind left)
+  pub answered : AreAnswered network lines replies book
+  pub out : puts replies

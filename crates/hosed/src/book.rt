@@ -1,25 +1,24 @@
 // The book: the live VPNs, the loads that they make, and what is decided of a hose.
-ghost use Rattle.std.specs.Prelude.{◌≡◌, ◌+◌, ◌<◌, ◌↔◌, ◌^◌, ℕ, length, slice_index, List, All, IsTrue, IfOk, IfSome, IfNone};
+ghost use Rattle.std.specs.Prelude.{◌≡◌, ◌+◌, ◌<◌, ◌≤◌, ◌↔◌, ◌^◌, ℕ, length, slice_index, slice_get, List, None, All, IsTrue, IsSomeAnd, IfOk, IfSome, IfNone};
 ghost use Rattle.hose_graph.specs.Network.{IsNetwork};
-ghost use Rattle.hose_law.specs.Book.{amount_on, free_rate, safe_links};
+ghost use Rattle.hose_proto.specs.ReplyText.{NamesPlaces};
+ghost use Rattle.hose_law.specs.Answer.{IsLinkAnswer};
+ghost use Rattle.hose_law.specs.Book.{HasVpn, IsLiveVpn, amount_on, free_rate, safe_links};
 ghost use Rattle.hose_law.specs.Decision.{Fits, IsPlanned, IsReachedList, lowest_end};
-ghost use Rattle.hose_law.specs.History.{IsSoundAt, last_epoch, most_live, next_book, opening_book};
+ghost use Rattle.hose_law.specs.History.{IsSoundAt, last_epoch, most_live, is_vpn, next_book, opening_book};
 ghost use Rattle.hose_law.specs.Plan.{AreNodes, HasCycle};
-ghost use Rattle.hosed.specs.Deciding.{IsDecision};
+ghost use Rattle.hosed.specs.Deciding.{IsDecision, NamesNodes};
+ghost use Rattle.hose_proto.specs.Reading.{AsksOf};
 ghost use Rattle.hosed.specs.Ledger.{Answers};
 ghost use Rattle.hosed.specs.Nodes.{AreNodesBelow};
 
 use crate::plan::{Sides, plan_cost};
 use crate::reach::reached;
-use hose_graph::{Amounts, Command, Entry, Hose, Name, NodeList, Reply, Topology, Vpn};
+use hose_graph::{
+    Amounts, Command, Entry, Hose, MOST_EPOCH, MOST_LIVE, Name, NodeList, Reply, Topology, Vpn,
+};
 use std::alloc::{AllocError, Global};
 use std::marker::Model;
-
-/// The last epoch: entries are numbered up to it.
-pub const LAST_EPOCH: u64 = 4_000_000_000;
-
-/// How many VPNs can be live at once.
-pub const MOST_LIVE: usize = 20_000;
 
 /// The live VPNs of a network without a cycle, in the order of their admission, and the sum of what they reserve on each link.
 #[derive(Drop)]
@@ -32,11 +31,12 @@ pub struct Book {
 }
 
 impl Model for Book {
-    ghost use Rattle.std.specs.Prelude.{◌≤◌, length, vec_capacity};
+    ghost use Rattle.std.specs.Prelude.{◌≤◌, length, vec_capacity, All};
     ghost use Rattle.hose_graph.specs.Network.{IsNetwork};
-    ghost use Rattle.hosed.specs.Ledger.{Ledger, AreLoads};
+    ghost use Rattle.hosed.specs.Ledger.{Ledger, AreLoads, IsKept};
     ghost use Rattle.hosed.specs.Sides.{AreSides};
     ghost use Rattle.hose_law.specs.History.{last_epoch, most_live};
+    ghost use Rattle.hose_law.specs.Live.{HasRisingIds};
 
     ghost Value = { Ledger };
 
@@ -47,7 +47,9 @@ impl Model for Book {
         × AreLoads b.topology (record { epoch = b.epoch; live = b.live.items }) b.loads.items
         × (b.epoch ≤ last_epoch)
         × (length b.live.items ≤ most_live)
-        × (most_live ≤ vec_capacity b.live) };
+        × (most_live ≤ vec_capacity b.live)
+        × HasRisingIds 0 (record { epoch = b.epoch; live = b.live.items })
+        × All (IsKept b.topology) b.live.items };
 }
 
 /// What is decided of a hose.
@@ -80,11 +82,27 @@ impl Book {
         }))
     }
 
-    /// The reply to a customer who asks that a hose be admitted. An admitted hose is live from then on; any other reply leaves the book as it was.
-    pub fn admit(&mut self, alloc: Global, customer: Name, hose: Hose) -> Reply
+    /// The reply to a customer's command. The book changes with `Admitted` and `Released` alone.
+    pub fn answer(&mut self, alloc: Global, customer: Name, command: Command) -> Reply
+        requires { AsksOf self.old.network command }
+        ensures network { self.new.network ≡ self.old.network }
+        ensures answer { Answers self.old customer command result self.new.book }
+        ensures names { NamesPlaces self.old.network result }
+    {
+        match command {
+            Command::Admit(hose) => self.admit(alloc, customer, hose),
+            Command::Release(id) => self.release(&customer, id),
+            Command::Show(id) => self.show(alloc, &customer, id),
+            Command::Link(link) => self.link(link),
+        }
+    }
+
+    // The reply to a customer who asks that a hose be admitted. An admitted hose is live from then on; any other reply leaves the book as it was.
+    fn admit(&mut self, alloc: Global, customer: Name, hose: Hose) -> Reply
         requires { AreNodes self.old.network hose }
         ensures network { self.new.network ≡ self.old.network }
         ensures answer { Answers self.old customer (Command.Admit hose) result self.new.book }
+        ensures names { NamesPlaces self.old.network result }
     {
         match self.decide(alloc, &hose) {
             Err(_) => Reply::Memory,
@@ -102,9 +120,10 @@ impl Book {
         requires planned { IsPlanned self.old.network self.old.book hose amounts }
         ensures network { self.new.network ≡ self.old.network }
         ensures answer { Answers self.old customer (Command.Admit hose) result self.new.book }
+        ensures names { NamesPlaces self.old.network result }
     {
         let at = self.epoch;
-        if at == LAST_EPOCH {
+        if at == MOST_EPOCH {
             return Reply::Spent { at };
         }
         if self.live.len() >= MOST_LIVE {
@@ -123,6 +142,70 @@ impl Book {
         }
     }
 
+    // The reply to a customer who gives up the VPN of a number. It takes no memory.
+    fn release(&mut self, customer: &Name, id: u64) -> Reply
+        ensures network { self.new.network ≡ self.old.network }
+        ensures answer { Answers self.old customer.now (Command.Release id) result self.new.book }
+        ensures names { NamesPlaces self.old.network result }
+    {
+        let at = self.epoch;
+        let Some(place) = self.find(customer, id) else {
+            return Reply::NoVpn { id, at };
+        };
+        if at == MOST_EPOCH {
+            return Reply::Spent { at };
+        }
+        let at = self.remove(customer, id, place);
+        Reply::Released { id, at }
+    }
+
+    // The reply to a customer who asks what the VPN of a number is.
+    fn show(&self, alloc: Global, customer: &Name, id: u64) -> Reply
+        ensures answer { Answers self.now customer.now (Command.Show id) result self.now.book }
+        ensures names { NamesPlaces self.now.network result }
+    {
+        let at = self.epoch;
+        let Some(place) = self.find(customer, id) else {
+            return Reply::NoVpn { id, at };
+        };
+        let vpn = &self.live[place];
+        let Ok(hose) = vpn.hose.copy(alloc) else {
+            return Reply::Memory;
+        };
+        let Ok(amounts) = vpn.amounts.copy(alloc) else {
+            return Reply::Memory;
+        };
+        let cost = plan_cost(&self.topology, amounts.pairs());
+        Reply::Shown {
+            id,
+            cost,
+            at,
+            hose,
+            amounts,
+        }
+    }
+
+    // The reply to a customer who asks what is reserved on a link.
+    fn link(&self, link: u32) -> Reply
+        requires { link < length self.now.network.links }
+        ensures answer { IsLinkAnswer self.now.book link result None }
+        ensures names { NamesPlaces self.now.network result }
+    {
+        Reply::LinkState {
+            link: u64::from(link),
+            load: self.loads[link as usize],
+            at: self.epoch,
+        }
+    }
+
+    // The place of a customer's VPN among the live.
+    fn find(&self, customer: &Name, id: u64) -> Option<usize>
+        ensures found { IfSome result (λ place. IsSomeAnd (slice_get self.now.book.live place) (IsLiveVpn self.now.book customer.now id)) }
+        ensures none { IfNone result (HasVpn self.now.book customer.now id → ⊥) }
+    {
+        self.live.iter().position(|vpn| is_vpn(vpn, customer, id))
+    }
+
     /// The network that it is of.
     pub fn topology(&self) -> &Topology
         ensures value { result.now ≡ self.now.network }
@@ -133,7 +216,8 @@ impl Book {
 
     // Enters an admission that is sound, and gives its number.
     fn enter(&mut self, customer: Name, hose: Hose, amounts: Amounts) -> u64
-        requires { IsSoundAt self.old.network self.old.book (Entry.Admit customer hose amounts) }
+        requires nodes { AreNodes self.old.network hose }
+        requires sound { IsSoundAt self.old.network self.old.book (Entry.Admit customer hose amounts) }
         ensures id { result ≡ self.old.book.epoch + 1 }
         ensures network { self.new.network ≡ self.old.network }
         ensures book { self.new.book ≡ next_book self.old.book (Entry.Admit customer hose amounts) }
@@ -150,10 +234,26 @@ impl Book {
         id
     }
 
+    // Takes the VPN at a place out of the book, and gives the epoch after it.
+    fn remove(&mut self, customer: &Name, id: u64, place: usize) -> u64
+        requires there { IsSomeAnd (slice_get self.old.book.live place) (IsLiveVpn self.old.book customer.now id) }
+        requires epoch { self.old.book.epoch < last_epoch }
+        ensures at { result ≡ self.old.book.epoch + 1 }
+        ensures network { self.new.network ≡ self.old.network }
+        ensures book { self.new.book ≡ next_book self.old.book (Entry.Release customer.now id) }
+    {
+        let vpn = self.live.remove(place);
+        subtract_amounts(&mut self.loads, vpn.amounts.pairs());
+        let at = self.epoch + 1;
+        self.epoch = at;
+        at
+    }
+
     // What is decided of a hose: its plan, where that exists and fits.
     fn decide(&self, alloc: Global, hose: &Hose) -> Result<Decision, AllocError>
         requires { AreNodes self.now.network hose.now }
-        ensures { IfOk result (IsDecision self.now.network self.now.book hose.now) }
+        ensures decision { IfOk result (IsDecision self.now.network self.now.book hose.now) }
+        ensures names { IfOk result (NamesNodes self.now.network) }
     {
         match self.fitting_plan(alloc, hose)? {
             Some(amounts) => Ok(Decision::Plan(amounts)),
@@ -200,8 +300,9 @@ impl Book {
     // The nodes that the lowest endpoint reaches over the safe links.
     fn refused_side(&self, alloc: Global, hose: &Hose) -> Result<NodeList, AllocError>
         requires { AreNodes self.now.network hose.now }
-        ensures { IfOk result (IsReachedList self.now.network
+        ensures side { IfOk result (IsReachedList self.now.network
             (safe_links self.now.network self.now.book hose.now) (lowest_end hose.now)) }
+        ensures names { IfOk result (All (λ node. node < length self.now.network.nodes)) }
     {
         let safe = self.safe_links(alloc, hose)?;
         let side = reached(alloc, &self.topology, &safe, hose.ends()[0].0)?;
@@ -230,6 +331,24 @@ fn add_amounts(loads: &mut [u64], amounts: &[(u32, u64)])
     for (l, amount) in amounts {
         loads[*l as usize] += *amount;
     }
+}
+
+// Subtracts what a plan reserves from the loads.
+fn subtract_amounts(loads: &mut [u64], amounts: &[(u32, u64)])
+    requires links { All (λ pair. pair.0 < length loads.old) amounts.now }
+    requires held { (l : ℕ) → l < length loads.old → amount_on l amounts.now ≤ slice_index loads.old l }
+    ensures { (l : ℕ) → l < length loads.old → slice_index loads.new l + amount_on l amounts.now ≡ slice_index loads.old l }
+{
+    for (l, amount) in amounts {
+        loads[*l as usize] -= *amount;
+    }
+}
+
+// Whether a VPN has this number and is this customer's.
+fn is_vpn(vpn: &Vpn, customer: &Name, id: u64) -> bool
+    ensures { result ≡ is_vpn customer.now id vpn.now }
+{
+    vpn.id == id && vpn.customer == *customer
 }
 
 // The nodes on a side, ascending.

@@ -6,9 +6,8 @@ ghost use Rattle.hose_io.specs.Writing.{GrowsInPart};
 ghost use Rattle.hosed.specs.declared.fault.Fault.TheVariants.{Memory, Write};
 ghost use Rattle.hosed.specs.Fault.{status_of, last_line, of_line, of_topology};
 
-use crate::reply_text::{add_number, end_line};
-use crate::topology_text::TopologyFault;
 use hose_io::{Failed, Gather, Sink, write_all};
+use hose_topo::TopoFault;
 use hose_words::LineFault;
 use std::alloc::AllocError;
 
@@ -17,8 +16,8 @@ use std::alloc::AllocError;
 pub enum Fault {
     /// The program's word of this number, counted from 1, is not one that it takes there.
     Words(u64),
-    /// The topology text was refused.
-    Topology,
+    /// The topology text was refused: this is the first word that is not allowed, by its line and its number in it.
+    Topology { line: u64, word: u64 },
     /// The network has a cycle.
     Cycle,
     /// The input failed.
@@ -38,7 +37,7 @@ impl Fault {
     {
         match self {
             Fault::Words(_) => 1,
-            Fault::Topology | Fault::Cycle => 2,
+            Fault::Topology { .. } | Fault::Cycle => 2,
             Fault::Read => 3,
             Fault::Write => 4,
             Fault::Memory => 7,
@@ -59,7 +58,7 @@ impl Fault {
     {
         match self {
             Fault::Words(word) => put_words(output, word),
-            Fault::Topology => write_all(output, b"topology\n"),
+            Fault::Topology { line, word } => put_place(output, line, word),
             Fault::Cycle => write_all(output, b"topology cycle\n"),
             Fault::Read => write_all(output, b"read\n"),
             Fault::Write => Ok(()),
@@ -96,15 +95,15 @@ impl From<LineFault> for Fault {
     }
 }
 
-impl From<TopologyFault> for Fault {
+impl From<TopoFault> for Fault {
     ghost from_gives = { λ topology fault. fault ≡ of_topology topology };
 
-    fn from(fault: TopologyFault) -> Fault {
+    fn from(fault: TopoFault) -> Fault {
         match fault {
-            TopologyFault::Text => Fault::Topology,
-            TopologyFault::Read => Fault::Read,
-            TopologyFault::TooLong => Fault::TooLong,
-            TopologyFault::Memory => Fault::Memory,
+            TopoFault::At { line, word } => Fault::Topology { line, word },
+            TopoFault::Read => Fault::Read,
+            TopoFault::TooLong => Fault::TooLong,
+            TopoFault::Memory => Fault::Memory,
         }
     }
 }
@@ -120,8 +119,29 @@ fn put_words<O: Sink>(output: &mut O, word: u64) -> Result<(), Failed>
     ensures loan { O.loan output.new ≡ O.loan output.old }
 {
     let mut gather = Gather::new();
-    add_number(&mut gather, output, b"words ", word)?;
-    end_line(&mut gather, output)
+    gather.add(output, b"words ");
+    gather.add_number(output, word);
+    gather.add(output, b"\n");
+    gather.finish(output)
+}
+
+// Writes the last line that tells where the topology is wrong.
+fn put_place<O: Sink>(output: &mut O, line: u64, word: u64) -> Result<(), Failed>
+    ensures ok { OnOk result (Grows (O.content output.old) (O.content output.new)
+        (last_line (Fault.Topology line word))) }
+    ensures err { OnErr result (GrowsInPart (O.content output.old) (O.content output.new)
+        (last_line (Fault.Topology line word))) }
+    ensures cause { HasCause (O.faults output.old) (O.faults output.new) result }
+    ensures number { O.number output.new ≡ O.number output.old }
+    ensures loan { O.loan output.new ≡ O.loan output.old }
+{
+    let mut gather = Gather::new();
+    gather.add(output, b"topology ");
+    gather.add_number(output, line);
+    gather.add(output, b" ");
+    gather.add_number(output, word);
+    gather.add(output, b"\n");
+    gather.finish(output)
 }
 
 #[cfg(test)]
@@ -134,7 +154,7 @@ mod tests {
     fn faults_are_told(rt: HostRuntime) -> Result<(), Fail> {
         for (fault, status, line) in [
             (Fault::Words(2), 1, "words 2\n"),
-            (Fault::Topology, 2, "topology\n"),
+            (Fault::Topology { line: 3, word: 0 }, 2, "topology 3 0\n"),
             (Fault::Cycle, 2, "topology cycle\n"),
             (Fault::Read, 3, "read\n"),
             (Fault::from(Failed), 4, ""),

@@ -1,7 +1,7 @@
 //! The provisioning server as one call: what it answers on an output to what it reads on an input.
 //!
 //! `hosed(alloc, words, input, output)` does what the program's words say and gives the exit status. With the word `run` it reads a
-//! topology text and then lines `CUSTOMER admit NAME:RATE ..`, and writes one reply line for each.
+//! topology text and then lines `CUSTOMER COMMAND`, and writes one reply line for each.
 #![tactic(auto)]
 
 ghost use Rattle.std.specs.Prelude.{◌≡◌, ◌⊎◌, ◌↔◌, ◌+◌, ◌^◌, ◌<◌, ◌≤◌, ℕ, List, length, map, Err, IfOk, IfErr};
@@ -10,18 +10,16 @@ ghost use Rattle.hose_io.specs.Fault.{Rose};
 ghost use Rattle.hose_io.specs.Stream.{Gives};
 ghost use Rattle.hose_words.specs.declared.lines.LineFault.{LineFault};
 ghost use Rattle.hosed.specs.Ending.{IsStatus, IsOut, IsEarly, status_of_done};
-ghost use Rattle.hosed.specs.Fault.{last_line};
+ghost use Rattle.hosed.specs.Fault.{last_line, of_line};
 ghost use Rattle.hosed.specs.ProgramWords.{AreRunWords, first_wrong};
-ghost use Rattle.hosed.specs.Run.{EndsRefused, IsRefusedText, IsRun, IsRunFault, StopsInTopology, TellsCycle, TellsForest, TellsNoNetwork};
+ghost use Rattle.hosed.specs.Run.{BreaksOff, EndsRefused, IsCutOff, IsRefusedText, IsRun, IsRunFault, IsServable, IsRunUpTo, StopsInTopology, TellsCycle, TellsNoNetwork};
 
-mod admit_line;
 mod book;
 mod fault;
 mod plan;
 mod reach;
-mod reply_text;
 mod run;
-mod topology_text;
+mod script_line;
 mod words;
 
 use fault::Fault;
@@ -31,8 +29,9 @@ use std::alloc::Global;
 /// Does what the words say, and gives the exit status. The words are those behind the program's name.
 ///
 /// The status is 0 where all was read to its end. Else it tells the first fault, and the last line of the output tells it too:
-/// 1 `words K`, the number of the first word that is not allowed; 2 `topology` or `topology cycle`; 3 `read`; 4 a failed output, which
-/// has no last line; 7 `no memory`; 8 `too long`, an input of more than 1 GiB.
+/// 1 `words K`, the number of the first word that is not allowed; 2 `topology LINE WORD`, the first word of the topology that is not
+/// allowed, or `topology cycle`; 3 `read`; 4 a failed output, which has no last line; 7 `no memory`; 8 `too long`, an input of more
+/// than 1 GiB.
 pub fn hosed<I: Source, O: Sink>(
     alloc: Global,
     words: &[String],
@@ -50,9 +49,9 @@ pub fn hosed<I: Source, O: Sink>(
         (O.faults output.old) (O.faults output.new)
         (last_line (Fault.Words (first_wrong (map string_bytes words.now)))) }
     ensures topology { result ≡ 2
-        → (TellsNoNetwork (I.content input.old) (I.content input.new)
+        → ((line : ℕ) × (word : ℕ) × TellsNoNetwork line word (I.content input.old) (I.content input.new)
         × IsOut (O.content output.old) (O.content output.new) (O.faults output.old) (O.faults output.new)
-        (last_line Fault.Topology))
+        (last_line (Fault.Topology line word)))
         ⊎ (TellsCycle (I.content input.old) (I.content input.new)
         × IsOut (O.content output.old) (O.content output.new) (O.faults output.old) (O.faults output.new)
         (last_line Fault.Cycle)) }
@@ -62,17 +61,36 @@ pub fn hosed<I: Source, O: Sink>(
         → IsRefusedText (I.content input.old) (I.content input.new)
         → EndsRefused result (I.content input.old) (I.content input.new) }
 
+    // An input that can be served is served to its end, but for want of memory and where a call failed.
+    ensures complete { AreRunWords (map string_bytes words.now) → IsServable (I.content input.old)
+        → (Rose (I.faults input.old) (I.faults input.new) → ⊥) → (Rose (O.faults output.old) (O.faults output.new) → ⊥)
+        → (result ≡ 0) ⊎ (result ≡ 7) }
+
     ensures input_failed { result ≡ 3 → Rose (I.faults input.old) (I.faults input.new) }
     ensures output_failed { result ≡ 4 → Rose (O.faults output.old) (O.faults output.new) }
     ensures too_long { (bytes : List ℕ) × Gives (I.content input.old) (I.content input.new) bytes
         × (length bytes ≤ 2 ^ 30 + 1) × ((result ≡ 8) ↔ (2 ^ 30 < length bytes)) }
 
-    // 3, 4 and 8 come only where the topology was not refused: it has no cycle, or the input stopped inside it.
-    ensures input_failed_where { result ≡ 3 → StopsInTopology LineFault.Read (I.content input.old) (I.content input.new)
-        ⊎ TellsForest (I.content input.old) (I.content input.new) }
-    ensures output_failed_where { result ≡ 4 → TellsForest (I.content input.old) (I.content input.new) }
-    ensures too_long_where { result ≡ 8 → StopsInTopology LineFault.TooLong (I.content input.old) (I.content input.new)
-        ⊎ TellsForest (I.content input.old) (I.content input.new) }
+    // 3 and 8: the input stopped inside the topology, and the last line alone is out; or behind it, and the output is the replies of a
+    // script as at 0, to all whole lines that were taken, and then the last line.
+    ensures input_failed_where { result ≡ 3
+        → (StopsInTopology LineFault.Read (I.content input.old) (I.content input.new)
+        × IsOut (O.content output.old) (O.content output.new) (O.faults output.old) (O.faults output.new)
+        (last_line Fault.Read))
+        ⊎ BreaksOff LineFault.Read (I.content input.old) (I.content input.new)
+        (O.content output.old) (O.content output.new) (O.faults output.old) (O.faults output.new)
+        (last_line Fault.Read) }
+    ensures too_long_where { result ≡ 8
+        → (StopsInTopology LineFault.TooLong (I.content input.old) (I.content input.new)
+        × IsOut (O.content output.old) (O.content output.new) (O.faults output.old) (O.faults output.new)
+        (last_line Fault.TooLong))
+        ⊎ BreaksOff LineFault.TooLong (I.content input.old) (I.content input.new)
+        (O.content output.old) (O.content output.new) (O.faults output.old) (O.faults output.new)
+        (last_line Fault.TooLong) }
+
+    // 4: the output is the replies of such a script, but for a part of the last.
+    ensures output_failed_where { result ≡ 4 → IsCutOff (I.content input.old) (I.content input.new)
+        (O.content output.old) (O.content output.new) }
 
     ensures memory_line { result ≡ 7 → IsOut (O.content output.old) (O.content output.new)
         (O.faults output.old) (O.faults output.new) (last_line Fault.Memory) }
@@ -98,18 +116,18 @@ fn do_words<I: Source, O: Sink>(
     ensures words { (AreRunWords (map string_bytes words.now) → ⊥)
         → result ≡ Err (Fault.Words (first_wrong (map string_bytes words.now))) }
     ensures kinds { AreRunWords (map string_bytes words.now) → IfErr result IsRunFault }
-    ensures topology { result ≡ Err Fault.Topology
-        → TellsNoNetwork (I.content input.old) (I.content input.new) }
+    ensures topology { (line word : ℕ) → result ≡ Err (Fault.Topology line word)
+        → TellsNoNetwork line word (I.content input.old) (I.content input.new) }
     ensures cycle { result ≡ Err Fault.Cycle → TellsCycle (I.content input.old) (I.content input.new) }
     ensures read { result ≡ Err Fault.Read → Rose (I.faults input.old) (I.faults input.new) }
     ensures write { result ≡ Err Fault.Write → Rose (O.faults output.old) (O.faults output.new) }
     ensures takes { (bytes : List ℕ) × Gives (I.content input.old) (I.content input.new) bytes
         × (length bytes ≤ 2 ^ 30 + 1) × ((result ≡ Err Fault.TooLong) ↔ (2 ^ 30 < length bytes)) }
-    ensures read_where { result ≡ Err Fault.Read → StopsInTopology LineFault.Read (I.content input.old) (I.content input.new)
-        ⊎ TellsForest (I.content input.old) (I.content input.new) }
-    ensures write_where { result ≡ Err Fault.Write → TellsForest (I.content input.old) (I.content input.new) }
-    ensures too_long_where { result ≡ Err Fault.TooLong → StopsInTopology LineFault.TooLong (I.content input.old) (I.content input.new)
-        ⊎ TellsForest (I.content input.old) (I.content input.new) }
+    ensures broke { (fault : LineFault) → result ≡ Err (of_line fault)
+        → (StopsInTopology fault (I.content input.old) (I.content input.new) × (output.new ≡ output.old))
+        ⊎ IsRunUpTo fault (I.content input.old) (I.content input.new) (O.content output.old) (O.content output.new) }
+    ensures cut { result ≡ Err Fault.Write → IsCutOff (I.content input.old) (I.content input.new)
+        (O.content output.old) (O.content output.new) }
     ensures early { IfErr result (λ fault. IsEarly fault → output.new ≡ output.old) }
     ensures input_never_falls { I.faults input.old ≤ I.faults input.new }
     ensures output_never_falls { O.faults output.old ≤ O.faults output.new }

@@ -1,22 +1,26 @@
 // A run: a topology, and then a reply for each line.
-ghost use Rattle.std.specs.Prelude.{◌≡◌, ◌⊎◌, ◌↔◌, ◌+◌, ◌++◌, [], ◌^◌, ◌<◌, ◌≤◌, ℕ, List, length, Some, None, Ok, Err, IfOk, IfErr, IsOk, true, false};
+ghost use Rattle.std.specs.Prelude.{◌≡◌, ◌⊎◌, ◌↔◌, ◌+◌, [], ◌^◌, ◌<◌, ◌≤◌, ℕ, List, length, None, Ok, Err, IfOk, IfErr, IsOk, true, false};
 ghost use Rattle.hose_io.specs.Fault.{Rose};
-ghost use Rattle.hose_io.specs.Stream.{Gives};
+ghost use Rattle.hose_io.specs.Stream.{Gives, Grows};
+ghost use Rattle.hose_io.specs.Writing.{GrowsInPart};
+ghost use Rattle.hose_words.specs.Lines.{StopsAt};
 ghost use Rattle.hose_words.specs.declared.lines.LineFault.{LineFault};
 ghost use Rattle.hose_law.specs.History.{opening_book};
 ghost use Rattle.hose_law.specs.Script.{ReadLine};
-ghost use Rattle.hosed.specs.Reading.{ReadsOn, WhereTold};
-ghost use Rattle.hosed.specs.ReplyText.{NamesNodes};
-ghost use Rattle.hosed.specs.Run.{IsRun, StopsInTopology, TellsCycle, TellsForest, TellsNoNetwork, IsOpeningFault, IsRunFault};
-ghost use Rattle.hosed.specs.Serving.{SaysRead, AnswersLine, IsStreamFault, TakesTurn, IsOver, HasServed};
+ghost use Rattle.hose_words.specs.Reading.{ReadsOn};
+ghost use Rattle.hose_proto.specs.ReplyText.{NamesPlaces};
+ghost use Rattle.hosed.specs.Run.{IsCutOff, IsRun, IsRunFault, IsRunUpTo, StopsInTopology, TellsCycle, TellsNoNetwork};
+ghost use Rattle.hosed.specs.Ending.{IsEarly};
+ghost use Rattle.hosed.specs.Fault.{of_line};
+ghost use Rattle.hosed.specs.Serving.{SaysRead, AnswersLine, CutsLast, IsAllTaken, IsEndOf, IsOver, IsStreamFault, MeetsFault, ServesUpTo, TakesTurn, texts_of};
 
-use crate::admit_line::{BadLine, read_admit};
 use crate::book::Book;
 use crate::fault::Fault;
-use crate::reply_text::put_reply;
-use crate::topology_text::read_topology;
+use crate::script_line::read_line;
 use hose_graph::Reply;
 use hose_io::{Sink, Source};
+use hose_proto::{ReadFault, put_reply};
+use hose_topo::read;
 use hose_words::{Line, LineReader};
 use std::alloc::Global;
 
@@ -25,19 +29,19 @@ pub fn run<I: Source, O: Sink>(alloc: Global, input: &mut I, output: &mut O) -> 
     ensures ran { IfOk result (λ _. IsRun (I.content input.old) (I.content input.new)
         (O.content output.old) (O.content output.new)) }
     ensures kinds { IfErr result IsRunFault }
-    ensures topology { result ≡ Err Fault.Topology
-        → TellsNoNetwork (I.content input.old) (I.content input.new) }
+    ensures topology { (line word : ℕ) → result ≡ Err (Fault.Topology line word)
+        → TellsNoNetwork line word (I.content input.old) (I.content input.new) }
     ensures cycle { result ≡ Err Fault.Cycle → TellsCycle (I.content input.old) (I.content input.new) }
     ensures read { result ≡ Err Fault.Read → Rose (I.faults input.old) (I.faults input.new) }
     ensures write { result ≡ Err Fault.Write → Rose (O.faults output.old) (O.faults output.new) }
     ensures takes { (bytes : List ℕ) × Gives (I.content input.old) (I.content input.new) bytes
         × (length bytes ≤ 2 ^ 30 + 1) × ((result ≡ Err Fault.TooLong) ↔ (2 ^ 30 < length bytes)) }
-    ensures read_where { result ≡ Err Fault.Read → StopsInTopology LineFault.Read (I.content input.old) (I.content input.new)
-        ⊎ TellsForest (I.content input.old) (I.content input.new) }
-    ensures write_where { result ≡ Err Fault.Write → TellsForest (I.content input.old) (I.content input.new) }
-    ensures too_long_where { result ≡ Err Fault.TooLong → StopsInTopology LineFault.TooLong (I.content input.old) (I.content input.new)
-        ⊎ TellsForest (I.content input.old) (I.content input.new) }
-    ensures opening { IfErr result (λ fault. IsOpeningFault fault → output.new ≡ output.old) }
+    ensures broke { (fault : LineFault) → result ≡ Err (of_line fault)
+        → (StopsInTopology fault (I.content input.old) (I.content input.new) × (output.new ≡ output.old))
+        ⊎ IsRunUpTo fault (I.content input.old) (I.content input.new) (O.content output.old) (O.content output.new) }
+    ensures cut { result ≡ Err Fault.Write → IsCutOff (I.content input.old) (I.content input.new)
+        (O.content output.old) (O.content output.new) }
+    ensures early { IfErr result (λ fault. IsEarly fault → output.new ≡ output.old) }
     ensures input_never_falls { I.faults input.old ≤ I.faults input.new }
     ensures output_never_falls { O.faults output.old ≤ O.faults output.new }
     ensures input_number { I.number input.new ≡ I.number input.old }
@@ -62,27 +66,27 @@ fn run_lines<S: Source, O: Sink>(
     ensures ran { IfOk result (λ _. IsRun (S.content lines.old.source) (S.content lines.new.source)
         (O.content output.old) (O.content output.new)) }
     ensures kinds { IfErr result IsRunFault }
-    ensures topology { result ≡ Err Fault.Topology
-        → TellsNoNetwork (S.content lines.old.source) (S.content lines.new.source) }
+    ensures topology { (line word : ℕ) → result ≡ Err (Fault.Topology line word)
+        → TellsNoNetwork line word (S.content lines.old.source) (S.content lines.new.source) }
     ensures cycle { result ≡ Err Fault.Cycle
         → TellsCycle (S.content lines.old.source) (S.content lines.new.source) }
     ensures read { result ≡ Err Fault.Read
         → Rose (S.faults lines.old.source) (S.faults lines.new.source) }
     ensures write { result ≡ Err Fault.Write → Rose (O.faults output.old) (O.faults output.new) }
     ensures too_long { (result ≡ Err Fault.TooLong) ↔ (2 ^ 30 < lines.new.taken) }
-    ensures read_where { result ≡ Err Fault.Read → StopsInTopology LineFault.Read (S.content lines.old.source) (S.content lines.new.source)
-        ⊎ TellsForest (S.content lines.old.source) (S.content lines.new.source) }
-    ensures write_where { result ≡ Err Fault.Write → TellsForest (S.content lines.old.source) (S.content lines.new.source) }
-    ensures too_long_where { result ≡ Err Fault.TooLong → StopsInTopology LineFault.TooLong (S.content lines.old.source) (S.content lines.new.source)
-        ⊎ TellsForest (S.content lines.old.source) (S.content lines.new.source) }
-    ensures opening { IfErr result (λ fault. IsOpeningFault fault → output.new ≡ output.old) }
+    ensures broke { (fault : LineFault) → result ≡ Err (of_line fault)
+        → (StopsInTopology fault (S.content lines.old.source) (S.content lines.new.source) × (output.new ≡ output.old))
+        ⊎ IsRunUpTo fault (S.content lines.old.source) (S.content lines.new.source) (O.content output.old) (O.content output.new) }
+    ensures cut { result ≡ Err Fault.Write → IsCutOff (S.content lines.old.source) (S.content lines.new.source)
+        (O.content output.old) (O.content output.new) }
+    ensures early { IfErr result (λ fault. IsEarly fault → output.new ≡ output.old) }
     ensures reads_on { ReadsOn S.Source lines.old lines.new }
     ensures limit { lines.new.taken ≤ 2 ^ 30 + 1 }
     ensures never_falls { O.faults output.old ≤ O.faults output.new }
     ensures number { O.number output.new ≡ O.number output.old }
     ensures loan { O.loan output.new ≡ O.loan output.old }
 {
-    let topology = read_topology(alloc, lines)?;
+    let topology = read(alloc, lines)?;
     let Some(mut book) = Book::new(alloc, topology)? else {
         return Err(Fault::Cycle);
     };
@@ -98,10 +102,15 @@ fn serve<S: Source, O: Sink>(
 ) -> Result<(), Fault>
     requires opening { book.old.book ≡ opening_book 0 }
     requires limit { lines.old.taken ≤ 2 ^ 30 + 1 }
-    ensures served { IfOk result (λ _. HasServed S.Source lines.old lines.new book.old.network book.new.book (O.content output.old) (O.content output.new)) }
-    ensures ended { IfOk result (λ _. WhereTold (S.content lines.old.source) (S.content lines.new.source) (λ _ left. lines.new.pending ++ left ≡ [])) }
+    requires no_fault { lines.old.fault ≡ None }
+    ensures served { IfOk result (λ _. ServesUpTo S.Source lines.old lines.new book.old.network IsAllTaken
+        (λ replies. Grows (O.content output.old) (O.content output.new) (texts_of book.old.network replies))) }
+    ensures broke { (fault : LineFault) → result ≡ Err (of_line fault) → ServesUpTo S.Source lines.old lines.new book.old.network (StopsAt fault)
+        (λ replies. Grows (O.content output.old) (O.content output.new) (texts_of book.old.network replies)) }
+    ensures cut { result ≡ Err Fault.Write → ServesUpTo S.Source lines.old lines.new book.old.network IsEndOf
+        (CutsLast book.old.network (O.content output.old) (O.content output.new)) }
     ensures kinds { IfErr result IsStreamFault }
-    ensures read { result ≡ Err Fault.Read → (lines.old.fault ≡ Some LineFault.Read) ⊎ Rose (S.faults lines.old.source) (S.faults lines.new.source) }
+    ensures read { result ≡ Err Fault.Read → Rose (S.faults lines.old.source) (S.faults lines.new.source) }
     ensures write { result ≡ Err Fault.Write → Rose (O.faults output.old) (O.faults output.new) }
     ensures too_long { (result ≡ Err Fault.TooLong) ↔ (2 ^ 30 < lines.new.taken) }
     ensures reads_on { ReadsOn S.Source lines.old lines.new }
@@ -121,11 +130,14 @@ fn serve_line<S: Source, O: Sink>(
     lines: &mut LineReader<S>,
     output: &mut O,
 ) -> Result<bool, Fault>
+    requires no_fault { lines.old.fault ≡ None }
     ensures network { book.new.network ≡ book.old.network }
-    ensures turn { result ≡ Ok true → TakesTurn S.Source lines.old lines.new book.old book.new.book (O.content output.old) (O.content output.new) }
+    ensures turn { result ≡ Ok true → TakesTurn S.Source lines.old lines.new book.old book.new.book (Grows (O.content output.old) (O.content output.new)) }
     ensures over { result ≡ Ok false → IsOver S.Source lines.old lines.new book.old book.new.book (O.content output.old) (O.content output.new) }
+    ensures broke { (fault : LineFault) → result ≡ Err (of_line fault) → MeetsFault S.Source lines.old lines.new fault (O.content output.old) (O.content output.new) }
+    ensures cut { result ≡ Err Fault.Write → TakesTurn S.Source lines.old lines.new book.old book.new.book (GrowsInPart (O.content output.old) (O.content output.new)) }
     ensures kinds { IfErr result IsStreamFault }
-    ensures read { result ≡ Err Fault.Read → (lines.old.fault ≡ Some LineFault.Read) ⊎ Rose (S.faults lines.old.source) (S.faults lines.new.source) }
+    ensures read { result ≡ Err Fault.Read → Rose (S.faults lines.old.source) (S.faults lines.new.source) }
     ensures write { result ≡ Err Fault.Write → Rose (O.faults output.old) (O.faults output.new) }
     ensures too_long { (result ≡ Err Fault.TooLong) ↔ (2 ^ 30 < lines.new.taken) }
     ensures no_fault { IsOk result → lines.new.fault ≡ None }
@@ -146,16 +158,16 @@ fn serve_line<S: Source, O: Sink>(
 // The reply to a line.
 fn answer(alloc: Global, book: &mut Book, line: Line<'_>) -> Reply
     ensures network { book.new.network ≡ book.old.network }
-    ensures names { NamesNodes book.old.network result }
+    ensures names { NamesPlaces book.old.network result }
     ensures answers { (said : ReadLine) × SaysRead book.old.network line.entry said
         × AnswersLine book.old said result book.new.book }
 {
     let Line::Text(text) = line else {
         return Reply::Long;
     };
-    match read_admit(alloc, book.topology(), text) {
-        Ok(asked) => book.admit(alloc, asked.0, asked.1),
-        Err(BadLine::Grammar) => Reply::Bad,
-        Err(BadLine::Memory) => Reply::Memory,
+    match read_line(alloc, book.topology(), text) {
+        Ok(asked) => book.answer(alloc, asked.0, asked.1),
+        Err(ReadFault::Bad { word }) => Reply::Bad { word },
+        Err(ReadFault::Memory) => Reply::Memory,
     }
 }

@@ -16,28 +16,35 @@ const HELP: &str = "\
 usage: hosed run < FILE
        hosed --help | --version
 
-hosed run reads a topology, and then a line for each hose that a customer asks for:
+hosed run reads a topology, in which lines that begin with # are passed over, and then a line for each command of a customer:
 
-    node NAME                       the next node
-    link A B CAPACITY LENGTH        the next link, between two nodes named before
-    end                             the end of the topology
-    CUSTOMER admit NAME:RATE ..     2 to 64 endpoints
+    node NAME                           the next node
+    link A B CAPACITY LENGTH [COST]     the next link, between two nodes named before
+    end                                 the end of the topology
+    CUSTOMER admit NAME:RATE ..         2 to 64 endpoints
+    CUSTOMER release ID
+    CUSTOMER show ID
+    CUSTOMER link L
 
 and writes one line for each of the latter:
 
     admitted ID cost C at N links L:R ..
     refused at N side NAME ..
-    full at N
-    bad                             the line asks for no admission
-    long                            the line has more than 4,096 bytes
-    memory                          there was none, and nothing was done
+    released ID at N
+    no vpn ID at N
+    vpn ID cost C at N ends NAME:RATE .. links L:R ..
+    link L A B capacity C cost K load X at N
+    full at N, spent at N
+    bad W                               the line's first word that is not allowed
+    long                                the line has more than 4,096 bytes
+    memory                              there was none, and nothing was done
 
-A name is 1 to 16 of a to z, 0 to 9 and -. A capacity is 1 to 1,000,000,000, a length and a rate 1 to 1,000,000.
+A name is 1 to 16 of a to z, 0 to 9 and -. A capacity is 1 to 1,000,000,000; a length, a cost and a rate are 1 to 1,000,000.
 
 status  comes                           last line
 0       all was read                    none
 1       wrong words                     words K
-2       no topology, or with a cycle    topology, topology cycle
+2       no topology, or with a cycle    topology LINE WORD, topology cycle
 3       the input failed                read
 4       the output failed               none
 7       no memory to begin              no memory

@@ -48,7 +48,7 @@ fn the_longest_line_of_nodes_carries_the_widest_hose(rt: HostRuntime) -> Result<
 
 #[test]
 fn a_network_has_at_most_512_nodes(rt: HostRuntime) -> Result<(), Fail> {
-    for (nodes, want, last) in [(512, 0, ""), (513, 2, "topology\n")] {
+    for (nodes, want, last) in [(512, 0, ""), (513, 2, "topology 513 1\n")] {
         let mut text = line_of_nodes(rt.alloc(), nodes)?;
         text.push_str("end\n")?;
         let (status, output) = served(rt.alloc(), RUN, text.as_str())?;
@@ -66,7 +66,7 @@ fn a_hose_has_at_most_64_ends(rt: HostRuntime) -> Result<(), Fail> {
         text.push_str(format!(in rt.alloc(); " p{node}:1")?.as_str())?;
     }
     let (status, output) = served(rt.alloc(), RUN, text.as_str())?;
-    assert_eq!(rt; output.as_str(), "bad\n");
+    assert_eq!(rt; output.as_str(), "bad 67\n");
     assert_eq!(rt; status, 0);
     Ok(())
 }

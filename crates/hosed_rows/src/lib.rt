@@ -5,6 +5,8 @@
 #[cfg(test)]
 mod admissions;
 #[cfg(test)]
+mod commands;
+#[cfg(test)]
 mod dripping;
 #[cfg(test)]
 mod endless;

@@ -1,58 +1,88 @@
-use Rattle.std.proofs.Common.{◌≡◌, ℕ, List, ◌++◌, Err, inl, sym, ◌∙◌, ap, subst}
-use Rattle.std.specs.Prelude.{IfOk}
+use Rattle.std.proofs.Common.{◌≡◌, ℕ, List, ◌++◌, Err, inl, inr, refl, ◌∙◌, ap, subst}
 use Rattle.hose_graph.specs.Network.{Network}
 use Rattle.hosed.specs.Ledger.{Ledger}
-use Rattle.hosed.specs.Serving.{HasServed}
-use Rattle.hosed.specs.TopologyText.{IsTopologyText}
-use Rattle.hose_words.specs.declared.lines.LineFault.TheVariants as line
-use Rattle.hosed.specs.declared.topology_text.TopologyFault.TheVariants as topology
-use Rattle.hosed.specs.declared.topology_text.TopologyFault.TheVariants.{Text}
-use Rattle.hosed.proofs.Turns.{reads_then, told_as}
-use Rattle.hosed.proofs.Running.{never_write, read_alone, run_of, stopped_told, text_alone, too_long_alone}
+use Rattle.hose_io.specs.Stream.{Grows}
+use Rattle.hose_words.specs.Lines.{StopsAt}
+use Rattle.hose_graph.specs.declared.reply.Reply.{Reply}
+use Rattle.hose_law.specs.Script.{ReadLine}
+use Rattle.hosed.specs.Run.{HasRun}
+use Rattle.hose_topo.specs.Reading.{fault_of}
+use Rattle.hosed.specs.Serving.{CutsLast, IsAllTaken, IsEndOf, ServesUpTo, texts_of}
+use Rattle.hose_topo.specs.TopologyText.{IsTopologyText}
+use Rattle.hose_topo.specs.declared.fault.TopoFault.TheVariants.{At}
+use Rattle.hose_words.proofs.OnReading.{ReadsOn-then, WhereTold-map}
+use Rattle.hosed.proofs.Running.{cut_of, has_run, line_alone, never_write, ok_so, run_of, stopped_told, wrong_alone, wrong_told}
+use Rattle.hosed.proofs.run.run_lines.Given.{Over}
 use Rattle.hosed.proofs.run.run_lines.Goals as goal
 
 pub returns-in_err-topology-clause-topology : goal.returns-in_err-topology-clause-topology
-returns-in_err-topology-clause-topology g c = λ is.
-    let text : c.in_err-topology.field-0.0 ≡ Text = text_alone c.in_err-topology.field-0.0 (rw is at c.from_residual.ensures.1) in
-    told_as (g.S.Source.content c.args.lines.now.source) (g.S.Source.content c.read_topology.new.lines.source) _ _
-    (c.read_topology.ensures.text (c.in_err-topology.was ∙ ap Err text))
-    (λ a b none network rest told. none network rest (subst (λ (p : List ℕ). IsTopologyText (p ++ a) network rest) (sym c.requires.pending) told))
+returns-in_err-topology-clause-topology g c = λ line word is.
+    let wrong : c.in_err-topology.field-0.0 ≡ At line word = wrong_alone line word c.in_err-topology.field-0.0 (rw is at c.from_residual.ensures.1) in
+    let at : c.read.result ≡ Err (At line word) = c.in_err-topology.was ∙ ap Err wrong in
+    wrong_told g.S.Source c.args.lines.now c.read.new.lines line word c.requires.pending (c.read.ensures.wrong line word at) (c.read.ensures.no_text line word at)
 
-pub returns-in_err-topology-clause-read_where : goal.returns-in_err-topology-clause-read_where
-returns-in_err-topology-clause-read_where g c = λ is.
-    let read : c.in_err-topology.field-0.0 ≡ topology.Read = read_alone c.in_err-topology.field-0.0 (rw is at c.from_residual.ensures.1) in
-    inl (stopped_told g.S.Source c.args.lines.now c.read_topology.new.lines line.Read c.requires.pending
-    (c.read_topology.ensures.front c.requires.fault line.Read (c.in_err-topology.was ∙ ap Err read)))
+pub returns-in_err-topology-clause-broke : goal.returns-in_err-topology-clause-broke
+returns-in_err-topology-clause-broke g c = λ fault is.
+    let stopped : c.in_err-topology.field-0.0 ≡ fault_of fault = line_alone c.in_err-topology.field-0.0 fault (rw is at c.from_residual.ensures.1) in
+    inl (
+      stopped_told g.S.Source c.args.lines.now c.read.new.lines fault c.requires.pending
+          (c.read.ensures.front c.requires.fault fault (c.in_err-topology.was ∙ ap Err stopped)),
+      refl,
+    )
 
-pub returns-in_err-topology-clause-write_where : goal.returns-in_err-topology-clause-write_where
-returns-in_err-topology-clause-write_where g c = λ is. absurd (never_write c.in_err-topology.field-0.0 (rw is at c.from_residual.ensures.1))
-
-pub returns-in_err-topology-clause-too_long_where : goal.returns-in_err-topology-clause-too_long_where
-returns-in_err-topology-clause-too_long_where g c = λ is.
-    let long : c.in_err-topology.field-0.0 ≡ topology.TooLong = too_long_alone c.in_err-topology.field-0.0 (rw is at c.from_residual.ensures.1) in
-    inl (stopped_told g.S.Source c.args.lines.now c.read_topology.new.lines line.TooLong c.requires.pending
-    (c.read_topology.ensures.front c.requires.fault line.TooLong (c.in_err-topology.was ∙ ap Err long)))
+pub returns-in_err-topology-clause-cut : goal.returns-in_err-topology-clause-cut
+returns-in_err-topology-clause-cut g c = λ is. absurd (never_write c.in_err-topology.field-0.0 (rw is at c.from_residual.ensures.1))
 
 pub returns-in_default-clause-cycle : goal.returns-in_default-clause-cycle
 returns-in_default-clause-cycle g c = λ _.
-    told_as (g.S.Source.content c.args.lines.now.source) (g.S.Source.content c.read_topology.new.lines.source) _ _ c.in_ok-topology.ensures.topology
+    WhereTold-map (g.S.Source.content c.args.lines.now.source) (g.S.Source.content c.read.new.lines.source) _ _ c.in_ok-topology.ensures.topology
     (λ a b text. (
       c.in_ok-topology.topology,
-      c.read_topology.new.lines.pending ++ b,
-      subst (λ (p : List ℕ). IsTopologyText (p ++ a) c.in_ok-topology.topology (c.read_topology.new.lines.pending ++ b)) c.requires.pending text,
+      c.read.new.lines.pending ++ b,
+      subst (λ (p : List ℕ). IsTopologyText (p ++ a) c.in_ok-topology.topology (c.read.new.lines.pending ++ b)) c.requires.pending text,
       rw c.in_default.is at c.in_ok-book.ensures.cycle,
     ))
 
-pub returns-clause-ran : goal.returns-clause-ran
-returns-clause-ran g c =
+-- what `serve` tells of a run, from the topology on
+run_behind : (g : Over) (c : goal.After-drop-book-inside-5 g) (stops : List ℕ → List ℕ → Type 0) (puts : Network → List Reply → Type 0)
+    → ServesUpTo g.S.Source c.read.new.lines c.serve.new.lines c.in-Some.book.network stops (puts c.in-Some.book.network)
+    → (lines : List ReadLine) × (replies : List Reply)
+    × HasRun (g.S.Source.content c.args.lines.now.source) (g.S.Source.content c.serve.new.lines.source) c.in_ok-topology.topology lines replies stops
+    × puts c.in_ok-topology.topology replies
+run_behind g c stops puts served =
     let opened = rw c.in-Some.is at c.in_ok-book.ensures.book in
     let network : c.in-Some.book.network ≡ c.in_ok-topology.topology = ap (λ (l : Ledger). l.network) opened in
-    run_of g.S.Source c.args.lines.now c.read_topology.new.lines c.serve.new.lines c.in_ok-topology.topology c.serve.new.book.book
-    (g.O.Sink.content c.args.output.now) (g.O.Sink.content c.serve.new.output) c.serve.result c.requires.pending c.in_ok-topology.ensures.topology c.read_topology.ensures.reads_on c.in_ok-topology.ensures.network
-    (rw c.in-Some.is at c.in_ok-book.ensures.forest)
-    (subst (λ (n : Network). IfOk c.serve.result (λ _. HasServed g.S.Source c.read_topology.new.lines c.serve.new.lines n c.serve.new.book.book
-    (g.O.Sink.content c.args.output.now) (g.O.Sink.content c.serve.new.output))) network c.serve.ensures.served)
-    c.serve.ensures.ended
+    let there : ServesUpTo g.S.Source c.read.new.lines c.serve.new.lines c.in_ok-topology.topology stops (puts c.in_ok-topology.topology) =
+    subst (λ (n : Network). ServesUpTo g.S.Source c.read.new.lines c.serve.new.lines n stops (puts n)) network served in (
+      there.lines,
+      there.replies,
+      has_run g.S.Source c.args.lines.now c.read.new.lines c.serve.new.lines c.in_ok-topology.topology stops (puts c.in_ok-topology.topology) c.requires.pending
+          c.in_ok-topology.ensures.topology c.read.ensures.reads_on (rw c.in-Some.is at c.in_ok-book.ensures.forest) there,
+      there.out,
+    )
+
+pub returns-clause-ran : goal.returns-clause-ran
+returns-clause-ran g c =
+    let before = g.O.Sink.content c.args.output.now in
+    let after = g.O.Sink.content c.serve.new.output in
+    let puts : Network → List Reply → Type 0 = λ n replies. Grows before after (texts_of n replies) in
+    ok_so c.serve.result _ _ c.serve.ensures.served
+    (λ served. let run = run_behind g c IsAllTaken puts served in
+    run_of (g.S.Source.content c.args.lines.now.source) (g.S.Source.content c.serve.new.lines.source) c.in_ok-topology.topology run.0 run.1 before after
+    c.in_ok-topology.ensures.network run.2 run.3)
+
+pub returns-clause-broke : goal.returns-clause-broke
+returns-clause-broke g c = λ fault is.
+    let puts : Network → List Reply → Type 0 = λ n replies. Grows (g.O.Sink.content c.args.output.now) (g.O.Sink.content c.serve.new.output) (texts_of n replies) in
+    let run = run_behind g c (StopsAt fault) puts (c.serve.ensures.broke fault is) in
+    inr (record { network = c.in_ok-topology.topology; lines = run.0; replies = run.1; run = run.2; out = run.3 })
+
+pub returns-clause-cut : goal.returns-clause-cut
+returns-clause-cut g c = λ is.
+    let puts : Network → List Reply → Type 0 = λ n replies. CutsLast n (g.O.Sink.content c.args.output.now) (g.O.Sink.content c.serve.new.output) replies in
+    let run = run_behind g c IsEndOf puts (c.serve.ensures.cut is) in
+    cut_of (g.S.Source.content c.args.lines.now.source) (g.S.Source.content c.serve.new.lines.source) c.in_ok-topology.topology run.0 run.1
+    (g.O.Sink.content c.args.output.now) (g.O.Sink.content c.serve.new.output) run.2 run.3
 
 pub returns-clause-reads_on : goal.returns-clause-reads_on
-returns-clause-reads_on g c = reads_then g.S.Source c.args.lines.now c.read_topology.new.lines c.serve.new.lines c.read_topology.ensures.reads_on c.serve.ensures.reads_on
+returns-clause-reads_on g c = ReadsOn-then g.S.Source c.args.lines.now c.read.new.lines c.serve.new.lines c.read.ensures.reads_on c.serve.ensures.reads_on

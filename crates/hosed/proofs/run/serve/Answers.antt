@@ -1,10 +1,12 @@
-use Rattle.std.proofs.Common.{◌≡◌, None, Ok, true, refl, sym, ◌∙◌, ap, subst, arith, le_refl}
-use Rattle.std.proofs.lemmas.Option.{none-some}
-use Rattle.hose_words.specs.declared.lines.LineFault.TheVariants.{Read}
+use Rattle.std.proofs.Common.{◌≡◌, None, Ok, Err, true, refl, sym, ◌∙◌, ap, subst, arith, le_refl}
+use Rattle.hose_io.specs.Stream.{Grows}
+use Rattle.hose_io.specs.Writing.{GrowsInPart}
 use Rattle.hose_graph.specs.Network.{Network}
 use Rattle.hose_law.specs.Book.{Book}
-use Rattle.hosed.specs.Serving.{TakesTurn, HasServed}
-use Rattle.hosed.proofs.Turns.{nothing_served, served_more, reads_itself, reads_then}
+use Rattle.hose_words.specs.Lines.{StopsAt}
+use Rattle.hosed.specs.Serving.{HasServed, IsAllTaken, TakesTurn}
+use Rattle.hose_words.proofs.OnReading.{ReadsOn-start, ReadsOn-then}
+use Rattle.hosed.proofs.Turns.{ends_broke, ends_over, nothing_served, served_cut, served_more, served_up_to}
 use Rattle.hosed.proofs.run.serve.Goals as goal
 
 pub loop-init : goal.loop-init
@@ -12,9 +14,9 @@ loop-init g c =
     let lines = c.args.lines.now in
     let content = g.O.Sink.content c.args.output.now in (
       subst (λ (b : Book). HasServed g.S.Source lines lines c.args.book.now.network b content content) (sym c.requires.opening) (nothing_served g.S.Source lines c.args.book.now.network content),
-      reads_itself g.S.Source lines,
+      ReadsOn-start g.S.Source lines,
       refl,
-      λ read. read,
+      c.requires.no_fault,
       c.requires.limit,
       le_refl _,
       refl,
@@ -23,7 +25,7 @@ loop-init g c =
 
 pub returns-in_err-serve_line-clause-reads_on : goal.returns-in_err-serve_line-clause-reads_on
 returns-in_err-serve_line-clause-reads_on g c =
-    reads_then g.S.Source c.args.lines.now c.loop.lines c.serve_line.new.lines c.loop.invariant.1 c.serve_line.ensures.reads_on
+    ReadsOn-then g.S.Source c.args.lines.now c.loop.lines c.serve_line.new.lines c.loop.invariant.1 c.serve_line.ensures.reads_on
 
 pub loop-preserved : goal.loop-preserved
 loop-preserved g c =
@@ -39,12 +41,12 @@ loop-preserved g c =
     let held = c.loop.invariant in
     let ok : c.serve_line.result ≡ Ok true = c.in_ok-serve_line.was ∙ ap Ok c.if-branch.true in
     let none : new.fault ≡ None = done.no_fault (rw ok refl) in
-    let turn : TakesTurn g.S.Source old new (record { network = network; book = c.loop.book.book }) next middle last =
-    subst (λ (n : Network). TakesTurn g.S.Source old new (record { network = n; book = c.loop.book.book }) next middle last) held.2 (done.turn ok) in (
+    let turn : TakesTurn g.S.Source old new (record { network = network; book = c.loop.book.book }) next (Grows middle last) =
+    subst (λ (n : Network). TakesTurn g.S.Source old new (record { network = n; book = c.loop.book.book }) next (Grows middle last)) held.2 (done.turn ok) in (
       served_more g.S.Source start old new network c.loop.book.book next first middle last held.0 held.1 turn,
-      reads_then g.S.Source start old new held.1 done.reads_on,
+      ReadsOn-then g.S.Source start old new held.1 done.reads_on,
       done.network ∙ held.2,
-      λ read. absurd (none-some Read (sym none ∙ read)),
+      none,
       done.limit,
       omega (arith, held.5, done.never_falls),
       done.number ∙ held.6,
@@ -53,4 +55,38 @@ loop-preserved g c =
 
 pub returns-clause-reads_on : goal.returns-clause-reads_on
 returns-clause-reads_on g c =
-    reads_then g.S.Source c.args.lines.now c.loop.lines c.serve_line.new.lines c.loop.invariant.1 c.serve_line.ensures.reads_on
+    ReadsOn-then g.S.Source c.args.lines.now c.loop.lines c.serve_line.new.lines c.loop.invariant.1 c.serve_line.ensures.reads_on
+
+pub returns-in_err-serve_line-clause-broke : goal.returns-in_err-serve_line-clause-broke
+returns-in_err-serve_line-clause-broke g c = λ fault is.
+    let old = c.loop.lines in
+    let new = c.serve_line.new.lines in
+    let middle = g.O.Sink.content c.loop.output in
+    let last = g.O.Sink.content c.serve_line.new.output in
+    let met = c.serve_line.ensures.broke fault (c.in_err-serve_line.was ∙ ap Err (sym (rw is at c.from_residual.ensures.1))) in
+    served_up_to g.S.Source c.args.lines.now old new c.args.book.now.network c.loop.book.book c.serve_line.new.book.book (g.O.Sink.content c.args.output.now) middle last
+    (StopsAt fault) c.loop.invariant.0 c.loop.invariant.1 (ends_broke g.S.Source old new fault middle last met) met.same_output
+
+pub returns-in_err-serve_line-clause-cut : goal.returns-in_err-serve_line-clause-cut
+returns-in_err-serve_line-clause-cut g c = λ is.
+    let old = c.loop.lines in
+    let new = c.serve_line.new.lines in
+    let network = c.args.book.now.network in
+    let next = c.serve_line.new.book.book in
+    let middle = g.O.Sink.content c.loop.output in
+    let last = g.O.Sink.content c.serve_line.new.output in
+    let turn : TakesTurn g.S.Source old new (record { network = network; book = c.loop.book.book }) next (GrowsInPart middle last) =
+    subst (λ (n : Network). TakesTurn g.S.Source old new (record { network = n; book = c.loop.book.book }) next (GrowsInPart middle last)) c.loop.invariant.2
+    (c.serve_line.ensures.cut (c.in_err-serve_line.was ∙ ap Err (sym (rw is at c.from_residual.ensures.1)))) in
+    served_cut g.S.Source c.args.lines.now old new network c.loop.book.book next (g.O.Sink.content c.args.output.now) middle last c.loop.invariant.0 c.loop.invariant.1 turn
+
+pub returns-clause-served : goal.returns-clause-served
+returns-clause-served g c =
+    let old = c.loop.lines in
+    let new = c.serve_line.new.lines in
+    let next = c.serve_line.new.book.book in
+    let middle = g.O.Sink.content c.loop.output in
+    let last = g.O.Sink.content c.serve_line.new.output in
+    let over = c.serve_line.ensures.over (c.in_ok-serve_line.was ∙ ap Ok c.if-branch.false) in
+    served_up_to g.S.Source c.args.lines.now old new c.args.book.now.network c.loop.book.book next (g.O.Sink.content c.args.output.now) middle last
+    IsAllTaken c.loop.invariant.0 c.loop.invariant.1 (ends_over g.S.Source old new c.loop.book next middle last over) over.same_output

@@ -1,6 +1,5 @@
-use Rattle.std.proofs.Common.{◌≡◌, ◌+◌, ◌-◌, ◌^◌, ◌≤◌, Some, length}
-use Rattle.hose_words.specs.declared.lines.LineFault.TheVariants.{Read}
-use Rattle.hosed.specs.Reading.{ReadsOn}
+use Rattle.std.proofs.Common.{◌≡◌, ◌+◌, ◌-◌, ◌^◌, ◌≤◌, None, length}
+use Rattle.hose_words.specs.Reading.{ReadsOn}
 use Rattle.hosed.specs.Serving.{HasServed}
 use Rattle.hosed.proofs.run.serve.Given as goal
 
@@ -8,7 +7,7 @@ abbrev pub invariant-loop : goal.invariant-loop
 invariant-loop g l = HasServed g.S.Source l.fn.lines l.lines l.fn.book.network l.book.book (g.O.Sink.content l.fn.output) (g.O.Sink.content l.output)
     × ReadsOn g.S.Source l.fn.lines l.lines
     × (l.book.network ≡ l.fn.book.network)
-    × (l.lines.fault ≡ Some Read → l.fn.lines.fault ≡ Some Read)
+    × (l.lines.fault ≡ None)
     × (l.lines.taken ≤ 2 ^ 30 + 1)
     × (g.O.Sink.faults l.fn.output ≤ g.O.Sink.faults l.output)
     × (g.O.Sink.number l.output ≡ g.O.Sink.number l.fn.output)

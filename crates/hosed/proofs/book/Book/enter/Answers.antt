@@ -1,18 +1,22 @@
-use Rattle.std.proofs.Common.{◌≡◌, ℕ, ◌+◌, ◌<◌, List, ◌++◌, length, get_or, take, drop, sym, ap, subst, arith}
+use Rattle.std.proofs.Common.{◌≡◌, ℕ, ◌+◌, ◌<◌, List, ◌++◌, length, get_or, take, drop, All, sym, ap, subst, arith}
 use Rattle.std.proofs.lemmas.List.{take_at, length_push}
+use Rattle.std.proofs.lemmas.List.Elements.{All-push}
 use Rattle.hose_graph.specs.declared.vpn.Vpn.{Vpn}
 use Rattle.hose_graph.specs.declared.entry.Entry.TheVariants.{Admit}
 use Rattle.hose_law.specs.Book.{Book, amount_on, load_of}
 use Rattle.hose_law.specs.History.{IsSoundAt, next_book}
 use Rattle.hose_law.proofs.Sold.{NoneOversold, entry_keeps}
-use Rattle.hosed.specs.Ledger.{Ledger, AreLoads}
-use Rattle.hosed.proofs.Fitting.{plan_links, capacity_small, load_more}
+use Rattle.hose_law.proofs.LiveIds.{rising_next}
+use Rattle.hose_law.specs.Live.{HasRisingIds}
+use Rattle.hose_law.specs.Plan.{AreNodes}
+use Rattle.hosed.specs.Ledger.{Ledger, AreLoads, IsKept}
+use Rattle.hosed.proofs.Fitting.{plan_links, capacity_small, cost_bounded, load_more}
 use Rattle.hosed.proofs.book.Book.enter.Goals as goal
 
 pub add_amounts-requires-clause-links : goal.add_amounts-requires-clause-links
 add_amounts-requires-clause-links c = λ k d inside.
     let ledger = c.args.self.now in
-    let links = plan_links ledger.network c.args.hose c.args.amounts c.requires.2.exists in
+    let links = plan_links ledger.network c.args.hose c.args.amounts c.requires.sound.2.exists in
     let link : (get_or c.args.amounts k d).0 < length ledger.network.links = links k d (omega (arith, ap length c.pairs.ensures.value)) in
     omega (
       arith,
@@ -28,7 +32,7 @@ add_amounts-requires-clause-fits c = λ l inside.
     let network = c.self.inside.topology in
     let book : Book = record { epoch = c.self.inside.epoch; live = c.self.inside.live.items } in
     let entry = Admit c.args.customer c.args.hose c.args.amounts in
-    let sound : IsSoundAt network book entry = subst (λ (s : Ledger). IsSoundAt s.network s.book entry) (sym c.self.view_is) c.requires in
+    let sound : IsSoundAt network book entry = subst (λ (s : Ledger). IsSoundAt s.network s.book entry) (sym c.self.view_is) c.requires.sound in
     let kept : NoneOversold network (next_book book entry) = entry_keeps network book entry sound c.self.invariant.2.none_oversold in
     let loads_is = c.deref_mut.ensures.value in
     let here = c.self.invariant.2.each l (omega (arith, ap length loads_is, c.self.invariant.2.places)) in
@@ -47,7 +51,7 @@ invariant_of-self c =
     let network = c.self.inside.topology in
     let book : Book = record { epoch = c.self.inside.epoch; live = c.self.inside.live.items } in
     let entry = Admit c.args.customer c.args.hose c.args.amounts in
-    let sound : IsSoundAt network book entry = subst (λ (s : Ledger). IsSoundAt s.network s.book entry) (sym c.self.view_is) c.requires in
+    let sound : IsSoundAt network book entry = subst (λ (s : Ledger). IsSoundAt s.network s.book entry) (sym c.self.view_is) c.requires.sound in
     let kept : NoneOversold network (next_book book entry) = entry_keeps network book entry sound c.self.invariant.2.none_oversold in
     let old = c.self.invariant.2 in
     let loads_is = c.deref_mut.ensures.value in
@@ -57,6 +61,12 @@ invariant_of-self c =
     take_at new (drop (length new) c.self.inside.loads.items) c.self.inside.loads.len (omega (arith, long, old.places, c.self.inside.loads.ok.0)) in
     let next_is : next_book book entry ≡ record { epoch = c.self.inside.epoch + 1; live = c.push_reserved.new.self.items } =
     ap (λ (live : List Vpn). record { epoch = c.self.inside.epoch + 1; live = live }) (sym c.push_reserved.ensures.items) in
+    let vpn : Vpn = record { id = c.self.inside.epoch + 1; customer = c.args.customer; hose = c.args.hose; amounts = c.args.amounts } in
+    let is_kept : IsKept network vpn = record {
+      nodes = subst (λ (s : Ledger). AreNodes s.network c.args.hose) (sym c.self.view_is) c.requires.nodes;
+      links = plan_links network c.args.hose c.args.amounts sound.2.exists;
+      cost = omega (arith, cost_bounded network book c.args.hose c.args.amounts c.self.invariant.0 sound.2);
+    } in
     let each : (l : ℕ) → l < length network.links → get_or new l 0 ≡ load_of (next_book book entry) l = λ l inside.
     omega (
       arith,
@@ -74,4 +84,6 @@ invariant_of-self c =
       omega (arith, sound.0),
       omega (arith, sound.1, ap length c.push_reserved.ensures.items, length_push c.self.inside.live.items (record { id = c.self.inside.epoch + 1; customer = c.args.customer; hose = c.args.hose; amounts = c.args.amounts })),
       omega (arith, c.self.invariant.5, c.push_reserved.ensures.capacity),
+      subst (HasRisingIds 0) next_is (rising_next 0 book entry c.self.invariant.6),
+      subst (All (IsKept network)) (sym c.push_reserved.ensures.items) (All-push (IsKept network) book.live vpn c.self.invariant.7 is_kept),
     )

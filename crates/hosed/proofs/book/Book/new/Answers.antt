@@ -1,6 +1,10 @@
-use Rattle.std.proofs.Common.{◌≡◌, ℕ, List, length, get_or, replicate, ap, arith}
+use Rattle.std.proofs.Common.{◌≡◌, ℕ, List, [], All, length, get_or, replicate, sym, ap, subst, arith}
 use Rattle.std.proofs.lemmas.List.{length-replicate, get_or-replicate}
+use Rattle.std.proofs.lemmas.List.Elements.{All-nil}
 use Rattle.hose_graph.specs.declared.vpn.Vpn.{Vpn}
+use Rattle.hose_law.specs.Live.{HasRisingIds}
+use Rattle.hose_law.proofs.LiveIds.{rising_ids}
+use Rattle.hosed.specs.Ledger.{IsKept}
 use Rattle.hose_law.specs.Book.{load_of}
 use Rattle.hosed.proofs.book.Book.new.Goals as goal
 
@@ -19,4 +23,6 @@ invariant_of-result c =
       omega arith,
       omega (arith, ap length c.in_ok-live.ensures.items),
       omega (arith, c.in_ok-live.ensures.capacity),
+      subst (λ (live : List Vpn). HasRisingIds 0 (record { epoch = 0; live = live })) (sym c.in_ok-live.ensures.items) (rising_ids 0 []),
+      subst (All (IsKept c.args.topology)) (sym c.in_ok-live.ensures.items) (All-nil (IsKept c.args.topology)),
     )

@@ -18,8 +18,8 @@ reached-requires-clause-places c =
     ap length (c.deref.ensures.value ∙ c.in_ok-safe.ensures)
     ∙ (length-map-range_with_len safe 0 (length ledger.network.links) ∙ ap (λ (s : Ledger). length s.network.links) (sym c.self.view_is))
 
-pub returns : goal.returns
-returns c =
+pub returns-clause-side : goal.returns-clause-side
+returns-clause-side c =
     let ledger = c.args.self.now in
     let hose = c.args.hose.now in
     let network = c.self.inside.topology in

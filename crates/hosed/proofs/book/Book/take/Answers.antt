@@ -29,7 +29,7 @@ returns-clause-answer c =
     c.plan_cost-cost.ensures ∙ (ap (plan_cost c.self.inside.topology) (c.pairs.ensures.value ∙ sym copied) ∙ ap (λ (s : Ledger). plan_cost s.network c.in-Ok.copy) c.self.view_is) in (
       Some (Admit c.args.customer c.args.hose c.args.amounts),
       (
-        omega (arith, c.if-at-eq-LAST_EPOCH.false, c.self.invariant.3, ap (λ (s : Ledger). s.book.epoch) c.self.view_is),
+        omega (arith, c.if-at-eq-MOST_EPOCH.false, c.self.invariant.3, ap (λ (s : Ledger). s.book.epoch) c.self.view_is),
         omega (arith, c.if-len-ge-MOST_LIVE.false, c.len.ensures, ap (λ (s : Ledger). length s.book.live) c.self.view_is),
         subst (IsPlanned ledger.network ledger.book c.args.hose) (sym copied) c.requires.planned,
         c.enter-id.ensures.id,
