@@ -16,11 +16,11 @@ pub fn fits(top: &Topology, loads: &[u64], amounts: &Amounts) -> bool
     amounts
         .pairs()
         .iter()
-        .all(|pair| pair.1 <= free(top, loads, pair.0))
+        .all(|pair| pair.1 <= free_rate(top, loads, pair.0))
 }
 
-// What a link has free.
-fn free(top: &Topology, loads: &[u64], link: u32) -> u64
+/// What a link has free: its capacity without the load there. There is a load for each link of the topology, at most the link's capacity.
+pub fn free_rate(top: &Topology, loads: &[u64], link: u32) -> u64
     requires loads { AreCarried top.now loads.now }
     requires link { link < length top.now.links }
     ensures { result ≡ capacity_of top.now link - slice_index loads.now link }

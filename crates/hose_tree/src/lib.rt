@@ -15,7 +15,7 @@ mod reserve;
 mod tests;
 
 pub use costing::cost;
-pub use fit::fits;
+pub use fit::{fits, free_rate};
 pub use hose_graph::Step;
 pub use reach::reached;
 pub use reserve::reservations;

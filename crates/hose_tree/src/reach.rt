@@ -1,5 +1,5 @@
 // Which nodes a node reaches over a set of links.
-ghost use Rattle.std.specs.Prelude.{◌≡◌, ℕ, ◌<◌, false, true, length, replicate, IfOk, slice_index_or, slice_set};
+ghost use Rattle.std.specs.Prelude.{◌≡◌, ℕ, ◌<◌, false, true, length, replicate, All, IfOk, slice_index_or, slice_set};
 ghost use Rattle.hose_graph.specs.Network.{IsNetwork};
 ghost use Rattle.hose_law.specs.Decision.{IsReachedList};
 ghost use Rattle.hose_law.specs.Plan.{IsSide};
@@ -20,7 +20,8 @@ pub fn reached(
 ) -> Result<NodeList, AllocError>
     requires places { length links.now ≡ length top.now.links }
     requires is_node { from < length top.now.nodes }
-    ensures { IfOk result (IsReachedList top.now links.now from) }
+    ensures list { IfOk result (IsReachedList top.now links.now from) }
+    ensures nodes { IfOk result (All (λ node. node < length top.now.nodes)) }
 {
     let mut side = vec![in alloc; false; top.nodes() as usize]?;
     reach_from(top, links, from, &mut side);
