@@ -5,12 +5,20 @@ use Rattle.std.specs.List.{Contains, sum_by}
 use Rattle.std.specs.List.Sorted.{IsStrictlyIncreasing}
 use Rattle.std.proofs.lemmas.List.Sums.{sum_by-cons}
 use Rattle.std.proofs.lemmas.List.Kept.{AllPairs-from_increasing}
-use Rattle.hose_law.proofs.Trees.{first_or_behind, contains_first, contains_behind, none_in_empty}
+use Rattle.hose_graph.specs.Network.{Network}
+use Rattle.hose_graph.specs.declared.step.Step.{Step}
+use Rattle.hose_law.specs.Tree.{Grow}
+use Rattle.hose_law.proofs.Trees.{step_links, first_or_behind, contains_first, contains_behind, none_in_empty, link_is_new}
 
 -- each number is none of those behind it
 abbrev pub AreApart : List ℕ → Type 0
 AreApart [] = ⊤
 AreApart (x ∷ xs) = (Contains xs x → ⊥) × AreApart xs
+
+-- the links of a tree's steps are apart
+pub apart_links : (network : Network) (start : ℕ) (steps : List Step) → Grow network start steps → AreApart (step_links steps)
+apart_links network start [] grows = tt
+apart_links network start (step ∷ earlier) grows = (link_is_new network start step earlier grows, apart_links network start earlier grows.0)
 
 -- what is left of a list without one of its numbers
 record HasOut (x : ℕ) (ys : List ℕ) : Type 0 where

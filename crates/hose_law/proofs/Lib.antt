@@ -1,4 +1,7 @@
 pub mod Apart
+pub mod Bounds
+pub mod CanonicalPlans
+pub mod CanonicalTrees
 pub mod Counting
 pub mod Distances
 pub mod Halves
@@ -6,8 +9,10 @@ pub mod Joined
 pub mod LiveIds
 pub mod Lives
 pub mod Members
+pub mod Ordered
 pub mod PlanWeight
 pub mod Releases
+pub mod Reservations
 pub mod Rows
 pub mod Scripts
 pub mod ShortWalks

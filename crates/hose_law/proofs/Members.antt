@@ -1,7 +1,6 @@
--- What is in a list: the first, what is behind it, and what a filter keeps.
+-- What is in a list: the first, what is behind it, and what passes a filter.
 use Rattle.std.proofs.Common.{◌≡◌, ◌⊎◌, ℕ, zero, suc, ◌<◌, Bool, true, List, [], ◌∷◌, length, get_or, filter, Contains, sym, ap, ◌∙◌, subst, inl, inr, arith}
 use Rattle.std.proofs.lemmas.Bool.{cond-true, cond_both}
-use Rattle.std.proofs.lemmas.List.Elements.{All-contains, All-contains_itself, All-filter, filter_passes}
 
 -- what is in a list is in it behind one more
 pub contains_behind : {X : Type 0} (x z : X) (xs : List X) → Contains xs z → Contains (x ∷ xs) z
@@ -26,10 +25,3 @@ contains_filter {X} test (x ∷ xs) z there passes =
       | inr behind ↦ let later : Contains rest z = contains_filter test xs z behind passes in
           cond_both (test x) (x ∷ rest) rest (λ ys. Contains ys z) (λ _. contains_behind x z rest later) (λ _. later)
     ]
-
--- what a filter keeps was there, and passes
-pub contains_from_filter : {X : Type 0} (test : X → Bool) (xs : List X) (z : X) → Contains (filter test xs) z → Contains xs z × (test z ≡ true)
-contains_from_filter test xs z there = (
-  All-contains (Contains xs) (filter test xs) z (All-filter test (Contains xs) xs (All-contains_itself xs)) there,
-  All-contains (λ x. test x ≡ true) (filter test xs) z (filter_passes test xs) there,
-)

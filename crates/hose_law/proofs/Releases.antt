@@ -7,7 +7,7 @@ use Rattle.std.proofs.lemmas.Slice.Eq.{bytes_eq-Decides}
 use Rattle.std.specs.Str.{bytes_eq}
 use Rattle.hose_graph.specs.declared.vpn.Vpn.{Vpn}
 use Rattle.hose_graph.specs.declared.entry.Entry.TheVariants.{Release}
-use Rattle.hose_law.proofs.Members.{contains_filter, contains_from_filter}
+use Rattle.hose_law.proofs.Members.{contains_filter}
 use Rattle.hose_law.specs.Book.{Book, amount_on, load_of}
 use Rattle.hose_law.specs.History.{is_vpn, next_book}
 
@@ -25,12 +25,6 @@ pub kept_by_release : (book : Book) (customer : List ℕ) (id : ℕ) (vpn : Vpn)
 kept_by_release book customer id vpn there other =
     let passes = Decides-not (is_vpn customer id vpn) (is_vpn_decides customer id vpn) in
     contains_filter (λ v. not (is_vpn customer id v)) book.live vpn there (passes.1 other)
-
--- and what is live was so before, and is another
-pub live_after_release : (book : Book) (customer : List ℕ) (id : ℕ) (vpn : Vpn) → Contains (next_book book (Release customer id)).live vpn → Contains book.live vpn × (IsVpnOf customer id vpn → ⊥)
-live_after_release book customer id vpn there =
-    let kept = contains_from_filter (λ v. not (is_vpn customer id v)) book.live vpn there in
-    (kept.0, (Decides-not (is_vpn customer id vpn) (is_vpn_decides customer id vpn)).0 kept.1)
 
 -- a release raises no link's load
 pub load_after_release : (book : Book) (customer : List ℕ) (id l : ℕ) → load_of (next_book book (Release customer id)) l ≤ load_of book l

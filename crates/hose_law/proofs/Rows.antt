@@ -1,8 +1,7 @@
--- What follows from what a row is: distances within the bound, tight links that lead nearer to the root, and one row alone.
+-- What follows from what a row is: distances within the bound, and tight links that lead nearer to the root.
 use Rattle.std.proofs.Common.{◌≡◌, ◌≢◌, ◌⊎◌, ◌∙◌, ℕ, ◌+◌, ◌<◌, ◌≤◌, Bool, List, Option, None, Some, length, refl, sym, ap, subst, inl, inr, arith}
 use Rattle.std.specs.Option.{IsSomeAnd}
 use Rattle.std.proofs.lemmas.Bool.{cases_eq}
-use Rattle.std.proofs.lemmas.List.{ext_get_or}
 use Rattle.std.proofs.lemmas.Option.{MatchOption-at_some, MatchOption-at_none, none-some}
 use Rattle.hose_graph.specs.Network.{Network, IsNetwork}
 use Rattle.hose_graph.specs.Row.{Distances, distance_of, tight_link_of}
@@ -130,47 +129,3 @@ module _ (network : Network) (is : IsNetwork network) (set : List Bool) (root : 
           let P : Option ℕ → Type 0 = λ o. IsSomeAnd o (IsTightLink network set root v) in
           absurd (subst P none (is_row.tight_links v node differ reach))
       at (Some l) some = (l, some)
-
-parts_same : (r s : ℕ) (d e t u : List (Option ℕ)) → r ≡ s → d ≡ e → t ≡ u
-    → ◌≡◌ {A = Distances} (record { root = r; dist = d; tight = t }) (record { root = s; dist = e; tight = u })
-parts_same r s d e t u root dist tight = cc
-
--- two rows of one root have the same distances and tight links
-module _ (network : Network) (is : IsNetwork network) (set : List Bool) (root : ℕ) (row other : Distances) (one : IsRow network set root row) (two : IsRow network set root other) where
-  same_distance : (v : ℕ) → v < length network.nodes → distance_of row v ≡ distance_of other v
-  same_distance v node = elim (row_reached network is set root row one v node) [
-    | inl reached ↦ reached.1 ∙ sym (row_has_distance network is set root other two v reached.0 node reached.2)
-    | inr unreached ↦ elim (row_reached network is set root other two v node) [
-      | inl reached ↦ absurd (unreached.1 (reached.2.walk, reached.2.walks))
-      | inr none ↦ unreached.0 ∙ sym none.0
-    ]
-  ]
-
-  tight_in_other : (v l : ℕ) → v < length network.nodes → tight_link_of row v ≡ Some l → tight_link_of other v ≡ Some l
-  tight_in_other v l node there =
-      let tight = row_tight_link network is set root row one v l node there in
-      let found = row_has_tight_link network is set root other two v _ node
-      (tight_not_root network is set root v l tight.tight)
-      (row_has_distance network is set root other two v _ node tight.tight.distance) in
-      let again = row_tight_link network is set root other two v found.0 node found.1 in
-      found.1 ∙ ap Some (omega (arith, again.lowest l tight.tight, tight.lowest found.0 again.tight))
-
--- a set of links and a root have one row
-pub row_unique : (network : Network) → IsNetwork network → (set : List Bool) (root : ℕ) (row other : Distances)
-    → IsRow network set root row → IsRow network set root other → row ≡ other
-row_unique network is set root row other one two =
-    let dist : row.dist ≡ other.dist =
-    ext_get_or None row.dist other.dist (one.dist_places ∙ sym two.dist_places)
-    (λ v below. same_distance network is set root row other one two v (omega (arith, one.dist_places))) in
-    let tight : row.tight ≡ other.tight =
-    ext_get_or None row.tight other.tight (one.tight_places ∙ sym two.tight_places)
-    (λ v below. same_tight v (omega (arith, one.tight_places))) in
-    parts_same row.root other.root row.dist other.dist row.tight other.tight (one.rooted ∙ sym two.rooted) dist tight
-  where
-    same_tight : (v : ℕ) → v < length network.nodes → tight_link_of row v ≡ tight_link_of other v
-    same_tight v node = at (tight_link_of row v) (tight_link_of other v) refl refl
-      where
-        at : (mine theirs : Option ℕ) → tight_link_of row v ≡ mine → tight_link_of other v ≡ theirs → tight_link_of row v ≡ tight_link_of other v
-        at None None none none' = none ∙ sym none'
-        at (Some l) theirs some its = some ∙ sym (tight_in_other network is set root row other one two v l node some)
-        at None (Some l) none some = tight_in_other network is set root other row two one v l node some ∙ sym some

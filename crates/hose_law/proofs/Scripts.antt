@@ -8,7 +8,7 @@ use Rattle.hose_graph.specs.declared.reply.Reply.{Reply}
 use Rattle.hose_graph.specs.declared.reply.Reply.TheVariants.{Admitted, Released, NoVpn, LinkState}
 use Rattle.hose_graph.specs.Network.{Network}
 use Rattle.hose_law.specs.Book.{Book}
-use Rattle.hose_law.specs.History.{next_book, book_after, book_of, opening_book, IsSoundAt, IsDecidedAt, IsSoundFrom, IsDecidedFrom, IsDecided}
+use Rattle.hose_law.specs.History.{next_book, book_after, book_of, opening_book, IsSoundAt, IsSoundWith, IsDecidedAt, IsSoundFrom, IsDecidedFrom, IsDecided}
 use Rattle.hose_law.specs.Answer.{IsAnswer, with_entry}
 use Rattle.hose_law.specs.Script.{ReadLine, IsLineStep, IsScript}
 
@@ -35,26 +35,27 @@ decided_with network epoch history added entry decided decided_at sound_at is =
     } in
     subst (λ (e : Entry). IsDecided network epoch 0 (history ++ e ∷ [])) (sym is) whole
 
--- a decided history, and the entry of an answer at its end, are a decided history
+-- a decided history, and the sound entry of an answer at its end, are a decided history
 pub decided_push : (network : Network) (epoch : ℕ) (history : List Entry) (customer : List ℕ) (command : Command) (reply : Reply) (entry : Option Entry)
-    → IsDecided network epoch 0 history → IsAnswer network (book_of epoch history) customer command reply entry → IsDecided network epoch 0 (with_entry history entry)
-decided_push network epoch history customer command reply None decided answer = decided
-decided_push network epoch history customer (Admit hose) (Admitted id cost at amounts) (Some entry) decided answer =
+    → IsDecided network epoch 0 history → IsSoundWith network (book_of epoch history) entry → IsAnswer network (book_of epoch history) customer command reply entry
+    → IsDecided network epoch 0 (with_entry history entry)
+decided_push network epoch history customer command reply None decided sound answer = decided
+decided_push network epoch history customer (Admit hose) (Admitted id cost at amounts) (Some entry) decided sound answer =
     let book : Book = book_of epoch history in
     let admit : Entry = AdmitEntry customer hose amounts in
-    let sound_at : IsSoundAt network book admit = (answer.0, answer.1, answer.2) in
+    let sound_at : IsSoundAt network book admit = subst (IsSoundAt network book) answer.6 sound in
     decided_with network epoch history admit entry decided (sound_at, answer.2) sound_at answer.6
-decided_push network epoch history customer (Release id) (Released told at) (Some entry) decided answer =
+decided_push network epoch history customer (Release id) (Released told at) (Some entry) decided sound answer =
     let book : Book = book_of epoch history in
     let release : Entry = ReleaseEntry customer id in
     let sound_at : IsSoundAt network book release = (answer.0, answer.1) in
     decided_with network epoch history release entry decided sound_at sound_at answer.4
-decided_push network epoch history customer (Admit hose) reply (Some entry) decided answer = absurd answer
-decided_push network epoch history customer (Release id) reply (Some entry) decided answer = absurd answer
-decided_push network epoch history customer (Show id) (NoVpn told at) (Some entry) decided answer = absurd answer
-decided_push network epoch history customer (Show id) reply (Some entry) decided answer = absurd answer
-decided_push network epoch history customer (Link link) (LinkState told load at) (Some entry) decided answer = absurd answer
-decided_push network epoch history customer (Link link) reply (Some entry) decided answer = absurd answer
+decided_push network epoch history customer (Admit hose) reply (Some entry) decided sound answer = absurd answer
+decided_push network epoch history customer (Release id) reply (Some entry) decided sound answer = absurd answer
+decided_push network epoch history customer (Show id) (NoVpn told at) (Some entry) decided sound answer = absurd answer
+decided_push network epoch history customer (Show id) reply (Some entry) decided sound answer = absurd answer
+decided_push network epoch history customer (Link link) (LinkState told load at) (Some entry) decided sound answer = absurd answer
+decided_push network epoch history customer (Link link) reply (Some entry) decided sound answer = absurd answer
 
 -- a script, and a step of one line more from its last history, are a script
 pub script_push : (network : Network) (epoch : ℕ) (history : List Entry) (lines : List ReadLine) (replies : List Reply) (middle : List Entry) (line : ReadLine) (reply : Reply) (last : List Entry)

@@ -72,7 +72,7 @@ pub entry_keeps : (network : Network) (book : Book) (entry : Entry) → IsSoundA
 entry_keeps network book (Admit customer hose plan) sound kept l =
     let vpn : Vpn = record { id = book.epoch + 1; customer = customer; hose = hose; amounts = plan } in
     let more = sum_by_push (λ (v : Vpn). amount_on l v.amounts) book.live vpn in
-    let fits = reserved_fits network book plan l sound.2.exists.ascending sound.2.fits in
+    let fits = reserved_fits network book plan l sound.2.reserves.ascending sound.3 in
     omega (arith, more, fits, kept l)
 entry_keeps network book (Release customer id) sound kept l = omega (arith, load_after_release book customer id l, kept l)
 

@@ -98,3 +98,25 @@ module _ (network : Network) (is : IsNetwork network) (set : List Bool) (root : 
   ways_are_distances [] grows tight v (inr led) = absurd (none_in_empty v led)
   ways_are_distances (step ∷ earlier) grows tight v on =
       one_step_more step earlier grows tight.0 (λ u here. ways_are_distances earlier grows.0 tight.1 u here) v on (eqb v step.new) refl
+
+  -- one step more, where the ways up of the nodes before it are their tight ways
+  tight_way_more : (step : Step) (earlier : List Step) → Grow network root (step ∷ earlier) → IsTightLink network set root step.new step.link
+      → ((u : ℕ) → IsOn root earlier u → IsTightWay network set root u (links_up earlier u))
+      → (v : ℕ) → IsOn root (step ∷ earlier) v → (leads : Bool) → eqb v step.new ≡ leads
+      → IsTightWay network set root v (cond leads (step.link ∷ links_up earlier step.old) (links_up earlier v))
+  tight_way_more step earlier grows tight before v on true same =
+      subst (λ (n : ℕ). IsTightWay network set root n (step.link ∷ links_up earlier step.old)) (sym (eqb-true v step.new same))
+      (tight, (step.old, joins_turned network step.link step.old step.new grows.3, before step.old grows.1))
+  tight_way_more step earlier grows tight before v on false other =
+      elim (on_before root step earlier v on) [
+        | inl same ↦ absurd (eqb-false v step.new other same)
+        | inr was ↦ before v was
+      ]
+
+  -- the way up of a node is its tight way
+  pub tight_way_up : (steps : List Step) → Grow network root steps → AreTightSteps steps → (v : ℕ) → IsOn root steps v
+      → IsTightWay network set root v (links_up steps v)
+  tight_way_up [] grows tight v (inl same) = same
+  tight_way_up [] grows tight v (inr led) = absurd (none_in_empty v led)
+  tight_way_up (step ∷ earlier) grows tight v on =
+      tight_way_more step earlier grows tight.0 (λ u here. tight_way_up earlier grows.0 tight.1 u here) v on (eqb v step.new) refl

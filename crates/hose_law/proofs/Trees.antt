@@ -3,11 +3,11 @@
 use Rattle.std.proofs.Common.{◌≡◌, ◌≢◌, ◌⊎◌, ◌∙◌, ℕ, zero, suc, ◌+◌, ◌<◌, ◌≤◌, Bool, true, false, List, [], ◌∷◌, ◌++◌, Option, None, Some, length, get_or, map, reverse, cond, eqb, refl, sym, ap, subst, inl, inr, arith}
 use Rattle.std.specs.List.{All, Contains, IsDistinct, slice_get, sum_by}
 use Rattle.std.specs.Option.{IsSomeAnd}
-use Rattle.std.proofs.lemmas.Bool.{eq-eqb, eqb-false, ne_eqb}
+use Rattle.std.proofs.lemmas.Bool.{eq-eqb, ne_eqb}
 use Rattle.std.proofs.lemmas.Bool.Decides.{nat_tests}
 use Rattle.std.proofs.lemmas.Cmp.{nat_eq_equiv}
 use Rattle.std.proofs.lemmas.List.{get_or_default, reverse-append}
-use Rattle.std.proofs.lemmas.List.Elements.{All-map, All-weaker, recursion_from_All}
+use Rattle.std.proofs.lemmas.List.Elements.{recursion_from_All}
 use Rattle.std.proofs.lemmas.List.Sorted.{Contains-permutation, IsPermutation-map, IsPermutation-reverse, IsPermutation-sym}
 use Rattle.std.proofs.lemmas.List.Sums.{sum_by-cons, sum_by-le-sum_by}
 use Rattle.std.proofs.lemmas.Map.Keys.{IsDistinct-cons, IsDistinct-IsPermutation}
@@ -44,7 +44,7 @@ pub none_in_empty : {X : Type 0} (y : X) → Contains [] y → ⊥
 none_in_empty y there = omega (arith, there.1)
 
 -- numbers are distinct where the first is not behind
-distinct_behind : (x : ℕ) (xs : List ℕ) → (Contains xs x → ⊥) → IsDistinct eqb xs → IsDistinct eqb (x ∷ xs)
+pub distinct_behind : (x : ℕ) (xs : List ℕ) → (Contains xs x → ⊥) → IsDistinct eqb xs → IsDistinct eqb (x ∷ xs)
 distinct_behind x xs absent distinct =
     let apart : All (λ (y : ℕ). eqb x y ≡ false) xs =
     λ k d below. ne_eqb x (get_or xs k d) (λ same. absent (k, below, get_or_default xs k x d below ∙ sym same)) in
@@ -253,24 +253,6 @@ last_beyond step earlier (end ∷ ends) absent =
     let after = sum_by-cons (λ (e : ℕ × ℕ). cond (eqb e.0 step.new) e.1 0) end ends in
     let here = ap (λ (test : Bool). cond test end.1 0) (last_way step earlier end.0 absent) in
     omega (arith, before, after, here, last_beyond step earlier ends absent)
-
--- and leaves the endpoints on the tree before the last step
-pub moved_on : (network : Network) (start : ℕ) (step : Step) (earlier : List Step) (ends : List (ℕ × ℕ)) → Grow network start (step ∷ earlier)
-    → All (λ (end : ℕ × ℕ). IsOn start (step ∷ earlier) end.0) ends → All (λ (end : ℕ × ℕ). IsOn start earlier end.0) (moved step ends)
-moved_on network start step earlier ends grows on =
-    All-map (λ (end : ℕ × ℕ). IsOn start earlier end.0) (λ (end : ℕ × ℕ). (moved_node step end.0, end.1)) ends
-    (All-weaker (λ (end : ℕ × ℕ). IsOn start (step ∷ earlier) end.0) (λ (end : ℕ × ℕ). IsOn start earlier (moved_node step end.0)) (λ end here. lands end.0 here) ends on)
-  where
-    at : (v : ℕ) (leads : Bool) → eqb v step.new ≡ leads → IsOn start (step ∷ earlier) v → IsOn start earlier (cond leads step.old v)
-    at v true same here = grows.1
-    at v false other here =
-        elim (on_before start step earlier v here) [
-          | inl same ↦ absurd (eqb-false v step.new other same)
-          | inr before ↦ before
-        ]
-
-    lands : (v : ℕ) → IsOn start (step ∷ earlier) v → IsOn start earlier (moved_node step v)
-    lands v here = at v (eqb v step.new) refl here
 
 -- what is at the old node, the new node and the others once the rates have moved
 pub moved_at_old : (step : Step) (ends : List (ℕ × ℕ)) → step.old ≢ step.new → amount_on step.old (moved step ends) ≡ amount_on step.old ends + amount_on step.new ends

@@ -1,10 +1,7 @@
 -- One plan, one side, one answer: without want of memory the replies of a script are the only ones.
-use Rattle.std.proofs.Common.{◌≡◌, ◌↔◌, ◌∙◌, ℕ, suc, ◌<◌, Bool, List, [], ◌∷◌, Option, None, Some, get_or, Contains, refl, sym, ap, subst, inl, inr, arith}
-use Rattle.std.specs.List.{AllPairs}
-use Rattle.std.proofs.lemmas.List.{get_or-map, length-map}
+use Rattle.std.proofs.Common.{◌≡◌, ◌∙◌, ℕ, Bool, List, [], ◌∷◌, Option, None, Some, refl, sym, ap, subst, arith}
 use Rattle.std.proofs.lemmas.List.Kept.{AllPairs-from_increasing}
-use Rattle.hose_graph.specs.Ascending.{IsAscending, firsts}
-use Rattle.hose_graph.specs.Network.{Network}
+use Rattle.hose_graph.specs.Network.{Network, IsNetwork}
 use Rattle.hose_graph.specs.declared.vpn.Vpn.{Vpn}
 use Rattle.hose_graph.specs.declared.entry.Entry.{Entry}
 use Rattle.hose_graph.specs.declared.entry.Entry.TheVariants.{Admit as AdmitEntry}
@@ -13,83 +10,15 @@ use Rattle.hose_graph.specs.declared.command.Command.TheVariants.{Admit, Release
 use Rattle.hose_graph.specs.declared.reply.Reply.{Reply}
 use Rattle.hose_graph.specs.declared.reply.Reply.TheVariants.{Admitted, Refused, Full, Spent, Released, NoVpn, Shown, LinkState, Memory}
 use Rattle.hose_law.proofs.LiveIds.{HasDistinctIds, live_ids, vpn_unique}
-use Rattle.hose_law.proofs.Members.{contains_behind, first_or_behind}
-use Rattle.hose_law.specs.Plan.{IsTreePlan, plan_cost}
+use Rattle.hose_law.proofs.CanonicalPlans.{planned_unique}
+use Rattle.hose_law.proofs.Ordered.{same_by_elements}
+pub use Rattle.hose_law.proofs.Ordered.{pairs_unique}
+use Rattle.hose_law.specs.Plan.{plan_cost}
 use Rattle.hose_law.specs.Book.{Book, safe_links}
 use Rattle.hose_law.specs.Decision.{IsReachedList, lowest_end}
 use Rattle.hose_law.specs.History.{book_of}
 use Rattle.hose_law.specs.Answer.{IsAdmitAnswer, IsReleaseAnswer, IsShowAnswer, IsLinkAnswer, IsAnswer, IsStep, with_entry}
 use Rattle.hose_law.specs.Script.{ReadLine, Asks, IsBad, IsLong, Unread, IsLineStep, IsScript, WithoutMemory}
-
-module _ {X : Type 0} (key : X → ℕ) where
-  -- each number by which the list is in order is below all later ones
-  abbrev Rises : List X → Type 0
-  Rises xs = AllPairs (λ x y. key x < key y) xs
-
-  -- what rises goes on rising behind its first
-  rises_behind : (x : X) (xs : List X) → Rises (x ∷ xs) → Rises xs
-  rises_behind x xs rises i j d less below = rises (suc i) (suc j) d (omega arith) (omega arith)
-
-  -- what is behind the first is above it
-  above_first : (x z : X) (xs : List X) → Rises (x ∷ xs) → Contains xs z → key x < key z
-  above_first x z xs rises there =
-      subst (λ (y : X). key x < key y) there.2 (rises 0 (suc there.0) z (omega arith) (omega (arith, there.1)))
-
-  -- each first is among the other list's elements, and no two elements are below one another
-  same_first : (x y : X) (xs ys : List X) → Rises (x ∷ xs) → Rises (y ∷ ys) → Contains (y ∷ ys) x → Contains (x ∷ xs) y → x ≡ y
-  same_first x y xs ys one other in_other in_one =
-      elim (first_or_behind y x ys in_other) [
-        | inl same ↦ sym same
-        | inr behind ↦ elim (first_or_behind x y xs in_one) [
-          | inl same ↦ same
-          | inr under ↦ absurd (omega (arith, above_first y x ys other behind, above_first x y xs one under))
-        ]
-      ]
-
-  -- what is behind the first of one list is behind the same first of the other
-  behind_too : (x y z : X) (xs ys : List X) → x ≡ y → Rises (x ∷ xs) → (Contains (x ∷ xs) z → Contains (y ∷ ys) z) → Contains xs z → Contains ys z
-  behind_too x y z xs ys firsts_same rises to there =
-      elim (first_or_behind y z ys (to (contains_behind x z xs there))) [
-        | inl same ↦ let keys : key x ≡ key z = ap key (firsts_same ∙ same) in absurd (omega (arith, keys, above_first x z xs rises there))
-        | inr behind ↦ behind
-      ]
-
-  -- Two lists that rise and have the same elements are one list.
-  pub same_by_elements : (xs ys : List X) → Rises xs → Rises ys → ((z : X) → Contains xs z ↔ Contains ys z) → xs ≡ ys
-  same_by_elements [] [] one other same = refl
-  same_by_elements [] (y ∷ ys) one other same = let none = (same y).1 (0, omega arith, refl) in absurd (omega (arith, none.1))
-  same_by_elements (x ∷ xs) [] one other same = let none = (same x).0 (0, omega arith, refl) in absurd (omega (arith, none.1))
-  same_by_elements (x ∷ xs) (y ∷ ys) one other same =
-      let head : x ≡ y = same_first x y xs ys one other ((same x).0 (0, omega arith, refl)) ((same y).1 (0, omega arith, refl)) in
-      let behind : (z : X) → Contains xs z ↔ Contains ys z = λ z. (
-        behind_too x y z xs ys head one (same z).0,
-        behind_too y x z ys xs (sym head) other (same z).1,
-      ) in
-      let tail : xs ≡ ys = same_by_elements xs ys (rises_behind x xs one) (rises_behind y ys other) behind in
-      ap (λ (w : X). w ∷ xs) head ∙ ap (λ (ws : List X). y ∷ ws) tail
-
--- pairs that ascend rise by their firsts
-ascending_rises : (pairs : List (ℕ × ℕ)) → IsAscending pairs → AllPairs (λ (p q : ℕ × ℕ). p.0 < q.0) pairs
-ascending_rises pairs ascends i j d less below =
-    let long = length-map pairs (λ (p : ℕ × ℕ). p.0) in
-    let rises : get_or (firsts pairs) i d.0 < get_or (firsts pairs) j d.0 = AllPairs-from_increasing (firsts pairs) ascends i j d.0 less (omega arith) in
-    let here : get_or (firsts pairs) i d.0 ≡ (get_or pairs i d).0 = get_or-map (λ (p : ℕ × ℕ). p.0) pairs i d d.0 (omega (arith, less, below)) in
-    let there : get_or (firsts pairs) j d.0 ≡ (get_or pairs j d).0 = get_or-map (λ (p : ℕ × ℕ). p.0) pairs j d d.0 below in
-    omega (arith, rises, here, there)
-
--- Two lists of pairs that ascend and contain the same pairs are one list.
-pub pairs_unique : (one other : List (ℕ × ℕ)) → IsAscending one → IsAscending other → ((l amount : ℕ) → Contains one (l, amount) ↔ Contains other (l, amount)) → one ≡ other
-pairs_unique one other ascends rises same =
-    same_by_elements (λ (p : ℕ × ℕ). p.0) one other (ascending_rises one ascends) (ascending_rises other rises) (λ p. same p.0 p.1)
-
--- A hose has one plan on a network.
-pub plan_unique : (network : Network) (hose one other : List (ℕ × ℕ)) → IsTreePlan network hose one → IsTreePlan network hose other → one ≡ other
-plan_unique network hose one other is_one is_other =
-    pairs_unique one other is_one.ascending is_other.ascending
-    (λ l amount. (
-      λ there. (is_other.pairs l amount).1 ((is_one.pairs l amount).0 there),
-      λ there. (is_one.pairs l amount).1 ((is_other.pairs l amount).0 there),
-    ))
 
 -- What a node reaches over a set has one ascending list.
 pub side_unique : (network : Network) (set : List Bool) (from : ℕ) (one other : List ℕ) → IsReachedList network set from one → IsReachedList network set from other → one ≡ other
@@ -100,7 +29,7 @@ side_unique network set from one other is_one is_other =
       λ there. (is_one.reached v).1 ((is_other.reached v).0 there),
     ))
 
-module _ (network : Network) (book : Book) (customer : List ℕ) (hose : List (ℕ × ℕ)) where
+module _ (network : Network) (is : IsNetwork network) (book : Book) (customer : List ℕ) (hose : List (ℕ × ℕ)) where
   -- where a hose is refused, each answer is that refusal
   refused_alone : (at : ℕ) (side : List ℕ) (other : Reply) (more : Option Entry) → IsAdmitAnswer network book customer hose (Refused at side) None → IsAdmitAnswer network book customer hose other more
       → (Refused at side ≡ other) × (None ≡ more)
@@ -139,7 +68,7 @@ module _ (network : Network) (book : Book) (customer : List ℕ) (hose : List (�
   admitted_alone id cost at amounts entry (Spent when) None one two = absurd (omega (arith, one.0, two.1))
   admitted_alone id cost at amounts entry (Full when) None one two = absurd (omega (arith, one.1, two.2))
   admitted_alone id cost at amounts entry (Admitted id' cost' when amounts') (Some entry') one two =
-      let plans : amounts ≡ amounts' = plan_unique network hose amounts amounts' one.2.exists two.2.exists in
+      let plans : amounts ≡ amounts' = planned_unique network is book hose amounts amounts' one.2 two.2 in
       let ids : id ≡ id' = one.3 ∙ sym two.3 in
       let times : at ≡ when = one.4 ∙ sym two.4 in
       let costs : cost ≡ cost' = one.5 ∙ ap (plan_cost network) plans ∙ sym two.5 in
@@ -256,12 +185,12 @@ module _ (book : Book) (link : ℕ) where
   link_answer_unique reply other entry more one two = absurd one
 
 -- A command has one answer at a book with distinct ids, and one entry of it.
-pub answer_unique : (network : Network) (book : Book) (customer : List ℕ) (command : Command) (reply other : Reply) (entry more : Option Entry) → HasDistinctIds book
+pub answer_unique : (network : Network) → IsNetwork network → (book : Book) (customer : List ℕ) (command : Command) (reply other : Reply) (entry more : Option Entry) → HasDistinctIds book
     → IsAnswer network book customer command reply entry → IsAnswer network book customer command other more → (reply ≡ other) × (entry ≡ more)
-answer_unique network book customer (Admit hose) reply other entry more distinct one two = admit_answer_unique network book customer hose reply other entry more one two
-answer_unique network book customer (Release id) reply other entry more distinct one two = release_answer_unique book customer id reply other entry more one two
-answer_unique network book customer (Show id) reply other entry more distinct one two = show_answer_unique network book customer id reply other entry more distinct one two
-answer_unique network book customer (Link link) reply other entry more distinct one two = link_answer_unique book link reply other entry more one two
+answer_unique network is book customer (Admit hose) reply other entry more distinct one two = admit_answer_unique network is book customer hose reply other entry more one two
+answer_unique network is book customer (Release id) reply other entry more distinct one two = release_answer_unique book customer id reply other entry more one two
+answer_unique network is book customer (Show id) reply other entry more distinct one two = show_answer_unique network book customer id reply other entry more distinct one two
+answer_unique network is book customer (Link link) reply other entry more distinct one two = link_answer_unique book link reply other entry more one two
 
 -- behind a reply that is not for want of memory
 free_behind : (reply : Reply) (replies : List Reply) → WithoutMemory (reply ∷ replies) → WithoutMemory replies
@@ -276,29 +205,29 @@ answered network epoch history customer command Memory replies next free step = 
 answered network epoch history customer command reply replies next free step = step
 
 -- a line has one step that is not for want of memory
-line_unique : (network : Network) (epoch : ℕ) (history : List Entry) (line : ReadLine) (reply other : Reply) (replies others : List Reply) (next after : List Entry)
+line_unique : (network : Network) → IsNetwork network → (epoch : ℕ) (history : List Entry) (line : ReadLine) (reply other : Reply) (replies others : List Reply) (next after : List Entry)
     → IsLineStep network epoch history line reply next → IsLineStep network epoch history line other after → WithoutMemory (reply ∷ replies) → WithoutMemory (other ∷ others)
     → (reply ≡ other) × (next ≡ after)
-line_unique network epoch history (Asks customer command) reply other replies others next after one two free without =
+line_unique network is epoch history (Asks customer command) reply other replies others next after one two free without =
     let mine = answered network epoch history customer command reply replies next free one in
     let theirs = answered network epoch history customer command other others after without two in
-    let same = answer_unique network (book_of epoch history) customer command reply other mine.0 theirs.0 (live_ids epoch history) mine.1 theirs.1 in
+    let same = answer_unique network is (book_of epoch history) customer command reply other mine.0 theirs.0 (live_ids epoch history) mine.1 theirs.1 in
     (same.0, mine.2 ∙ ap (with_entry history) same.1 ∙ sym theirs.2)
-line_unique network epoch history (IsBad word) reply other replies others next after one two free without = (one.0 ∙ sym two.0, one.1 ∙ sym two.1)
-line_unique network epoch history IsLong reply other replies others next after one two free without = (one.0 ∙ sym two.0, one.1 ∙ sym two.1)
-line_unique network epoch history Unread reply other replies others next after one two free without = (one.0 ∙ sym two.0, one.1 ∙ sym two.1)
+line_unique network is epoch history (IsBad word) reply other replies others next after one two free without = (one.0 ∙ sym two.0, one.1 ∙ sym two.1)
+line_unique network is epoch history IsLong reply other replies others next after one two free without = (one.0 ∙ sym two.0, one.1 ∙ sym two.1)
+line_unique network is epoch history Unread reply other replies others next after one two free without = (one.0 ∙ sym two.0, one.1 ∙ sym two.1)
 
 -- Without want of memory the replies of a script are the only ones, and so is the history that it leads to.
-pub script_unique : (network : Network) (epoch : ℕ) (history : List Entry) (lines : List ReadLine) (replies others : List Reply) (last end : List Entry)
+pub script_unique : (network : Network) → IsNetwork network → (epoch : ℕ) (history : List Entry) (lines : List ReadLine) (replies others : List Reply) (last end : List Entry)
     → IsScript network epoch history lines replies last → IsScript network epoch history lines others end → WithoutMemory replies → WithoutMemory others
     → (replies ≡ others) × (last ≡ end)
-script_unique network epoch history [] [] [] last end one two free without = (refl, one ∙ sym two)
-script_unique network epoch history (line ∷ lines) (reply ∷ replies) (other ∷ others) last end one two free without =
-    let same = line_unique network epoch history line reply other replies others one.0 two.0 one.1 two.1 free without in
+script_unique network is epoch history [] [] [] last end one two free without = (refl, one ∙ sym two)
+script_unique network is epoch history (line ∷ lines) (reply ∷ replies) (other ∷ others) last end one two free without =
+    let same = line_unique network is epoch history line reply other replies others one.0 two.0 one.1 two.1 free without in
     let goes_on = subst (λ (h : List Entry). IsScript network epoch h lines others end) (sym same.1) two.2 in
-    let rest = script_unique network epoch one.0 lines replies others last end one.2 goes_on (free_behind reply replies free) (free_behind other others without) in
+    let rest = script_unique network is epoch one.0 lines replies others last end one.2 goes_on (free_behind reply replies free) (free_behind other others without) in
     (ap (λ (r : Reply). r ∷ replies) same.0 ∙ ap (λ (rs : List Reply). other ∷ rs) rest.0, rest.1)
-script_unique network epoch history [] (reply ∷ replies) others last end one two free without = absurd one
-script_unique network epoch history [] [] (other ∷ others) last end one two free without = absurd two
-script_unique network epoch history (line ∷ lines) [] others last end one two free without = absurd one
-script_unique network epoch history (line ∷ lines) (reply ∷ replies) [] last end one two free without = absurd two
+script_unique network is epoch history [] (reply ∷ replies) others last end one two free without = absurd one
+script_unique network is epoch history [] [] (other ∷ others) last end one two free without = absurd two
+script_unique network is epoch history (line ∷ lines) [] others last end one two free without = absurd one
+script_unique network is epoch history (line ∷ lines) (reply ∷ replies) [] last end one two free without = absurd two

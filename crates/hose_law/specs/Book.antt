@@ -1,5 +1,5 @@
 -- The book: what is admitted and live, and what it leaves free.
-use Rattle.std.specs.Prelude.{◌≡◌, ℕ, ◌-◌, ◌/◌, ◌<◌, Bool, List, map, length, Contains, sum_by, if◌then◌else◌, ◌==◌, nat_le}
+use Rattle.std.specs.Prelude.{◌≡◌, ℕ, ◌-◌, ◌/◌, ◌<◌, Bool, List, map, length, Contains, sum_by, if◌then◌else◌, ◌==◌, nat_le, slice_index}
 use Rattle.std.specs.List.{range_with_len}
 use Rattle.hose_graph.specs.declared.vpn.Vpn.{Vpn}
 use Rattle.hose_graph.specs.Network.{Network}
@@ -28,6 +28,11 @@ amount_on l plan = sum_by (λ (pair : ℕ × ℕ). if pair.0 == l then pair.1 el
 -- a link's load: the sum of what the live VPNs reserve on it
 abbrev pub load_of : Book → ℕ → ℕ
 load_of book l = sum_by (λ (vpn : Vpn). amount_on l vpn.amounts) book.live
+
+-- a list has the load of each link
+pub record AreLoads (network : Network) (book : Book) (loads : List ℕ) : Type 0 where
+  pub places : length loads ≡ length network.links
+  pub each : (l : ℕ) → l < length network.links → slice_index loads l ≡ load_of book l
 
 -- what is left of a link's capacity
 abbrev pub free_rate : Network → Book → ℕ → ℕ

@@ -1,5 +1,5 @@
 -- Histories: lists of accepted entries, the books that they lead to, and which of them are sound and decided.
-use Rattle.std.specs.Prelude.{ℕ, zero, suc, ◌+◌, ◌<◌, ◌==◌, ◌&&◌, not, Bool, List, [], ◌∷◌, ◌++◌, filter, length, ⊤}
+use Rattle.std.specs.Prelude.{ℕ, zero, suc, ◌+◌, ◌<◌, ◌==◌, ◌&&◌, not, Bool, List, [], ◌∷◌, ◌++◌, filter, length, Option, None, Some, ⊤}
 use Rattle.std.specs.Str.{bytes_eq}
 use Rattle.hose_graph.specs.declared.entry.Entry.{Entry}
 use Rattle.hose_graph.specs.declared.entry.Entry.TheVariants.{Admit, Release}
@@ -7,7 +7,8 @@ use Rattle.hose_graph.specs.declared.vpn.Vpn.{Vpn}
 use Rattle.hose_graph.specs.declared.limits.TheConstants.{MOST_EPOCH, MOST_LIVE}
 use Rattle.hose_graph.specs.Network.{Network}
 use Rattle.hose_law.specs.Book.{Book, HasVpn}
-use Rattle.hose_law.specs.Decision.{IsPlanned}
+use Rattle.hose_law.specs.Decision.{Fits, IsPlanned}
+use Rattle.hose_law.specs.Tree.{IsTreeReservation}
 
 -- the book of an epoch with nothing live
 abbrev pub opening_book : ℕ → Book
@@ -45,11 +46,17 @@ last_epoch = MOST_EPOCH
 abbrev pub most_live : ℕ
 most_live = MOST_LIVE
 
--- An entry is sound at a book: an epoch is left, an admission has room among the live and a plan that exists and fits, and a release has a VPN of its
--- customer to give up.
+-- An entry is sound at a book: an epoch is left; an admission has room among the live, and reserves what the hose needs on some tree, where that is free;
+-- a release has a VPN of its customer to give up.
 abbrev pub IsSoundAt : Network → Book → Entry → Type 0
-IsSoundAt network book (Admit customer hose amounts) = (book.epoch < last_epoch) × (length book.live < most_live) × IsPlanned network book hose amounts
+IsSoundAt network book (Admit customer hose amounts) =
+    (book.epoch < last_epoch) × (length book.live < most_live) × IsTreeReservation network hose amounts × Fits network book amounts
 IsSoundAt network book (Release customer id) = (book.epoch < last_epoch) × HasVpn book customer id
+
+-- an entry, if there is one, is sound at a book
+abbrev pub IsSoundWith : Network → Book → Option Entry → Type 0
+IsSoundWith network book None = ⊤
+IsSoundWith network book (Some entry) = IsSoundAt network book entry
 
 -- An entry is decided at a book: it is sound there, and an admission's plan is the decision's.
 abbrev pub IsDecidedAt : Network → Book → Entry → Type 0

@@ -1,5 +1,5 @@
 -- Trees of links, the ways on them, and what a hose reserves on their links.
-use Rattle.std.specs.Prelude.{◌≡◌, ◌⊎◌, ℕ, ◌-◌, ◌<◌, ◌==◌, ◌↔◌, min, Bool, List, [], ◌∷◌, map, length, reverse, All, Contains, sum_by, if◌then◌else◌}
+use Rattle.std.specs.Prelude.{◌≡◌, ◌⊎◌, ℕ, ◌-◌, ◌<◌, ◌≤◌, ◌==◌, ◌↔◌, min, Bool, List, [], ◌∷◌, map, length, reverse, All, Contains, sum_by, if◌then◌else◌}
 use Rattle.std.specs.List.{list_any}
 use Rattle.hose_graph.specs.Ascending.{IsAscending}
 use Rattle.hose_graph.specs.Hose.{total_rate}
@@ -62,3 +62,11 @@ smaller_side tree hose l = min (rate_beyond tree hose l) (total_rate hose - rate
 pub record IsReservation (tree : Growth) (hose pairs : List (ℕ × ℕ)) : Type 0 where
   pub ascending : IsAscending pairs
   pub each : (l amount : ℕ) → Contains pairs (l, amount) ↔ (Contains (links_of tree) l × (amount ≡ smaller_side tree hose l))
+
+-- what a hose reserves on some tree that joins it, of which each link needs a part of its rates
+pub record IsTreeReservation (network : Network) (hose pairs : List (ℕ × ℕ)) : Type 0 where
+  pub tree : Growth
+  pub is_tree : IsTree network tree
+  pub joins : JoinsHose tree hose
+  pub reserves : IsReservation tree hose pairs
+  pub some : All (λ (pair : ℕ × ℕ). 1 ≤ pair.1) pairs

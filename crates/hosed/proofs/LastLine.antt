@@ -8,7 +8,7 @@ use Rattle.hosed.specs.Ending.{IsOut, status_of_done}
 use Rattle.hosed.specs.Run.{BreaksOff, IsRunUpTo, StopsInTopology}
 use Rattle.hosed.specs.Serving.{texts_of}
 use Rattle.hosed.specs.declared.fault.Fault.{Fault}
-use Rattle.hosed.specs.declared.fault.Fault.TheVariants.{Words, Topology, Cycle, Read, Write, Memory, TooLong}
+use Rattle.hosed.specs.declared.fault.Fault.TheVariants.{Words, Topology, Read, Write, Memory, TooLong}
 
 -- a count that rose behind another rose from there too
 rose_behind : (before middle after : ℕ) → before ≤ middle → Rose middle after → Rose before after
@@ -52,7 +52,6 @@ pub read_at_3 : {T : Type 0} (done : Result T Fault) → status_of_done done ≡
 read_at_3 (Ok _) is = cc
 read_at_3 (Err (Words word)) is = cc
 read_at_3 (Err (Topology line word)) is = cc
-read_at_3 (Err Cycle) is = cc
 read_at_3 (Err Read) is = refl
 read_at_3 (Err Write) is = cc
 read_at_3 (Err Memory) is = cc
@@ -62,7 +61,6 @@ pub too_long_at_8 : {T : Type 0} (done : Result T Fault) → status_of_done done
 too_long_at_8 (Ok _) is = cc
 too_long_at_8 (Err (Words word)) is = cc
 too_long_at_8 (Err (Topology line word)) is = cc
-too_long_at_8 (Err Cycle) is = cc
 too_long_at_8 (Err Read) is = cc
 too_long_at_8 (Err Write) is = cc
 too_long_at_8 (Err Memory) is = cc
@@ -72,7 +70,6 @@ pub write_at_4 : {T : Type 0} (done : Result T Fault) → status_of_done done �
 write_at_4 (Ok _) is = cc
 write_at_4 (Err (Words word)) is = cc
 write_at_4 (Err (Topology line word)) is = cc
-write_at_4 (Err Cycle) is = cc
 write_at_4 (Err Read) is = cc
 write_at_4 (Err Write) is = refl
 write_at_4 (Err Memory) is = cc

@@ -1,15 +1,11 @@
 pub mod Complete
 pub mod Costs
 pub mod Fitting
-pub mod Joining
 pub mod LastLine
-pub mod Listing
 pub mod OneReading
 pub mod OneRun
-pub mod Reaching
 pub mod Refused
 pub mod Releasing
 pub mod Running
-pub mod Sharing
 pub mod Shifting
 pub mod Turns

@@ -58,5 +58,5 @@ right_alone network input rest output lines replies history is topology said scr
     let same_lines = lines_unique network rest right.lines lines is their_said said
     (lines_read network [] right.history right.lines right.replies their_script right.without) (lines_read network [] history lines replies script without) in
     let moved : IsScript network 0 [] lines right.replies right.history = subst (λ (l : List ReadLine). IsScript network 0 [] l right.replies right.history) same_lines their_script in
-    let same_replies = script_unique network 0 [] lines right.replies replies right.history history moved script right.without without in
+    let same_replies = script_unique network is 0 [] lines right.replies replies right.history history moved script right.without without in
     right.out ∙ (ap (λ (n : Network). texts_of n right.replies) same.0 ∙ ap (texts_of network) same_replies.0)

@@ -10,14 +10,14 @@ use Rattle.hose_graph.specs.declared.reply.Reply.{Reply}
 use Rattle.hose_law.specs.Script.{ReadLine}
 use Rattle.hosed.specs.Ending.{IsEarly, status_of_done}
 use Rattle.hosed.specs.Fault.{last_line, of_line}
-use Rattle.hosed.specs.Run.{HasRun, IsCutOff, IsRun, IsRunFault, IsRunUpTo, IsRefusedText, EndsRefused, StopsInTopology, TellsCycle, TellsNoNetwork}
+use Rattle.hosed.specs.Run.{HasRun, IsCutOff, IsRun, IsRunFault, IsRunUpTo, IsRefusedText, EndsRefused, StopsInTopology, TellsNoNetwork}
 use Rattle.hosed.specs.Serving.{IsAllTaken, IsEndOf}
 use Rattle.hosed.specs.declared.fault.Fault.{Fault}
-use Rattle.hosed.specs.declared.fault.Fault.TheVariants.{Words, Topology, Cycle, Read, Write, Memory, TooLong}
+use Rattle.hosed.specs.declared.fault.Fault.TheVariants.{Words, Topology, Read, Write, Memory, TooLong}
 
 no_run : (old new : Option Stream) (network : Network) (lines : List ReadLine) (replies : List Reply) (stops : List ℕ → List ℕ → Type 0) → IsRefusedText old new
     → HasRun old new network lines replies stops → ⊥
-no_run (Some old) (Some new) network lines replies stops refused run = run.no_cycle (refused network run.text.0 run.text.2)
+no_run (Some old) (Some new) network lines replies stops refused run = refused network run.text.0 run.text.2
 no_run (Some old) None network lines replies stops refused run = refused
 no_run None new network lines replies stops refused run = refused
 
@@ -28,7 +28,6 @@ pub refused_ends : {T : Type 0} (done : Result T Fault) (old new : Option Stream
 refused_ends (Ok _) old new before after same kinds ran broke cut refused = absurd (no_run old new ran.network ran.lines ran.replies IsAllTaken refused ran.run)
 refused_ends (Err (Words word)) old new before after same kinds ran broke cut refused = absurd kinds
 refused_ends (Err (Topology line word)) old new before after same kinds ran broke cut refused = inl refl
-refused_ends (Err Cycle) old new before after same kinds ran broke cut refused = inl refl
 refused_ends (Err Memory) old new before after same kinds ran broke cut refused = inr (inl refl)
 refused_ends (Err Write) old new before after same kinds ran broke cut refused =
     let off = cut refl in absurd (no_run old new off.network off.lines (off.replies ++ off.reply ∷ []) IsEndOf refused off.run)
@@ -43,15 +42,14 @@ refused_ends (Err TooLong) old new before after same kinds ran broke cut refused
 
 -- At status 2 the topology was refused, and nothing was out before its last line.
 pub refused_told : {T O : Type 0} (done : Result T Fault) (old new : Option Stream) (was mid : O) (Out : O → List ℕ → Type 0)
-    → ((line word : ℕ) → done ≡ Err (Topology line word) → TellsNoNetwork line word old new) → (done ≡ Err Cycle → TellsCycle old new)
+    → ((line word : ℕ) → done ≡ Err (Topology line word) → TellsNoNetwork line word old new)
     → IfErr done (λ fault. IsEarly fault → mid ≡ was) → IfErr done (λ fault. Out mid (last_line fault)) → status_of_done done ≡ 2
-    → ((line : ℕ) × (word : ℕ) × TellsNoNetwork line word old new × Out was (last_line (Topology line word))) ⊎ (TellsCycle old new × Out was (last_line Cycle))
-refused_told (Ok _) old new was mid Out topology cycle early out is = absurd (omega (arith, is))
-refused_told (Err (Words word)) old new was mid Out topology cycle early out is = absurd (omega (arith, is))
-refused_told (Err (Topology line word)) old new was mid Out topology cycle early out is =
-    inl (line, word, topology line word refl, subst (λ (o : _). Out o (last_line (Topology line word))) (early tt) out)
-refused_told (Err Cycle) old new was mid Out topology cycle early out is = inr (cycle refl, subst (λ (o : _). Out o (last_line Cycle)) (early tt) out)
-refused_told (Err Read) old new was mid Out topology cycle early out is = absurd (omega (arith, is))
-refused_told (Err Write) old new was mid Out topology cycle early out is = absurd (omega (arith, is))
-refused_told (Err Memory) old new was mid Out topology cycle early out is = absurd (omega (arith, is))
-refused_told (Err TooLong) old new was mid Out topology cycle early out is = absurd (omega (arith, is))
+    → (line : ℕ) × (word : ℕ) × TellsNoNetwork line word old new × Out was (last_line (Topology line word))
+refused_told (Ok _) old new was mid Out topology early out is = absurd (omega (arith, is))
+refused_told (Err (Words word)) old new was mid Out topology early out is = absurd (omega (arith, is))
+refused_told (Err (Topology line word)) old new was mid Out topology early out is =
+    (line, word, topology line word refl, subst (λ (o : _). Out o (last_line (Topology line word))) (early tt) out)
+refused_told (Err Read) old new was mid Out topology early out is = absurd (omega (arith, is))
+refused_told (Err Write) old new was mid Out topology early out is = absurd (omega (arith, is))
+refused_told (Err Memory) old new was mid Out topology early out is = absurd (omega (arith, is))
+refused_told (Err TooLong) old new was mid Out topology early out is = absurd (omega (arith, is))

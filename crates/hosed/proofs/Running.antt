@@ -10,7 +10,6 @@ use Rattle.hose_words.specs.declared.lines.LineFault.TheVariants as line
 use Rattle.hose_words.proofs.OnReading.{WhereTold-both, WhereTold-map, WhereTold-then}
 use Rattle.hose_graph.specs.Network.{Network, IsNetwork}
 use Rattle.hose_graph.specs.declared.reply.Reply.{Reply}
-use Rattle.hose_law.specs.Plan.{HasCycle}
 use Rattle.hose_law.specs.Script.{ReadLine}
 use Rattle.hose_law.proofs.Lives.{stays_live}
 use Rattle.hose_law.proofs.Sold.{sold}
@@ -80,13 +79,13 @@ wrong_told source start last line word empty wrong none =
       subst (λ (p : List ℕ). (network : Network) (rest : List ℕ) → IsTopologyText (p ++ a) network rest → ⊥) empty both.1,
     ))
 
--- a network was read and has no cycle, and then lines were answered
+-- a network was read, and then lines were answered
 pub has_run : {S : Type 0} (source : Ghosts S) (start middle last : Reader S) (network : Network) (stops : List ℕ → List ℕ → Type 0) (puts : List Reply → Type 0) → start.pending ≡ []
     → WhereTold (source.content start.source) (source.content middle.source) (λ input left. IsTopologyText (start.pending ++ input) network (middle.pending ++ left))
-    → ReadsOn source start middle → (HasCycle network → ⊥)
+    → ReadsOn source start middle
     → (served : ServesUpTo source middle last network stops puts)
     → HasRun (source.content start.source) (source.content last.source) network served.lines served.replies stops
-has_run source start middle last network stops puts empty text reads no_cycle served = record {
+has_run source start middle last network stops puts empty text reads served = record {
   history = served.answered.history;
   text = WhereTold-then (source.content start.source) (source.content middle.source) (source.content last.source) reads.takes.0 _ _ _ reads.takes.1 text served.said
       (λ a b c told said. (
@@ -96,7 +95,6 @@ has_run source start middle last network stops puts empty text reads no_cycle se
         said.1,
         said.2,
       ));
-  no_cycle = no_cycle;
   script = served.answered.script;
   decided = served.answered.decided;
   none_oversold = λ place l. sold network 0 served.answered.history place l served.answered.decided.sound;
@@ -138,7 +136,6 @@ pub status_among : {T : Type 0} (done : Result T Fault) → IsStatus (status_of_
 status_among (Ok _) = (0, omega arith, refl)
 status_among (Err (fault.Words word)) = (1, omega arith, refl)
 status_among (Err (fault.Topology line word)) = (2, omega arith, refl)
-status_among (Err fault.Cycle) = (2, omega arith, refl)
 status_among (Err fault.Read) = (3, omega arith, refl)
 status_among (Err fault.Write) = (4, omega arith, refl)
 status_among (Err fault.Memory) = (5, omega arith, refl)

@@ -21,7 +21,7 @@ use Rattle.hose_graph.specs.declared.reply.Reply.{Reply}
 use Rattle.hose_graph.specs.declared.reply.Reply.TheVariants.{Welcome, Admitted, Quoted, Refused, Stale, Released, NoVpn, NoQuote, TooMany, Shown, LinkState, Full, Spent, Disk, Memory, Bad, Long, Bye}
 use Rattle.hose_graph.specs.Network.{Network}
 use Rattle.hose_law.specs.Book.{Book}
-use Rattle.hose_law.specs.History.{opening_book, book_of, IsDecided}
+use Rattle.hose_law.specs.History.{opening_book, book_of, IsDecided, IsSoundWith}
 use Rattle.hose_law.specs.Answer.{IsAnswer, IsStep, with_entry}
 use Rattle.hose_law.proofs.Scripts.{book_after_push, decided_push, script_push}
 use Rattle.hose_law.specs.Script.{ReadLine, IsLineStep}
@@ -86,13 +86,13 @@ book_after_answer history (Some entry) = sym (book_after_push (opening_book 0) h
 
 -- a reply other than want of memory
 answered : (network : Network) (history : List Entry) (customer : List ℕ) (command : Command) (reply : Reply) (book : Book) (entry : Option Entry) → IsDecided network 0 0 history
-    → IsAnswer network (book_of 0 history) customer command reply entry → book ≡ book_with (book_of 0 history) entry
+    → IsAnswer network (book_of 0 history) customer command reply entry → IsSoundWith network (book_of 0 history) entry → book ≡ book_with (book_of 0 history) entry
     → ((next : List Entry) → ((entry : Option Entry) × IsAnswer network (book_of 0 history) customer command reply entry × (next ≡ with_entry history entry)) → IsStep network 0 history customer command reply next)
     → Stepped network history (Asks customer command) reply book
-answered network history customer command reply book entry decided answer is steps = record {
+answered network history customer command reply book entry decided answer sound is steps = record {
   next = with_entry history entry;
   step = steps (with_entry history entry) (entry, answer, refl);
-  decided = decided_push network 0 history customer command reply entry decided answer;
+  decided = decided_push network 0 history customer command reply entry decided sound answer;
   is_book = is ∙ book_after_answer history entry;
 }
 
@@ -103,23 +103,23 @@ unchanged network history said reply book decided step is = record { next = hist
 stepped : (network : Network) (history : List Entry) (said : ReadLine) (reply : Reply) (book : Book) → IsDecided network 0 0 history → AnswersLine (record { network = network; book = book_of 0 history }) said reply book
     → Stepped network history said reply book
 stepped network history (Asks customer command) Memory book decided answers = unchanged network history (Asks customer command) Memory book decided refl answers
-stepped network history (Asks customer command) (Welcome at) book decided answers = answered network history customer command (Welcome at) book answers.0 decided answers.1 answers.2 (λ next step. step)
-stepped network history (Asks customer command) (Admitted id cost at amounts) book decided answers = answered network history customer command (Admitted id cost at amounts) book answers.0 decided answers.1 answers.2 (λ next step. step)
-stepped network history (Asks customer command) (Quoted quote cost at amounts) book decided answers = answered network history customer command (Quoted quote cost at amounts) book answers.0 decided answers.1 answers.2 (λ next step. step)
-stepped network history (Asks customer command) (Refused at side) book decided answers = answered network history customer command (Refused at side) book answers.0 decided answers.1 answers.2 (λ next step. step)
-stepped network history (Asks customer command) (Stale seen now) book decided answers = answered network history customer command (Stale seen now) book answers.0 decided answers.1 answers.2 (λ next step. step)
-stepped network history (Asks customer command) (Released id at) book decided answers = answered network history customer command (Released id at) book answers.0 decided answers.1 answers.2 (λ next step. step)
-stepped network history (Asks customer command) (NoVpn id at) book decided answers = answered network history customer command (NoVpn id at) book answers.0 decided answers.1 answers.2 (λ next step. step)
-stepped network history (Asks customer command) (NoQuote quote at) book decided answers = answered network history customer command (NoQuote quote at) book answers.0 decided answers.1 answers.2 (λ next step. step)
-stepped network history (Asks customer command) (TooMany at) book decided answers = answered network history customer command (TooMany at) book answers.0 decided answers.1 answers.2 (λ next step. step)
-stepped network history (Asks customer command) (Shown id cost at hose amounts) book decided answers = answered network history customer command (Shown id cost at hose amounts) book answers.0 decided answers.1 answers.2 (λ next step. step)
-stepped network history (Asks customer command) (LinkState link load at) book decided answers = answered network history customer command (LinkState link load at) book answers.0 decided answers.1 answers.2 (λ next step. step)
-stepped network history (Asks customer command) (Full at) book decided answers = answered network history customer command (Full at) book answers.0 decided answers.1 answers.2 (λ next step. step)
-stepped network history (Asks customer command) (Spent at) book decided answers = answered network history customer command (Spent at) book answers.0 decided answers.1 answers.2 (λ next step. step)
-stepped network history (Asks customer command) (Disk at) book decided answers = answered network history customer command (Disk at) book answers.0 decided answers.1 answers.2 (λ next step. step)
-stepped network history (Asks customer command) (Bad word) book decided answers = answered network history customer command (Bad word) book answers.0 decided answers.1 answers.2 (λ next step. step)
-stepped network history (Asks customer command) Long book decided answers = answered network history customer command Long book answers.0 decided answers.1 answers.2 (λ next step. step)
-stepped network history (Asks customer command) Bye book decided answers = answered network history customer command Bye book answers.0 decided answers.1 answers.2 (λ next step. step)
+stepped network history (Asks customer command) (Welcome at) book decided answers = answered network history customer command (Welcome at) book answers.0 decided answers.1 answers.2 answers.3 (λ next step. step)
+stepped network history (Asks customer command) (Admitted id cost at amounts) book decided answers = answered network history customer command (Admitted id cost at amounts) book answers.0 decided answers.1 answers.2 answers.3 (λ next step. step)
+stepped network history (Asks customer command) (Quoted quote cost at amounts) book decided answers = answered network history customer command (Quoted quote cost at amounts) book answers.0 decided answers.1 answers.2 answers.3 (λ next step. step)
+stepped network history (Asks customer command) (Refused at side) book decided answers = answered network history customer command (Refused at side) book answers.0 decided answers.1 answers.2 answers.3 (λ next step. step)
+stepped network history (Asks customer command) (Stale seen now) book decided answers = answered network history customer command (Stale seen now) book answers.0 decided answers.1 answers.2 answers.3 (λ next step. step)
+stepped network history (Asks customer command) (Released id at) book decided answers = answered network history customer command (Released id at) book answers.0 decided answers.1 answers.2 answers.3 (λ next step. step)
+stepped network history (Asks customer command) (NoVpn id at) book decided answers = answered network history customer command (NoVpn id at) book answers.0 decided answers.1 answers.2 answers.3 (λ next step. step)
+stepped network history (Asks customer command) (NoQuote quote at) book decided answers = answered network history customer command (NoQuote quote at) book answers.0 decided answers.1 answers.2 answers.3 (λ next step. step)
+stepped network history (Asks customer command) (TooMany at) book decided answers = answered network history customer command (TooMany at) book answers.0 decided answers.1 answers.2 answers.3 (λ next step. step)
+stepped network history (Asks customer command) (Shown id cost at hose amounts) book decided answers = answered network history customer command (Shown id cost at hose amounts) book answers.0 decided answers.1 answers.2 answers.3 (λ next step. step)
+stepped network history (Asks customer command) (LinkState link load at) book decided answers = answered network history customer command (LinkState link load at) book answers.0 decided answers.1 answers.2 answers.3 (λ next step. step)
+stepped network history (Asks customer command) (Full at) book decided answers = answered network history customer command (Full at) book answers.0 decided answers.1 answers.2 answers.3 (λ next step. step)
+stepped network history (Asks customer command) (Spent at) book decided answers = answered network history customer command (Spent at) book answers.0 decided answers.1 answers.2 answers.3 (λ next step. step)
+stepped network history (Asks customer command) (Disk at) book decided answers = answered network history customer command (Disk at) book answers.0 decided answers.1 answers.2 answers.3 (λ next step. step)
+stepped network history (Asks customer command) (Bad word) book decided answers = answered network history customer command (Bad word) book answers.0 decided answers.1 answers.2 answers.3 (λ next step. step)
+stepped network history (Asks customer command) Long book decided answers = answered network history customer command Long book answers.0 decided answers.1 answers.2 answers.3 (λ next step. step)
+stepped network history (Asks customer command) Bye book decided answers = answered network history customer command Bye book answers.0 decided answers.1 answers.2 answers.3 (λ next step. step)
 stepped network history (IsBad word) reply book decided answers = unchanged network history (IsBad word) reply book decided (answers.0, refl) answers.1
 stepped network history IsLong reply book decided answers = unchanged network history IsLong reply book decided (answers.0, refl) answers.1
 stepped network history Unread reply book decided answers = unchanged network history Unread reply book decided (answers.0, refl) answers.1

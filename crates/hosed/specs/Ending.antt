@@ -28,6 +28,5 @@ GrowsShort before after text more = (count : ℕ) × (count < length more) × Gr
 abbrev pub IsEarly : Fault → Type 0
 IsEarly (fault.Words word) = ⊤
 IsEarly (fault.Topology line word) = ⊤
-IsEarly fault.Cycle = ⊤
 IsEarly fault.Memory = ⊤
 IsEarly _ = ⊥

@@ -6,13 +6,12 @@ use Rattle.hose_topo.specs.declared.fault.TopoFault.{TopoFault}
 use Rattle.hose_topo.specs.declared.fault.TopoFault.TheVariants as topology
 use Rattle.hose_proto.specs.ReplyText.{line_of}
 use Rattle.hosed.specs.declared.fault.Fault.{Fault}
-use Rattle.hosed.specs.declared.fault.Fault.TheVariants.{Words, Topology, Cycle, Read, Write, Memory, TooLong}
+use Rattle.hosed.specs.declared.fault.Fault.TheVariants.{Words, Topology, Read, Write, Memory, TooLong}
 
 -- the status
 abbrev pub status_of : Fault → ℕ
 status_of (Words word) = 1
 status_of (Topology line word) = 2
-status_of Cycle = 2
 status_of Read = 3
 status_of Write = 4
 status_of Memory = 7
@@ -22,7 +21,6 @@ status_of TooLong = 8
 abbrev pub last_line : Fault → List ℕ
 last_line (Words word) = line_of (codes "words " ++ decimal word)
 last_line (Topology line word) = line_of (codes "topology " ++ decimal line ++ codes " " ++ decimal word)
-last_line Cycle = line_of (codes "topology cycle")
 last_line Read = line_of (codes "read")
 last_line Write = []
 last_line Memory = line_of (codes "no memory")

@@ -1,12 +1,7 @@
-pub mod Deciding
 pub mod Ending
 pub mod Fault
 pub mod Ledger
-pub mod Nodes
 pub mod ProgramWords
-pub mod Reach
 pub mod Run
 pub mod ScriptLine
 pub mod Serving
-pub mod Shares
-pub mod Sides

@@ -8,7 +8,6 @@ use Rattle.hose_words.specs.declared.lines.LineFault.TheVariants.{Read, TooLong}
 use Rattle.hose_graph.specs.declared.entry.Entry.{Entry}
 use Rattle.hose_graph.specs.declared.reply.Reply.{Reply}
 use Rattle.hose_graph.specs.Network.{Network}
-use Rattle.hose_law.specs.Plan.{HasCycle}
 use Rattle.hose_law.specs.Book.{IsOversold}
 use Rattle.hose_law.specs.History.{book_of, IsDecided}
 use Rattle.hose_law.specs.Live.{StaysLive}
@@ -34,13 +33,12 @@ pub record IsRightFor (input output : List ℕ) : Type 0 where
   pub without : WithoutMemory replies
   pub out : output ≡ texts_of network replies
 
--- The input is the text of a network without a cycle and then lines, all of which were answered: the replies are those of the script of
+-- The input is the text of a network and then lines, all of which were answered: the replies are those of the script of
 -- the lines from the empty history, that history is decided from its start, no link is oversold at any place of it, and each VPN is live and
 -- unchanged from its admission up to its own release. `stops` says how what stands behind the lines stands to what the input has left.
 pub record HasRun (old new : Option Stream) (network : Network) (lines : List ReadLine) (replies : List Reply) (stops : List ℕ → List ℕ → Type 0) : Type 0 where
   pub history : List Entry
   pub text : WhereTold old new (λ input left. (rest : List ℕ) × (behind : List ℕ) × IsTopologyText input network rest × SayLines network rest lines behind × stops behind left)
-  pub no_cycle : HasCycle network → ⊥
   pub script : IsScript network 0 [] lines replies history
   pub decided : IsDecided network 0 0 history
   pub none_oversold : (place l : ℕ) → IsOversold network (book_of 0 (take place history)) l → ⊥
@@ -86,17 +84,13 @@ abbrev pub TellsNoNetwork : ℕ → ℕ → Option Stream → Option Stream → 
 TellsNoNetwork line word old new =
     WhereTold old new (λ input _. ((rest : List ℕ) × IsWrongAt input line word rest) × ((network : Network) (rest : List ℕ) → IsTopologyText input network rest → ⊥))
 
--- the input begins with the text of a network that has a cycle
-abbrev pub TellsCycle : Option Stream → Option Stream → Type 0
-TellsCycle old new = WhereTold old new (λ input _. (network : Network) × (rest : List ℕ) × IsTopologyText input network rest × HasCycle network)
-
 -- Reading stopped at a fault before the topology was refused or ended: behind lines that add to a network no line was taken whole.
 abbrev pub StopsInTopology : LineFault → Option Stream → Option Stream → Type 0
 StopsInTopology fault old new = WhereTold old new (λ input left. (network : Network) × (count : ℕ) × (behind : List ℕ) × AddLines no_network input count network behind × StopsAt fault behind left)
 
--- The input is told, and each network that it begins with the text of has a cycle; it may be the text of none.
+-- The input is told, and begins with the text of no network.
 abbrev pub IsRefusedText : Option Stream → Option Stream → Type 0
-IsRefusedText (Some old) (Some new) = (network : Network) (rest : List ℕ) → IsTopologyText old.left network rest → HasCycle network
+IsRefusedText (Some old) (Some new) = (network : Network) (rest : List ℕ) → IsTopologyText old.left network rest → ⊥
 IsRefusedText _ _ = ⊥
 
 -- What comes of such an input: status 2; or want of memory; or the input stopped before its topology was refused.
@@ -108,8 +102,8 @@ abbrev pub IsRunFault : Fault → Type 0
 IsRunFault (fault.Words word) = ⊥
 IsRunFault _ = ⊤
 
--- The input is told: it begins with the text of a network without a cycle, and is not too long.
+-- The input is told: it begins with the text of a network, and is not too long.
 abbrev pub IsServable : Option Stream → Type 0
 IsServable None = ⊥
 IsServable (Some stream) =
-    (network : Network) × (rest : List ℕ) × IsTopologyText stream.left network rest × (HasCycle network → ⊥) × (length stream.left ≤ 2 ^ 30)
+    (network : Network) × (rest : List ℕ) × IsTopologyText stream.left network rest × (length stream.left ≤ 2 ^ 30)

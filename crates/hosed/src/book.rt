@@ -1,30 +1,31 @@
-// The book: the live VPNs, the loads that they make, and what is decided of a hose.
+// The book: the live VPNs, the loads that they make, and the replies to commands.
 ghost use Rattle.std.specs.Prelude.{◌≡◌, ◌+◌, ◌<◌, ◌≤◌, ◌↔◌, ◌^◌, ℕ, length, slice_index, slice_get, List, None, All, IsTrue, IsSomeAnd, IfOk, IfSome, IfNone};
+ghost use Rattle.hose_graph.specs.Hose.{IsHose};
 ghost use Rattle.hose_graph.specs.Network.{IsNetwork};
 ghost use Rattle.hose_proto.specs.ReplyText.{NamesPlaces};
 ghost use Rattle.hose_law.specs.Answer.{IsLinkAnswer};
-ghost use Rattle.hose_law.specs.Book.{HasVpn, IsLiveVpn, amount_on, free_rate, safe_links};
-ghost use Rattle.hose_law.specs.Decision.{Fits, IsPlanned, IsReachedList, lowest_end};
+ghost use Rattle.hose_law.specs.Book.{HasVpn, IsLiveVpn, amount_on};
+ghost use Rattle.hose_law.specs.Decision.{Fits, IsPlanned};
 ghost use Rattle.hose_law.specs.History.{IsSoundAt, last_epoch, most_live, is_vpn, next_book, opening_book};
-ghost use Rattle.hose_law.specs.Plan.{AreNodes, HasCycle};
-ghost use Rattle.hosed.specs.Deciding.{IsDecision, NamesNodes};
+ghost use Rattle.hose_law.specs.Plan.{AreNodes, plan_cost};
+ghost use Rattle.hose_law.specs.Tree.{IsTreeReservation};
+ghost use Rattle.hose_plan.specs.Planning.{IsDecision, IsSoundDecision, NamesNodes};
 ghost use Rattle.hose_proto.specs.Reading.{AsksOf};
 ghost use Rattle.hosed.specs.Ledger.{Answers};
-ghost use Rattle.hosed.specs.Nodes.{AreNodesBelow};
 
-use crate::plan::{Sides, plan_cost};
-use crate::reach::reached;
 use hose_graph::{
-    Amounts, Command, Entry, Hose, MOST_EPOCH, MOST_LIVE, Name, NodeList, Reply, Topology, Vpn,
+    Amounts, Command, Entry, Hose, MOST_EPOCH, MOST_LIVE, Name, Reply, Topology, Vpn,
 };
+use hose_paths::PlainRows;
+use hose_plan::{Decision, decide};
+use hose_tree::cost;
 use std::alloc::{AllocError, Global};
 use std::marker::Model;
 
-/// The live VPNs of a network without a cycle, in the order of their admission, and the sum of what they reserve on each link.
+/// The live VPNs of a network, in the order of their admission, and the sum of what they reserve on each link.
 #[derive(Drop)]
 pub struct Book {
     topology: Topology,
-    sides: Sides,
     epoch: u64,
     loads: Vec<u64>,
     live: Vec<Vpn>,
@@ -33,8 +34,7 @@ pub struct Book {
 impl Model for Book {
     ghost use Rattle.std.specs.Prelude.{◌≤◌, length, vec_capacity, All};
     ghost use Rattle.hose_graph.specs.Network.{IsNetwork};
-    ghost use Rattle.hosed.specs.Ledger.{Ledger, AreLoads, IsKept};
-    ghost use Rattle.hosed.specs.Sides.{AreSides};
+    ghost use Rattle.hosed.specs.Ledger.{Ledger, AreKeptLoads, IsKept};
     ghost use Rattle.hose_law.specs.History.{last_epoch, most_live};
     ghost use Rattle.hose_law.specs.Live.{HasRisingIds};
 
@@ -43,8 +43,7 @@ impl Model for Book {
     ghost view = { λ b. record { network = b.topology; book = record { epoch = b.epoch; live = b.live.items } } };
 
     ghost invariant = { λ b. IsNetwork b.topology
-        × AreSides b.topology b.sides
-        × AreLoads b.topology (record { epoch = b.epoch; live = b.live.items }) b.loads.items
+        × AreKeptLoads b.topology (record { epoch = b.epoch; live = b.live.items }) b.loads.items
         × (b.epoch ≤ last_epoch)
         × (length b.live.items ≤ most_live)
         × (most_live ≤ vec_capacity b.live)
@@ -52,34 +51,19 @@ impl Model for Book {
         × All (IsKept b.topology) b.live.items };
 }
 
-/// What is decided of a hose.
-#[derive(Drop)]
-pub enum Decision {
-    /// It is admitted, with this plan.
-    Plan(Amounts),
-    /// It is refused, with this side.
-    Refused(NodeList),
-}
-
 impl Book {
-    /// The book of a network at epoch 0, with nothing live; or nothing, where the network has a cycle.
-    pub fn new(alloc: Global, topology: Topology) -> Result<Option<Book>, AllocError>
-        ensures book { IfOk result (λ opened. IfSome opened (λ book. book ≡ record { network = topology; book = opening_book 0 })) }
-        ensures cycle { IfOk result (λ opened. IfNone opened (HasCycle topology)) }
-        ensures forest { IfOk result (λ opened. IfSome opened (λ _. HasCycle topology → ⊥)) }
+    /// The book of a network at epoch 0, with nothing live.
+    pub fn new(alloc: Global, topology: Topology) -> Result<Book, AllocError>
+        ensures { IfOk result (λ book. book ≡ record { network = topology; book = opening_book 0 }) }
     {
-        let Some(sides) = Sides::new(alloc, &topology)? else {
-            return Ok(None);
-        };
         let loads = Vec::from_elem(alloc, 0, topology.links() as usize)?;
         let live = Vec::with_capacity(alloc, MOST_LIVE)?;
-        Ok(Some(Book {
+        Ok(Book {
             topology,
-            sides,
             epoch: 0,
             loads,
             live,
-        }))
+        })
     }
 
     /// The reply to a customer's command. The book changes with `Admitted` and `Released` alone.
@@ -106,18 +90,48 @@ impl Book {
     {
         match self.decide(alloc, &hose) {
             Err(_) => Reply::Memory,
-            Ok(Decision::Refused(side)) => Reply::Refused {
+            Ok(Decision::Refused { side }) => Reply::Refused {
                 at: self.epoch,
                 side,
             },
-            Ok(Decision::Plan(amounts)) => self.take(alloc, customer, hose, amounts),
+            Ok(Decision::Plan { amounts, cost, .. }) => {
+                self.take(alloc, customer, hose, amounts, cost)
+            }
         }
     }
 
-    // Admits a hose with its plan, where the epochs are not spent and the book is not full.
-    fn take(&mut self, alloc: Global, customer: Name, hose: Hose, amounts: Amounts) -> Reply
+    // What is decided of a hose.
+    fn decide(&self, alloc: Global, hose: &Hose) -> Result<Decision, AllocError>
+        requires { AreNodes self.now.network hose.now }
+        ensures decision { IfOk result (IsDecision self.now.network self.now.book hose.now) }
+        ensures sound { IfOk result (IsSoundDecision self.now.network self.now.book hose.now) }
+        ensures names { IfOk result (NamesNodes self.now.network) }
+        ensures hose { IfOk result (λ _. IsHose hose.now) }
+    {
+        decide(
+            alloc,
+            &self.topology,
+            &self.loads,
+            hose,
+            &mut PlainRows::new(),
+        )
+    }
+
+    // Admits a hose with its plan and what that costs, where the epochs are not spent and the book is not full.
+    fn take(
+        &mut self,
+        alloc: Global,
+        customer: Name,
+        hose: Hose,
+        amounts: Amounts,
+        cost: u64,
+    ) -> Reply
+        requires hose { IsHose hose }
         requires nodes { AreNodes self.old.network hose }
         requires planned { IsPlanned self.old.network self.old.book hose amounts }
+        requires reserves { IsTreeReservation self.old.network hose amounts }
+        requires fits { Fits self.old.network self.old.book amounts }
+        requires cost { cost ≡ plan_cost self.old.network amounts }
         ensures network { self.new.network ≡ self.old.network }
         ensures answer { Answers self.old customer (Command.Admit hose) result self.new.book }
         ensures names { NamesPlaces self.old.network result }
@@ -132,7 +146,6 @@ impl Book {
         let Ok(copy) = amounts.copy(alloc) else {
             return Reply::Memory;
         };
-        let cost = plan_cost(&self.topology, amounts.pairs());
         let id = self.enter(customer, hose, amounts);
         Reply::Admitted {
             id,
@@ -175,7 +188,7 @@ impl Book {
         let Ok(amounts) = vpn.amounts.copy(alloc) else {
             return Reply::Memory;
         };
-        let cost = plan_cost(&self.topology, amounts.pairs());
+        let cost = cost(&self.topology, &vpn.amounts);
         Reply::Shown {
             id,
             cost,
@@ -216,6 +229,7 @@ impl Book {
 
     // Enters an admission that is sound, and gives its number.
     fn enter(&mut self, customer: Name, hose: Hose, amounts: Amounts) -> u64
+        requires hose { IsHose hose }
         requires nodes { AreNodes self.old.network hose }
         requires sound { IsSoundAt self.old.network self.old.book (Entry.Admit customer hose amounts) }
         ensures id { result ≡ self.old.book.epoch + 1 }
@@ -248,78 +262,6 @@ impl Book {
         self.epoch = at;
         at
     }
-
-    // What is decided of a hose: its plan, where that exists and fits.
-    fn decide(&self, alloc: Global, hose: &Hose) -> Result<Decision, AllocError>
-        requires { AreNodes self.now.network hose.now }
-        ensures decision { IfOk result (IsDecision self.now.network self.now.book hose.now) }
-        ensures names { IfOk result (NamesNodes self.now.network) }
-    {
-        match self.fitting_plan(alloc, hose)? {
-            Some(amounts) => Ok(Decision::Plan(amounts)),
-            None => Ok(Decision::Refused(self.refused_side(alloc, hose)?)),
-        }
-    }
-
-    // The plan of a hose, where it exists and fits.
-    fn fitting_plan(&self, alloc: Global, hose: &Hose) -> Result<Option<Amounts>, AllocError>
-        requires { AreNodes self.now.network hose.now }
-        ensures plan { IfOk result (λ found. IfSome found (IsPlanned self.now.network self.now.book hose.now)) }
-        ensures none { IfOk result (λ found. IfNone found
-            ((plan : List (ℕ × ℕ)) → IsPlanned self.now.network self.now.book hose.now plan → ⊥)) }
-    {
-        let Some(amounts) = self.sides.plan(alloc, &self.topology, hose)? else {
-            return Ok(None);
-        };
-        if self.fits(&amounts) {
-            Ok(Some(amounts))
-        } else {
-            Ok(None)
-        }
-    }
-
-    // What a link has free.
-    fn free(&self, l: u32) -> u64
-        requires { l < length self.now.network.links }
-        ensures { result ≡ free_rate self.now.network self.now.book l }
-    {
-        self.topology.link(l).capacity - self.loads[l as usize]
-    }
-
-    // Whether each amount is at most what its link has free.
-    fn fits(&self, amounts: &Amounts) -> bool
-        requires { All (λ pair. pair.0 < length self.now.network.links) amounts.now }
-        ensures { IsTrue result ↔ Fits self.now.network self.now.book amounts.now }
-    {
-        amounts
-            .pairs()
-            .iter()
-            .all(|pair| pair.1 <= self.free(pair.0))
-    }
-
-    // The nodes that the lowest endpoint reaches over the safe links.
-    fn refused_side(&self, alloc: Global, hose: &Hose) -> Result<NodeList, AllocError>
-        requires { AreNodes self.now.network hose.now }
-        ensures side { IfOk result (IsReachedList self.now.network
-            (safe_links self.now.network self.now.book hose.now) (lowest_end hose.now)) }
-        ensures names { IfOk result (All (λ node. node < length self.now.network.nodes)) }
-    {
-        let safe = self.safe_links(alloc, hose)?;
-        let side = reached(alloc, &self.topology, &safe, hose.ends()[0].0)?;
-        nodes_on(alloc, &self.topology, &side)
-    }
-
-    // Whether each link has half of the hose's rates free.
-    fn safe_links(&self, alloc: Global, hose: &Hose) -> Result<Vec<bool>, AllocError>
-        ensures { IfOk result (λ safe. safe.items ≡ safe_links self.now.network self.now.book hose.now) }
-    {
-        let half = hose.total() / 2;
-        let mut safe = Vec::new(alloc);
-        for l in 0..self.topology.links() {
-            safe.push(half <= self.free(l))?;
-        }
-        Ok(safe)
-    }
 }
 
 // Adds what a plan reserves to the loads.
@@ -349,19 +291,4 @@ fn is_vpn(vpn: &Vpn, customer: &Name, id: u64) -> bool
     ensures { result ≡ is_vpn customer.now id vpn.now }
 {
     vpn.id == id && vpn.customer == *customer
-}
-
-// The nodes on a side, ascending.
-fn nodes_on(alloc: Global, topology: &Topology, side: &[bool]) -> Result<NodeList, AllocError>
-    requires { length side.now ≡ length topology.now.nodes }
-    ensures nodes { IfOk result (AreNodesBelow side.now (length side.now)) }
-    ensures network { IsNetwork topology.now }
-{
-    let mut nodes = Vec::new(alloc);
-    for v in 0..topology.nodes() {
-        if side[v as usize] {
-            nodes.push(v)?;
-        }
-    }
-    NodeList::build(alloc, &nodes)
 }

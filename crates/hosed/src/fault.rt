@@ -18,8 +18,6 @@ pub enum Fault {
     Words(u64),
     /// The topology text was refused: this is the first word that is not allowed, by its line and its number in it.
     Topology { line: u64, word: u64 },
-    /// The network has a cycle.
-    Cycle,
     /// The input failed.
     Read,
     /// The output failed.
@@ -37,7 +35,7 @@ impl Fault {
     {
         match self {
             Fault::Words(_) => 1,
-            Fault::Topology { .. } | Fault::Cycle => 2,
+            Fault::Topology { .. } => 2,
             Fault::Read => 3,
             Fault::Write => 4,
             Fault::Memory => 7,
@@ -59,7 +57,6 @@ impl Fault {
         match self {
             Fault::Words(word) => put_words(output, word),
             Fault::Topology { line, word } => put_place(output, line, word),
-            Fault::Cycle => write_all(output, b"topology cycle\n"),
             Fault::Read => write_all(output, b"read\n"),
             Fault::Write => Ok(()),
             Fault::Memory => write_all(output, b"no memory\n"),
@@ -155,7 +152,6 @@ mod tests {
         for (fault, status, line) in [
             (Fault::Words(2), 1, "words 2\n"),
             (Fault::Topology { line: 3, word: 0 }, 2, "topology 3 0\n"),
-            (Fault::Cycle, 2, "topology cycle\n"),
             (Fault::Read, 3, "read\n"),
             (Fault::from(Failed), 4, ""),
             (Fault::from(AllocError), 7, "no memory\n"),

@@ -12,12 +12,10 @@ ghost use Rattle.hose_words.specs.declared.lines.LineFault.{LineFault};
 ghost use Rattle.hosed.specs.Ending.{IsStatus, IsOut, IsEarly, status_of_done};
 ghost use Rattle.hosed.specs.Fault.{last_line, of_line};
 ghost use Rattle.hosed.specs.ProgramWords.{AreRunWords, first_wrong};
-ghost use Rattle.hosed.specs.Run.{BreaksOff, EndsRefused, IsCutOff, IsRefusedText, IsRun, IsRunFault, IsServable, IsRunUpTo, StopsInTopology, TellsCycle, TellsNoNetwork};
+ghost use Rattle.hosed.specs.Run.{BreaksOff, EndsRefused, IsCutOff, IsRefusedText, IsRun, IsRunFault, IsServable, IsRunUpTo, StopsInTopology, TellsNoNetwork};
 
 mod book;
 mod fault;
-mod plan;
-mod reach;
 mod run;
 mod script_line;
 mod words;
@@ -30,7 +28,7 @@ use std::alloc::Global;
 ///
 /// The status is 0 where all was read to its end. Else it tells the first fault, and the last line of the output tells it too:
 /// 1 `words K`, the number of the first word that is not allowed; 2 `topology LINE WORD`, the first word of the topology that is not
-/// allowed, or `topology cycle`; 3 `read`; 4 a failed output, which has no last line; 7 `no memory`; 8 `too long`, an input of more
+/// allowed; 3 `read`; 4 a failed output, which has no last line; 7 `no memory`; 8 `too long`, an input of more
 /// than 1 GiB.
 pub fn hosed<I: Source, O: Sink>(
     alloc: Global,
@@ -49,12 +47,9 @@ pub fn hosed<I: Source, O: Sink>(
         (O.faults output.old) (O.faults output.new)
         (last_line (Fault.Words (first_wrong (map string_bytes words.now)))) }
     ensures topology { result ≡ 2
-        → ((line : ℕ) × (word : ℕ) × TellsNoNetwork line word (I.content input.old) (I.content input.new)
+        → (line : ℕ) × (word : ℕ) × TellsNoNetwork line word (I.content input.old) (I.content input.new)
         × IsOut (O.content output.old) (O.content output.new) (O.faults output.old) (O.faults output.new)
-        (last_line (Fault.Topology line word)))
-        ⊎ (TellsCycle (I.content input.old) (I.content input.new)
-        × IsOut (O.content output.old) (O.content output.new) (O.faults output.old) (O.faults output.new)
-        (last_line Fault.Cycle)) }
+        (last_line (Fault.Topology line word)) }
 
     // A topology that is refused gives 2, but for want of memory and an input that stopped inside it.
     ensures refused { AreRunWords (map string_bytes words.now)
@@ -118,7 +113,6 @@ fn do_words<I: Source, O: Sink>(
     ensures kinds { AreRunWords (map string_bytes words.now) → IfErr result IsRunFault }
     ensures topology { (line word : ℕ) → result ≡ Err (Fault.Topology line word)
         → TellsNoNetwork line word (I.content input.old) (I.content input.new) }
-    ensures cycle { result ≡ Err Fault.Cycle → TellsCycle (I.content input.old) (I.content input.new) }
     ensures read { result ≡ Err Fault.Read → Rose (I.faults input.old) (I.faults input.new) }
     ensures write { result ≡ Err Fault.Write → Rose (O.faults output.old) (O.faults output.new) }
     ensures takes { (bytes : List ℕ) × Gives (I.content input.old) (I.content input.new) bytes

@@ -9,7 +9,7 @@ ghost use Rattle.hose_law.specs.History.{opening_book};
 ghost use Rattle.hose_law.specs.Script.{ReadLine};
 ghost use Rattle.hose_words.specs.Reading.{ReadsOn};
 ghost use Rattle.hose_proto.specs.ReplyText.{NamesPlaces};
-ghost use Rattle.hosed.specs.Run.{IsCutOff, IsRun, IsRunFault, IsRunUpTo, StopsInTopology, TellsCycle, TellsNoNetwork};
+ghost use Rattle.hosed.specs.Run.{IsCutOff, IsRun, IsRunFault, IsRunUpTo, StopsInTopology, TellsNoNetwork};
 ghost use Rattle.hosed.specs.Ending.{IsEarly};
 ghost use Rattle.hosed.specs.Fault.{of_line};
 ghost use Rattle.hosed.specs.Serving.{SaysRead, AnswersLine, CutsLast, IsAllTaken, IsEndOf, IsOver, IsStreamFault, MeetsFault, ServesUpTo, TakesTurn, texts_of};
@@ -31,7 +31,6 @@ pub fn run<I: Source, O: Sink>(alloc: Global, input: &mut I, output: &mut O) -> 
     ensures kinds { IfErr result IsRunFault }
     ensures topology { (line word : ℕ) → result ≡ Err (Fault.Topology line word)
         → TellsNoNetwork line word (I.content input.old) (I.content input.new) }
-    ensures cycle { result ≡ Err Fault.Cycle → TellsCycle (I.content input.old) (I.content input.new) }
     ensures read { result ≡ Err Fault.Read → Rose (I.faults input.old) (I.faults input.new) }
     ensures write { result ≡ Err Fault.Write → Rose (O.faults output.old) (O.faults output.new) }
     ensures takes { (bytes : List ℕ) × Gives (I.content input.old) (I.content input.new) bytes
@@ -68,8 +67,6 @@ fn run_lines<S: Source, O: Sink>(
     ensures kinds { IfErr result IsRunFault }
     ensures topology { (line word : ℕ) → result ≡ Err (Fault.Topology line word)
         → TellsNoNetwork line word (S.content lines.old.source) (S.content lines.new.source) }
-    ensures cycle { result ≡ Err Fault.Cycle
-        → TellsCycle (S.content lines.old.source) (S.content lines.new.source) }
     ensures read { result ≡ Err Fault.Read
         → Rose (S.faults lines.old.source) (S.faults lines.new.source) }
     ensures write { result ≡ Err Fault.Write → Rose (O.faults output.old) (O.faults output.new) }
@@ -87,9 +84,7 @@ fn run_lines<S: Source, O: Sink>(
     ensures loan { O.loan output.new ≡ O.loan output.old }
 {
     let topology = read(alloc, lines)?;
-    let Some(mut book) = Book::new(alloc, topology)? else {
-        return Err(Fault::Cycle);
-    };
+    let mut book = Book::new(alloc, topology)?;
     serve(alloc, &mut book, lines, output)
 }
 

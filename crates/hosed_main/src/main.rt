@@ -44,7 +44,7 @@ A name is 1 to 16 of a to z, 0 to 9 and -. A capacity is 1 to 1,000,000,000; a l
 status  comes                           last line
 0       all was read                    none
 1       wrong words                     words K
-2       no topology, or with a cycle    topology LINE WORD, topology cycle
+2       no topology                     topology LINE WORD
 3       the input failed                read
 4       the output failed               none
 7       no memory to begin              no memory

@@ -7,6 +7,8 @@ mod admissions;
 #[cfg(test)]
 mod commands;
 #[cfg(test)]
+mod decisions;
+#[cfg(test)]
 mod dripping;
 #[cfg(test)]
 mod endless;

@@ -52,14 +52,8 @@ fn a_star_with_comments_and_costs(rt: HostRuntime) -> Result<(), Fail> {
 }
 
 #[test]
-fn networks_with_a_cycle(rt: HostRuntime) -> Result<(), Fail> {
+fn faults_behind_a_cycle(rt: HostRuntime) -> Result<(), Fail> {
     for (links, last) in [
-        (
-            "link a b 4 1\nlink a c 10 2\nlink c b 10 2\nend\n",
-            "topology cycle\n",
-        ),
-        ("link a b 10 1\nlink b a 10 1\nend\n", "topology cycle\n"),
-        // That a text is one of a topology comes first.
         (
             "link a b 10 1\nlink b a 10 1\nlink a c 10 1 0\nend\n",
             "topology 6 6\n",

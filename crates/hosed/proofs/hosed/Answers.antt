@@ -42,12 +42,12 @@ returns-clause-topology g c = λ is.
     let done = c.do_words-done.ensures in
     refused_told c.do_words-done.result (g.I.Source.content c.args.input.now) (g.I.Source.content c.do_words-done.new.input) was c.do_words-done.new.output
     (λ (o : _) (text : List ℕ). IsOut (g.O.Sink.content o) (g.O.Sink.content c.end.new.output) (g.O.Sink.faults o) (g.O.Sink.faults c.end.new.output) text)
-    done.topology done.cycle done.early c.end.ensures.err (sym c.end.ensures.status ∙ is)
+    done.topology done.early c.end.ensures.err (sym c.end.ensures.status ∙ is)
 
 pub returns-clause-complete : goal.returns-clause-complete
 returns-clause-complete g c = λ run servable no_read no_write.
     let done = c.do_words-done.ensures in
     subst (λ (status : ℕ). (status ≡ 0) ⊎ (status ≡ 7)) (sym c.end.ensures.status)
     (completes c.do_words-done.result (g.I.Source.content c.args.input.now) (g.I.Source.content c.do_words-done.new.input) _ _
-    (done.kinds run) done.topology done.cycle done.read done.write done.takes servable no_read
+    (done.kinds run) done.topology done.read done.write done.takes servable no_read
     (λ rose. no_write (rose_on _ _ _ rose c.end.ensures.never_falls)))

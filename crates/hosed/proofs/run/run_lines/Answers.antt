@@ -1,4 +1,4 @@
-use Rattle.std.proofs.Common.{◌≡◌, ℕ, List, ◌++◌, Err, inl, inr, refl, ◌∙◌, ap, subst}
+use Rattle.std.proofs.Common.{◌≡◌, ℕ, List, Err, inl, inr, refl, ◌∙◌, ap, subst}
 use Rattle.hose_graph.specs.Network.{Network}
 use Rattle.hosed.specs.Ledger.{Ledger}
 use Rattle.hose_io.specs.Stream.{Grows}
@@ -8,9 +8,8 @@ use Rattle.hose_law.specs.Script.{ReadLine}
 use Rattle.hosed.specs.Run.{HasRun}
 use Rattle.hose_topo.specs.Reading.{fault_of}
 use Rattle.hosed.specs.Serving.{CutsLast, IsAllTaken, IsEndOf, ServesUpTo, texts_of}
-use Rattle.hose_topo.specs.TopologyText.{IsTopologyText}
 use Rattle.hose_topo.specs.declared.fault.TopoFault.TheVariants.{At}
-use Rattle.hose_words.proofs.OnReading.{ReadsOn-then, WhereTold-map}
+use Rattle.hose_words.proofs.OnReading.{ReadsOn-then}
 use Rattle.hosed.proofs.Running.{cut_of, has_run, line_alone, never_write, ok_so, run_of, stopped_told, wrong_alone, wrong_told}
 use Rattle.hosed.proofs.run.run_lines.Given.{Over}
 use Rattle.hosed.proofs.run.run_lines.Goals as goal
@@ -33,31 +32,20 @@ returns-in_err-topology-clause-broke g c = λ fault is.
 pub returns-in_err-topology-clause-cut : goal.returns-in_err-topology-clause-cut
 returns-in_err-topology-clause-cut g c = λ is. absurd (never_write c.in_err-topology.field-0.0 (rw is at c.from_residual.ensures.1))
 
-pub returns-in_default-clause-cycle : goal.returns-in_default-clause-cycle
-returns-in_default-clause-cycle g c = λ _.
-    WhereTold-map (g.S.Source.content c.args.lines.now.source) (g.S.Source.content c.read.new.lines.source) _ _ c.in_ok-topology.ensures.topology
-    (λ a b text. (
-      c.in_ok-topology.topology,
-      c.read.new.lines.pending ++ b,
-      subst (λ (p : List ℕ). IsTopologyText (p ++ a) c.in_ok-topology.topology (c.read.new.lines.pending ++ b)) c.requires.pending text,
-      rw c.in_default.is at c.in_ok-book.ensures.cycle,
-    ))
-
 -- what `serve` tells of a run, from the topology on
-run_behind : (g : Over) (c : goal.After-drop-book-inside-5 g) (stops : List ℕ → List ℕ → Type 0) (puts : Network → List Reply → Type 0)
-    → ServesUpTo g.S.Source c.read.new.lines c.serve.new.lines c.in-Some.book.network stops (puts c.in-Some.book.network)
+run_behind : (g : Over) (c : goal.After-drop-book-inside-4 g) (stops : List ℕ → List ℕ → Type 0) (puts : Network → List Reply → Type 0)
+    → ServesUpTo g.S.Source c.read.new.lines c.serve.new.lines c.in_ok-book.book.network stops (puts c.in_ok-book.book.network)
     → (lines : List ReadLine) × (replies : List Reply)
     × HasRun (g.S.Source.content c.args.lines.now.source) (g.S.Source.content c.serve.new.lines.source) c.in_ok-topology.topology lines replies stops
     × puts c.in_ok-topology.topology replies
 run_behind g c stops puts served =
-    let opened = rw c.in-Some.is at c.in_ok-book.ensures.book in
-    let network : c.in-Some.book.network ≡ c.in_ok-topology.topology = ap (λ (l : Ledger). l.network) opened in
+    let network : c.in_ok-book.book.network ≡ c.in_ok-topology.topology = ap (λ (l : Ledger). l.network) c.in_ok-book.ensures in
     let there : ServesUpTo g.S.Source c.read.new.lines c.serve.new.lines c.in_ok-topology.topology stops (puts c.in_ok-topology.topology) =
     subst (λ (n : Network). ServesUpTo g.S.Source c.read.new.lines c.serve.new.lines n stops (puts n)) network served in (
       there.lines,
       there.replies,
       has_run g.S.Source c.args.lines.now c.read.new.lines c.serve.new.lines c.in_ok-topology.topology stops (puts c.in_ok-topology.topology) c.requires.pending
-          c.in_ok-topology.ensures.topology c.read.ensures.reads_on (rw c.in-Some.is at c.in_ok-book.ensures.forest) there,
+          c.in_ok-topology.ensures.topology c.read.ensures.reads_on there,
       there.out,
     )
 

@@ -9,22 +9,25 @@ use Rattle.hose_law.proofs.Sold.{NoneOversold, entry_keeps}
 use Rattle.hose_law.proofs.LiveIds.{rising_next}
 use Rattle.hose_law.specs.Live.{HasRisingIds}
 use Rattle.hose_law.specs.Plan.{AreNodes}
-use Rattle.hosed.specs.Ledger.{Ledger, AreLoads, IsKept}
-use Rattle.hosed.proofs.Fitting.{plan_links, capacity_small, cost_bounded, load_more}
+use Rattle.hosed.specs.Ledger.{Ledger, AreKeptLoads, IsKept}
+use Rattle.hose_law.proofs.Bounds.{reserved_links, reserved_few, reserved_most}
+use Rattle.hosed.proofs.Fitting.{capacity_small, load_more}
 use Rattle.hosed.proofs.book.Book.enter.Goals as goal
 
 pub add_amounts-requires-clause-links : goal.add_amounts-requires-clause-links
 add_amounts-requires-clause-links c = λ k d inside.
-    let ledger = c.args.self.now in
-    let links = plan_links ledger.network c.args.hose c.args.amounts c.requires.sound.2.exists in
-    let link : (get_or c.args.amounts k d).0 < length ledger.network.links = links k d (omega (arith, ap length c.pairs.ensures.value)) in
+    let network = c.self.inside.topology in
+    let entry = Admit c.args.customer c.args.hose c.args.amounts in
+    let sound : IsSoundAt network (record { epoch = c.self.inside.epoch; live = c.self.inside.live.items }) entry =
+    subst (λ (s : Ledger). IsSoundAt s.network s.book entry) (sym c.self.view_is) c.requires.sound in
+    let links = reserved_links network c.self.invariant.0 c.args.hose c.args.amounts sound.2 in
+    let link : (get_or c.args.amounts k d).0 < length network.links = links k d (omega (arith, inside, ap length c.pairs.ensures.value)) in
     omega (
       arith,
       link,
       ap (λ (ps : List (ℕ × ℕ)). (get_or ps k d).0) c.pairs.ensures.value,
       ap length c.deref_mut.ensures.value,
-      c.self.invariant.2.places,
-      ap (λ (s : Ledger). length s.network.links) c.self.view_is,
+      c.self.invariant.1.loads_are.places,
     )
 
 pub add_amounts-requires-clause-fits : goal.add_amounts-requires-clause-fits
@@ -33,9 +36,9 @@ add_amounts-requires-clause-fits c = λ l inside.
     let book : Book = record { epoch = c.self.inside.epoch; live = c.self.inside.live.items } in
     let entry = Admit c.args.customer c.args.hose c.args.amounts in
     let sound : IsSoundAt network book entry = subst (λ (s : Ledger). IsSoundAt s.network s.book entry) (sym c.self.view_is) c.requires.sound in
-    let kept : NoneOversold network (next_book book entry) = entry_keeps network book entry sound c.self.invariant.2.none_oversold in
+    let kept : NoneOversold network (next_book book entry) = entry_keeps network book entry sound c.self.invariant.1.none_oversold in
     let loads_is = c.deref_mut.ensures.value in
-    let here = c.self.invariant.2.each l (omega (arith, ap length loads_is, c.self.invariant.2.places)) in
+    let here = c.self.invariant.1.loads_are.each l (omega (arith, ap length loads_is, c.self.invariant.1.loads_are.places)) in
     omega (
       arith,
       kept l,
@@ -52,38 +55,38 @@ invariant_of-self c =
     let book : Book = record { epoch = c.self.inside.epoch; live = c.self.inside.live.items } in
     let entry = Admit c.args.customer c.args.hose c.args.amounts in
     let sound : IsSoundAt network book entry = subst (λ (s : Ledger). IsSoundAt s.network s.book entry) (sym c.self.view_is) c.requires.sound in
-    let kept : NoneOversold network (next_book book entry) = entry_keeps network book entry sound c.self.invariant.2.none_oversold in
-    let old = c.self.invariant.2 in
+    let kept : NoneOversold network (next_book book entry) = entry_keeps network book entry sound c.self.invariant.1.none_oversold in
+    let old = c.self.invariant.1 in
     let loads_is = c.deref_mut.ensures.value in
     let new = c.add_amounts.new.loads in
-    let long : length new ≡ length network.links = omega (arith, c.add_amounts.auto.loads, ap length loads_is, old.places) in
+    let long : length new ≡ length network.links = omega (arith, c.add_amounts.auto.loads, ap length loads_is, old.loads_are.places) in
     let taken : take c.self.inside.loads.len (new ++ drop (length new) c.self.inside.loads.items) ≡ new =
-    take_at new (drop (length new) c.self.inside.loads.items) c.self.inside.loads.len (omega (arith, long, old.places, c.self.inside.loads.ok.0)) in
+    take_at new (drop (length new) c.self.inside.loads.items) c.self.inside.loads.len (omega (arith, long, old.loads_are.places, c.self.inside.loads.ok.0)) in
     let next_is : next_book book entry ≡ record { epoch = c.self.inside.epoch + 1; live = c.push_reserved.new.self.items } =
     ap (λ (live : List Vpn). record { epoch = c.self.inside.epoch + 1; live = live }) (sym c.push_reserved.ensures.items) in
     let vpn : Vpn = record { id = c.self.inside.epoch + 1; customer = c.args.customer; hose = c.args.hose; amounts = c.args.amounts } in
     let is_kept : IsKept network vpn = record {
       nodes = subst (λ (s : Ledger). AreNodes s.network c.args.hose) (sym c.self.view_is) c.requires.nodes;
-      links = plan_links network c.args.hose c.args.amounts sound.2.exists;
-      cost = omega (arith, cost_bounded network book c.args.hose c.args.amounts c.self.invariant.0 sound.2);
+      links = reserved_links network c.self.invariant.0 c.args.hose c.args.amounts sound.2;
+      few = reserved_few network c.self.invariant.0 c.args.hose c.args.amounts sound.2;
+      amounts = reserved_most network c.self.invariant.0 c.args.hose c.args.amounts c.requires.hose sound.2;
     } in
     let each : (l : ℕ) → l < length network.links → get_or new l 0 ≡ load_of (next_book book entry) l = λ l inside.
     omega (
       arith,
-      c.add_amounts.ensures l (omega (arith, ap length loads_is, old.places)),
+      c.add_amounts.ensures l (omega (arith, ap length loads_is, old.loads_are.places)),
       ap (λ (s : List ℕ). get_or s l 0) loads_is,
-      old.each l inside,
+      old.loads_are.each l inside,
       ap (λ (ps : List (ℕ × ℕ)). amount_on l ps) c.pairs.ensures.value,
       load_more book c.args.customer c.args.hose c.args.amounts l,
     ) in
-    let loads : AreLoads network (next_book book entry) new = record { places = long; each = each; none_oversold = kept } in (
+    let loads : AreKeptLoads network (next_book book entry) new = record { loads_are = record { places = long; each = each }; none_oversold = kept } in (
       c.self.invariant.0,
-      c.self.invariant.1,
-      subst (λ (b : Book). AreLoads network b (take c.self.inside.loads.len (new ++ drop (length new) c.self.inside.loads.items))) next_is
-          (subst (AreLoads network (next_book book entry)) (sym taken) loads),
+      subst (λ (b : Book). AreKeptLoads network b (take c.self.inside.loads.len (new ++ drop (length new) c.self.inside.loads.items))) next_is
+          (subst (AreKeptLoads network (next_book book entry)) (sym taken) loads),
       omega (arith, sound.0),
       omega (arith, sound.1, ap length c.push_reserved.ensures.items, length_push c.self.inside.live.items (record { id = c.self.inside.epoch + 1; customer = c.args.customer; hose = c.args.hose; amounts = c.args.amounts })),
-      omega (arith, c.self.invariant.5, c.push_reserved.ensures.capacity),
-      subst (HasRisingIds 0) next_is (rising_next 0 book entry c.self.invariant.6),
-      subst (All (IsKept network)) (sym c.push_reserved.ensures.items) (All-push (IsKept network) book.live vpn c.self.invariant.7 is_kept),
+      omega (arith, c.self.invariant.4, c.push_reserved.ensures.capacity),
+      subst (HasRisingIds 0) next_is (rising_next 0 book entry c.self.invariant.5),
+      subst (All (IsKept network)) (sym c.push_reserved.ensures.items) (All-push (IsKept network) book.live vpn c.self.invariant.6 is_kept),
     )

@@ -14,10 +14,11 @@ invariant_of-result c =
     let no_load : (l : ℕ) → load_of (record { epoch = 0; live = c.in_ok-live.live.items }) l ≡ 0 =
     λ l. ap (λ (live : List Vpn). load_of (record { epoch = 0; live = live }) l) c.in_ok-live.ensures.items in (
       c.links.ensures.network,
-      rw c.in-Some.is at c.in_ok-sides.ensures.sides,
       record {
-        places = omega (arith, ap length zeros, length-replicate {A = ℕ} c.links.result 0, c.links.ensures.count);
-        each = λ l inside. omega (arith, ap (λ (s : List ℕ). get_or s l 0) zeros, get_or-replicate {A = ℕ} c.links.result l 0 0 (omega (arith, inside, c.links.ensures.count)), no_load l);
+        loads_are = record {
+          places = omega (arith, ap length zeros, length-replicate {A = ℕ} c.links.result 0, c.links.ensures.count);
+          each = λ l inside. omega (arith, ap (λ (s : List ℕ). get_or s l 0) zeros, get_or-replicate {A = ℕ} c.links.result l 0 0 (omega (arith, inside, c.links.ensures.count)), no_load l);
+        };
         none_oversold = λ l. omega (arith, no_load l);
       },
       omega arith,

@@ -1,0 +1,91 @@
+-- Weights of all nodes, while endpoint after endpoint is added.
+use Rattle.std.proofs.Common.{◌≡◌, ◌∙◌, ℕ, ◌+◌, ◌*◌, ◌<◌, ◌≤◌, Bool, List, [], ◌∷◌, ◌++◌, Option, None, Some, length, get_or, replicate, take, refl, arith}
+use Rattle.std.specs.Option.{IfSome, MatchOption}
+use Rattle.std.proofs.lemmas.List.{get_or-replicate, get_or_default, length-replicate, take_more}
+use Rattle.std.proofs.lemmas.Nat.{mul-le}
+use Rattle.hose_graph.specs.Network.{Network}
+use Rattle.hose_graph.specs.Row.{Distances, distance_of}
+use Rattle.hose_law.specs.CanonicalPlan.{IsWeight}
+use Rattle.hose_law.specs.Row.{IsRow}
+use Rattle.hose_law.specs.Walk.{IsDistance, Reaches}
+use Rattle.hose_law.proofs.Distances.{distance_back}
+use Rattle.hose_law.proofs.Walks.{reaches_back}
+use Rattle.hose_root.specs.Choice.{weight_at}
+use Rattle.hose_root.specs.Weight.{IsBounded}
+use Rattle.hose_plan.specs.Rooting.{AreWeights, AreLight, heavier, most_share}
+
+module _ (network : Network) (set : List Bool) where
+  -- an endpoint more, behind the others, weighs its rate times its distance
+  weight_push : (v : ℕ) (ends : List (ℕ × ℕ)) (end : ℕ × ℕ) (weight distance : ℕ) → IsWeight network set v ends weight → IsDistance network set v end.0 distance
+      → IsWeight network set v (ends ++ end ∷ []) (weight + end.1 * distance)
+  weight_push v [] end weight distance is far = (distance, 0, far, refl, omega (arith, is))
+  weight_push v (first ∷ ends) end weight distance is far =
+      (is.0, is.1 + end.1 * distance, is.2, weight_push v ends end is.1 distance is.3 far, omega (arith, is.4))
+
+  -- what weighs some endpoints and one more reaches that one, and weighs the others
+  record HasBefore (v : ℕ) (ends : List (ℕ × ℕ)) (end : ℕ × ℕ) : Type 0 where
+    weight : ℕ
+    is_weight : IsWeight network set v ends weight
+    reaches : Reaches network set v end.0
+
+  weight_before : (v : ℕ) (ends : List (ℕ × ℕ)) (end : ℕ × ℕ) (weight : ℕ) → IsWeight network set v (ends ++ end ∷ []) weight → HasBefore v ends end
+  weight_before v [] end weight is = record { weight = 0; is_weight = refl; reaches = (is.2.walk, is.2.walks) }
+  weight_before v (first ∷ ends) end weight is =
+      let rest = weight_before v ends end is.1 is.3 in
+      record {
+        weight = first.1 * is.0 + rest.weight;
+        is_weight = (is.0, rest.weight, is.2, rest.is_weight, refl);
+        reaches = rest.reaches;
+      }
+
+  -- no endpoint weighs nothing
+  pub weights_of_none : AreWeights network set [] (replicate (length network.nodes) (Some 0))
+  weights_of_none = record {
+    places = length-replicate (length network.nodes) (Some 0);
+    each = λ v node.
+        let here : weight_at (replicate (length network.nodes) (Some 0)) v ≡ Some 0 = get_or-replicate (length network.nodes) v (Some 0) None node in
+        rw here refl;
+  }
+
+  -- what a node with such a weight and at such a distance of one more endpoint weighs
+  abbrev Weighs : ℕ → List (ℕ × ℕ) → Option ℕ → Type 0
+  Weighs v ends found = MatchOption found ((weight : ℕ) → IsWeight network set v ends weight → ⊥) (IsWeight network set v ends)
+
+  weighs_more : (v : ℕ) (ends : List (ℕ × ℕ)) (end : ℕ × ℕ) (weight distance : Option ℕ) → Weighs v ends weight
+      → MatchOption distance (¬ Reaches network set end.0 v) (IsDistance network set end.0 v)
+      → Weighs v (ends ++ end ∷ []) (heavier weight end.1 distance)
+  weighs_more v ends end None distance is far =
+      λ weight more. let before = weight_before v ends end weight more in is before.weight before.is_weight
+  weighs_more v ends end (Some weight) None is far =
+      λ heavy more. far (reaches_back network set v end.0 (weight_before v ends end heavy more).reaches)
+  weighs_more v ends end (Some weight) (Some distance) is far =
+      weight_push v ends end weight distance is (distance_back network set end.0 v distance far)
+
+  -- the row of one more endpoint gives the weights with it
+  pub weights_more : (hose : List (ℕ × ℕ)) (i : ℕ) → i < length hose → (row : Distances) → IsRow network set (get_or hose i (0, 0)).0 row
+      → (before after : List (Option ℕ)) → AreWeights network set (take i hose) before → length after ≡ length before
+      → ((v : ℕ) → v < length before → weight_at after v ≡ heavier (weight_at before v) (get_or hose i (0, 0)).1 (distance_of row v))
+      → AreWeights network set (take (i + 1) hose) after
+  weights_more hose i inside row is_row before after are long each = record {
+    places = long ∙ are.places;
+    each = λ v node.
+        let end = get_or hose i (0, 0) in
+        let here = each v (omega (arith, node, are.places)) in
+        let more = weighs_more v (take i hose) end (weight_at before v) (distance_of row v) (are.each v node) (is_row.distances v node) in
+        rw (take_more hose i (0, 0) inside, here) more;
+  }
+
+-- a weight that is small, and one more endpoint's share
+light_at : (ends rate : ℕ) → rate ≤ 1000000 → (weight distance : Option ℕ) → IfSome weight (λ w. w ≤ ends * most_share) → IfSome distance (λ d. d ≤ 511000000)
+    → IfSome (heavier weight rate distance) (λ w. w ≤ (ends + 1) * most_share)
+light_at ends rate few None distance small near = tt
+light_at ends rate few (Some weight) None small near = tt
+light_at ends rate few (Some weight) (Some distance) small near = omega (arith, small, mul-le rate distance 1000000 511000000 few near)
+
+pub light_more : (ends rate : ℕ) → rate ≤ 1000000 → (row : Distances) → IsBounded row → (before after : List (Option ℕ)) → length row.dist ≡ length before → length after ≡ length before
+    → AreLight ends before
+    → ((v : ℕ) → v < length before → weight_at after v ≡ heavier (weight_at before v) rate (distance_of row v)) → AreLight (ends + 1) after
+light_more ends rate few row bounded before after places long light each k d below =
+    let node : k < length before = omega (arith, below, long) in
+    let is : get_or after k d ≡ heavier (weight_at before k) rate (distance_of row k) = get_or_default after k d None below ∙ each k node in
+    rw is (light_at ends rate few (weight_at before k) (distance_of row k) (light k None node) (bounded k None (omega (arith, node, places))))

@@ -1,0 +1,124 @@
+// The decision on a hose, and its grounds.
+ghost use Rattle.std.specs.Prelude.{IfOk};
+ghost use Rattle.hose_graph.specs.Hose.{IsHose};
+ghost use Rattle.hose_law.specs.Book.{AreLoads, Book};
+ghost use Rattle.hose_law.specs.Decision.{HasFirstFit, first_links};
+ghost use Rattle.hose_law.specs.Plan.{AreNodes};
+ghost use Rattle.hose_plan.specs.Planning.{IsDecision, IsSoundDecision, NamesNodes};
+ghost use Rattle.hose_plan.specs.Rooting.{IsPlanOver};
+ghost use Rattle.hose_tree.specs.Amounts.{AreCarried};
+
+use crate::canonical::plan;
+use crate::safe::{first_links, safe_links};
+use hose_graph::{Amounts, Hose, NodeList, Topology};
+use hose_links::LinkSet;
+use hose_paths::RowMaker;
+use hose_tree::{cost, fits, reached};
+use std::alloc::{AllocError, Global};
+
+/// What a decision rests on: equal grounds of one hose give equal decisions.
+#[derive(Debug, Drop)]
+pub struct Grounds {
+    /// What the first plan reserves; none where no node reaches all endpoints.
+    pub first: Option<Amounts>,
+    /// Half of the hose's rates, rounded down, in the customer's unit of bandwidth.
+    pub half: u64,
+    /// Whether the first plan exists, and each of its amounts is at most what its link has free.
+    pub first_fits: bool,
+    /// The links that have half of the hose's rates free; no link where the first plan fits, since the others do not matter then.
+    pub safe: LinkSet,
+}
+
+/// What is decided of a hose.
+#[derive(Debug, Drop)]
+pub enum Decision {
+    /// It is admitted with these amounts, which cost so much.
+    Plan {
+        grounds: Grounds,
+        amounts: Amounts,
+        cost: u64,
+    },
+    /// It is refused: these are the nodes that its lowest-numbered endpoint reaches over the safe links.
+    Refused {
+        side: NodeList,
+    },
+}
+
+/// Decides on a hose beside the loads of a topology's links: the first plan where it fits, else the plan over the safe links, else a refusal. There is a
+/// load for each link, at most its capacity.
+pub fn decide<R: RowMaker>(
+    alloc: Global,
+    top: &Topology,
+    loads: &[u64],
+    hose: &Hose,
+    rows: &mut R,
+) -> Result<Decision, AllocError>
+    requires loads { AreCarried top.now loads.now }
+    requires nodes { AreNodes top.now hose.now }
+    ensures decision { IfOk result (λ decision. (book : Book) → AreLoads top.now book loads.now
+        → IsDecision top.now book hose.now decision) }
+    ensures sound { IfOk result (λ decision. (book : Book) → AreLoads top.now book loads.now
+        → IsSoundDecision top.now book hose.now decision) }
+    ensures names { IfOk result (NamesNodes top.now) }
+    ensures hose { IfOk result (λ _. IsHose hose.now) }
+{
+    let all = first_links(alloc, top)?;
+    let Some(first) = plan(alloc, top, &all, hose, rows)? else {
+        return decide_over_safe(alloc, top, loads, hose, None, rows);
+    };
+    if !fits(top, loads, &first) {
+        return decide_over_safe(alloc, top, loads, hose, Some(first), rows);
+    }
+    let amounts = first.copy(alloc)?;
+    let cost = cost(top, &amounts);
+    let grounds = Grounds {
+        first: Some(first),
+        half: hose.total() / 2,
+        first_fits: true,
+        safe: LinkSet::new(alloc, top.links())?,
+    };
+    Ok(Decision::Plan {
+        grounds,
+        amounts,
+        cost,
+    })
+}
+
+// The decision where the first plan does not exist or fit. A plan over the safe links always fits, so there is no second test.
+fn decide_over_safe<R: RowMaker>(
+    alloc: Global,
+    top: &Topology,
+    loads: &[u64],
+    hose: &Hose,
+    first: Option<Amounts>,
+    rows: &mut R,
+) -> Result<Decision, AllocError>
+    requires loads { AreCarried top.now loads.now }
+    requires nodes { AreNodes top.now hose.now }
+    requires first { IsPlanOver top.now (first_links top.now) hose.now first }
+    requires no_fit { (book : Book) → AreLoads top.now book loads.now → HasFirstFit top.now book hose.now → ⊥ }
+    ensures decision { IfOk result (λ decision. (book : Book) → AreLoads top.now book loads.now
+        → IsDecision top.now book hose.now decision) }
+    ensures sound { IfOk result (λ decision. (book : Book) → AreLoads top.now book loads.now
+        → IsSoundDecision top.now book hose.now decision) }
+    ensures names { IfOk result (NamesNodes top.now) }
+    ensures hose { IfOk result (λ _. IsHose hose.now) }
+{
+    let safe = safe_links(alloc, top, loads, hose)?;
+    let Some(amounts) = plan(alloc, top, &safe, hose, rows)? else {
+        let side = reached(alloc, top, &safe, hose.ends()[0].0)?;
+        return Ok(Decision::Refused { side });
+    };
+    let cost = cost(top, &amounts);
+    let grounds = Grounds {
+        first,
+        half: hose.total() / 2,
+        first_fits: false,
+        safe,
+    };
+    Ok(Decision::Plan {
+        grounds,
+        amounts,
+        cost,
+    })
+}

@@ -1,5 +1,0 @@
-use Rattle.hosed.specs.Nodes.{AreNodesBelow}
-use Rattle.hosed.proofs.book.nodes_on.Given as goal
-
-abbrev pub invariant-loop-v : goal.invariant-loop-v
-invariant-loop-v l = AreNodesBelow l.side l.v l.nodes.items

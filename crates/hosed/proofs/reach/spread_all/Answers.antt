@@ -1,6 +1,0 @@
-use Rattle.std.proofs.Common.{arith}
-use Rattle.hosed.proofs.Reaching.{count_le}
-use Rattle.hosed.proofs.reach.spread_all.Goals as goal
-
-pub loop-smaller : goal.loop-smaller
-loop-smaller c = omega (arith, count_le c.spread.new.side, c.spread.ensures.grows c.loop-test.true)
