@@ -1,5 +1,5 @@
 -- A line that is wrong at a word neither adds to the network nor ends the text.
-use Rattle.std.proofs.Common.{◌≡◌, ◌≢◌, ◌∙◌, ℕ, List, [], ◌∷◌, ◌++◌, codes, Some, inl, inr, refl, ap, subst, arith}
+use Rattle.std.proofs.Common.{◌≡◌, ◌≢◌, ◌∙◌, ℕ, List, [], ◌∷◌, codes, Some, inl, inr, refl, ap, subst, arith}
 use Rattle.std.specs.List.{slice_get}
 use Rattle.std.proofs.lemmas.Option.{get_or_from_slice_get, slice_get_within}
 use Rattle.hose_words.specs.Grammar.{Grammar, IsFirstNotAllowed}

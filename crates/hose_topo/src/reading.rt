@@ -1,7 +1,7 @@
 // A topology's text, line by line.
 ghost use Rattle.std.specs.Prelude.{◌≡◌, ◌⊎◌, ◌↔◌, ℕ, ◌+◌, ◌^◌, ◌<◌, ◌≤◌, List, ◌++◌, length, Some, None, Ok, Err, IfOk};
 ghost use Rattle.hose_io.specs.Fault.{Rose};
-ghost use Rattle.hose_words.specs.Lines.{StopsAt};
+ghost use Rattle.hose_words.specs.Lines.{StopsBehindLines};
 ghost use Rattle.hose_words.specs.Reading.{ReadsOn, WhereTold};
 ghost use Rattle.hose_words.specs.declared.lines.LineFault.{LineFault};
 ghost use Rattle.hose_graph.specs.Network.{Network, IsNetwork};
@@ -38,12 +38,12 @@ pub fn read<S: Source>(alloc: Global, lines: &mut LineReader<S>) -> Result<Topol
         ⊎ Rose (S.faults lines.old.source) (S.faults lines.new.source) }
     ensures too_long { lines.old.taken ≤ 2 ^ 30
         → ((result ≡ Err TopoFault.TooLong) ↔ (2 ^ 30 < lines.new.taken)) }
-    // Lines that add to a network were taken, and then bytes that end no line.
+    // Whole lines that add to a network were taken, and then bytes that end no line.
     ensures front { lines.old.fault ≡ None → (fault : LineFault) → result ≡ Err (fault_of fault)
         → WhereTold (S.content lines.old.source) (S.content lines.new.source) (λ before after.
         (network : Network) × (count : ℕ) × (behind : List ℕ)
         × AddLines no_network (lines.old.pending ++ before) count network behind
-        × StopsAt fault behind after) }
+        × StopsBehindLines fault (lines.old.pending ++ before) behind after) }
     ensures memory { result ≡ Err TopoFault.Memory → lines.new ≡ lines.old }
 
     ensures fault { KeepsFault lines.old.fault lines.new.fault result }

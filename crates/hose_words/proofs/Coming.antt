@@ -1,5 +1,6 @@
 -- How far a call of `next` has come, and what it answers from there.
 use Rattle.std.proofs.Common.{◌≡◌, ◌≢◌, ℕ, ◌+◌, ◌^◌, ◌<◌, ◌≤◌, Bool, true, false, nat_lt, eqb, cond, List, [], ◌∷◌, ◌++◌, length, sym, ap, ◌∙◌, refl, arith, le_trans, inl, inr, ⊎_elim, Option, None, Some, IfSome, OnSome, Ok, Err, MatchBool, All}
+use Rattle.std.specs.Bool.{OnTrue}
 use Rattle.std.specs.List.{position_or_len}
 use Rattle.std.proofs.lemmas.List.{append-nil, append_assoc, length-append, length-drop, nil_from_length}
 use Rattle.std.proofs.lemmas.Bool.{ltb-true, ltb-false, eqb-true, eqb-false, cases_lt}
@@ -8,12 +9,12 @@ use Rattle.hose_io.specs.Stream.{Stream, Gives, IsAtEnd}
 use Rattle.hose_io.specs.declared.source.Source.{Ghosts}
 use Rattle.hose_words.specs.Buffer.{CutsLine}
 use Rattle.hose_words.specs.Intake.{found_of, last_of, ShowsFound, TakesBytes, IsTurn}
-use Rattle.hose_words.specs.Lines.{Reader, is_line_feed, GivesLine, StopsAt, IsNext}
+use Rattle.hose_words.specs.Lines.{Reader, is_line_feed, GivesLine, IsBehindLines, StopsAt, IsNext}
 use Rattle.hose_words.specs.declared.intake.Found.TheVariants as found
 use Rattle.hose_words.specs.declared.lines.Line.{Line}
 use Rattle.hose_words.specs.declared.lines.LineFault.{LineFault}
 use Rattle.hose_words.specs.declared.lines.LineFault.TheVariants.{Read, TooLong}
-use Rattle.hose_words.proofs.FirstLine.{IsPlain, IsPlain-append, All-from_IsPlain, before_first-found, after_first-found, before_first-plain, after_first-plain, shows_found, GivesLine-shown}
+use Rattle.hose_words.proofs.FirstLine.{IsPlain, IsPlain-append, All-from_IsPlain, before_first-found, after_first-found, before_first-plain, after_first-plain, line_feed_found, shows_found, GivesLine-shown}
 
 -- ---- what sources give
 
@@ -89,6 +90,8 @@ module _ {S : Type 0} (source : Ghosts S) where
     pub limit : now.taken ≤ 2 ^ 30
     pub was : old.fault ≡ None
     pub fault : now.fault ≡ None
+    pub ended : now.ended ≡ old.ended
+    pub at_end : OnTrue now.ended (IsAtEnd (source.content now.source))
     pub never_falls : source.faults old.source ≤ source.faults now.source
     pub number : source.number now.source ≡ source.number old.source
     pub loan : source.loan now.source ≡ source.loan old.source
@@ -101,8 +104,8 @@ module _ {S : Type 0} (source : Ghosts S) where
 
   pub HasPassed-from : (old r now : Reader S) (was is_long is_over : Bool) (pending : List ℕ) → HasCome old r was → IsPlain r.pending → pending ≡ r.pending
       → nat_lt 4096 (length pending) ≡ is_over → MatchBool is_over ((is_long ≡ true) × (now.pending ≡ [])) ((is_long ≡ was) × (now.pending ≡ pending))
-      → now.source ≡ r.source → now.taken ≡ r.taken → now.fault ≡ r.fault → HasPassed old now is_long
-  HasPassed-from old r now was is_long true pending h plain same over drops source' taken fault =
+      → now.source ≡ r.source → now.taken ≡ r.taken → now.fault ≡ r.fault → now.ended ≡ r.ended → HasPassed old now is_long
+  HasPassed-from old r now was is_long true pending h plain same over drops source' taken fault ended =
       let long : 4096 < length r.pending = omega (arith, ltb-true 4096 (length pending) over, ap length same) in
       rw drops.0 (record {
         come = record {
@@ -116,6 +119,8 @@ module _ {S : Type 0} (source : Ghosts S) where
           limit = rw taken h.limit;
           was = h.was;
           fault = fault ∙ h.fault;
+          ended = ended ∙ h.ended;
+          at_end = rw (source', ended) h.at_end;
           never_falls = rw source' h.never_falls;
           number = rw source' h.number;
           loan = rw source' h.loan;
@@ -123,7 +128,7 @@ module _ {S : Type 0} (source : Ghosts S) where
         plain = rw drops.1 refl;
         short = rw drops.1 (omega arith);
       })
-  HasPassed-from old r now was is_long false pending h plain same over drops source' taken fault =
+  HasPassed-from old r now was is_long false pending h plain same over drops source' taken fault ended =
       let kept : now.pending ≡ r.pending = drops.1 ∙ same in
       rw drops.0 (record {
         come = record {
@@ -137,6 +142,8 @@ module _ {S : Type 0} (source : Ghosts S) where
           limit = rw taken h.limit;
           was = h.was;
           fault = fault ∙ h.fault;
+          ended = ended ∙ h.ended;
+          at_end = rw (source', ended) h.at_end;
           never_falls = rw source' h.never_falls;
           number = rw source' h.number;
           loan = rw source' h.loan;
@@ -161,6 +168,8 @@ module _ {S : Type 0} (source : Ghosts S) where
         limit = t.limit;
         was = h.was;
         fault = t.fault;
+        ended = t.before_end.1 ∙ (sym t.before_end.0 ∙ h.ended);
+        at_end = rw t.before_end.1 tt;
         never_falls = le_trans h.never_falls falls;
         number = number ∙ h.number;
         loan = loan ∙ h.loan;
@@ -172,9 +181,17 @@ module _ {S : Type 0} (source : Ghosts S) where
   seen old r is_long p =
       All-from_IsPlain (old.pending ++ p.come.bytes) (rw p.come.split (IsPlain-append p.come.dropped r.pending p.come.plain p.plain))
 
+  -- what stands before the rest of the text ends with the line feed that was found
+  behind_found : (old r now : Reader S) (is_long : Bool) (line : List ℕ) (h : HasCome old r is_long) → CutsLine true r.pending line now.pending
+      → (rest : List ℕ) → old.pending ++ (h.bytes ++ rest) ≡ (h.dropped ++ line) ++ 10 ∷ (now.pending ++ rest)
+  behind_found old r now is_long line h cut rest =
+      sym (append_assoc old.pending h.bytes rest)
+      ∙ (ap (λ l. l ++ rest) (h.split ∙ ap (λ l. h.dropped ++ l) (line_feed_found r.pending cut.0))
+      ∙ rw (cut.1, cut.2, append_assoc, append_assoc, append_assoc) refl)
+
   pub IsNext-line : (old r now : Reader S) (is_long : Bool) (line : List ℕ) (shown : Option Line) → HasCome old r is_long → CutsLine true r.pending line now.pending
-      → now.source ≡ r.source → now.taken ≡ r.taken → now.fault ≡ r.fault → ShowsFound (found_of is_long line) line shown → IsNext source old now (Ok shown)
-  IsNext-line old r now is_long line shown h cut source' taken fault shows =
+      → now.source ≡ r.source → now.taken ≡ r.taken → now.fault ≡ r.fault → now.ended ≡ r.ended → ShowsFound (found_of is_long line) line shown → IsNext source old now (Ok shown)
+  IsNext-line old r now is_long line shown h cut source' taken fault ended shows =
       let n = position_or_len is_line_feed r.pending in
       let gives : Gives (source.content old.source) (source.content now.source) h.bytes = rw source' h.gives in
       let is_shown = shows_found is_long h.dropped line shown h.long shows in
@@ -188,6 +205,10 @@ module _ {S : Type 0} (source : Ghosts S) where
       record {
         after_fault = rw h.was tt;
         answer = λ _. told (source.content old.source) (source.content now.source) h.bytes (λ before after. GivesLine shown (old.pending ++ before) (now.pending ++ after)) gives text;
+        whole = λ _. told (source.content old.source) (source.content now.source) h.bytes (λ before after. IsBehindLines (old.pending ++ before) (now.pending ++ after)) gives (λ rest.
+            inr (h.dropped ++ line, behind_found old r now is_long line h cut rest));
+        ended = λ false'. sym h.ended ∙ (sym ended ∙ false');
+        before_end = λ _ err. absurd (cc err);
         takes = (h.bytes, gives, taken ∙ h.taken);
         limit = omega (arith, taken, h.limit);
         too_long = (λ e. absurd (cc e), λ over. absurd (omega (arith, taken, h.limit)));
@@ -200,7 +221,7 @@ module _ {S : Type 0} (source : Ghosts S) where
       }
 
   pub IsNext-last : (old r m now : Reader S) (is_long : Bool) (shown : Option Line) → HasPassed old r is_long → IsTurn source r m (Ok false)
-      → now ≡ record { source = m.source; pending = []; taken = m.taken; fault = m.fault } → ShowsFound (last_of is_long m.pending) m.pending shown → IsNext source old now (Ok shown)
+      → now ≡ record { source = m.source; pending = []; taken = m.taken; fault = m.fault; ended = m.ended } → ShowsFound (last_of is_long m.pending) m.pending shown → IsNext source old now (Ok shown)
   IsNext-last old r m now is_long shown p turn same shows =
       let h = p.come in
       let end = turn.cases in
@@ -211,6 +232,9 @@ module _ {S : Type 0} (source : Ghosts S) where
       rw same (record {
         after_fault = rw h.was tt;
         answer = λ _. told_at_end (source.content old.source) (source.content r.source) (source.content m.source) h.bytes (λ before after. GivesLine shown (old.pending ++ before) ([] ++ after)) h.gives end.at_end end.content (rw text all);
+        whole = λ before. absurd (cc (end.ended, before));
+        ended = λ before. absurd (cc (end.ended, before));
+        before_end = λ _ err. absurd (cc err);
         takes = (h.bytes, rw end.content h.gives, end.taken ∙ h.taken);
         limit = omega (arith, end.taken, h.limit);
         too_long = (λ e. absurd (cc e), λ over. absurd (omega (arith, end.taken, h.limit)));
@@ -231,6 +255,9 @@ module _ {S : Type 0} (source : Ghosts S) where
         after_fault = rw h.was tt;
         answer = λ _. told (source.content old.source) (source.content now.source) h.bytes (λ before after. StopsAt Read (old.pending ++ before) after) gives (λ rest.
             (old.pending ++ h.bytes, sym (append_assoc old.pending h.bytes rest), seen old r is_long p));
+        whole = tt;
+        ended = λ _. sym h.ended ∙ met.4.0;
+        before_end = λ _ _. sym h.ended ∙ met.4.0;
         takes = (h.bytes, gives, met.1 ∙ h.taken);
         limit = omega (arith, met.1, h.limit);
         too_long = (λ e. absurd (cc e), λ over. absurd (omega (arith, met.1, h.limit)));
@@ -251,6 +278,9 @@ module _ {S : Type 0} (source : Ghosts S) where
         after_fault = rw h.was tt;
         answer = λ _. told (source.content old.source) (source.content now.source) all (λ before after. StopsAt TooLong (old.pending ++ before) after) gives (λ rest.
             (byte, (old.pending ++ h.bytes, ap (λ l. old.pending ++ l) (append_assoc h.bytes (byte ∷ []) rest) ∙ sym (append_assoc old.pending h.bytes (byte ∷ rest)), seen old r is_long p)));
+        whole = tt;
+        ended = λ _. sym h.ended ∙ met.4.0;
+        before_end = λ _ _. sym h.ended ∙ met.4.0;
         takes = (all, gives, omega (arith, met.1, met.2, h.taken, length-append h.bytes (byte ∷ [])));
         limit = omega (arith, met.2);
         too_long = (λ _. omega (arith, met.2), λ _. refl);

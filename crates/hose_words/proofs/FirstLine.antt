@@ -1,12 +1,12 @@
 -- The first line of a text of which a front was dropped.
-use Rattle.std.proofs.Common.{◌≡◌, ◌≢◌, ℕ, ◌+◌, ◌<◌, Bool, true, false, not, cond, eqb, nat_lt, List, [], ◌++◌, length, get_or, take, drop, ap, ◌∙◌, refl, arith, All, Option, None, Some, MatchBool}
+use Rattle.std.proofs.Common.{◌≡◌, ◌≢◌, ℕ, ◌+◌, ◌<◌, Bool, true, false, not, cond, eqb, nat_lt, List, [], ◌∷◌, ◌++◌, length, get_or, take, drop, ap, ◌∙◌, refl, arith, All, Option, None, Some, MatchBool}
 use Rattle.std.proofs.Math.Seq.{take-append-add, drop-append-add}
 use Rattle.std.specs.List.{position_or_len, before_first, after_first}
 use Rattle.std.specs.Option.{IsSomeAnd}
 use Rattle.std.proofs.lemmas.List.{length-append, take-append-le, drop-append-le, take_all, drop_all}
 use Rattle.std.proofs.lemmas.List.Folds.{prefix_len-append}
-use Rattle.std.proofs.lemmas.List.Sums.{fails_before_first}
-use Rattle.std.proofs.lemmas.Bool.{cond-true, cond-false, eq-eqb, ne_eqb, eqb-false, ltb-true, ltb-false}
+use Rattle.std.proofs.lemmas.List.Sums.{fails_before_first, passes_at_first, split_at_first}
+use Rattle.std.proofs.lemmas.Bool.{cond-true, cond-false, eq-eqb, ne_eqb, eqb-false, eqb-true, ltb-true, ltb-false}
 use Rattle.hose_words.specs.Lines.{is_line_feed, Shows, GivesLine}
 use Rattle.hose_words.specs.Intake.{found_of, ShowsFound}
 use Rattle.hose_words.specs.declared.intake.Found.TheVariants as found
@@ -55,6 +55,12 @@ module _ (dropped pending rest : List ℕ) (plain : IsPlain dropped) where
         let here : position_or_len is_line_feed (dropped ++ (pending ++ rest)) + 1 ≡ length dropped + (n + 1) = omega (arith, place) in
         ap (λ k. drop k (dropped ++ (pending ++ rest))) here
         ∙ (drop-append-add dropped (pending ++ rest) (n + 1) ∙ drop-append-le (n + 1) pending rest (omega arith))
+
+-- the first line of a text ends with its line feed, where it has one
+pub line_feed_found : (text : List ℕ) → position_or_len is_line_feed text < length text → text ≡ before_first is_line_feed text ++ 10 ∷ after_first is_line_feed text
+line_feed_found text found =
+    let is : get_or text (position_or_len is_line_feed text) 0 ≡ 10 = eqb-true _ 10 (passes_at_first is_line_feed text 0 found) in
+    split_at_first is_line_feed text 0 found ∙ ap (λ byte. before_first is_line_feed text ++ byte ∷ after_first is_line_feed text) is
 
 -- a text with no line feed is its last line
 pub before_first-plain : (text : List ℕ) → IsPlain text → before_first is_line_feed text ≡ text

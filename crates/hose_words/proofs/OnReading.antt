@@ -1,8 +1,8 @@
 -- Readings one behind the other, and what is told of them.
-use Rattle.std.proofs.Common.{◌∙◌, ℕ, List, [], ◌++◌, Option, None, Some, Result, refl, arith, le_refl, le_trans, length-append}
+use Rattle.std.proofs.Common.{◌∙◌, ℕ, List, [], ◌∷◌, ◌++◌, Option, None, Some, Result, Ok, Err, inl, inr, refl, sym, subst, ap, arith, le_refl, le_trans, append_assoc, length-append}
 use Rattle.hose_io.specs.Stream.{Stream, Gives}
 use Rattle.hose_io.specs.declared.source.Source.{Ghosts}
-use Rattle.hose_words.specs.Lines.{Reader, IsNext}
+use Rattle.hose_words.specs.Lines.{Reader, IsBehindLines, IsNext}
 use Rattle.hose_words.specs.Reading.{ReadsOn, WhereTold}
 use Rattle.hose_words.specs.declared.lines.Line.{Line}
 use Rattle.hose_words.specs.declared.lines.LineFault.{LineFault}
@@ -35,12 +35,22 @@ WhereTold-then (Some old) None new given P Q R gives p q both = absurd gives
 WhereTold-then (Some old) (Some mid) None given P Q R gives p q both = tt
 WhereTold-then (Some old) (Some mid) (Some new) given P Q R gives p q both = both old.left mid.left new.left p q
 
+-- whole lines behind whole lines
+pub IsBehindLines-then : (text middle rest : List ℕ) → IsBehindLines text middle → IsBehindLines middle rest → IsBehindLines text rest
+IsBehindLines-then text middle rest (inl same) behind = subst (λ t. IsBehindLines t rest) (sym same) behind
+IsBehindLines-then text middle rest (inr lines) (inl same) = inr (lines.0, lines.1 ∙ ap (λ t. lines.0 ++ 10 ∷ t) same)
+IsBehindLines-then text middle rest (inr lines) (inr more) =
+    inr (lines.0 ++ 10 ∷ more.0, lines.1 ∙ (ap (λ t. lines.0 ++ 10 ∷ t) more.1 ∙ sym (append_assoc lines.0 (10 ∷ more.0) (10 ∷ rest))))
+
 -- ---- how far a reader has come
 
 module _ {S : Type 0} (source : Ghosts S) where
   pub ReadsOn-start : (reader : Reader S) → ReadsOn source reader reader
   ReadsOn-start reader = record {
     takes = ([], Gives-nil (source.content reader.source), omega arith);
+    whole = λ _ _. WhereTold-same (source.content reader.source) _ (λ left. inl refl);
+    fault = λ none. none;
+    ended = λ before. before;
     never_falls = le_refl _;
     number = refl;
     loan = refl;
@@ -53,10 +63,32 @@ module _ {S : Type 0} (source : Ghosts S) where
       Gives-append _ _ _ _ _ first.takes.1 second.takes.1,
       omega (arith, first.takes.2, second.takes.2, length-append first.takes.0 second.takes.0),
     );
+    whole = λ none before. WhereTold-then (source.content old.source) (source.content mid.source) (source.content new.source) first.takes.0 _ _ _ first.takes.1
+        (first.whole (second.fault none) (second.ended before)) (second.whole none before)
+        (λ a b c here there. IsBehindLines-then (old.pending ++ a) (mid.pending ++ b) (new.pending ++ c) here there);
+    fault = λ none. first.fault (second.fault none);
+    ended = λ before. first.ended (second.ended before);
     never_falls = le_trans first.never_falls second.never_falls;
     number = second.number ∙ first.number;
     loan = second.loan ∙ first.loan;
   }
 
   pub ReadsOn-next : (old new : Reader S) (read : Result (Option Line) LineFault) → IsNext source old new read → ReadsOn source old new
-  ReadsOn-next old new read next = record { takes = next.takes; never_falls = next.never_falls; number = next.number; loan = next.loan }
+  ReadsOn-next old new (Ok line) next = record {
+    takes = next.takes;
+    whole = λ _. next.whole;
+    fault = λ _. next.fault.0;
+    ended = next.ended;
+    never_falls = next.never_falls;
+    number = next.number;
+    loan = next.loan;
+  }
+  ReadsOn-next old new (Err fault) next = record {
+    takes = next.takes;
+    whole = λ none. absurd (cc (none, next.fault));
+    fault = λ none. absurd (cc (none, next.fault));
+    ended = next.ended;
+    never_falls = next.never_falls;
+    number = next.number;
+    loan = next.loan;
+  }

@@ -1,5 +1,5 @@
 -- What a reader keeps beside its source, and what one turn of its loop does.
-use Rattle.std.specs.Prelude.{◌≡◌, ◌+◌, ◌^◌, ◌<◌, ◌≤◌, ℕ, Bool, true, ◌||◌, not, ◌&&◌, ◌==◌, nat_lt, if◌then◌else◌, List, [], ◌∷◌, ◌++◌, length, Option, None, Some, Result, Ok, Err, MatchResult, ⊤}
+use Rattle.std.specs.Prelude.{◌≡◌, ◌+◌, ◌^◌, ◌<◌, ◌≤◌, ℕ, Bool, true, IsTrue, IsFalse, ◌||◌, not, ◌&&◌, ◌==◌, nat_lt, if◌then◌else◌, List, [], ◌∷◌, ◌++◌, length, Option, None, Some, Result, Ok, Err, MatchResult, ⊤}
 use Rattle.std.specs.Bool.{MatchBool}
 use Rattle.hose_io.specs.Fault.{Rose}
 use Rattle.hose_io.specs.Stream.{Gives, IsAtEnd}
@@ -15,7 +15,7 @@ use Rattle.hose_words.specs.Kept.{Kept}
 
 -- a reader, by its source and what it keeps beside it
 abbrev pub reader_of : {S : Type 0} → S → Kept → Reader S
-reader_of source kept = record { source = source; pending = kept.pending; taken = kept.taken; fault = kept.fault }
+reader_of source kept = record { source = source; pending = kept.pending; taken = kept.taken; fault = kept.fault; ended = kept.ended }
 
 -- how a line is found, where its front was dropped already or not
 abbrev pub found_of : Bool → List ℕ → Found
@@ -46,6 +46,10 @@ abbrev pub DropsLong : Bool → Bool → List ℕ → List ℕ → Type 0
 DropsLong was is_long old new = MatchBool (nat_lt 4096 (length old)) ((is_long ≡ true) × (new ≡ [])) ((is_long ≡ was) × (new ≡ old))
 
 module _ {S : Type 0} (source : Ghosts S) (old new : Reader S) where
+  -- the source has not met its end
+  abbrev pub IsBeforeEnd : Type 0
+  IsBeforeEnd = IsFalse old.ended × IsFalse new.ended
+
   -- one byte or more were taken, within the limit
   pub record TakesBytes : Type 0 where
     pub bytes : List ℕ
@@ -55,6 +59,7 @@ module _ {S : Type 0} (source : Ghosts S) (old new : Reader S) where
     pub taken : new.taken ≡ old.taken + length bytes
     pub limit : new.taken ≤ 2 ^ 30
     pub fault : new.fault ≡ None
+    pub before_end : IsBeforeEnd
 
   -- the source met its end
   pub record MeetsEnd : Type 0 where
@@ -63,11 +68,12 @@ module _ {S : Type 0} (source : Ghosts S) (old new : Reader S) where
     pub pending : new.pending ≡ old.pending
     pub taken : new.taken ≡ old.taken
     pub fault : new.fault ≡ None
+    pub ended : IsTrue new.ended
 
   -- a call failed, or the byte past the limit was taken
   abbrev pub MeetsFault : LineFault → Type 0
-  MeetsFault Read = (source.content new.source ≡ source.content old.source) × (new.taken ≡ old.taken) × (new.fault ≡ Some Read) × Rose (source.faults old.source) (source.faults new.source)
-  MeetsFault TooLong = ((byte : ℕ) × Gives (source.content old.source) (source.content new.source) (byte ∷ [])) × (old.taken ≡ 2 ^ 30) × (new.taken ≡ 2 ^ 30 + 1) × (new.fault ≡ Some TooLong)
+  MeetsFault Read = (source.content new.source ≡ source.content old.source) × (new.taken ≡ old.taken) × (new.fault ≡ Some Read) × Rose (source.faults old.source) (source.faults new.source) × IsBeforeEnd
+  MeetsFault TooLong = ((byte : ℕ) × Gives (source.content old.source) (source.content new.source) (byte ∷ [])) × (old.taken ≡ 2 ^ 30) × (new.taken ≡ 2 ^ 30 + 1) × (new.fault ≡ Some TooLong) × IsBeforeEnd
 
   -- a turn takes at least one byte, meets the end, or meets a fault
   pub record IsTurn (result : Result Bool LineFault) : Type 0 where

@@ -1,5 +1,5 @@
 -- Lines of a source, as a reader gives them.
-use Rattle.std.specs.Prelude.{◌≡◌, ◌≢◌, ◌⊎◌, ◌↔◌, ◌+◌, ◌^◌, ◌<◌, ◌≤◌, ℕ, Bool, ◌==◌, List, [], ◌∷◌, ◌++◌, length, All, Option, None, Some, IfSome, OnSome, Result, Err, IfOk, MatchResult}
+use Rattle.std.specs.Prelude.{◌≡◌, ◌≢◌, ◌⊎◌, ◌↔◌, ◌+◌, ◌^◌, ◌<◌, ◌≤◌, ℕ, Bool, IsFalse, ◌==◌, List, [], ◌∷◌, ◌++◌, length, All, Option, None, Some, IfSome, OnSome, Result, Err, IsErr, IfOk, MatchResult}
 use Rattle.std.specs.List.{before_first, after_first}
 use Rattle.hose_io.specs.Fault.{Rose}
 use Rattle.hose_io.specs.Stream.{Gives}
@@ -9,12 +9,14 @@ use Rattle.hose_words.specs.declared.lines.Line.TheVariants.{Text, Long}
 use Rattle.hose_words.specs.declared.lines.LineFault.{LineFault}
 use Rattle.hose_words.specs.declared.lines.LineFault.TheVariants.{Read, TooLong}
 
--- a reader of lines: its source, the bytes that it took and has not given in a line, how many it took, and the fault that it met
+-- a reader of lines: its source, the bytes that it took and has not given in a line, how many it took, the fault that it met, and whether it
+-- met the end of its source
 pub record Reader (S : Type 0) : Type 0 where
   pub source : S
   pub pending : List ℕ
   pub taken : ℕ
   pub fault : Option LineFault
+  pub ended : Bool
 
 abbrev pub is_line_feed : ℕ → Bool
 is_line_feed byte = byte == 10
@@ -29,6 +31,10 @@ abbrev pub GivesLine : Option Line → List ℕ → List ℕ → Type 0
 GivesLine None text rest = (text ≡ []) × (rest ≡ [])
 GivesLine (Some line) text rest = (text ≢ []) × Shows line (before_first is_line_feed text) × (rest ≡ after_first is_line_feed text)
 
+-- what stands before the rest of a text is whole lines: it is empty, or ends with a line feed
+abbrev pub IsBehindLines : List ℕ → List ℕ → Type 0
+IsBehindLines text rest = (text ≡ rest) ⊎ ((front : List ℕ) × (text ≡ front ++ 10 ∷ rest))
+
 -- bytes were passed over that do not end a line
 abbrev pub PassesOver : List ℕ → List ℕ → Type 0
 PassesOver text rest = (seen : List ℕ) × (text ≡ seen ++ rest) × All (λ byte. byte ≢ 10) seen
@@ -38,6 +44,10 @@ abbrev pub StopsAt : LineFault → List ℕ → List ℕ → Type 0
 StopsAt Read text rest = PassesOver text rest
 StopsAt TooLong text rest = (byte : ℕ) × PassesOver text (byte ∷ rest)
 
+-- the same behind lines of a text that were given: each of them ended with a line feed, so none of them was cut off by the fault
+abbrev pub StopsBehindLines : LineFault → List ℕ → List ℕ → List ℕ → Type 0
+StopsBehindLines fault text behind rest = IsBehindLines text behind × StopsAt fault behind rest
+
 -- what a call of `next` does to a reader, and what it answers
 pub record IsNext {S : Type 0} (source : Ghosts S) (old new : Reader S) (result : Result (Option Line) LineFault) : Type 0 where
   -- after a fault the reader stays as it is and answers the same
@@ -45,6 +55,12 @@ pub record IsNext {S : Type 0} (source : Ghosts S) (old new : Reader S) (result 
   -- where the source tells, the text that is to come is what is pending and what the source has left
   pub answer : old.fault ≡ None → IfSome (source.content old.source) (λ before. IfSome (source.content new.source) (λ after.
       MatchResult result (λ line. GivesLine line (old.pending ++ before.left) (new.pending ++ after.left)) (λ fault. StopsAt fault (old.pending ++ before.left) after.left)))
+  -- until the source has met its end, each line that is given ended with a line feed
+  pub whole : IfOk result (λ _. IsFalse new.ended → IfSome (source.content old.source) (λ before. IfSome (source.content new.source) (λ after.
+      IsBehindLines (old.pending ++ before.left) (new.pending ++ after.left))))
+  -- from then on no fault is met
+  pub ended : IsFalse new.ended → IsFalse old.ended
+  pub before_end : old.fault ≡ None → IsErr result → IsFalse old.ended
   -- the source gave these bytes in this call
   pub takes : (bytes : List ℕ) × Gives (source.content old.source) (source.content new.source) bytes × (new.taken ≡ old.taken + length bytes)
   pub limit : new.taken ≤ 2 ^ 30 + 1

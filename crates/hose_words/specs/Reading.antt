@@ -1,16 +1,22 @@
 -- What reading lines does to a reader, whatever it reads.
-use Rattle.std.specs.Prelude.{◌≡◌, ℕ, ◌+◌, ◌≤◌, List, length, Option, IfSome}
+use Rattle.std.specs.Prelude.{◌≡◌, ℕ, ◌+◌, ◌≤◌, IsFalse, List, ◌++◌, length, Option, None, IfSome}
 use Rattle.hose_io.specs.Stream.{Stream, Gives}
 use Rattle.hose_io.specs.declared.source.Source.{Ghosts}
-use Rattle.hose_words.specs.Lines.{Reader}
-
--- bytes were taken, each counted, and the source is the one that it was
-pub record ReadsOn {S : Type 0} (source : Ghosts S) (old new : Reader S) : Type 0 where
-  pub takes : (bytes : List ℕ) × Gives (source.content old.source) (source.content new.source) bytes × (new.taken ≡ old.taken + length bytes)
-  pub never_falls : source.faults old.source ≤ source.faults new.source
-  pub number : source.number new.source ≡ source.number old.source
-  pub loan : source.loan new.source ≡ source.loan old.source
+use Rattle.hose_words.specs.Lines.{Reader, IsBehindLines}
 
 -- what holds of the bytes that a source had left and those that it has left, where it tells them
 abbrev pub WhereTold : Option Stream → Option Stream → (List ℕ → List ℕ → Type 0) → Type 0
 WhereTold old new P = IfSome old (λ before. IfSome new (λ after. P before.left after.left))
+
+-- bytes were taken, each counted, and the source is the one that it was
+pub record ReadsOn {S : Type 0} (source : Ghosts S) (old new : Reader S) : Type 0 where
+  pub takes : (bytes : List ℕ) × Gives (source.content old.source) (source.content new.source) bytes × (new.taken ≡ old.taken + length bytes)
+  -- where neither a fault nor the end of the source was met, whole lines were given
+  pub whole : new.fault ≡ None → IsFalse new.ended → WhereTold (source.content old.source) (source.content new.source) (λ before after.
+      IsBehindLines (old.pending ++ before) (new.pending ++ after))
+  -- a fault is kept, and so is the end
+  pub fault : new.fault ≡ None → old.fault ≡ None
+  pub ended : IsFalse new.ended → IsFalse old.ended
+  pub never_falls : source.faults old.source ≤ source.faults new.source
+  pub number : source.number new.source ≡ source.number old.source
+  pub loan : source.loan new.source ≡ source.loan old.source

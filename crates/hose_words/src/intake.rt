@@ -1,5 +1,7 @@
 // What a reader of lines keeps beside its source: the bytes that it took, and how far it may go on.
-ghost use Rattle.std.specs.Prelude.{◌≡◌, ◌^◌, ◌<◌, ◌≤◌, [], length, None};
+ghost use Rattle.std.specs.Prelude.{◌≡◌, ◌^◌, ◌<◌, ◌≤◌, [], length, None, IsFalse};
+ghost use Rattle.std.specs.Bool.{OnTrue};
+ghost use Rattle.hose_io.specs.Stream.{IsAtEnd};
 ghost use Rattle.hose_words.specs.Buffer.{CutsLine};
 ghost use Rattle.hose_words.specs.Intake.{reader_of, found_of, last_of, ShowsFound, FindsNext, DropsLong, IsTurn};
 
@@ -27,6 +29,7 @@ pub(crate) struct Intake {
     buffer: Buffer,
     taken: u64,
     fault: Option<LineFault>,
+    is_ended: bool,
 }
 
 impl Model for Intake {
@@ -36,7 +39,7 @@ impl Model for Intake {
 
     ghost Value = { Kept };
 
-    ghost view = { λ intake. record { line = intake.buffer.line; pending = intake.buffer.pending; taken = intake.taken; fault = intake.fault } };
+    ghost view = { λ intake. record { line = intake.buffer.line; pending = intake.buffer.pending; taken = intake.taken; fault = intake.fault; ended = intake.is_ended } };
 
     ghost invariant = { λ intake. (intake.taken ≤ 2 ^ 30 + 1) × ((intake.fault ≡ Some TooLong) ↔ (2 ^ 30 < intake.taken)) };
 }
@@ -46,17 +49,21 @@ impl Intake {
         ensures pending { result.pending ≡ [] }
         ensures taken { result.taken ≡ 0 }
         ensures fault { result.fault ≡ None }
+        ensures ended { IsFalse result.ended }
     {
         Intake {
             buffer: Buffer::new(),
             taken: 0,
             fault: None,
+            is_ended: false,
         }
     }
 
     // Finds the next line, and takes what it needs for that.
     pub(crate) fn advance<S: Source>(&mut self, source: &mut S) -> Result<Found, LineFault>
-        ensures { FindsNext S.Source (reader_of source.old self.old) (reader_of source.new self.new) self.new.line result }
+        requires at_end { OnTrue self.old.ended (IsAtEnd (S.content source.old)) }
+        ensures next { FindsNext S.Source (reader_of source.old self.old) (reader_of source.new self.new) self.new.line result }
+        ensures at_end { OnTrue self.new.ended (IsAtEnd (S.content source.new)) }
     {
         if let Some(fault) = self.fault {
             return Err(fault);
@@ -96,12 +103,13 @@ impl Intake {
         ensures cuts { CutsLine result self.old.pending self.new.line self.new.pending }
         ensures taken { self.new.taken ≡ self.old.taken }
         ensures fault { self.new.fault ≡ self.old.fault }
+        ensures ended { self.new.ended ≡ self.old.ended }
     {
         self.buffer.cut_line()
     }
 
     fn cut_rest(&mut self)
-        ensures { self.new ≡ record { line = self.old.pending; pending = []; taken = self.old.taken; fault = self.old.fault } }
+        ensures { self.new ≡ record { line = self.old.pending; pending = []; taken = self.old.taken; fault = self.old.fault; ended = self.old.ended } }
     {
         self.buffer.cut_rest();
     }
@@ -111,6 +119,7 @@ impl Intake {
         ensures drops { DropsLong is_long result self.old.pending self.new.pending }
         ensures taken { self.new.taken ≡ self.old.taken }
         ensures fault { self.new.fault ≡ self.old.fault }
+        ensures ended { self.new.ended ≡ self.old.ended }
     {
         if self.buffer.len() <= LONGEST {
             return is_long;
@@ -139,20 +148,28 @@ impl Intake {
         }
     }
 
-    // Takes more of the source. `false` says that it met its end.
+    // Takes more of the source. `false` says that it met its end, now or before: it is not asked again.
     fn take_more<S: Source>(&mut self, source: &mut S) -> Result<bool, LineFault>
         requires room { length self.old.pending ≤ 4096 }
         requires fault { self.old.fault ≡ None }
+        requires at_end { OnTrue self.old.ended (IsAtEnd (S.content source.old)) }
         ensures { IsTurn S.Source (reader_of source.old self.old) (reader_of source.new self.new) result }
     {
+        if self.is_ended {
+            return Ok(false);
+        }
         if self.taken >= LIMIT {
             return self.take_past_limit(source);
         }
         self.buffer.make_room();
         match self.buffer.fill(source, (LIMIT - self.taken) as usize) {
+            Ok(0) => {
+                self.is_ended = true;
+                Ok(false)
+            }
             Ok(count) => {
                 self.taken += count as u64;
-                Ok(count > 0)
+                Ok(true)
             }
             Err(Failed) => {
                 self.fault = Some(LineFault::Read);
@@ -165,11 +182,15 @@ impl Intake {
     fn take_past_limit<S: Source>(&mut self, source: &mut S) -> Result<bool, LineFault>
         requires limit { self.old.taken ≡ 2 ^ 30 }
         requires fault { self.old.fault ≡ None }
+        requires before_end { IsFalse self.old.ended }
         ensures { IsTurn S.Source (reader_of source.old self.old) (reader_of source.new self.new) result }
     {
         let mut byte = [0];
         match source.take(&mut byte) {
-            Ok(0) => Ok(false),
+            Ok(0) => {
+                self.is_ended = true;
+                Ok(false)
+            }
             Ok(_) => {
                 self.taken += 1;
                 self.fault = Some(LineFault::TooLong);

@@ -3,7 +3,6 @@
 
 mod buffer;
 mod decimal;
-mod fuse;
 mod intake;
 mod lines;
 mod words;

@@ -1,12 +1,11 @@
 // A source read line by line.
-ghost use Rattle.std.specs.Prelude.{◌≡◌, ◌≤◌, [], None, length};
+ghost use Rattle.std.specs.Prelude.{◌≡◌, ◌≤◌, [], None, false, length};
 ghost use Rattle.std.specs.Borrow.{sem};
 ghost use Rattle.std.specs.Io.BufRead.{Rests};
 
 #[cfg(test)]
 mod tests;
 
-use crate::fuse::Fuse;
 use crate::intake::Intake;
 use hose_io::Source;
 use std::marker::Model;
@@ -35,17 +34,21 @@ pub enum LineFault {
 /// its end no more.
 #[derive(Drop)]
 pub struct LineReader<S: Source> {
-    source: Fuse<S>,
+    source: S,
     intake: Intake,
 }
 
 impl<S: Source> Model for LineReader<S> {
+    ghost use Rattle.std.specs.Bool.{OnTrue};
+    ghost use Rattle.hose_io.specs.Stream.{IsAtEnd};
     ghost use Rattle.hose_words.specs.Lines.{Reader};
     ghost use Rattle.hose_words.specs.Intake.{reader_of};
 
     ghost Value = { Reader S };
 
     ghost view = { λ reader. reader_of reader.source reader.intake };
+
+    ghost invariant = { λ reader. OnTrue reader.intake.ended (IsAtEnd (S.content reader.source)) };
 }
 
 impl<S: Source> LineReader<S> {
@@ -54,10 +57,10 @@ impl<S: Source> LineReader<S> {
 
     /// A reader that has taken nothing.
     pub fn new(source: S) -> LineReader<S>
-        ensures { result ≡ record { source = source; pending = []; taken = 0; fault = None } }
+        ensures { result ≡ record { source = source; pending = []; taken = 0; fault = None; ended = false } }
     {
         LineReader {
-            source: Fuse::new(source),
+            source,
             intake: Intake::new(),
         }
     }
@@ -83,6 +86,6 @@ impl<S: Source> LineReader<S> {
     pub fn into_source(self) -> S
         ensures { result ≡ self.source }
     {
-        self.source.into_inner()
+        self.source
     }
 }

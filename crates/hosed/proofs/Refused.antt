@@ -2,7 +2,7 @@
 use Rattle.std.proofs.Common.{◌≡◌, ◌⊎◌, ℕ, List, [], ◌∷◌, ◌++◌, Option, None, Some, Result, Ok, Err, inl, inr, refl, subst, arith}
 use Rattle.std.specs.Prelude.{IfOk, IfErr}
 use Rattle.hose_io.specs.Stream.{Stream}
-use Rattle.hose_words.specs.Lines.{StopsAt}
+use Rattle.hose_words.specs.Lines.{StopsBehindLines}
 use Rattle.hose_words.specs.declared.lines.LineFault.{LineFault}
 use Rattle.hose_words.specs.declared.lines.LineFault.TheVariants as line
 use Rattle.hose_graph.specs.Network.{Network}
@@ -15,7 +15,7 @@ use Rattle.hosed.specs.Serving.{IsAllTaken, IsEndOf}
 use Rattle.hosed.specs.declared.fault.Fault.{Fault}
 use Rattle.hosed.specs.declared.fault.Fault.TheVariants.{Words, Topology, Read, Write, Memory, TooLong}
 
-no_run : (old new : Option Stream) (network : Network) (lines : List ReadLine) (replies : List Reply) (stops : List ℕ → List ℕ → Type 0) → IsRefusedText old new
+no_run : (old new : Option Stream) (network : Network) (lines : List ReadLine) (replies : List Reply) (stops : List ℕ → List ℕ → List ℕ → Type 0) → IsRefusedText old new
     → HasRun old new network lines replies stops → ⊥
 no_run (Some old) (Some new) network lines replies stops refused run = refused network run.text.0 run.text.2
 no_run (Some old) None network lines replies stops refused run = refused
@@ -33,11 +33,11 @@ refused_ends (Err Write) old new before after same kinds ran broke cut refused =
     let off = cut refl in absurd (no_run old new off.network off.lines (off.replies ++ off.reply ∷ []) IsEndOf refused off.run)
 refused_ends (Err Read) old new before after same kinds ran broke cut refused = elim (broke line.Read refl) [
   | inl stops ↦ inr (inr (inl (refl, stops.0)))
-  | inr run ↦ absurd (no_run old new run.network run.lines run.replies (StopsAt line.Read) refused run.run)
+  | inr run ↦ absurd (no_run old new run.network run.lines run.replies (StopsBehindLines line.Read) refused run.run)
 ]
 refused_ends (Err TooLong) old new before after same kinds ran broke cut refused = elim (broke line.TooLong refl) [
   | inl stops ↦ inr (inr (inr (refl, stops.0)))
-  | inr run ↦ absurd (no_run old new run.network run.lines run.replies (StopsAt line.TooLong) refused run.run)
+  | inr run ↦ absurd (no_run old new run.network run.lines run.replies (StopsBehindLines line.TooLong) refused run.run)
 ]
 
 -- At status 2 the topology was refused, and nothing was out before its last line.

@@ -3,7 +3,7 @@ use Rattle.std.proofs.Common.{◌≡◌, ℕ, List, [], ◌++◌, Option, Result
 use Rattle.std.specs.Prelude.{IfOk}
 use Rattle.hose_io.specs.Stream.{Stream, Grows}
 use Rattle.hose_io.specs.declared.source.Source.{Ghosts}
-use Rattle.hose_words.specs.Lines.{Reader, StopsAt}
+use Rattle.hose_words.specs.Lines.{Reader, StopsBehindLines}
 use Rattle.hose_words.specs.Reading.{WhereTold, ReadsOn}
 use Rattle.hose_words.specs.declared.lines.LineFault.{LineFault}
 use Rattle.hose_words.specs.declared.lines.LineFault.TheVariants as line
@@ -61,10 +61,16 @@ line_never_writes line.TooLong same = cc
 
 -- reading stopped inside the topology
 pub stopped_told : {S : Type 0} (source : Ghosts S) (start last : Reader S) (fault : LineFault) → start.pending ≡ []
-    → WhereTold (source.content start.source) (source.content last.source) (λ input left. (network : Network) × (count : ℕ) × (behind : List ℕ) × AddLines no_network (start.pending ++ input) count network behind × StopsAt fault behind left)
+    → WhereTold (source.content start.source) (source.content last.source) (λ input left. (network : Network) × (count : ℕ) × (behind : List ℕ) × AddLines no_network (start.pending ++ input) count network behind × StopsBehindLines fault (start.pending ++ input) behind left)
     → StopsInTopology fault (source.content start.source) (source.content last.source)
 stopped_told source start last fault empty told = WhereTold-map (source.content start.source) (source.content last.source) _ _ told
-    (λ a b stopped. (stopped.0, stopped.1, stopped.2, subst (λ (p : List ℕ). AddLines no_network (p ++ a) stopped.1 stopped.0 stopped.2) empty stopped.3, stopped.4))
+    (λ a b stopped. (
+      stopped.0,
+      stopped.1,
+      stopped.2,
+      subst (λ (p : List ℕ). AddLines no_network (p ++ a) stopped.1 stopped.0 stopped.2) empty stopped.3,
+      subst (λ (p : List ℕ). StopsBehindLines fault (p ++ a) stopped.2 b) empty stopped.4,
+    ))
 
 -- the topology is wrong
 pub wrong_told : {S : Type 0} (source : Ghosts S) (start last : Reader S) (line word : ℕ) → start.pending ≡ []
@@ -79,21 +85,23 @@ wrong_told source start last line word empty wrong none =
       subst (λ (p : List ℕ). (network : Network) (rest : List ℕ) → IsTopologyText (p ++ a) network rest → ⊥) empty both.1,
     ))
 
--- a network was read, and then lines were answered
-pub has_run : {S : Type 0} (source : Ghosts S) (start middle last : Reader S) (network : Network) (stops : List ℕ → List ℕ → Type 0) (puts : List Reply → Type 0) → start.pending ≡ []
+-- a network was read, and then lines were answered; what `stops` says behind the topology it says of the whole input
+pub has_run : {S : Type 0} (source : Ghosts S) (start middle last : Reader S) (network : Network) (stops : List ℕ → List ℕ → List ℕ → Type 0) (puts : List Reply → Type 0) → start.pending ≡ []
     → WhereTold (source.content start.source) (source.content middle.source) (λ input left. IsTopologyText (start.pending ++ input) network (middle.pending ++ left))
     → ReadsOn source start middle
+    → WhereTold (source.content start.source) (source.content middle.source) (λ input left. (behind rest : List ℕ) → stops (middle.pending ++ left) behind rest → stops (start.pending ++ input) behind rest)
     → (served : ServesUpTo source middle last network stops puts)
     → HasRun (source.content start.source) (source.content last.source) network served.lines served.replies stops
-has_run source start middle last network stops puts empty text reads served = record {
+has_run source start middle last network stops puts empty text reads joins served = record {
   history = served.answered.history;
-  text = WhereTold-then (source.content start.source) (source.content middle.source) (source.content last.source) reads.takes.0 _ _ _ reads.takes.1 text served.said
+  text = WhereTold-then (source.content start.source) (source.content middle.source) (source.content last.source) reads.takes.0 _ _ _ reads.takes.1
+      (WhereTold-both (source.content start.source) (source.content middle.source) _ _ text joins) served.said
       (λ a b c told said. (
         middle.pending ++ b,
         said.0,
-        subst (λ (p : List ℕ). IsTopologyText (p ++ a) network (middle.pending ++ b)) empty told,
+        subst (λ (p : List ℕ). IsTopologyText (p ++ a) network (middle.pending ++ b)) empty told.0,
         said.1,
-        said.2,
+        subst (λ (p : List ℕ). stops (p ++ a) said.0 c) empty (told.1 said.0 c said.2),
       ));
   script = served.answered.script;
   decided = served.answered.decided;

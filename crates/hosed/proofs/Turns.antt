@@ -1,17 +1,17 @@
 -- Turns, one behind another.
 use Rattle.std.proofs.Common.{◌≡◌, ◌≢◌, ℕ, List, [], ◌∷◌, ◌++◌, Option, None, Some, Ok, refl, sym, ◌∙◌, ap, subst, arith, length, length-append, take, append-nil}
 use Rattle.std.proofs.lemmas.List.{nil_from_length}
-use Rattle.std.specs.Prelude.{IfSome}
+use Rattle.std.specs.Prelude.{IfSome, ⊤}
 use Rattle.std.specs.List.{before_first, after_first}
 use Rattle.std.proofs.lemmas.Grind.{flat_map-append}
 use Rattle.hose_io.specs.Stream.{Stream, Grows}
 use Rattle.hose_io.proofs.Streams.{Grows-nil, Grows-append}
 use Rattle.hose_io.specs.Writing.{GrowsInPart}
-use Rattle.hose_words.proofs.OnReading.{WhereTold-map, WhereTold-then}
+use Rattle.hose_words.proofs.OnReading.{WhereTold-both, WhereTold-map, WhereTold-then}
 use Rattle.hose_io.specs.declared.source.Source.{Ghosts}
 use Rattle.hose_words.specs.Grammar.{IsFirstNotAllowed}
 use Rattle.hose_words.specs.Words.{words_of}
-use Rattle.hose_words.specs.Lines.{is_line_feed, Shows, Reader, IsNext, GivesLine, StopsAt}
+use Rattle.hose_words.specs.Lines.{is_line_feed, Shows, Reader, IsNext, GivesLine, IsBehindLines, StopsBehindLines}
 use Rattle.hose_words.specs.declared.lines.LineFault.{LineFault}
 use Rattle.hose_words.specs.declared.lines.Line.{Line}
 use Rattle.hose_words.specs.declared.lines.Line.TheVariants as line
@@ -154,6 +154,9 @@ nothing_served source reader network content = record {
     at None = tt
     at (Some stream) = no_line
 
+behind_nothing : (xs ys : List ℕ) → xs ++ ys ≡ [] → ys ≡ []
+behind_nothing xs ys none = nil_from_length ys (omega (arith, ap length none, length-append xs ys))
+
 module _ {S : Type 0} (source : Ghosts S) (start now new : Reader S) (network : Network) (book next : Book) (first middle last : Option (List ℕ)) where
   -- the line of a turn stands behind those that were said
   said_more : (puts : List ℕ → Type 0) (served : HasServed source start now network book first middle) → ReadsOn source start now
@@ -198,29 +201,32 @@ module _ {S : Type 0} (source : Ghosts S) (start now new : Reader S) (network : 
   }
 
   -- no turn more is taken
-  pub served_up_to : (stops : List ℕ → List ℕ → Type 0) → HasServed source start now network book first middle → ReadsOn source start now
-      → WhereTold (source.content now.source) (source.content new.source) (λ was left. (behind : List ℕ) × (now.pending ++ was ≡ behind) × stops behind left)
+  served_up_to : (front : List ℕ → List ℕ → Type 0) (stops : List ℕ → List ℕ → List ℕ → Type 0) → HasServed source start now network book first middle → ReadsOn source start now
+      → WhereTold (source.content start.source) (source.content now.source) (λ was left. front (start.pending ++ was) (now.pending ++ left))
+      → WhereTold (source.content now.source) (source.content new.source) (λ was left. (text : List ℕ) → front text (now.pending ++ was) → stops text (now.pending ++ was) left)
       → last ≡ middle → ServesUpTo source start new network stops (λ replies. Grows first last (texts_of network replies))
-  served_up_to stops served reads ends same = record {
+  served_up_to front stops served reads fronts ends same = record {
     lines = served.lines;
     replies = served.replies;
     book = book;
-    said = WhereTold-then (source.content start.source) (source.content now.source) (source.content new.source) reads.takes.0 _ _ _ reads.takes.1 served.said ends
-        (λ a b c said end. (end.0, subst (SayLines network (start.pending ++ a) served.lines) end.1 said, end.2));
+    said = WhereTold-then (source.content start.source) (source.content now.source) (source.content new.source) reads.takes.0 _ _ _ reads.takes.1
+        (WhereTold-both (source.content start.source) (source.content now.source) _ _ served.said fronts) ends
+        (λ a b c told end. (now.pending ++ b, told.0, end (start.pending ++ a) told.1));
     answered = served.answered;
     out = subst (λ (content : Option (List ℕ)). Grows first content (texts_of network served.replies)) (sym same) served.out;
   }
 
--- reading ended, or met a fault
-behind_nothing : (xs ys : List ℕ) → xs ++ ys ≡ [] → ys ≡ []
-behind_nothing xs ys none = nil_from_length ys (omega (arith, ap length none, length-append xs ys))
+  -- reading ended
+  pub served_over : (ledger : Ledger) → HasServed source start now network book first middle → ReadsOn source start now → IsOver source now new ledger next middle last
+      → ServesUpTo source start new network IsAllTaken (λ replies. Grows first last (texts_of network replies))
+  served_over ledger served reads over = served_up_to (λ _ _. ⊤) IsAllTaken served reads
+      (WhereTold-map (source.content start.source) (source.content now.source) _ _ served.said (λ _ _ _. tt))
+      (WhereTold-map (source.content now.source) (source.content new.source) _ _ over.ended (λ was left ended text _. (ended.0, behind_nothing new.pending left ended.1)))
+      over.same_output
 
-pub ends_over : {S : Type 0} (source : Ghosts S) (now new : Reader S) (ledger : Ledger) (book : Book) (before after : Option (List ℕ)) → IsOver source now new ledger book before after
-    → WhereTold (source.content now.source) (source.content new.source) (λ was left. (behind : List ℕ) × (now.pending ++ was ≡ behind) × IsAllTaken behind left)
-ends_over source now new ledger book before after over = WhereTold-map (source.content now.source) (source.content new.source) _ _ over.ended
-    (λ was left ended. ([], ended.0, (refl, behind_nothing new.pending left ended.1)))
-
-pub ends_broke : {S : Type 0} (source : Ghosts S) (now new : Reader S) (fault : LineFault) (before after : Option (List ℕ)) → MeetsFault source now new fault before after
-    → WhereTold (source.content now.source) (source.content new.source) (λ was left. (behind : List ℕ) × (now.pending ++ was ≡ behind) × StopsAt fault behind left)
-ends_broke source now new fault before after met = WhereTold-map (source.content now.source) (source.content new.source) _ _ met.stops
-    (λ was left stops. (now.pending ++ was, refl, stops))
+  -- reading met a fault: the lines before all ended with line feeds, as a source is asked no more behind one that did not
+  pub served_broke : (fault : LineFault) → HasServed source start now network book first middle → ReadsOn source start now → now.fault ≡ None → MeetsFault source now new fault middle last
+      → ServesUpTo source start new network (StopsBehindLines fault) (λ replies. Grows first last (texts_of network replies))
+  served_broke fault served reads none met = served_up_to IsBehindLines (StopsBehindLines fault) served reads (reads.whole none met.before_end)
+      (WhereTold-map (source.content now.source) (source.content new.source) _ _ met.stops (λ was left stops text lines. (lines, stops)))
+      met.same_output

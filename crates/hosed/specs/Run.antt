@@ -2,7 +2,7 @@
 use Rattle.std.specs.Prelude.{◌≡◌, ◌⊎◌, ℕ, ◌^◌, ◌≤◌, List, [], ◌∷◌, ◌++◌, length, Option, None, Some, ⊤, take}
 use Rattle.hose_io.specs.Fault.{Rose}
 use Rattle.hose_io.specs.Stream.{Stream, Grows}
-use Rattle.hose_words.specs.Lines.{StopsAt}
+use Rattle.hose_words.specs.Lines.{StopsBehindLines}
 use Rattle.hose_words.specs.declared.lines.LineFault.{LineFault}
 use Rattle.hose_words.specs.declared.lines.LineFault.TheVariants.{Read, TooLong}
 use Rattle.hose_graph.specs.declared.entry.Entry.{Entry}
@@ -35,10 +35,10 @@ pub record IsRightFor (input output : List ℕ) : Type 0 where
 
 -- The input is the text of a network and then lines, all of which were answered: the replies are those of the script of
 -- the lines from the empty history, that history is decided from its start, no link is oversold at any place of it, and each VPN is live and
--- unchanged from its admission up to its own release. `stops` says how what stands behind the lines stands to what the input has left.
-pub record HasRun (old new : Option Stream) (network : Network) (lines : List ReadLine) (replies : List Reply) (stops : List ℕ → List ℕ → Type 0) : Type 0 where
+-- unchanged from its admission up to its own release. `stops` says how the input stands to what stands behind the lines and to what is left.
+pub record HasRun (old new : Option Stream) (network : Network) (lines : List ReadLine) (replies : List Reply) (stops : List ℕ → List ℕ → List ℕ → Type 0) : Type 0 where
   pub history : List Entry
-  pub text : WhereTold old new (λ input left. (rest : List ℕ) × (behind : List ℕ) × IsTopologyText input network rest × SayLines network rest lines behind × stops behind left)
+  pub text : WhereTold old new (λ input left. (rest : List ℕ) × (behind : List ℕ) × IsTopologyText input network rest × SayLines network rest lines behind × stops input behind left)
   pub script : IsScript network 0 [] lines replies history
   pub decided : IsDecided network 0 0 history
   pub none_oversold : (place l : ℕ) → IsOversold network (book_of 0 (take place history)) l → ⊥
@@ -53,21 +53,21 @@ pub record IsRun (old new : Option Stream) (before after : Option (List ℕ)) : 
   pub out : Grows before after (texts_of network replies)
   pub alone : WithoutMemory replies → WhereTold old new (λ input _. (output : List ℕ) → IsRightFor input output → output ≡ texts_of network replies)
 
--- Reading stopped at a fault behind the topology, and the output has the replies to the lines before.
+-- Reading stopped at a fault behind the topology and whole lines, and the output has the replies to these lines.
 pub record IsRunUpTo (fault : LineFault) (old new : Option Stream) (before after : Option (List ℕ)) : Type 0 where
   pub network : Network
   pub lines : List ReadLine
   pub replies : List Reply
-  pub run : HasRun old new network lines replies (StopsAt fault)
+  pub run : HasRun old new network lines replies (StopsBehindLines fault)
   pub out : Grows before after (texts_of network replies)
 
--- Reading stopped at a fault behind the topology. The output has the replies to the lines before and then a last line, whole; or its count of
--- faults rose, and a part of the last line is out behind the replies.
+-- Reading stopped at a fault behind the topology and whole lines. The output has the replies to these lines and then a last line, whole; or its
+-- count of faults rose, and a part of the last line is out behind the replies.
 pub record BreaksOff (fault : LineFault) (old new : Option Stream) (before after : Option (List ℕ)) (faults more_faults : ℕ) (last : List ℕ) : Type 0 where
   pub network : Network
   pub lines : List ReadLine
   pub replies : List Reply
-  pub run : HasRun old new network lines replies (StopsAt fault)
+  pub run : HasRun old new network lines replies (StopsBehindLines fault)
   pub out : Grows before after (texts_of network replies ++ last) ⊎ (Rose faults more_faults × GrowsShort before after (texts_of network replies) last)
 
 -- The output was cut off in a reply: it has the replies before, and a part of this one. Bytes behind the lines may have been taken.
@@ -84,9 +84,9 @@ abbrev pub TellsNoNetwork : ℕ → ℕ → Option Stream → Option Stream → 
 TellsNoNetwork line word old new =
     WhereTold old new (λ input _. ((rest : List ℕ) × IsWrongAt input line word rest) × ((network : Network) (rest : List ℕ) → IsTopologyText input network rest → ⊥))
 
--- Reading stopped at a fault before the topology was refused or ended: behind lines that add to a network no line was taken whole.
+-- Reading stopped at a fault before the topology was refused or ended: behind whole lines that add to a network no line was taken whole.
 abbrev pub StopsInTopology : LineFault → Option Stream → Option Stream → Type 0
-StopsInTopology fault old new = WhereTold old new (λ input left. (network : Network) × (count : ℕ) × (behind : List ℕ) × AddLines no_network input count network behind × StopsAt fault behind left)
+StopsInTopology fault old new = WhereTold old new (λ input left. (network : Network) × (count : ℕ) × (behind : List ℕ) × AddLines no_network input count network behind × StopsBehindLines fault input behind left)
 
 -- The input is told, and begins with the text of no network.
 abbrev pub IsRefusedText : Option Stream → Option Stream → Type 0

@@ -1,5 +1,5 @@
 -- What the lines behind a topology say, and what is answered to them.
-use Rattle.std.specs.Prelude.{◌≡◌, ◌≢◌, ℕ, ◌+◌, ◌<◌, ◌≤◌, List, [], ◌∷◌, ◌++◌, length, Option, ⊤}
+use Rattle.std.specs.Prelude.{◌≡◌, ◌≢◌, ℕ, ◌+◌, ◌<◌, ◌≤◌, IsFalse, List, [], ◌∷◌, ◌++◌, length, Option, ⊤}
 use Rattle.std.specs.List.{before_first, after_first, flat_map}
 use Rattle.hose_io.specs.Stream.{Grows}
 use Rattle.hose_io.specs.declared.source.Source.{Ghosts}
@@ -93,9 +93,10 @@ pub record IsOver {S : Type 0} (source : Ghosts S) (old new : Reader S) (ledger 
   pub same_book : book ≡ ledger.book
   pub same_output : after ≡ before
 
--- Reading met a fault before the next line ended, so nothing was answered.
+-- Reading met a fault before the next line ended and before the source did, so nothing was answered.
 pub record MeetsFault {S : Type 0} (source : Ghosts S) (old new : Reader S) (fault : LineFault) (before after : Option (List ℕ)) : Type 0 where
   pub stops : WhereTold (source.content old.source) (source.content new.source) (λ was left. StopsAt fault (old.pending ++ was) left)
+  pub before_end : IsFalse old.ended
   pub same_output : after ≡ before
 
 -- Turns from the empty history on: lines that were to come were read and answered, each by a reply that is out.
@@ -107,25 +108,25 @@ pub record HasServed {S : Type 0} (source : Ghosts S) (start now : Reader S) (ne
   pub out : Grows before after (texts_of network replies)
 
 -- nothing stands behind the lines of a text, and nothing is left
-abbrev pub IsAllTaken : List ℕ → List ℕ → Type 0
-IsAllTaken behind left = (behind ≡ []) × (left ≡ [])
+abbrev pub IsAllTaken : List ℕ → List ℕ → List ℕ → Type 0
+IsAllTaken text behind left = (behind ≡ []) × (left ≡ [])
 
 -- what is left is the end of what stands behind the lines of a text
-abbrev pub IsEndOf : List ℕ → List ℕ → Type 0
-IsEndOf behind left = (seen : List ℕ) × (behind ≡ seen ++ left)
+abbrev pub IsEndOf : List ℕ → List ℕ → List ℕ → Type 0
+IsEndOf text behind left = (seen : List ℕ) × (behind ≡ seen ++ left)
 
 -- the replies are out, but for a part of the last
 abbrev pub CutsLast : Network → Option (List ℕ) → Option (List ℕ) → List Reply → Type 0
 CutsLast network before after replies = (whole : List Reply) × (reply : Reply) × (replies ≡ whole ++ reply ∷ [])
     × GrowsShort before after (texts_of network whole) (line_of (reply_text network reply))
 
--- Lines that were to come were answered from the empty history on. `stops` says how what stands behind them stands to what the source has left,
--- and `puts` how much is out of the replies.
-pub record ServesUpTo {S : Type 0} (source : Ghosts S) (start now : Reader S) (network : Network) (stops : List ℕ → List ℕ → Type 0) (puts : List Reply → Type 0) : Type 0 where
+-- Lines that were to come were answered from the empty history on. `stops` says how the text that was to come stands to what stands behind them
+-- and to what the source has left, and `puts` how much is out of the replies.
+pub record ServesUpTo {S : Type 0} (source : Ghosts S) (start now : Reader S) (network : Network) (stops : List ℕ → List ℕ → List ℕ → Type 0) (puts : List Reply → Type 0) : Type 0 where
   pub lines : List ReadLine
   pub replies : List Reply
   pub book : Book
   pub said : WhereTold (source.content start.source) (source.content now.source)
-      (λ was left. (behind : List ℕ) × SayLines network (start.pending ++ was) lines behind × stops behind left)
+      (λ was left. (behind : List ℕ) × SayLines network (start.pending ++ was) lines behind × stops (start.pending ++ was) behind left)
   pub answered : AreAnswered network lines replies book
   pub out : puts replies

@@ -67,7 +67,7 @@ pub fn hosed<I: Source, O: Sink>(
         × (length bytes ≤ 2 ^ 30 + 1) × ((result ≡ 8) ↔ (2 ^ 30 < length bytes)) }
 
     // 3 and 8: the input stopped inside the topology, and the last line alone is out; or behind it, and the output is the replies of a
-    // script as at 0, to all whole lines that were taken, and then the last line.
+    // script as at 0, to all whole lines that were taken and to no part of one, and then the last line.
     ensures input_failed_where { result ≡ 3
         → (StopsInTopology LineFault.Read (I.content input.old) (I.content input.new)
         × IsOut (O.content output.old) (O.content output.new) (O.faults output.old) (O.faults output.new)

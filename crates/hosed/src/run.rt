@@ -1,9 +1,9 @@
 // A run: a topology, and then a reply for each line.
-ghost use Rattle.std.specs.Prelude.{◌≡◌, ◌⊎◌, ◌↔◌, ◌+◌, [], ◌^◌, ◌<◌, ◌≤◌, ℕ, List, length, None, Ok, Err, IfOk, IfErr, IsOk, true, false};
+ghost use Rattle.std.specs.Prelude.{◌≡◌, ◌⊎◌, ◌↔◌, ◌+◌, [], ◌^◌, ◌<◌, ◌≤◌, ℕ, List, length, None, Ok, Err, IfOk, IfErr, IsOk, IsFalse, true, false};
 ghost use Rattle.hose_io.specs.Fault.{Rose};
 ghost use Rattle.hose_io.specs.Stream.{Gives, Grows};
 ghost use Rattle.hose_io.specs.Writing.{GrowsInPart};
-ghost use Rattle.hose_words.specs.Lines.{StopsAt};
+ghost use Rattle.hose_words.specs.Lines.{StopsBehindLines};
 ghost use Rattle.hose_words.specs.declared.lines.LineFault.{LineFault};
 ghost use Rattle.hose_law.specs.History.{opening_book};
 ghost use Rattle.hose_law.specs.Script.{ReadLine};
@@ -100,8 +100,9 @@ fn serve<S: Source, O: Sink>(
     requires no_fault { lines.old.fault ≡ None }
     ensures served { IfOk result (λ _. ServesUpTo S.Source lines.old lines.new book.old.network IsAllTaken
         (λ replies. Grows (O.content output.old) (O.content output.new) (texts_of book.old.network replies))) }
-    ensures broke { (fault : LineFault) → result ≡ Err (of_line fault) → ServesUpTo S.Source lines.old lines.new book.old.network (StopsAt fault)
+    ensures broke { (fault : LineFault) → result ≡ Err (of_line fault) → ServesUpTo S.Source lines.old lines.new book.old.network (StopsBehindLines fault)
         (λ replies. Grows (O.content output.old) (O.content output.new) (texts_of book.old.network replies)) }
+    ensures before_end { (fault : LineFault) → result ≡ Err (of_line fault) → IsFalse lines.old.ended }
     ensures cut { result ≡ Err Fault.Write → ServesUpTo S.Source lines.old lines.new book.old.network IsEndOf
         (CutsLast book.old.network (O.content output.old) (O.content output.new)) }
     ensures kinds { IfErr result IsStreamFault }

@@ -47,6 +47,31 @@ fn a_source_fails_at_each_call(rt: HostRuntime) -> Result<(), Fail> {
 }
 
 #[test]
+fn a_last_line_without_line_feed_has_its_reply_only_at_the_end(
+    rt: HostRuntime,
+) -> Result<(), Fail> {
+    let text = joined(rt.alloc(), &[STAR, "acme link 0\nacme link 1"])?;
+    // The third call gives all of the script, and the fourth nothing. No call follows.
+    for (nth, status, last) in [
+        (4, 3, "read\n"),
+        (5, 0, "link 1 b h capacity 10 cost 2 load 0 at 0\n"),
+    ] {
+        let mut source = MemSource::new(rt.alloc(), text.as_bytes(), PIECE)?;
+        source.fail(rt.alloc(), nth)?;
+        let mut sink = MemSink::new(rt.alloc())?;
+        assert_eq!(rt;
+            call(rt.alloc(), RUN, &mut source, &mut sink)?,
+            status,
+            "at call {nth}"
+        );
+        let output = format!(in rt.alloc(); "link 0 a h capacity 10 cost 1 load 0 at 0\n{last}")?;
+        assert_eq!(rt; sink.bytes(), output.as_bytes(), "at call {nth}");
+        assert_eq!(rt; source.taken().len(), text.len(), "at call {nth}");
+    }
+    Ok(())
+}
+
+#[test]
 fn a_sink_fails_at_each_call(rt: HostRuntime) -> Result<(), Fail> {
     let text = joined(rt.alloc(), &[STAR, SCRIPT])?;
     for (nth, status, output) in [

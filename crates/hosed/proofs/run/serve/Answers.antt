@@ -3,10 +3,9 @@ use Rattle.hose_io.specs.Stream.{Grows}
 use Rattle.hose_io.specs.Writing.{GrowsInPart}
 use Rattle.hose_graph.specs.Network.{Network}
 use Rattle.hose_law.specs.Book.{Book}
-use Rattle.hose_words.specs.Lines.{StopsAt}
-use Rattle.hosed.specs.Serving.{HasServed, IsAllTaken, TakesTurn}
+use Rattle.hosed.specs.Serving.{HasServed, TakesTurn}
 use Rattle.hose_words.proofs.OnReading.{ReadsOn-start, ReadsOn-then}
-use Rattle.hosed.proofs.Turns.{ends_broke, ends_over, nothing_served, served_cut, served_more, served_up_to}
+use Rattle.hosed.proofs.Turns.{nothing_served, served_broke, served_cut, served_more, served_over}
 use Rattle.hosed.proofs.run.serve.Goals as goal
 
 pub loop-init : goal.loop-init
@@ -64,8 +63,13 @@ returns-in_err-serve_line-clause-broke g c = λ fault is.
     let middle = g.O.Sink.content c.loop.output in
     let last = g.O.Sink.content c.serve_line.new.output in
     let met = c.serve_line.ensures.broke fault (c.in_err-serve_line.was ∙ ap Err (sym (rw is at c.from_residual.ensures.1))) in
-    served_up_to g.S.Source c.args.lines.now old new c.args.book.now.network c.loop.book.book c.serve_line.new.book.book (g.O.Sink.content c.args.output.now) middle last
-    (StopsAt fault) c.loop.invariant.0 c.loop.invariant.1 (ends_broke g.S.Source old new fault middle last met) met.same_output
+    served_broke g.S.Source c.args.lines.now old new c.args.book.now.network c.loop.book.book c.serve_line.new.book.book (g.O.Sink.content c.args.output.now) middle last
+    fault c.loop.invariant.0 c.loop.invariant.1 c.loop.invariant.3 met
+
+pub returns-in_err-serve_line-clause-before_end : goal.returns-in_err-serve_line-clause-before_end
+returns-in_err-serve_line-clause-before_end g c = λ fault is.
+    let met = c.serve_line.ensures.broke fault (c.in_err-serve_line.was ∙ ap Err (sym (rw is at c.from_residual.ensures.1))) in
+    c.loop.invariant.1.ended met.before_end
 
 pub returns-in_err-serve_line-clause-cut : goal.returns-in_err-serve_line-clause-cut
 returns-in_err-serve_line-clause-cut g c = λ is.
@@ -88,5 +92,5 @@ returns-clause-served g c =
     let middle = g.O.Sink.content c.loop.output in
     let last = g.O.Sink.content c.serve_line.new.output in
     let over = c.serve_line.ensures.over (c.in_ok-serve_line.was ∙ ap Ok c.if-branch.false) in
-    served_up_to g.S.Source c.args.lines.now old new c.args.book.now.network c.loop.book.book next (g.O.Sink.content c.args.output.now) middle last
-    IsAllTaken c.loop.invariant.0 c.loop.invariant.1 (ends_over g.S.Source old new c.loop.book next middle last over) over.same_output
+    served_over g.S.Source c.args.lines.now old new c.args.book.now.network c.loop.book.book next (g.O.Sink.content c.args.output.now) middle last
+    c.loop.book c.loop.invariant.0 c.loop.invariant.1 over

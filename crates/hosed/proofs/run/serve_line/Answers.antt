@@ -11,7 +11,7 @@ returns-in_err-line-clause-broke g c = λ fault is.
     let same : fault ≡ c.in_err-line.field-0.0 = same_line fault c.in_err-line.field-0.0 (rw is at c.from_residual.ensures.1) in
     let next : IsNext g.S.Source c.args.lines.now c.next.follows.lender-at-none (Err fault) =
     subst (IsNext g.S.Source c.args.lines.now c.next.follows.lender-at-none) (c.in_err-line.was ∙ ap Err (sym same)) c.next.follows.holds-at-none in
-    record { stops = next.answer c.requires.no_fault; same_output = refl }
+    record { stops = next.answer c.requires.no_fault; before_end = next.before_end c.requires.no_fault refl; same_output = refl }
 
 pub returns-in_err-put_reply-clause-cut : goal.returns-in_err-put_reply-clause-cut
 returns-in_err-put_reply-clause-cut g c = λ _.
