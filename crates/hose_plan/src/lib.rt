@@ -12,5 +12,7 @@ mod canonical;
 mod decision;
 mod root;
 mod safe;
+#[cfg(test)]
+mod tests;
 
 pub use decision::{Decision, Grounds, decide};

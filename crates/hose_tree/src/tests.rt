@@ -3,7 +3,7 @@ ghost use Rattle.std.specs.Prelude.{◌≡◌, ◌<◌, ◌≤◌, ◌↔◌, le
 ghost use Rattle.hose_law.specs.Walk.{capacity_of};
 ghost use Rattle.hose_tree.specs.Amounts.{AreCarried};
 
-use super::{cost, fits, reached};
+use super::{cost, fits, free_rate, reached};
 use hose_graph::{Amounts, Link, Name, Topology};
 use hose_links::LinkSet;
 use std::alloc::{AllocError, Global};
@@ -104,6 +104,10 @@ fn fits_up_to_what_is_free(rt: HostRuntime) -> Result<(), Fail> {
     let top = star(rt.alloc())?;
     let loads = [0, 4, 10];
     assert!(rt; are_carried(&top, &loads));
+    assert!(rt; top.links() == 3);
+    for (link, free) in [(0, 10), (1, 6), (2, 0)] {
+        assert_eq!(rt; free_rate(&top, &loads, link), free, "at {link}");
+    }
     for (amount, does) in [(5, true), (6, true), (7, false)] {
         let amounts = Amounts::build(rt.alloc(), &[(0, 10), (1, amount), (2, 0)])?;
         assert_eq!(rt; fits(&top, &loads, &amounts), does, "at {amount}");

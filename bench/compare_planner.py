@@ -1,0 +1,353 @@
+#!/usr/bin/env python3
+"""Compares `hosed run`, reply by reply, with a planner that is slow and plain, on random networks of up to 9 nodes.
+
+The planner here shares no code with the crates and follows the rules word by word; it is tried on rows that were worked out by hand first. Prints how
+many networks, commands and replies of each kind agreed; or the first difference, with the input up to it, and ends with status 1.
+
+usage: bench/compare_planner.py [PROGRAM [NETWORKS [SEED]]]     the PROGRAM (./hosed) as seen from the top of the repository
+"""
+
+import os
+import random
+import subprocess
+import sys
+from collections import Counter
+from itertools import zip_longest
+from typing import NamedTuple
+
+COMMANDS = 60  # of each network
+CUSTOMERS = ("acme", "zeta")
+MOST_RATE = 6
+SECONDS = 600  # that the program has for one network: the first run may build it
+
+
+class Link(NamedTuple):
+    a: int
+    b: int
+    capacity: int
+    length: int
+    cost: int
+
+
+class Network(NamedTuple):
+    nodes: list  # of names
+    links: list
+
+
+class Vpn(NamedTuple):
+    customer: str
+    hose: list  # of (node, rate), ascending
+    plan: list  # of (link, amount), ascending
+    cost: int
+
+
+# ---- The planner.
+
+
+def far_end(link, node):
+    """The node that the link joins to this one; none where the link is not at it."""
+    if node == link.a:
+        return link.b
+    if node == link.b:
+        return link.a
+    return None
+
+
+def distances(network, over, root):
+    """The least cost of a walk over these links from the root to each node; none where there is no walk."""
+    dist = [None] * len(network.nodes)
+    dist[root] = 0
+    settled = False
+    while not settled:
+        settled = True
+        for number in over:
+            link = network.links[number]
+            for near, far in ((link.a, link.b), (link.b, link.a)):
+                if dist[near] is None:
+                    continue
+                if dist[far] is None or dist[near] + link.cost < dist[far]:
+                    dist[far] = dist[near] + link.cost
+                    settled = False
+    return dist
+
+
+def weight(network, over, hose, root):
+    """The sum of each endpoint's rate times its distance from the root; none where one is not reached."""
+    dist = distances(network, over, root)
+    if any(dist[node] is None for node, _ in hose):
+        return None
+    return sum(rate * dist[node] for node, rate in hose)
+
+
+def best_root(network, over, hose):
+    """The lowest node of least weight; none where no node reaches all endpoints."""
+    best = least = None
+    for node in range(len(network.nodes)):
+        weighs = weight(network, over, hose, node)
+        if weighs is not None and (least is None or weighs < least):
+            best, least = node, weighs
+    return best
+
+
+def tight_link(network, over, dist, node):
+    """The lowest link to a node that is nearer to the root by just the link's cost, and that node."""
+    for number in sorted(over):
+        near = far_end(network.links[number], node)
+        if near is not None and dist[near] is not None and dist[near] + network.links[number].cost == dist[node]:
+            return number, near
+    raise AssertionError("a node that is reached has no tight link")
+
+
+def tree(network, over, hose, root):
+    """The links on the endpoints' ways to the root."""
+    dist = distances(network, over, root)
+    links = set()
+    for node, _ in hose:
+        while node != root:
+            number, node = tight_link(network, over, dist, node)
+            links.add(number)
+    return links
+
+
+def reached(network, over, start):
+    """The nodes that a walk over these links leads to."""
+    dist = distances(network, over, start)
+    return [node for node in range(len(network.nodes)) if dist[node] is not None]
+
+
+def canonical_plan(network, over, hose):
+    """What the hose reserves on the tree of its root, by links; none where there is no root."""
+    root = best_root(network, over, hose)
+    if root is None:
+        return None
+    links = tree(network, over, hose, root)
+    total = sum(rate for _, rate in hose)
+    plan = []
+    for number in sorted(links):
+        side = reached(network, links - {number}, network.links[number].a)
+        rates = sum(rate for node, rate in hose if node in side)
+        plan.append((number, min(rates, total - rates)))
+    return plan
+
+
+def free_rate(network, loads, number):
+    return network.links[number].capacity - loads[number]
+
+
+def fits(network, loads, plan):
+    return all(amount <= free_rate(network, loads, number) for number, amount in plan)
+
+
+def plan_cost(network, plan):
+    return sum(network.links[number].cost * amount for number, amount in plan)
+
+
+def decide(network, loads, hose):
+    """`first` or `second` and the plan to admit the hose with; or `refused` and the side."""
+    everything = set(range(len(network.links)))
+    first = canonical_plan(network, everything, hose)
+    if first is not None and fits(network, loads, first):
+        return "first", first
+    half = sum(rate for _, rate in hose) // 2
+    safe = {number for number in everything if free_rate(network, loads, number) >= half}
+    second = canonical_plan(network, safe, hose)
+    if second is None:
+        return "refused", reached(network, safe, hose[0][0])
+    assert fits(network, loads, second), "a plan over the safe links does not fit"
+    return "second", second
+
+
+# ---- The server: what it replies to each command.
+
+
+class Server:
+    def __init__(self, network):
+        self.network = network
+        self.epoch = 0
+        self.live = {}  # VPNs by their numbers
+        self.kinds = Counter()
+
+    def loads(self):
+        loads = [0] * len(self.network.links)
+        for vpn in self.live.values():
+            for number, amount in vpn.plan:
+                loads[number] += amount
+        return loads
+
+    def ends_text(self, hose):
+        return " ".join(f"{self.network.nodes[node]}:{rate}" for node, rate in hose)
+
+    def admit(self, customer, hose):
+        hose = sorted(hose)
+        kind, found = decide(self.network, self.loads(), hose)
+        if kind == "refused":
+            self.kinds["refused"] += 1
+            return f"refused at {self.epoch} side " + " ".join(self.network.nodes[node] for node in found)
+        self.kinds[f"admitted with the {kind} plan"] += 1
+        self.epoch += 1
+        cost = plan_cost(self.network, found)
+        self.live[self.epoch] = Vpn(customer, hose, found, cost)
+        return f"admitted {self.epoch} cost {cost} at {self.epoch} links {pairs_text(found)}"
+
+    def of_customer(self, customer, number):
+        vpn = self.live.get(number)
+        return vpn if vpn is not None and vpn.customer == customer else None
+
+    def no_vpn(self, number):
+        self.kinds["no vpn"] += 1
+        return f"no vpn {number} at {self.epoch}"
+
+    def release(self, customer, number):
+        if self.of_customer(customer, number) is None:
+            return self.no_vpn(number)
+        self.kinds["released"] += 1
+        self.epoch += 1
+        del self.live[number]
+        return f"released {number} at {self.epoch}"
+
+    def show(self, customer, number):
+        vpn = self.of_customer(customer, number)
+        if vpn is None:
+            return self.no_vpn(number)
+        self.kinds["vpn"] += 1
+        return f"vpn {number} cost {vpn.cost} at {self.epoch} ends {self.ends_text(vpn.hose)} links {pairs_text(vpn.plan)}"
+
+    def link(self, number):
+        if number >= len(self.network.links):
+            self.kinds["bad"] += 1
+            return "bad 3"
+        self.kinds["link"] += 1
+        link = self.network.links[number]
+        a, b = self.network.nodes[link.a], self.network.nodes[link.b]
+        return f"link {number} {a} {b} capacity {link.capacity} cost {link.cost} load {self.loads()[number]} at {self.epoch}"
+
+
+def pairs_text(plan):
+    return " ".join(f"{number}:{amount}" for number, amount in plan)
+
+
+# ---- Random networks and scripts.
+
+
+def random_network(draw):
+    """Few nodes and costs, so that there are cycles, parallel links and ties; little room, so that first plans often do not fit."""
+    names = draw.sample("abcdefghijklmnopqrstuvwxyz", draw.randint(2, 9))
+    links = []
+    for _ in range(draw.randint(len(names) - 1, 3 * len(names))):
+        a, b = draw.sample(range(len(names)), 2)
+        length = draw.randint(1, 4)
+        links.append(Link(a, b, draw.randint(1, 16), length, draw.choice((length, length, draw.randint(1, 4)))))
+    return Network(names, links)
+
+
+def topology_lines(network):
+    lines = [f"node {name}" for name in network.nodes]
+    for link in network.links:
+        line = f"link {network.nodes[link.a]} {network.nodes[link.b]} {link.capacity} {link.length}"
+        lines.append(line if link.cost == link.length else f"{line} {link.cost}")
+    return lines + ["end"]
+
+
+def random_hose(draw, network):
+    nodes = draw.sample(range(len(network.nodes)), draw.randint(2, min(5, len(network.nodes))))
+    return [(node, draw.randint(1, MOST_RATE)) for node in nodes]
+
+
+def random_vpn(draw, server):
+    """A customer and a number, mostly those of a live VPN."""
+    if server.live and draw.random() < 0.8:
+        number, vpn = draw.choice(list(server.live.items()))
+        return vpn.customer, number
+    return draw.choice(CUSTOMERS), draw.randint(0, server.epoch + 1)
+
+
+def random_command(draw, server):
+    """A line, and the reply to it."""
+    customer = draw.choice(CUSTOMERS)
+    kind = draw.choices(("admit", "release", "show", "link"), (10, 5, 2, 3))[0]
+    if kind == "admit":
+        hose = random_hose(draw, server.network)
+        return f"{customer} admit {server.ends_text(hose)}", server.admit(customer, hose)
+    if kind == "link":
+        number = draw.randint(0, len(server.network.links))
+        return f"{customer} link {number}", server.link(number)
+    customer, number = random_vpn(draw, server)
+    reply = server.release if kind == "release" else server.show
+    return f"{customer} {kind} {number}", reply(customer, number)
+
+
+# ---- Rows that were worked out by hand.
+
+STAR = Network(list("abch"), [Link(0, 3, 10, 1, 1), Link(1, 3, 10, 2, 2), Link(2, 3, 10, 3, 3)])
+RING = Network(list("yaxb"), [Link(1, 2, 10, 1, 1), Link(2, 3, 10, 1, 1), Link(1, 0, 10, 1, 1), Link(0, 3, 10, 1, 1)])
+PARALLEL = Network(list("ab"), [Link(0, 1, 10, 1, 1), Link(0, 1, 10, 1, 1)])
+APART = Network(list("abc"), [Link(0, 2, 10, 1, 1)])
+TRIANGLE = Network(list("abc"), [Link(0, 1, 10, 1, 2), Link(2, 1, 10, 1, 2), Link(2, 0, 10, 9, 3)])
+MESH = [Link(a, b, 10, 3, 3) for a in range(4) for b in range(a + 1, 4)]
+HUB = Network(list("abcdh"), MESH + [Link(a, 4, 10, 2, 2) for a in range(4)])
+
+
+def detour(capacity):
+    return Network(list("abc"), [Link(0, 1, 4, 1, 1), Link(0, 2, capacity, 2, 2), Link(2, 1, capacity, 2, 2)])
+
+
+HAND = [
+    (STAR, [0, 0, 0], [(0, 3), (1, 4), (2, 5)], "first", [(0, 3), (1, 4), (2, 5)], 26),
+    (STAR, [3, 4, 5], [(0, 8), (1, 8)], "refused", [0], None),
+    (detour(10), [0, 0, 0], [(0, 3), (1, 3)], "first", [(0, 3)], 3),
+    (detour(10), [3, 0, 0], [(0, 3), (1, 3)], "second", [(1, 3), (2, 3)], 12),
+    (detour(4), [4, 0, 0], [(0, 2), (1, 9)], "refused", [0], None),
+    (detour(5), [4, 0, 0], [(0, 2), (1, 9)], "second", [(1, 2), (2, 2)], 8),
+    (RING, [0, 0, 0, 0], [(1, 1), (3, 1)], "first", [(2, 1), (3, 1)], 2),
+    (PARALLEL, [0, 0], [(0, 1), (1, 1)], "first", [(0, 1)], 1),
+    (APART, [0], [(0, 1), (1, 1)], "refused", [0, 2], None),
+    (TRIANGLE, [0, 0, 0], [(0, 1), (1, 1), (2, 4)], "first", [(1, 1), (2, 1)], 5),
+    (HUB, [0] * 10, [(0, 1), (1, 1), (2, 1), (3, 1)], "first", [(6, 1), (7, 1), (8, 1), (9, 1)], 8),
+]
+
+
+def check_by_hand():
+    for network, loads, hose, kind, found, cost in HAND:
+        decision = decide(network, loads, hose)
+        assert decision == (kind, found), f"{hose} on {network}: {decision}"
+        assert kind == "refused" or plan_cost(network, found) == cost, f"the cost of {found}"
+    print(f"by hand: {len(HAND)} decisions")
+
+
+# ---- The comparison.
+
+
+def compare(program, topology, script, wanted):
+    """Whether the program replies so to the script; else tells the first difference, and the input up to it."""
+    text = "\n".join(topology + script) + "\n"
+    run = subprocess.run([program, "run"], input=text, capture_output=True, text=True, timeout=SECONDS)
+    replies = run.stdout.splitlines()
+    for place, (want, reply) in enumerate(zip_longest(wanted, replies)):
+        if want != reply:
+            print("\n".join(topology + script[: place + 1]))
+            print(f"\nthe reply to the last line differs\nwanted: {want}\nreply: {reply}")
+            return False
+    if run.returncode != 0:
+        print(f"{text}\nthe status is {run.returncode}: {run.stderr}")
+    return run.returncode == 0
+
+
+def main():
+    program, networks, seed = (sys.argv[1:] + ["./hosed", "300", "1"][len(sys.argv) - 1 :])[:3]
+    os.chdir(os.path.join(os.path.dirname(os.path.abspath(__file__)), ".."))
+    check_by_hand()
+    kinds = Counter()
+    for number in range(int(networks)):
+        draw = random.Random(f"{seed} {number}")
+        server = Server(random_network(draw))
+        script, wanted = zip(*(random_command(draw, server) for _ in range(COMMANDS)))
+        if not compare(program, topology_lines(server.network), list(script), wanted):
+            sys.exit(1)
+        kinds.update(server.kinds)
+    print(f"compared: {networks} networks, {sum(kinds.values())} commands")
+    for kind, count in sorted(kinds.items()):
+        print(f"{kind}: {count}")
+
+
+if __name__ == "__main__":
+    main()
