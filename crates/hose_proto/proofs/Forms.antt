@@ -1,8 +1,8 @@
 -- Words that a form takes one after the other.
-use Rattle.std.proofs.Common.{◌≡◌, ◌≢◌, ◌∙◌, ℕ, ◌+◌, ◌≤◌, List, [], ◌∷◌, ◌++◌, length, inl, inr, refl, sym, ap, subst, arith, append_assoc, length-append, suc}
+use Rattle.std.proofs.Common.{◌≡◌, ℕ, ◌+◌, List, [], ◌∷◌, ◌++◌, length, inl, inr, refl, sym, subst, arith, append_assoc, length-append}
 use Rattle.hose_words.specs.Grammar.{Grammar, IsFirst, IsFirstNotAllowed}
 use Rattle.hose_words.proofs.Judging.{wrong_here}
-use Rattle.hose_proto.specs.ReplyGrammar.{Form, finish, place, branch, list, until, Follows, IsWhole, grammar_of, IsChoice}
+use Rattle.hose_proto.specs.ReplyGrammar.{Form, place, branch, Follows, IsWhole, grammar_of, IsChoice}
 use Rattle.hose_proto.specs.ReplyReading.{Reading, Took, Misses, IsWrong}
 
 -- ---- one grammar behind some words of another

@@ -1,6 +1,6 @@
 -- The words of amounts, endpoints and nodes: each tells its item alone.
-use Rattle.std.proofs.Common.{◌≡◌, ◌≢◌, ◌∙◌, ℕ, ◌+◌, ◌^◌, ◌<◌, ◌≤◌, List, [], ◌∷◌, ◌++◌, Some, codes, decimal, length, get_or, map, refl, sym, ap, subst, arith, append_assoc, length-append}
-use Rattle.std.specs.List.{All, Contains, slice_get}
+use Rattle.std.proofs.Common.{◌≡◌, ◌∙◌, ℕ, ◌^◌, ◌<◌, List, [], ◌∷◌, ◌++◌, Some, codes, decimal, length, refl, sym, ap, subst, arith, append_assoc, length-append}
+use Rattle.std.specs.List.{All, Contains}
 use Rattle.std.specs.List.Sorted.{IsStrictlyIncreasing}
 use Rattle.std.proofs.lemmas.Fmt.{decimal_is_IsNumeral, decimal_injective}
 use Rattle.std.proofs.lemmas.List.{get_or_default, map-append}
@@ -17,9 +17,10 @@ use Rattle.hose_proto.specs.ReplyGrammar.{AreEnds}
 use Rattle.hose_proto.specs.ReplyReading.{IsNextPair, IsNextNode, IsNextEnd}
 use Rattle.hose_proto.specs.ReplyWords.{Fits64, AreAmounts, IsSide, pair_word, node_word, end_word}
 use Rattle.hose_proto.proofs.Decimals.{told_decimal, decimal_tells}
-use Rattle.hose_proto.proofs.Listing.{AreSpelled, MakesList}
+use Rattle.hose_proto.proofs.Forms.{AreApart}
+use Rattle.hose_proto.proofs.Listing.{MakesList}
 use Rattle.hose_proto.proofs.Rising.{All-last}
-use Rattle.hose_proto.proofs.Spelling.{no_colon, same_parts, same_end}
+use Rattle.hose_proto.proofs.Spelling.{same_parts, same_end}
 
 -- ---- amounts
 
@@ -47,7 +48,7 @@ pub pair_told : (word link amount : List ℕ) (pair : ℕ × ℕ) → word ≡ l
 pair_told word link amount pair spelled is small is' small' =
     spelled ∙ (λ i. told_decimal link pair.0 is small i ++ 58 ∷ told_decimal amount pair.1 is' small' i) ∙ sym (pair_cut pair)
 
-pub pairs_spelled : (network : Network) → IsNetwork network → AreSpelled (IsPair network) pair_word
+pub pairs_spelled : (network : Network) → IsNetwork network → AreApart (IsPair network) pair_word
 pairs_spelled network is = record {
   apart = λ one other fits fits' same.
       let small : one.0 < 2 ^ 64 = omega (arith, fits.link, is.few_links) in
@@ -97,7 +98,7 @@ makes_amounts network pairs is are =
 abbrev pub IsNode : Network → ℕ → Type 0
 IsNode network node = node < length network.nodes
 
-pub nodes_spelled : (network : Network) → IsNetwork network → AreSpelled (IsNode network) (node_word network)
+pub nodes_spelled : (network : Network) → IsNetwork network → AreApart (IsNode network) (node_word network)
 nodes_spelled network is = record {
   apart = λ one other below below' same.
       same_node network.nodes one other (node_word network one) is.differ (slice_get-get_or network.nodes one [] below)
@@ -153,7 +154,7 @@ told_endpoint network word end told is = record {
   within = is.is_end.rate;
 }
 
-pub ends_spelled : (network : Network) → IsNetwork network → AreSpelled (IsEndOf network) (end_word network)
+pub ends_spelled : (network : Network) → IsNetwork network → AreApart (IsEndOf network) (end_word network)
 ends_spelled network is = record {
   apart = λ one other fits fits' same.
       same_end network (end_word network one) one other is (told_endpoint network (end_word network one) one refl fits) (told_endpoint network (end_word network one) other same fits');

@@ -1,10 +1,11 @@
 -- Words of a list, item by item.
-use Rattle.std.proofs.Common.{◌≡◌, ◌≢◌, ◌∙◌, ℕ, ◌+◌, ◌<◌, ◌≤◌, List, [], ◌∷◌, ◌++◌, length, map, inl, inr, refl, sym, ap, subst, arith, append_assoc, append-nil, length-append, suc, zero}
+use Rattle.std.proofs.Common.{◌≡◌, ◌∙◌, ℕ, ◌+◌, List, [], ◌∷◌, ◌++◌, length, map, inl, inr, refl, sym, ap, subst, arith, append_assoc, length-append, suc}
 use Rattle.std.specs.List.{All}
 use Rattle.std.proofs.lemmas.List.{map-append, length-map}
 use Rattle.hose_words.specs.Grammar.{IsFirst, IsFirstNotAllowed}
 use Rattle.hose_proto.specs.ReplyGrammar.{Form, list, Follows, grammar_of}
 use Rattle.hose_proto.specs.ReplyReading.{Reading, Took, IsWrong, MissesItem}
+use Rattle.hose_proto.proofs.Forms.{AreApart}
 
 -- These items were read, and each word of theirs was allowed.
 pub record Listing {A : Type 0} (word_of : A → List ℕ) (form : Form) (items : List A) (old new : Reading) : Type 0 where
@@ -35,12 +36,8 @@ pub wrong_behind : {A : Type 0} (word_of : A → List ℕ) (form : Form) (items 
 wrong_behind word_of form items old new number listing at wrong =
     record { place = length items + 1; at = omega (arith, at, listing.counted); wrong = listing.goes_on (length items + 1) wrong }
 
--- each item has a word of its own
-pub record AreSpelled {A : Type 0} (is : A → Type 0) (word_of : A → List ℕ) : Type 0 where
-  pub apart : (one other : A) → is one → is other → word_of one ≡ word_of other → one ≡ other
-
 -- words of items and one word more tell one item more
-pub one_item_more : {A : Type 0} (is : A → Type 0) (word_of : A → List ℕ) (items others : List A) (word : List ℕ) → AreSpelled is word_of → All is items → All is others
+pub one_item_more : {A : Type 0} (is : A → Type 0) (word_of : A → List ℕ) (items others : List A) (word : List ℕ) → AreApart is word_of → All is items → All is others
     → map word_of items ++ word ∷ [] ≡ map word_of others → (item : A) × (others ≡ items ++ item ∷ []) × (word ≡ word_of item)
 one_item_more is word_of [] [] word are all all' same = absurd (cc same)
 one_item_more is word_of [] (y ∷ []) word are all all' same = (y, refl, cc same)
@@ -53,21 +50,9 @@ one_item_more is word_of (x ∷ xs) (y ∷ ys) word are all all' same =
     let more = one_item_more is word_of xs ys word are (λ k d below. all (suc k) d (omega (arith, below))) (λ k d below. all' (suc k) d (omega (arith, below))) others in
     (more.0, (λ i. sym one i ∷ more.1 i), more.2)
 
--- the words of items tell them alone
-pub same_items : {A : Type 0} (is : A → Type 0) (word_of : A → List ℕ) (items others : List A) → AreSpelled is word_of → All is items → All is others → map word_of items ≡ map word_of others → items ≡ others
-same_items is word_of [] [] are all all' same = refl
-same_items is word_of [] (y ∷ ys) are all all' same = absurd (cc same)
-same_items is word_of (x ∷ xs) [] are all all' same = absurd (cc same)
-same_items is word_of (x ∷ xs) (y ∷ ys) are all all' same =
-    let first : word_of x ≡ word_of y = cc same in
-    let others : map word_of xs ≡ map word_of ys = cc same in
-    let one = are.apart x y (all 0 x (omega arith)) (all' 0 y (omega arith)) first in
-    let more = same_items is word_of xs ys are (λ k d below. all (suc k) d (omega (arith, below))) (λ k d below. all' (suc k) d (omega (arith, below))) others in
-    λ i. one i ∷ more i
-
 -- what makes a list: each item is one, and one may come behind others where the list with it may stand
 pub record MakesList {A : Type 0} (is : A → Type 0) (word_of : A → List ℕ) (fine : List A → Type 0) (items : List A) (may : A → Type 0) : Type 0 where
-  pub apart : AreSpelled is word_of
+  pub apart : AreApart is word_of
   pub each : (others : List A) → fine others → All is others
   pub all : All is items
   pub may_come : (item : A) → fine (items ++ item ∷ []) → may item

@@ -1,5 +1,5 @@
 -- The words of a reply pass: none of them is wrong.
-use Rattle.std.proofs.Common.{◌≡◌, ◌≢◌, ◌∙◌, ◌⊎◌, ℕ, ◌+◌, ◌<◌, ◌≤◌, suc, zero, List, [], ◌∷◌, ◌++◌, Option, None, Some, Result, Ok, Err, IfOk, length, get_or, map, codes, decimal, inl, inr, refl, sym, ap, subst, arith, append_assoc, append-nil, length-append}
+use Rattle.std.proofs.Common.{◌≡◌, ◌⊎◌, ℕ, ◌+◌, ◌<◌, ◌≤◌, List, [], ◌∷◌, ◌++◌, Result, Ok, Err, IfOk, length, map, codes, decimal, inl, inr, refl, sym, ap, subst, arith, append_assoc, append-nil, length-append}
 use Rattle.std.specs.List.{All, slice_get}
 use Rattle.std.specs.List.Sorted.{IsStrictlyIncreasing}
 use Rattle.std.proofs.Math.ListN.{get_or-append}
@@ -11,16 +11,16 @@ use Rattle.hose_graph.specs.Network.{Network, IsNetwork}
 use Rattle.hose_graph.specs.declared.limits.TheConstants.{LEAST_ENDS}
 use Rattle.hose_graph.specs.declared.reply.Reply.{Reply}
 use Rattle.hose_graph.specs.declared.reply.Reply.TheVariants.{Welcome, Admitted, Quoted, Refused, Stale, Released, NoVpn, NoQuote, TooMany, Shown, LinkState, Full, Spent, Disk, Memory, Bad, Long, Bye}
-use Rattle.hose_proto.specs.ReplyGrammar.{Form, finish, place, branch, list, until, Follows, IsWhole, TellsItems, AreEnds, IsLinkOf, Each, grammar_of, reply_grammar, these, at_form, id_form, amounts_form, names_form, hose_form, priced_form, load_form, link_form, form_behind, head_word, missing_word}
+use Rattle.hose_proto.specs.ReplyGrammar.{Form, finish, place, branch, list, Follows, TellsItems, AreEnds, Each, grammar_of, reply_grammar, these, at_form, id_form, amounts_form, hose_form, priced_form, form_behind, head_word}
 use Rattle.hose_proto.specs.ReplyText.{NamesPlaces}
-use Rattle.hose_proto.specs.ReplyWords.{Fits64, AreAmounts, IsSide, IsHoseOf, IsOfKind, IsReply, pair_word, node_word, end_word, link_words, priced_words, reply_words}
+use Rattle.hose_proto.specs.ReplyWords.{Fits64, AreAmounts, IsSide, IsHoseOf, IsOfKind, IsReply, pair_word, end_word, link_words, priced_words, reply_words}
 use Rattle.hose_proto.specs.declared.fault.ReadFault.{ReadFault}
 use Rattle.hose_proto.specs.declared.fault.ReadFault.TheVariants as fault
 use Rattle.hose_proto.specs.declared.head.Head.TheVariants as head
 use Rattle.hose_proto.specs.declared.head.Missing.TheVariants as missing
 use Rattle.hose_proto.proofs.Forms.{AreApart, behind_branch, behind_place, front_wrong}
 use Rattle.hose_proto.proofs.TellsBack.{reply_unique}
-use Rattle.hose_proto.proofs.Until.{HasNoLast, behind_until, ends_no_links, until_more}
+use Rattle.hose_proto.proofs.Until.{behind_until, ends_no_links, until_more}
 use Rattle.hose_proto.proofs.Words.{heads_apart, links_apart, missing_apart}
 
 -- none of the words is wrong

@@ -1,5 +1,5 @@
 -- The reply that words tell is found from the words alone, so they tell one at most.
-use Rattle.std.proofs.Common.{◌≡◌, ◌≢◌, ◌∙◌, ℕ, ◌^◌, ◌<◌, ◌≤◌, suc, zero, Bool, true, false, eqb, cond, List, [], ◌∷◌, ◌++◌, length, get_or, map, take, drop, codes, decimal, refl, sym, ap, subst, arith, length-append}
+use Rattle.std.proofs.Common.{◌≡◌, ◌≢◌, ◌∙◌, ℕ, ◌<◌, suc, Bool, true, false, eqb, cond, List, [], ◌∷◌, ◌++◌, length, get_or, map, take, drop, codes, decimal, refl, sym, ap, arith, length-append}
 use Rattle.std.specs.List.{All, Contains, position_or_len}
 use Rattle.std.specs.Str.{bytes_eq}
 use Rattle.std.specs.Str.Parse.{digits_value}
@@ -11,15 +11,15 @@ use Rattle.std.proofs.lemmas.List.{get_or_default}
 use Rattle.std.proofs.lemmas.List.Sums.{position_or_len_is}
 use Rattle.std.proofs.lemmas.Option.{slice_get-get_or}
 use Rattle.std.proofs.lemmas.Slice.Eq.{bytes_eq-Decides}
-use Rattle.hose_graph.specs.Name.{IsName}
 use Rattle.hose_graph.specs.Network.{Network, IsNetwork}
 use Rattle.hose_graph.specs.declared.link.Link.{Link}
 use Rattle.hose_graph.specs.declared.reply.Reply.{Reply}
 use Rattle.hose_graph.specs.declared.reply.Reply.TheVariants.{Welcome, Admitted, Quoted, Refused, Stale, Released, NoVpn, NoQuote, TooMany, Shown, LinkState, Full, Spent, Disk, Memory, Bad, Long, Bye}
-use Rattle.hose_proto.specs.ReplyWords.{Fits64, AreAmounts, IsHoseOf, IsOfKind, IsReply, pair_word, node_word, end_word, reply_words, priced_words}
+use Rattle.hose_proto.specs.ReplyWords.{Fits64, AreAmounts, IsHoseOf, IsOfKind, IsReply, pair_word, node_word, end_word, reply_words}
 use Rattle.hose_proto.specs.declared.head.Head.{Head}
 use Rattle.hose_proto.specs.declared.head.Head.TheVariants as head
 use Rattle.hose_proto.proofs.Items.{no_colon_decimal, pair_cut, end_cut}
+use Rattle.hose_proto.proofs.ReadAgain.{few}
 use Rattle.hose_proto.proofs.Spelling.{no_colon}
 use Rattle.hose_proto.proofs.Until.{ends_no_links}
 use Rattle.hose_proto.proofs.Words.{head_of}
@@ -152,11 +152,8 @@ abbrev reply_of : Network → List (List ℕ) → Reply
 reply_of network words = reply_by network (head_of (get_or words 0 [])) words
 
 module _ (network : Network) (is : IsNetwork network) where
-  few : {link : ℕ} → link < length network.links → Fits64 link
-  few below = omega (arith, below, is.few_links)
-
   amounts_back : (amounts : List (ℕ × ℕ)) → AreAmounts network amounts → map pair_of (map pair_word amounts) ≡ amounts
-  amounts_back amounts are = map_back pair_word pair_of amounts (λ k d below. pair_back (get_or amounts k d) (few (are.links k d below)) (are.numbers k d below))
+  amounts_back amounts are = map_back pair_word pair_of amounts (λ k d below. pair_back (get_or amounts k d) (few network is (are.links k d below)) (are.numbers k d below))
 
   nodes_back : (side : List ℕ) → All (λ node. node < length network.nodes) side → map (node_of network) (map (node_word network) side) ≡ side
   nodes_back side nodes = map_back (node_word network) (node_of network) side (λ k d below. node_back network (get_or side k d) is (nodes k d below))
@@ -178,7 +175,7 @@ module _ (network : Network) (is : IsNetwork network) where
   two_back make one two a b = λ i. make (number_back one a i) (number_back two b i)
 
   link_back : (link load at : ℕ) → IsOfKind network (LinkState link load at) → reply_of network (reply_words network (LinkState link load at)) ≡ LinkState link load at
-  link_back link load at kind = rw (slice_get-get_or network.links link no_link kind.0) (λ i. LinkState (number_back link (few kind.0) i) (number_back load kind.1 i) (number_back at kind.2 i))
+  link_back link load at kind = rw (slice_get-get_or network.links link no_link kind.0) (λ i. LinkState (number_back link (few network is kind.0) i) (number_back load kind.1 i) (number_back at kind.2 i))
 
   -- the words of a reply lead back to it
   reply_back : (reply : Reply) → IsOfKind network reply → reply_of network (reply_words network reply) ≡ reply

@@ -1,5 +1,5 @@
 -- The words that choices are told by differ.
-use Rattle.std.proofs.Common.{◌≡◌, ◌≢◌, ◌∙◌, ◌==◌, ℕ, ◌+◌, ◌*◌, ◌<◌, List, [], ◌∷◌, decimal, get_or, length, refl, sym, ap, arith}
+use Rattle.std.proofs.Common.{◌≡◌, ◌∙◌, ◌==◌, ℕ, ◌+◌, ◌*◌, List, [], ◌∷◌, decimal, get_or, refl, sym, ap, arith}
 use Rattle.std.specs.List.{All, position_or_len}
 use Rattle.std.proofs.lemmas.Fmt.{decimal_injective}
 use Rattle.hose_graph.specs.Network.{Network, IsNetwork}

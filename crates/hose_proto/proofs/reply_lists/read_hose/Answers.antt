@@ -1,9 +1,9 @@
-use Rattle.std.proofs.Common.{◌≡◌, ◌++◌, ◌∷◌, ◌∙◌, [], ℕ, ◌<◌, ◌≤◌, List, Some, codes, length, map, sym, subst, ap, arith}
+use Rattle.std.proofs.Common.{◌++◌, ◌∙◌, ℕ, ◌<◌, ◌≤◌, length, map, subst}
 use Rattle.std.specs.List.{All}
 use Rattle.std.specs.List.Sorted.{IsPermutation}
 use Rattle.std.proofs.lemmas.Result.{err_from_is_err_and}
 use Rattle.hose_graph.specs.declared.limits.TheConstants.{LEAST_ENDS}
-use Rattle.hose_proto.specs.ReplyReading.{Took, MissesEnd, IsNextEnd}
+use Rattle.hose_proto.specs.ReplyReading.{MissesEnd, IsNextEnd}
 use Rattle.hose_proto.specs.ReplyWords.{end_word}
 use Rattle.hose_proto.proofs.Items.{ends_more}
 use Rattle.hose_proto.proofs.Until.{end_more, same_hose, wrong_end, wrong_links}

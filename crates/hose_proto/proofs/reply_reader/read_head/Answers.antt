@@ -1,4 +1,4 @@
-use Rattle.std.proofs.Common.{◌≡◌, ◌≢◌, Err, sym, subst}
+use Rattle.std.proofs.Common.{◌≢◌, sym, subst}
 use Rattle.hose_words.specs.Grammar.{IsFirst}
 use Rattle.hose_proto.specs.ReplyGrammar.{IsChoice, Each, head_word}
 use Rattle.hose_proto.proofs.Words.{every_head}

@@ -1,6 +1,6 @@
 use Rattle.std.proofs.Common.{refl}
 use Rattle.std.proofs.lemmas.Result.{err_from_is_err_and}
-use Rattle.hose_proto.proofs.Forms.{wrong_place, wrong_later}
+use Rattle.hose_proto.proofs.Forms.{wrong_later}
 use Rattle.hose_proto.proofs.reply_reader.read_id.Goals as goal
 
 pub returns-in_err-at-clause-bad : goal.returns-in_err-at-clause-bad

@@ -1,4 +1,4 @@
-use Rattle.std.proofs.Common.{◌≡◌, Err, decimal, length, subst, arith}
+use Rattle.std.proofs.Common.{◌≡◌, decimal, subst, arith}
 use Rattle.std.proofs.lemmas.Fmt.{decimal_injective}
 use Rattle.std.proofs.lemmas.Result.{err_from_is_err_and}
 use Rattle.hose_words.specs.Grammar.{IsFirst}

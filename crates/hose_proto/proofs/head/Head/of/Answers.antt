@@ -1,9 +1,8 @@
-use Rattle.std.proofs.Common.{◌≡◌, ◌≢◌, All, ℕ, ◌<◌, ◌+◌, List, [], ◌∷◌, ◌++◌, length, get_or, take, subst, sym, add-one, arith, rules}
+use Rattle.std.proofs.Common.{◌≢◌, All, ℕ, ◌<◌, ◌+◌, List, [], ◌∷◌, length, get_or, take, add-one, arith, rules}
 use Rattle.std.proofs.Math.Seq.{take-suc}
 use Rattle.std.proofs.lemmas.List.{take_all}
 use Rattle.std.proofs.lemmas.List.Elements.{All-append, All-cons, All-nil}
 use Rattle.hose_proto.specs.ReplyGrammar.{head_word}
-use Rattle.hose_proto.specs.declared.head.Head.{Head}
 use Rattle.hose_proto.specs.declared.head.Head.TheVariants.{Bye}
 use Rattle.hose_proto.specs.declared.head.TheConstants.{HEADS}
 use Rattle.hose_proto.proofs.head.Head.of.Goals as goal

@@ -1,4 +1,4 @@
-use Rattle.std.proofs.Common.{◌≡◌, ◌∙◌, ◌∷◌, [], List, ℕ, Err, ap, sym, subst, arith, decimal}
+use Rattle.std.proofs.Common.{◌≡◌, subst, arith, decimal}
 use Rattle.std.proofs.lemmas.Fmt.{decimal_injective}
 use Rattle.hose_words.specs.Grammar.{IsFirst}
 use Rattle.hose_proto.proofs.numbered.Numbered.exactly.Goals as goal

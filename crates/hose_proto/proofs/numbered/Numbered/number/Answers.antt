@@ -1,4 +1,4 @@
-use Rattle.std.proofs.Common.{◌≡◌, ◌∙◌, ◌∷◌, [], List, ℕ, Err, ap, sym, subst, arith, decimal}
+use Rattle.std.proofs.Common.{◌∙◌, ◌∷◌, ap, subst, arith}
 use Rattle.hose_words.specs.Grammar.{IsFirst}
 use Rattle.hose_proto.specs.ReplyGrammar.{TellsNumber}
 use Rattle.hose_proto.proofs.Decimals.{told_decimal, decimal_told}
