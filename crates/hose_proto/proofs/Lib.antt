@@ -1,8 +1,17 @@
 pub mod Adding
+pub mod Decimals
 pub mod Following
+pub mod Forms
+pub mod Items
+pub mod Listing
 pub mod Numbers
 pub mod OneCommand
+pub mod Passing
 pub mod ReadAgain
+pub mod Rising
 pub mod Skipping
 pub mod Spaced
 pub mod Spelling
+pub mod TellsBack
+pub mod Until
+pub mod Words

@@ -82,7 +82,7 @@ module _ (network : Network) (is : IsNetwork network) where
   IsOneWord-node node below = IsOneWord-name (node_word network node) (is.names node [] below)
 
   -- the number of a link
-  few : {link : ℕ} → link < length network.links → Fits64 link
+  pub few : {link : ℕ} → link < length network.links → Fits64 link
   few below = omega (arith, is.few_links)
 
   IsOneWord-pair : (pair : ℕ × ℕ) → (pair.0 < length network.links) × Fits64 pair.1 → IsOneWord (pair_word pair)

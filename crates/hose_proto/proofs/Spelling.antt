@@ -24,11 +24,11 @@ use Rattle.hose_proto.specs.Command.{IsEndpoint}
 -- ---- one word
 
 -- a name has no colon
-no_colon : (name : List ℕ) → IsName name → ¬ Contains name 58
+pub no_colon : (name : List ℕ) → IsName name → ¬ Contains name 58
 no_colon name is there = false≢true (All-contains (λ byte. is_name_byte byte ≡ true) name 58 is.allowed there)
 
 -- where no colon stands before it, a colon divides a text in one way
-same_parts : (a b c d : List ℕ) → (¬ Contains a 58) → (¬ Contains c 58) → a ++ 58 ∷ b ≡ c ++ 58 ∷ d → (a ≡ c) × (b ≡ d)
+pub same_parts : (a b c d : List ℕ) → (¬ Contains a 58) → (¬ Contains c 58) → a ++ 58 ∷ b ≡ c ++ 58 ∷ d → (a ≡ c) × (b ≡ d)
 same_parts [] b [] d free free' same = (refl, cc)
 same_parts [] b (x ∷ c) d free free' same = absurd (free' (0, omega arith, cc))
 same_parts (x ∷ a) b [] d free free' same = absurd (free (0, omega arith, cc))

@@ -140,7 +140,7 @@ fn sole_number(mut words: Words<'_>, bound: u64) -> Result<u64, ReadFault>
 }
 
 // The number that a word tells, where it is below a bound.
-fn number_below(word: &[u8], bound: u64) -> Option<u64>
+pub(crate) fn number_below(word: &[u8], bound: u64) -> Option<u64>
     ensures some { IfSome result (TellsBelow bound word.now) }
     ensures none { IfNone result ((value : ℕ) → TellsBelow bound word.now value → ⊥) }
 {
@@ -209,7 +209,7 @@ fn has_node(ends: &[(u32, u64)], node: u32) -> bool
 }
 
 // The endpoint that a word spells.
-fn endpoint(top: &Topology, word: &[u8]) -> Option<(u32, u64)>
+pub(crate) fn endpoint(top: &Topology, word: &[u8]) -> Option<(u32, u64)>
     requires { IsNetwork top.now }
     ensures spelled { IfSome result (IsEndpoint top.now word.now) }
     ensures none { IfNone result ((end : ℕ × ℕ) → IsEndpoint top.now word.now end → ⊥) }
@@ -221,7 +221,7 @@ fn endpoint(top: &Topology, word: &[u8]) -> Option<(u32, u64)>
 }
 
 // What stands before a word's first colon, and what stands behind it.
-fn parts(word: &[u8]) -> Option<(&[u8], &[u8])>
+pub(crate) fn parts(word: &[u8]) -> Option<(&[u8], &[u8])>
     ensures spelled { IfSome result (λ parts. word.now ≡ parts.0.now ++ 58 ∷ parts.1.now) }
     ensures first { IfSome result (λ parts. ¬ Contains parts.0.now 58) }
     ensures none { IfNone result (¬ Contains word.now 58) }

@@ -203,4 +203,4 @@ fn add_link<S: Sink>(gather: &mut Gather, sink: &mut S, top: &Topology, link: &L
 }
 
 #[cfg(test)]
-mod tests;
+pub(crate) mod tests;

@@ -8,7 +8,7 @@ use std::alloc::{AllocError, Global};
 use std::test::Fail;
 
 // The nodes a, b, c and h, and links from each of the others to h.
-fn star(alloc: Global) -> Result<Topology, Fail> {
+pub(crate) fn star(alloc: Global) -> Result<Topology, Fail> {
     let names: [&[u8]; 4] = [b"a", b"b", b"c", b"h"];
     let mut star = Topology::new(alloc)?;
     for name in names {
