@@ -1,11 +1,11 @@
 pub mod Complete
-pub mod Costs
-pub mod Fitting
 pub mod LastLine
+pub mod Loads
 pub mod OneReading
 pub mod OneRun
 pub mod Refused
 pub mod Releasing
+pub mod Reserved
 pub mod Running
 pub mod Shifting
 pub mod Turns

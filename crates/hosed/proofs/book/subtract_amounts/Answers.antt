@@ -1,6 +1,6 @@
 use Rattle.std.proofs.Common.{◌≡◌, ◌<◌, length, get_or, cond, eqb, refl, ap, arith}
 use Rattle.std.proofs.lemmas.Bool.{eq-eqb}
-use Rattle.hosed.proofs.Costs.{amount_more, amount_within}
+use Rattle.hosed.proofs.Reserved.{amount_more, amount_within}
 use Rattle.hosed.proofs.book.subtract_amounts.Goals as goal
 
 pub overflow_sub-loads : goal.overflow_sub-loads

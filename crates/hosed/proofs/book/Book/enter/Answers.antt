@@ -11,7 +11,7 @@ use Rattle.hose_law.specs.Live.{HasRisingIds}
 use Rattle.hose_law.specs.Plan.{AreNodes}
 use Rattle.hosed.specs.Ledger.{Ledger, AreKeptLoads, IsKept}
 use Rattle.hose_law.proofs.Bounds.{reserved_links, reserved_few, reserved_most}
-use Rattle.hosed.proofs.Fitting.{capacity_small, load_more}
+use Rattle.hosed.proofs.Loads.{capacity_small, load_more}
 use Rattle.hosed.proofs.book.Book.enter.Goals as goal
 
 pub add_amounts-requires-clause-links : goal.add_amounts-requires-clause-links
