@@ -32,10 +32,13 @@ pub struct Grounds {
 /// What is decided of a hose.
 #[derive(Debug, Drop)]
 pub enum Decision {
-    /// It is admitted with these amounts, which cost so much.
+    /// It is admitted.
     Plan {
+        /// What the decision rests on.
         grounds: Grounds,
+        /// What is reserved on each link of its tree, in the customer's unit of bandwidth.
         amounts: Amounts,
+        /// What that costs: the sum of each link's cost per unit times its amount.
         cost: u64,
     },
     /// It is refused: these are the nodes that its lowest-numbered endpoint reaches over the safe links.
