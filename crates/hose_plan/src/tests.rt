@@ -95,6 +95,128 @@ struct Admission<'a> {
     safe: &'a [u32],
 }
 
+const CASES: [Case<'static>; 10] = [
+    Case {
+        what: "a star",
+        network: STAR,
+        loads: &[0, 0, 0],
+        ends: &[(0, 3), (1, 4), (2, 5)],
+        outcome: Outcome::Admitted(Admission {
+            amounts: &[(0, 3), (1, 4), (2, 5)],
+            cost: 26,
+            half: 6,
+            first: &[(0, 3), (1, 4), (2, 5)],
+            first_fits: true,
+            safe: &[],
+        }),
+    },
+    Case {
+        what: "a star without room",
+        network: STAR,
+        loads: &[3, 4, 5],
+        ends: &[(0, 8), (1, 8)],
+        outcome: Outcome::Refused { side: &[0] },
+    },
+    Case {
+        what: "the short way",
+        network: DETOUR,
+        loads: &[0, 0, 0],
+        ends: &[(0, 3), (1, 3)],
+        outcome: Outcome::Admitted(Admission {
+            amounts: &[(0, 3)],
+            cost: 3,
+            half: 3,
+            first: &[(0, 3)],
+            first_fits: true,
+            safe: &[],
+        }),
+    },
+    Case {
+        what: "the long way",
+        network: DETOUR,
+        loads: &[3, 0, 0],
+        ends: &[(0, 3), (1, 3)],
+        outcome: Outcome::Admitted(Admission {
+            amounts: &[(1, 3), (2, 3)],
+            cost: 12,
+            half: 3,
+            first: &[(0, 3)],
+            first_fits: false,
+            safe: &[1, 2],
+        }),
+    },
+    Case {
+        what: "half is 5, and 4 is free",
+        network: DETOUR_OF_4,
+        loads: &[4, 0, 0],
+        ends: &[(0, 2), (1, 9)],
+        outcome: Outcome::Refused { side: &[0] },
+    },
+    Case {
+        what: "half is 5, and 5 is free",
+        network: DETOUR_OF_5,
+        loads: &[4, 0, 0],
+        ends: &[(0, 2), (1, 9)],
+        outcome: Outcome::Admitted(Admission {
+            amounts: &[(1, 2), (2, 2)],
+            cost: 8,
+            half: 5,
+            first: &[(0, 2)],
+            first_fits: false,
+            safe: &[1, 2],
+        }),
+    },
+    Case {
+        what: "the lowest of four roots",
+        network: RING,
+        loads: &[0, 0, 0, 0],
+        ends: &[(1, 1), (3, 1)],
+        outcome: Outcome::Admitted(Admission {
+            amounts: &[(2, 1), (3, 1)],
+            cost: 2,
+            half: 1,
+            first: &[(2, 1), (3, 1)],
+            first_fits: true,
+            safe: &[],
+        }),
+    },
+    Case {
+        what: "the lower of parallel links",
+        network: PARALLEL,
+        loads: &[0, 0],
+        ends: &[(0, 1), (1, 1)],
+        outcome: Outcome::Admitted(Admission {
+            amounts: &[(0, 1)],
+            cost: 1,
+            half: 1,
+            first: &[(0, 1)],
+            first_fits: true,
+            safe: &[],
+        }),
+    },
+    Case {
+        what: "no way",
+        network: APART,
+        loads: &[0],
+        ends: &[(0, 1), (1, 1)],
+        outcome: Outcome::Refused { side: &[0, 2] },
+    },
+    Case {
+        what: "a root that is no endpoint",
+        network: HUB,
+        loads: &[0; 10],
+        ends: &[(0, 1), (1, 1), (2, 1), (3, 1)],
+        outcome: Outcome::Admitted(Admission {
+            amounts: &[(6, 1), (7, 1), (8, 1), (9, 1)],
+            cost: 8,
+            half: 2,
+            first: &[(6, 1), (7, 1), (8, 1), (9, 1)],
+            first_fits: true,
+            safe: &[],
+        }),
+    },
+];
+
 fn topology(alloc: Global, network: Network) -> Result<Topology, Fail> {
     let mut top = Topology::new(alloc)?;
     for letter in network.nodes {
@@ -193,128 +315,7 @@ fn has_only(set: &LinkSet, links: &[u32]) -> bool {
 
 #[test]
 fn decides_on_small_networks(rt: HostRuntime) -> Result<(), Fail> {
-    let cases = [
-        Case {
-            what: "a star",
-            network: STAR,
-            loads: &[0, 0, 0],
-            ends: &[(0, 3), (1, 4), (2, 5)],
-            outcome: Outcome::Admitted(Admission {
-                amounts: &[(0, 3), (1, 4), (2, 5)],
-                cost: 26,
-                half: 6,
-                first: &[(0, 3), (1, 4), (2, 5)],
-                first_fits: true,
-                safe: &[],
-            }),
-        },
-        Case {
-            what: "a star without room",
-            network: STAR,
-            loads: &[3, 4, 5],
-            ends: &[(0, 8), (1, 8)],
-            outcome: Outcome::Refused { side: &[0] },
-        },
-        Case {
-            what: "the short way",
-            network: DETOUR,
-            loads: &[0, 0, 0],
-            ends: &[(0, 3), (1, 3)],
-            outcome: Outcome::Admitted(Admission {
-                amounts: &[(0, 3)],
-                cost: 3,
-                half: 3,
-                first: &[(0, 3)],
-                first_fits: true,
-                safe: &[],
-            }),
-        },
-        Case {
-            what: "the long way",
-            network: DETOUR,
-            loads: &[3, 0, 0],
-            ends: &[(0, 3), (1, 3)],
-            outcome: Outcome::Admitted(Admission {
-                amounts: &[(1, 3), (2, 3)],
-                cost: 12,
-                half: 3,
-                first: &[(0, 3)],
-                first_fits: false,
-                safe: &[1, 2],
-            }),
-        },
-        Case {
-            what: "half is 5, and 4 is free",
-            network: DETOUR_OF_4,
-            loads: &[4, 0, 0],
-            ends: &[(0, 2), (1, 9)],
-            outcome: Outcome::Refused { side: &[0] },
-        },
-        Case {
-            what: "half is 5, and 5 is free",
-            network: DETOUR_OF_5,
-            loads: &[4, 0, 0],
-            ends: &[(0, 2), (1, 9)],
-            outcome: Outcome::Admitted(Admission {
-                amounts: &[(1, 2), (2, 2)],
-                cost: 8,
-                half: 5,
-                first: &[(0, 2)],
-                first_fits: false,
-                safe: &[1, 2],
-            }),
-        },
-        Case {
-            what: "the lowest of four roots",
-            network: RING,
-            loads: &[0, 0, 0, 0],
-            ends: &[(1, 1), (3, 1)],
-            outcome: Outcome::Admitted(Admission {
-                amounts: &[(2, 1), (3, 1)],
-                cost: 2,
-                half: 1,
-                first: &[(2, 1), (3, 1)],
-                first_fits: true,
-                safe: &[],
-            }),
-        },
-        Case {
-            what: "the lower of parallel links",
-            network: PARALLEL,
-            loads: &[0, 0],
-            ends: &[(0, 1), (1, 1)],
-            outcome: Outcome::Admitted(Admission {
-                amounts: &[(0, 1)],
-                cost: 1,
-                half: 1,
-                first: &[(0, 1)],
-                first_fits: true,
-                safe: &[],
-            }),
-        },
-        Case {
-            what: "no way",
-            network: APART,
-            loads: &[0],
-            ends: &[(0, 1), (1, 1)],
-            outcome: Outcome::Refused { side: &[0, 2] },
-        },
-        Case {
-            what: "a root that is no endpoint",
-            network: HUB,
-            loads: &[0; 10],
-            ends: &[(0, 1), (1, 1), (2, 1), (3, 1)],
-            outcome: Outcome::Admitted(Admission {
-                amounts: &[(6, 1), (7, 1), (8, 1), (9, 1)],
-                cost: 8,
-                half: 2,
-                first: &[(6, 1), (7, 1), (8, 1), (9, 1)],
-                first_fits: true,
-                safe: &[],
-            }),
-        },
-    ];
-    for case in cases {
+    for case in CASES {
         let decision = decision(rt.alloc(), case)?;
         let is_as_told = is_outcome(&decision, case.outcome);
         assert!(rt; is_as_told, "{}: {decision:?}", case.what);
