@@ -22,7 +22,7 @@ returns-then-comes_behind-clause-some c =
         is_end = record { node = omega (arith, below, c.requires.network.few_nodes); rate = is.within };
         is_node = below;
         ascending = c.comes_behind.ensures.0 c.if-comes_behind.true;
-        room = c.if-ends-ge-MOST_ENDS.false;
+        room = omega arith;
       },
     )
 
