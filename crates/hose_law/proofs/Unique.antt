@@ -12,7 +12,6 @@ use Rattle.hose_graph.specs.declared.reply.Reply.TheVariants.{Admitted, Refused,
 use Rattle.hose_law.proofs.LiveIds.{HasDistinctIds, live_ids, vpn_unique}
 use Rattle.hose_law.proofs.CanonicalPlans.{planned_unique}
 use Rattle.hose_law.proofs.Ordered.{same_by_elements}
-pub use Rattle.hose_law.proofs.Ordered.{pairs_unique}
 use Rattle.hose_law.specs.Plan.{plan_cost}
 use Rattle.hose_law.specs.Book.{Book, safe_links}
 use Rattle.hose_law.specs.Decision.{IsReachedList, lowest_end}

@@ -14,7 +14,7 @@ use Rattle.hose_graph.specs.Hose.{MakesHose}
 use Rattle.hose_graph.specs.Network.{Network, IsNetwork}
 use Rattle.hose_graph.specs.declared.limits.TheConstants.{MOST_EPOCH}
 use Rattle.hose_graph.specs.declared.command.Command.{Command}
-use Rattle.hose_law.proofs.Unique.{pairs_unique}
+use Rattle.hose_law.proofs.Ordered.{pairs_unique}
 use Rattle.hose_graph.specs.declared.command.Command.TheVariants.{Admit, Release, Show, Link}
 use Rattle.hose_proto.specs.Command.{IsCommand, IsEndpoint, command_grammar}
 use Rattle.hose_proto.specs.Reading.{AsksOf, IsOneMore, TellsBelow}
