@@ -10,7 +10,7 @@ use Rattle.hose_graph.specs.Hose.{IsHose, total_rate}
 use Rattle.hose_graph.specs.Network.{Network, IsNetwork}
 use Rattle.hose_law.specs.Book.{Book, half_rate, free_rate, safe_links}
 use Rattle.hose_law.specs.CanonicalPlan.{IsWeight, IsRoot, IsCanonicalTree, IsCanonicalPlan}
-use Rattle.hose_law.specs.Decision.{Fits, IsFirstFit, IsPlanned, IsRefused, AreGrounds, first_links, lowest_end, IsReachedList}
+use Rattle.hose_law.specs.Decision.{Fits, IsFirstFit, IsPlanned, IsRefused, AreGrounds, first_links, lowest_end, IsReachedList, HaveEqualDecisions, HaveEqualGrounds}
 use Rattle.hose_law.specs.Tree.{Growth, IsReservation, IsTreeReservation, links_of, way_up, goes_along, rate_beyond, smaller_side}
 use Rattle.hose_law.specs.Walk.{IsIn}
 use Rattle.hose_law.proofs.Apart.{alike_sums}
@@ -138,4 +138,17 @@ same_grounds_refused network is book other hose true safe here there side refuse
 same_grounds_refused network is book other hose false safe here there side refused = record {
   no_plan = λ plan planned. refused.no_plan plan (same_grounds network is other book hose false safe there here plan planned);
   is_side = subst (λ (set : List Bool). IsReachedList network set (lowest_end hose) side) (sym here.1 ∙ there.1) refused.is_side;
+}
+
+-- Equal grounds give equal decisions.
+pub same_decisions : (network : Network) → IsNetwork network → (book other : Book) (hose : List (ℕ × ℕ)) → HaveEqualGrounds network book other hose → HaveEqualDecisions network book other hose
+same_decisions network is book other hose grounds = record {
+  plans = λ plan. (
+    same_grounds network is book other hose grounds.fits grounds.safe grounds.here grounds.there plan,
+    same_grounds network is other book hose grounds.fits grounds.safe grounds.there grounds.here plan,
+  );
+  refusals = λ side. (
+    same_grounds_refused network is book other hose grounds.fits grounds.safe grounds.here grounds.there side,
+    same_grounds_refused network is other book hose grounds.fits grounds.safe grounds.there grounds.here side,
+  );
 }

@@ -48,3 +48,15 @@ pub record IsRefused (network : Network) (book : Book) (hose : List (ℕ × ℕ)
 abbrev pub AreGrounds : Network → Book → List (ℕ × ℕ) → Bool → List Bool → Type 0
 AreGrounds network book hose true safe = HasFirstFit network book hose × (safe ≡ replicate (length network.links) false)
 AreGrounds network book hose false safe = (HasFirstFit network book hose → ⊥) × (safe ≡ safe_links network book hose)
+
+-- the decisions on a hose at two books have the same grounds
+pub record HaveEqualGrounds (network : Network) (one other : Book) (hose : List (ℕ × ℕ)) : Type 0 where
+  pub fits : Bool
+  pub safe : List Bool
+  pub here : AreGrounds network one hose fits safe
+  pub there : AreGrounds network other hose fits safe
+
+-- the decisions on a hose at two books are the same: one admits it with a plan just where the other does, and refuses it with a side just where the other does
+pub record HaveEqualDecisions (network : Network) (one other : Book) (hose : List (ℕ × ℕ)) : Type 0 where
+  pub plans : (plan : List (ℕ × ℕ)) → IsPlanned network one hose plan ↔ IsPlanned network other hose plan
+  pub refusals : (side : List ℕ) → IsRefused network one hose side ↔ IsRefused network other hose side

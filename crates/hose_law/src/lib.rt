@@ -5,6 +5,7 @@
 ghost use Rattle.std.specs.Prelude.{◌≡◌, ℕ, ◌≤◌, length, take};
 ghost use Rattle.hose_law.specs.Book.{IsOversold};
 ghost use Rattle.hose_law.specs.CanonicalPlan.{IsCanonicalPlan, IsRoot};
+ghost use Rattle.hose_law.specs.Decision.{HaveEqualDecisions, HaveEqualGrounds};
 ghost use Rattle.hose_law.specs.History.{IsSound, book_of};
 ghost use Rattle.hose_law.specs.Plan.{plan_cost};
 ghost use Rattle.hose_law.specs.Live.{IsAdmission, StaysLive};
@@ -32,3 +33,11 @@ pub fn law_lives(top: &Topology, e0: u64, h: &[Entry], k: u64)
     requires admits { IsAdmission h.now k }
     ensures { StaysLive e0 h.now k }
 {}
+
+/// Where a hose has equal grounds at two places of a history, it has equal decisions there.
+pub fn law_grounds(top: &Topology, e0: u64, h: &[Entry], i: u64, j: u64, hose: &Hose)
+    requires { HaveEqualGrounds top.now (book_of e0 (take i h.now)) (book_of e0 (take j h.now)) hose.now }
+    ensures { HaveEqualDecisions top.now (book_of e0 (take i h.now)) (book_of e0 (take j h.now)) hose.now }
+{
+    let _nodes = top.nodes();
+}
