@@ -4,7 +4,7 @@ use Rattle.std.specs.List.{AllPairs}
 use Rattle.std.proofs.lemmas.List.{get_or-map, length-map}
 use Rattle.std.proofs.lemmas.List.Kept.{AllPairs-from_increasing}
 use Rattle.hose_graph.specs.Ascending.{IsAscending, firsts}
-use Rattle.hose_law.proofs.Members.{contains_behind, first_or_behind}
+use Rattle.hose_law.proofs.Members.{contains_rest, first_or_rest}
 
 module _ {X : Type 0} (key : X → ℕ) where
   -- each number by which the list is in order is below all later ones
@@ -23,9 +23,9 @@ module _ {X : Type 0} (key : X → ℕ) where
   -- each first is among the other list's elements, and no two elements are below one another
   same_first : (x y : X) (xs ys : List X) → Rises (x ∷ xs) → Rises (y ∷ ys) → Contains (y ∷ ys) x → Contains (x ∷ xs) y → x ≡ y
   same_first x y xs ys one other in_other in_one =
-      elim (first_or_behind y x ys in_other) [
+      elim (first_or_rest y x ys in_other) [
         | inl same ↦ sym same
-        | inr behind ↦ elim (first_or_behind x y xs in_one) [
+        | inr behind ↦ elim (first_or_rest x y xs in_one) [
           | inl same ↦ same
           | inr under ↦ absurd (omega (arith, above_first y x ys other behind, above_first x y xs one under))
         ]
@@ -34,7 +34,7 @@ module _ {X : Type 0} (key : X → ℕ) where
   -- what is behind the first of one list is behind the same first of the other
   behind_too : (x y z : X) (xs ys : List X) → x ≡ y → Rises (x ∷ xs) → (Contains (x ∷ xs) z → Contains (y ∷ ys) z) → Contains xs z → Contains ys z
   behind_too x y z xs ys firsts_same rises to there =
-      elim (first_or_behind y z ys (to (contains_behind x z xs there))) [
+      elim (first_or_rest y z ys (to (contains_rest x z xs there))) [
         | inl same ↦ let keys : key x ≡ key z = ap key (firsts_same ∙ same) in absurd (omega (arith, keys, above_first x z xs rises there))
         | inr behind ↦ behind
       ]

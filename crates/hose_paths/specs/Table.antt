@@ -1,8 +1,8 @@
--- Tables of distances while they are being found: a place for each node, with what some walk from the root costs, or none
--- so far.
+-- Tables of distances while they are being found: a place for each node, with what some walk from
+-- the root costs, or none so far.
 use Rattle.std.specs.Prelude.{◌≡◌, ◌⊎◌, ℕ, ◌+◌, ◌*◌, ◌<◌, ◌≤◌, Bool, List, Option, None, Some, IfSome, IsSomeAnd, MatchOption, count_by, is_some, slice_index_or, slice_set, sum_by, unwrap_or}
 use Rattle.std.specs.Option.{option_or}
-use Rattle.hose_graph.specs.declared.limits.TheConstants.{MOST_COST}
+use Rattle.hose_graph.specs.declared.limits.TheConstants.{MOST_COST, MOST_NODES}
 use Rattle.hose_graph.specs.Network.{Network}
 use Rattle.hose_law.specs.Walk.{cost_of, Joins, IsIn, IsWalk, walk_cost}
 
@@ -38,7 +38,7 @@ pub record Lowers (old new : List (Option ℕ)) (from to cost : ℕ) : Type 0 wh
 
 -- the sum of the entries, where none counts more than any
 abbrev pub left_to_fall : List (Option ℕ) → ℕ
-left_to_fall table = sum_by (λ distance. unwrap_or distance 1000000000) table
+left_to_fall table = sum_by (λ distance. unwrap_or distance (MOST_NODES * MOST_COST + 1)) table
 
 -- one node is farther than another by just this cost
 abbrev pub IsFartherBy : List (Option ℕ) → ℕ → ℕ → ℕ → Type 0

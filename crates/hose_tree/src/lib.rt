@@ -1,5 +1,5 @@
-//! Trees of links: the one that joins a hose by shortest walks to a root, what a hose reserves on the links of any tree, and what fits.
-//! The planner stands on it.
+//! Trees of links: the one that joins a hose by shortest walks to a root, what a hose reserves on
+//! the links of any tree, and what fits. The planner stands on it.
 #![tactic(auto)]
 
 ghost use Rattle.std.specs.Prelude.{◌≡◌};
@@ -52,7 +52,7 @@ impl Tree {
         self.start
     }
 
-    /// The steps, each behind the one that leads to its old node.
+    /// The steps, each after the one that leads to its old node.
     pub fn steps(&self) -> &[Step]
         ensures steps { result.now ≡ self.now.steps }
         ensures is_tree { (network : Network) × IsNetwork network × IsTree network self.now }

@@ -14,8 +14,8 @@ ghost use Rattle.hosed.specs.Fault.{last_line, of_line};
 ghost use Rattle.hosed.specs.ProgramWords.{AreRunWords, first_wrong};
 ghost use Rattle.hosed.specs.Run.{BreaksOff, EndsRefused, IsCutOff, IsRefusedText, IsRun, IsRunFault, IsServable, IsRunUpTo, StopsInTopology, TellsNoNetwork};
 
-mod book;
 mod fault;
+mod ledger;
 mod run;
 mod script_line;
 mod words;
