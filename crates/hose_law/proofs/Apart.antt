@@ -11,7 +11,7 @@ use Rattle.hose_law.specs.Tree.{Grow, step_links}
 use Rattle.hose_law.proofs.Trees.{link_is_new}
 use Rattle.hose_law.proofs.Members.{contains_first, contains_rest, first_or_rest, none_in_empty}
 
--- each number is none of those behind it
+-- no number is one of those after it
 abbrev pub AreApart : List ℕ → Type 0
 AreApart [] = ⊤
 AreApart (x ∷ xs) = (Contains xs x → ⊥) × AreApart xs

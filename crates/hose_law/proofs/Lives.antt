@@ -36,7 +36,7 @@ live_when_admitted book id customer hose amounts is_id =
     let vpn : ℕ → Vpn = λ n. record { id = n; customer = customer; hose = hose; amounts = amounts } in
     subst (λ (n : ℕ). Contains (next_book book (Admit customer hose amounts)).live (vpn n)) (sym is_id) (Contains-push book.live (vpn (book.epoch + 1)))
 
--- The VPN of an admission behind k entries is live after each number of entries above k, if its release is not among them.
+-- The VPN of an admission after k entries is live after each number of entries above k, if its release is not among them.
 lives_from : (book : Book) (history : List Entry) (k place id : ℕ) (customer : List ℕ) (hose amounts : List (ℕ × ℕ))
     → slice_get history k ≡ Some (Admit customer hose amounts) → id ≡ book.epoch + k + 1 → k < place → NotReleased history customer id k place
     → Contains (book_after book (take place history)).live (record { id = id; customer = customer; hose = hose; amounts = amounts })
@@ -92,7 +92,7 @@ live_before book (Release customer id) vpn there =
           false≢true (sym (ap not is) ∙ left.1),
     )
 
--- a VPN that is live after entries was live before them and none of them is its release, or one of them admitted it and no later one is its release
+-- a VPN that is live after entries was live before them, and no entry is its release; or an entry admitted it, and no later one is its release
 record WasLive (book : Book) (entries : List Entry) (place : ℕ) (vpn : Vpn) : Type 0 where
   there : Contains book.live vpn
   held : (j : ℕ) → j < place → slice_get entries j ≢ Some (Release vpn.customer vpn.id)

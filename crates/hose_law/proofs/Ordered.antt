@@ -11,11 +11,11 @@ module _ {X : Type 0} (key : X → ℕ) where
   abbrev Rises : List X → Type 0
   Rises xs = AllPairs (λ x y. key x < key y) xs
 
-  -- what rises goes on rising behind its first
+  -- what rises goes on rising after its first
   rises_behind : (x : X) (xs : List X) → Rises (x ∷ xs) → Rises xs
   rises_behind x xs rises i j d less below = rises (suc i) (suc j) d (omega arith) (omega arith)
 
-  -- what is behind the first is above it
+  -- what comes after the first is above it
   above_first : (x z : X) (xs : List X) → Rises (x ∷ xs) → Contains xs z → key x < key z
   above_first x z xs rises there =
       subst (λ (y : X). key x < key y) there.2 (rises 0 (suc there.0) z (omega arith) (omega (arith, there.1)))
@@ -31,7 +31,7 @@ module _ {X : Type 0} (key : X → ℕ) where
         ]
       ]
 
-  -- what is behind the first of one list is behind the same first of the other
+  -- what comes after the first of one list comes after the same first of the other
   behind_too : (x y z : X) (xs ys : List X) → x ≡ y → Rises (x ∷ xs) → (Contains (x ∷ xs) z → Contains (y ∷ ys) z) → Contains xs z → Contains ys z
   behind_too x y z xs ys firsts_same rises to there =
       elim (first_or_rest y z ys (to (contains_rest x z xs there))) [

@@ -52,7 +52,7 @@ module _ (network : Network) (set : List Bool) where
   starts_inside side u v [] inside = inside.1
   starts_inside side u v (l ∷ walk) inside = inside.1
 
-  -- what is left of a walk behind its last visit of a node, where it goes on from there
+  -- what is left of a walk after its last visit of a node, where it goes on from there
   record HasRest (side : List Bool) (a v most : ℕ) : Type 0 where
     link : ℕ
     next : ℕ

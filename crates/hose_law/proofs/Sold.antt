@@ -23,7 +23,7 @@ Plan = List (ℕ × ℕ)
 abbrev links_of : Plan → List ℕ
 links_of plan = map (λ (pair : ℕ × ℕ). pair.0) plan
 
--- what rises goes on rising behind its first number, and above it
+-- what rises goes on rising after its first number, and above it
 rest_rises : (x : ℕ) (xs : List ℕ) → IsStrictlyIncreasing (x ∷ xs) → IsStrictlyIncreasing xs
 rest_rises x xs rises k below =
     let next : suc k + 1 ≡ suc (k + 1) = omega arith in

@@ -39,7 +39,7 @@ on_unreverse start steps v (inl same) = inl same
 on_unreverse start steps v (inr led) =
     inr (Contains-permutation (new_nodes (reverse steps)) (new_nodes steps) v (IsPermutation-map (λ (step : Step). step.new) (reverse steps) steps (IsPermutation-sym steps (reverse steps) (IsPermutation-reverse steps))) led)
 
--- a step more, behind the others
+-- a step more, after the others
 pub grow_push : (network : Network) (start : ℕ) (steps : List Step) (step : Step) → Grow network start (reverse steps)
     → IsOn start steps step.old → (IsOn start steps step.new → ⊥) → Joins network step.link step.old step.new
     → Grow network start (reverse (steps ++ step ∷ []))
@@ -107,7 +107,7 @@ link_ends_on network start (step ∷ earlier) l u v grows there joins =
           (on_still start step earlier u both.0, on_still start step earlier v both.1)
     ]
 
--- the link of the last step is none of an earlier one's
+-- the link of the last step is not an earlier one's
 pub link_is_new : (network : Network) (start : ℕ) (step : Step) (earlier : List Step) → Grow network start (step ∷ earlier) → Contains (step_links earlier) step.link → ⊥
 link_is_new network start step earlier grows there =
     grows.2 (link_ends_on network start earlier step.link step.old step.new grows.0 there grows.3).1

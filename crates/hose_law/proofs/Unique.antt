@@ -192,7 +192,7 @@ answer_unique network is book customer (Release id) reply other entry more disti
 answer_unique network is book customer (Show id) reply other entry more distinct one two = show_answer_unique network book customer id reply other entry more distinct one two
 answer_unique network is book customer (Link link) reply other entry more distinct one two = link_answer_unique book link reply other entry more one two
 
--- behind a reply that is not for want of memory
+-- after a reply that is not for want of memory
 free_behind : (reply : Reply) (replies : List Reply) → WithoutMemory (reply ∷ replies) → WithoutMemory replies
 free_behind Memory replies free = absurd free
 free_behind reply replies free = free

@@ -1,8 +1,8 @@
 //! What the words of provisioning mean: walks, trees, matrices, plans, books and histories, as
 //! definitions that the contracts of every other crate cite, and laws about them. `specs/` has a
 //! file for each word, and needs none of the code. A law is a function that takes no memory and
-//! answers nothing; its clauses are what it says. Lemmas that other crates cite are public in
-//! `proofs/`.
+//! answers nothing; its clauses are what it says, and no program calls it. Lemmas that other crates
+//! cite are public in `proofs/`.
 //!
 //! ```
 //! law_sold(&top, 0, &entries);

@@ -15,7 +15,7 @@ use Rattle.hose_root.specs.Choice.{weight_at}
 use Rattle.hose_plan.specs.Rooting.{AreWeights, AreLight, heavier, most_share}
 
 module _ (network : Network) (set : List Bool) where
-  -- an endpoint more, behind the others, weighs its rate times its distance
+  -- an endpoint more, after the others, weighs its rate times its distance
   weight_push : (v : ℕ) (ends : List (ℕ × ℕ)) (end : ℕ × ℕ) (weight distance : ℕ) → IsWeight network set v ends weight → IsDistance network set v end.0 distance
       → IsWeight network set v (ends ++ end ∷ []) (weight + end.1 * distance)
   weight_push v [] end weight distance is far = (distance, 0, far, refl, omega (arith, is))

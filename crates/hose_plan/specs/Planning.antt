@@ -23,12 +23,13 @@ pub record AreGroundsOf (network : Network) (room : Room) (hose : List Endpoint)
   pub half : grounds.half ≡ half_rate hose
   pub rests_on : AreGrounds network room hose grounds.first_fits grounds.safe
 
--- the links over which grounds allow a plan: those of the first plan where it fits, else the safe ones
+-- the links over which grounds allow a plan: those of the first plan where it fits, else the safe
+-- ones
 abbrev pub allowed_links : Room → Grounds → List Bool
 allowed_links room grounds = if grounds.first_fits then room.links else grounds.safe
 
--- the decision is this plan over the links that are allowed, at this cost and on these grounds; or a
--- refusal with this side
+-- the decision is this plan over the links that are allowed, at this cost and on these grounds; or
+-- a refusal with this side
 abbrev pub IsDecision : Network → Room → List Endpoint → Decision → Type 0
 IsDecision network room hose (Plan grounds amounts cost) =
     IsPlannedOver network room hose (allowed_links room grounds) amounts

@@ -1,4 +1,6 @@
-//! Roots of trees: what a hose costs from a root, and which root costs least.
+//! Roots of trees: what a hose costs from a root, and which root costs least. The planner takes
+//! `choose`. `weight` is not on the program's way today, since the planner adds up the endpoints'
+//! rows in place of making a row for each root; it is there for who has the row of a root.
 //!
 //! ```
 //! let weights = [weight(&row_of_a, &hose), weight(&row_of_b, &hose)];
