@@ -1,5 +1,5 @@
 -- Trees along tight links, while node after node is attached to them.
-use Rattle.std.specs.Prelude.{◌⊎◌, ◌↔◌, ℕ, ◌≤◌, Bool, List, map, All, Contains}
+use Rattle.std.specs.Prelude.{◌⊎◌, ◌↔◌, ℕ, ◌≤◌, Bool, List, All, Contains}
 use Rattle.hose_graph.specs.declared.step.Step.{Step}
 use Rattle.hose_graph.specs.Network.{Network}
 use Rattle.hose_law.specs.Walk.{IsIn, IsDistance}

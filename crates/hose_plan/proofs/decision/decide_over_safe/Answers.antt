@@ -1,5 +1,5 @@
 -- The plan over the safe links, or a refusal.
-use Rattle.std.proofs.Common.{◌≡◌, ◌∙◌, ℕ, ◌/◌, Bool, List, get_or, ap, refl, subst, inr}
+use Rattle.std.proofs.Common.{◌≡◌, ◌∙◌, ℕ, ◌/◌, Bool, List, get_or, ap, subst, inr}
 use Rattle.hose_law.specs.CanonicalPlan.{IsCanonicalPlan}
 use Rattle.hose_law.specs.Decision.{IsReachedList, lowest_end}
 use Rattle.hose_law.proofs.CanonicalPlans.{planned_sound}
