@@ -1,5 +1,5 @@
 -- What the top call makes of a run.
-use Rattle.std.proofs.Common.{◌≡◌, ◌⊎◌, ◌↔◌, ℕ, ◌+◌, ◌^◌, ◌<◌, ◌≤◌, List, ◌∷◌, [], ◌++◌, Option, None, Some, Result, Ok, Err, inl, inr, refl, ap, arith, length, length-append}
+use Rattle.std.proofs.Common.{◌≡◌, ◌⊎◌, ℕ, ◌^◌, ◌<◌, List, ◌∷◌, [], ◌++◌, Option, None, Some, Result, Ok, Err, inl, inr, refl, ap, arith, length, length-append}
 use Rattle.hose_io.specs.Frame.{Rose, Stays}
 use Rattle.hose_io.specs.Stream.{Stream, Gives}
 use Rattle.hose_io.specs.Writing.{IsPut}
