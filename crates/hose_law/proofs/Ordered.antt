@@ -4,18 +4,18 @@ use Rattle.std.specs.List.{AllPairs}
 use Rattle.std.proofs.lemmas.List.{get_or-map, length-map}
 use Rattle.std.proofs.lemmas.List.Kept.{AllPairs-from_increasing}
 use Rattle.hose_graph.specs.Ascending.{IsAscending, firsts}
-use Rattle.hose_law.proofs.Members.{contains_behind, first_or_behind}
+use Rattle.hose_law.proofs.Members.{contains_rest, first_or_rest}
 
 module _ {X : Type 0} (key : X → ℕ) where
   -- each number by which the list is in order is below all later ones
   abbrev Rises : List X → Type 0
   Rises xs = AllPairs (λ x y. key x < key y) xs
 
-  -- what rises goes on rising behind its first
+  -- what rises goes on rising after its first
   rises_behind : (x : X) (xs : List X) → Rises (x ∷ xs) → Rises xs
   rises_behind x xs rises i j d less below = rises (suc i) (suc j) d (omega arith) (omega arith)
 
-  -- what is behind the first is above it
+  -- what comes after the first is above it
   above_first : (x z : X) (xs : List X) → Rises (x ∷ xs) → Contains xs z → key x < key z
   above_first x z xs rises there =
       subst (λ (y : X). key x < key y) there.2 (rises 0 (suc there.0) z (omega arith) (omega (arith, there.1)))
@@ -23,18 +23,18 @@ module _ {X : Type 0} (key : X → ℕ) where
   -- each first is among the other list's elements, and no two elements are below one another
   same_first : (x y : X) (xs ys : List X) → Rises (x ∷ xs) → Rises (y ∷ ys) → Contains (y ∷ ys) x → Contains (x ∷ xs) y → x ≡ y
   same_first x y xs ys one other in_other in_one =
-      elim (first_or_behind y x ys in_other) [
+      elim (first_or_rest y x ys in_other) [
         | inl same ↦ sym same
-        | inr behind ↦ elim (first_or_behind x y xs in_one) [
+        | inr behind ↦ elim (first_or_rest x y xs in_one) [
           | inl same ↦ same
           | inr under ↦ absurd (omega (arith, above_first y x ys other behind, above_first x y xs one under))
         ]
       ]
 
-  -- what is behind the first of one list is behind the same first of the other
+  -- what comes after the first of one list comes after the same first of the other
   behind_too : (x y z : X) (xs ys : List X) → x ≡ y → Rises (x ∷ xs) → (Contains (x ∷ xs) z → Contains (y ∷ ys) z) → Contains xs z → Contains ys z
   behind_too x y z xs ys firsts_same rises to there =
-      elim (first_or_behind y z ys (to (contains_behind x z xs there))) [
+      elim (first_or_rest y z ys (to (contains_rest x z xs there))) [
         | inl same ↦ let keys : key x ≡ key z = ap key (firsts_same ∙ same) in absurd (omega (arith, keys, above_first x z xs rises there))
         | inr behind ↦ behind
       ]
