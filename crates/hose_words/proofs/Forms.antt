@@ -2,7 +2,7 @@
 use Rattle.std.proofs.Common.{◌≡◌, ◌∙◌, ℕ, ◌+◌, List, [], ◌∷◌, ◌++◌, length, inl, inr, refl, sym, ap, subst, arith, append_assoc, length-append}
 use Rattle.hose_words.specs.Grammar.{Grammar, IsFirst, IsFirstNotAllowed}
 use Rattle.hose_words.specs.Cursor.{Position, Took, TookAll, Misses, IsWrong}
-use Rattle.hose_words.specs.Form.{Form, anything, finish, place, branch, maybe, Follows, IsWhole, grammar_of, IsChoice, Each}
+use Rattle.hose_words.specs.Form.{Form, anything, place, branch, maybe, Follows, IsWhole, grammar_of, IsChoice}
 use Rattle.hose_words.proofs.Judging.{wrong_here}
 
 -- ---- one grammar after some words of another
@@ -152,6 +152,14 @@ pub wrong_past : {passes : List ℕ → Type 0} {form : Form} {old new : Positio
 wrong_past {passes} {form} {old} {new} {word} {words} {number} took follows then =
     let mid : Position = record { left = words ++ new.left; read = old.read + 1 } in
     wrong_later (record { cut = took.cut; counted = refl }) follows (then mid (record { cut = refl; counted = omega (arith, took.counted) }))
+
+-- where no word came, what is wrong is wrong
+pub wrong_same : {form : Form} {old new : Position} {number : ℕ} → TookAll old new [] → IsWrong form new number → IsWrong form old number
+wrong_same {form} {old} {new} {number} took wrong = record {
+  place = wrong.place;
+  at = omega (arith, wrong.at, took.counted);
+  wrong = subst (λ w. IsFirstNotAllowed (grammar_of form) [] w wrong.place) (sym took.cut) wrong.wrong;
+}
 
 -- ---- tests of the first word
 
