@@ -1,54 +1,88 @@
 #!/usr/bin/env python3
-"""Prints, for each crate, what it takes of the others: Rust items, definitions and lemmas.
+"""Prints what each crate takes of the others, and whether docs/ARCHITECTURE.md says the same.
 
-Definitions stand in a crate's specs/, lemmas in its proofs/. docs/ARCHITECTURE.md says it in words.
+A crate takes Rust items (types, calls, constants), definitions (of specs/) and lemmas (of proofs/);
+of lemmas the modules are named. Ends with status 1 where the document says another thing.
 
-usage: bench/imports.py
+usage: bench/imports.py [--all]     --all: with the names of the items and of the definitions
 """
 
 import os
 import re
-from collections import defaultdict
+import sys
 
-CRATES = "crates"
-GHOST = re.compile(r"\bRattle\.(\w+)\.(specs|proofs)((?:\.[\w']+)*)")
-PATH = re.compile(r"(?<![\w:.])(\w+)::(\{[^;]*?\}|[\w:]+)")
+DOCUMENT = "docs/ARCHITECTURE.md"
+GHOST = re.compile(r"\bRattle\.(\w+)\.(specs|proofs)\.([\w']+)")
+PATH = re.compile(r"(?<![\w:.])(\w+)::(\{[^;]*?\}|\w+)")
+TESTS = re.compile(r"#\[cfg\(test\)\]\s*mod \w+(;| \{.*)", re.S)
+KINDS = ("items", "definitions", "lemmas")
 
 
-def names(folder, of, ending):
-    for top, _, files in os.walk(f"{folder}/{of}"):
+def texts(folder, ending):
+    for top, _, files in os.walk(folder):
         for file in files:
-            if file.endswith(ending):
+            if file.endswith(ending) and file != "tests.rt":
                 with open(f"{top}/{file}", encoding="utf-8") as it:
                     yield it.read()
 
 
+def crates():
+    """The names in crates.txt, in its order."""
+    with open("crates.txt", encoding="utf-8") as it:
+        return [line.split(":")[0].split()[0] for line in it if ":" in line and line[0] != "#"]
+
+
+def taken_by(name, known):
+    """What a crate takes: (other crate, kind) to names."""
+    found = {}
+
+    def add(other, kind, names):
+        if other in known and other != name:
+            found.setdefault((other, kind), set()).update(names)
+
+    for text in texts(f"crates/{name}/src", ".rt"):
+        text = re.sub(r"//[^\n]*", "", TESTS.sub("", text))
+        for path in GHOST.finditer(text):
+            add(path[1], "definitions" if path[2] == "specs" else "lemmas", [path[3]])
+        for path in PATH.finditer(re.sub(r"ghost use [^;]*;", "", text)):
+            add(path[1], "items", re.findall(r"\w+", path[2]))
+    for part in ("specs", "proofs"):
+        for text in texts(f"crates/{name}/{part}", ".antt"):
+            for path in GHOST.finditer(re.sub(r"(?m)^\s*--.*$", "", text)):
+                add(path[1], "definitions" if path[2] == "specs" else "lemmas", [path[3]])
+    return found
+
+
+def row(name, found, known):
+    """The table's row: of items and definitions the crates, of lemmas the modules too."""
+    items, definitions = (
+        ", ".join(other for other in known if (other, kind) in found) for kind in KINDS[:2]
+    )
+    lemmas = "; ".join(
+        f"{other}: {', '.join(sorted(found[other, 'lemmas']))}"
+        for other in known
+        if (other, "lemmas") in found
+    )
+    return f"| `{name}` | {items} | {definitions} | {lemmas} |"
+
+
 def main():
     os.chdir(os.path.join(os.path.dirname(os.path.abspath(__file__)), ".."))
-    with open("crates.txt", encoding="utf-8") as it:
-        lines = [line.partition(":") for line in it if ":" in line and not line.startswith("#")]
-    order = [name.split()[0] for name, _, _ in lines]
-    for name in order:
-        folder = f"{CRATES}/{name}"
-        taken = defaultdict(lambda: defaultdict(set))
-        for text in names(folder, "src", ".rt"):
-            code = re.sub(r"//[^\n]*", "", text)
-            for path in PATH.finditer(re.sub(r"ghost use [^;]*;", "", code)):
-                if path[1] in order and path[1] != name:
-                    items = re.findall(r"\w+", path[2])
-                    taken[path[1]]["items"].update(items)
-        for of in ("src", "specs", "proofs"):
-            for text in names(folder, of, ".rt" if of == "src" else ".antt"):
-                text = re.sub(r"(?m)^\s*--.*$|//.*$", "", text)
-                for path in GHOST.finditer(text):
-                    if path[1] in order and path[1] != name:
-                        kind = "definitions" if path[2] == "specs" else "lemmas"
-                        taken[path[1]][kind].add(path[3].strip("."))
-        print(name)
-        for other in order:
-            for kind in ("items", "definitions", "lemmas"):
-                if taken[other][kind]:
-                    print(f"    {other} {kind}: {' '.join(sorted(taken[other][kind]))}")
+    known = crates()
+    with open(DOCUMENT, encoding="utf-8") as it:
+        said = it.read().splitlines()
+    differs = False
+    for name in known:
+        found = taken_by(name, known)
+        line = row(name, found, known)
+        print(line)
+        if "--all" in sys.argv[1:]:
+            for (other, kind), names in sorted(found.items()):
+                print(f"    {other} {kind}: {' '.join(sorted(names))}")
+        if line not in said:
+            print(f"    {DOCUMENT} does not say so")
+            differs = True
+    sys.exit(1 if differs else 0)
 
 
 if __name__ == "__main__":
