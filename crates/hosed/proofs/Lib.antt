@@ -7,5 +7,4 @@ pub mod Refused
 pub mod Releasing
 pub mod Reserved
 pub mod Running
-pub mod Shifting
 pub mod Turns
