@@ -1,5 +1,6 @@
--- Networks: named nodes, and the links that join two of them. This is what contracts see of a topology.
-use Rattle.std.specs.Prelude.{◌≢◌, ℕ, ◌<◌, ◌≤◌, List, length, All, AllPairs}
+-- Networks: named nodes, and the links that join two of them. This is what contracts see of a
+-- topology.
+use Rattle.std.specs.Prelude.{◌≢◌, ℕ, ◌<◌, ◌≤◌, List, [], length, All, AllPairs, slice_index_or}
 use Rattle.hose_graph.specs.Limit.{IsUpTo}
 use Rattle.hose_graph.specs.Name.{IsName}
 use Rattle.hose_graph.specs.declared.link.Link.{Link}
@@ -18,13 +19,14 @@ pub record IsInRange (network : Network) (link : Link) : Type 0 where
   pub distance : IsUpTo MOST_LENGTH link.length
   pub cost : IsUpTo MOST_COST link.cost
 
--- The network can have this link: its nodes and numbers are in range, and it joins two different nodes.
+-- The network can have this link: its nodes and numbers are in range, and it joins two different
+-- nodes.
 pub record IsLink (network : Network) (link : Link) : Type 0 where
   pub in_range : IsInRange network link
   pub no_loop : link.a ≢ link.b
 
--- There are no more nodes and links than the limits, no two nodes have one name, and each link is one that the
--- network can have.
+-- There are no more nodes and links than the limits, no two nodes have one name, and each link is
+-- one that the network can have.
 pub record IsNetwork (network : Network) : Type 0 where
   pub few_nodes : length network.nodes ≤ MOST_NODES
   pub few_links : length network.links ≤ MOST_LINKS
@@ -38,3 +40,14 @@ HasNodeRoom network = length network.nodes < MOST_NODES
 
 abbrev pub HasLinkRoom : Network → Type 0
 HasLinkRoom network = length network.links < MOST_LINKS
+
+-- a node of the network, and a link, by their numbers
+abbrev pub IsNodeOf : Network → ℕ → Type 0
+IsNodeOf network node = node < length network.nodes
+
+abbrev pub IsLinkOf : Network → ℕ → Type 0
+IsLinkOf network link = link < length network.links
+
+-- the name of a node
+abbrev pub name_of : Network → ℕ → List ℕ
+name_of network node = slice_index_or network.nodes node []

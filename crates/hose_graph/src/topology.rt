@@ -41,7 +41,8 @@ impl Model for Topology {
     ghost view = { λ top. record { nodes = top.names.items; links = top.links.items } };
 
     // There is room for the greatest topology from the start, so that adding takes no memory.
-    ghost invariant = { λ top. IsNetwork (record { nodes = top.names.items; links = top.links.items })
+    ghost invariant = { λ top.
+        IsNetwork (record { nodes = top.names.items; links = top.links.items })
         × (MOST_NODES ≤ vec_capacity top.names)
         × (MOST_LINKS ≤ vec_capacity top.links) };
 }

@@ -12,8 +12,8 @@ ghost use Rattle.hosed.specs.Fault.{last_line};
 ghost use Rattle.hosed.specs.ProgramWords.{AreRunWords, first_wrong};
 ghost use Rattle.hosed.specs.RunOutcome.{RunOutcome};
 
-mod book;
 mod fault;
+mod ledger;
 mod run;
 mod script_line;
 mod words;

@@ -9,7 +9,7 @@ ghost use Rattle.hose_proto.specs.ReplyText.{NamesPlaces};
 ghost use Rattle.hosed.specs.RunOutcome.{RunLeaves};
 ghost use Rattle.hosed.specs.Serving.{SaysRead, AnswersLine, Serves, ServesLine};
 
-use crate::book::Book;
+use crate::ledger::Ledger;
 use crate::fault::Fault;
 use crate::script_line::read_line;
 use hose_graph::Reply;
@@ -50,14 +50,14 @@ fn run_lines<S: Source, O: Sink>(
     ensures output { Stays (O.frame output.old) (O.frame output.new) }
 {
     let topology = read(alloc, lines)?;
-    let mut book = Book::new(alloc, topology)?;
+    let mut book = Ledger::new(alloc, topology)?;
     serve(alloc, &mut book, lines, output)
 }
 
 // Answers all lines that are to come.
 fn serve<S: Source, O: Sink>(
     alloc: Global,
-    book: &mut Book,
+    book: &mut Ledger,
     lines: &mut LineReader<S>,
     output: &mut O,
 ) -> Result<(), Fault>
@@ -77,7 +77,7 @@ fn serve<S: Source, O: Sink>(
 // Answers the next line, and says whether there was one.
 fn serve_line<S: Source, O: Sink>(
     alloc: Global,
-    book: &mut Book,
+    book: &mut Ledger,
     lines: &mut LineReader<S>,
     output: &mut O,
 ) -> Result<bool, Fault>
@@ -99,7 +99,7 @@ fn serve_line<S: Source, O: Sink>(
 }
 
 // The reply to a line.
-fn answer(alloc: Global, book: &mut Book, line: Line<'_>) -> Reply
+fn answer(alloc: Global, book: &mut Ledger, line: Line<'_>) -> Reply
     ensures network { book.new.network ≡ book.old.network }
     ensures names { NamesPlaces book.old.network result }
     ensures answers { (said : ReadLine) × SaysRead book.old.network line.entry said
