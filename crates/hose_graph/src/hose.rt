@@ -56,7 +56,16 @@ impl Hose {
         ensures memory { IsErrOf result HoseFault.Memory → MakesHose ends.now }
     {
         check(ends)?;
-        let mut sorted = Vec::from_slice(alloc, ends).map_err(|_| HoseFault::Memory)?;
+        Hose::from_ends(alloc, ends).map_err(|_| HoseFault::Memory)
+    }
+
+    /// The hose of these endpoints, which may stand in any order, where they are known to make one.
+    pub fn from_ends(alloc: Global, ends: &[(u32, u64)]) -> Result<Hose, AllocError>
+        requires { MakesHose ends.now }
+        ensures hose { IfOk result IsHose }
+        ensures same_ends { IfOk result (λ hose. IsPermutation ends.now hose) }
+    {
+        let mut sorted = Vec::from_slice(alloc, ends)?;
         sorted.sort_unstable_by_key(|end| end.0);
         Ok(Hose { ends: sorted })
     }
