@@ -1,5 +1,5 @@
 -- Endpoints and amounts with their number in front.
-use Rattle.std.proofs.Common.{◌≡◌, ◌∙◌, ℕ, ◌<◌, ◌≤◌, ◌^◌, List, ◌∷◌, ◌++◌, length, ap, sym, subst, append_assoc, arith}
+use Rattle.std.proofs.Common.{◌≡◌, ◌∙◌, ℕ, ◌<◌, ◌≤◌, ◌^◌, List, ◌∷◌, ◌++◌, length, ap, sym, append_assoc, arith}
 use Rattle.byteorder.specs.Endian.{big_bytes}
 use Rattle.hose_graph.specs.Hose.{IsHose, IsEnd}
 use Rattle.hose_graph.specs.declared.limits.TheConstants.{LEAST_ENDS, MOST_ENDS, MOST_NODES, MOST_RATE, MOST_LINKS}

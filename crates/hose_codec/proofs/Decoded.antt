@@ -1,9 +1,8 @@
 -- What is decoded is the only entry that the bytes spell.
-use Rattle.std.proofs.Common.{◌≡◌, ℕ, List, [], ◌++◌, Result, Ok, Err, sym}
+use Rattle.std.proofs.Common.{◌≡◌, ℕ, List, [], ◌++◌, Result, Ok, Err}
 use Rattle.std.specs.Prelude.{IfOk}
 use Rattle.hose_graph.specs.declared.entry.Entry.{Entry}
 use Rattle.hose_codec.specs.declared.fault.CodecFault.{CodecFault}
-use Rattle.hose_codec.specs.declared.fault.CodecFault.TheVariants.{Bad, Memory}
 use Rattle.hose_codec.specs.Spelling.{spelling, IsEntry, IsSpelling, Decodes}
 use Rattle.hose_codec.proofs.Entries.{only_entry, same_entry}
 

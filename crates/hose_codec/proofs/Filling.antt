@@ -1,8 +1,7 @@
 -- Pairs that are read one after another, up to so many.
-use Rattle.std.proofs.Common.{◌≡◌, ◌∙◌, ℕ, zero, suc, ◌+◌, ◌<◌, ◌≤◌, ◌^◌, List, [], ◌∷◌, ◌++◌, length, ap, sym, subst, append_assoc, append-nil, arith}
+use Rattle.std.proofs.Common.{◌≡◌, ◌∙◌, ℕ, suc, ◌+◌, ◌<◌, ◌≤◌, ◌^◌, List, [], ◌∷◌, ◌++◌, length, ap, sym, subst, append_assoc, append-nil, arith}
 use Rattle.std.proofs.lemmas.List.{length-append}
 use Rattle.std.proofs.lemmas.List.Concat.{flat_map-append}
-use Rattle.std.specs.List.{flat_map}
 use Rattle.hose_codec.specs.Fields.{pair_field, pairs_field}
 use Rattle.hose_codec.specs.Reading.{Begins, BeginsNone, IsPairFrom, ArePairsFrom, AreCountedPairs}
 use Rattle.hose_codec.proofs.Alone.{same_pair}

@@ -1,4 +1,3 @@
-use Rattle.std.proofs.Common.{rules}
 use Rattle.std.proofs.lemmas.Result.{err_from_is_err_and}
 use Rattle.hose_codec.proofs.Entries.{no_id}
 use Rattle.hose_codec.proofs.reading.release.Goals as goal
