@@ -20,7 +20,7 @@ total_rate-le ends is =
     All-weaker IsEnd (λ end. end.1 ≤ MOST_RATE) (λ end fits. fits.rate.1) ends is.within in
     omega (arith, sum_by-le (λ end. end.1) MOST_RATE ends rates, is.counted.few)
 
--- endpoints at distinct nodes, and one more that is at none of these
+-- endpoints at distinct nodes, and one more at another node
 pub HasDistinctNodes-more : (ends : List (ℕ × ℕ)) (k : ℕ) (d : ℕ × ℕ) → k < length ends →
     HasDistinctNodes (take k ends) → (¬ Any (λ other. other.0 ≡ (get_or ends k d).0) (take k ends)) →
     HasDistinctNodes (take (k + 1) ends)

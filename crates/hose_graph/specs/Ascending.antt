@@ -1,4 +1,5 @@
--- Lists in which numbers ascend, none of them twice: `IsStrictlyIncreasing` for numbers, and this for pairs.
+-- Lists in which numbers ascend, no number twice: `IsStrictlyIncreasing` for numbers, and this
+-- for pairs.
 use Rattle.std.specs.Prelude.{ℕ, List, map}
 use Rattle.std.specs.List.Sorted.{IsStrictlyIncreasing}
 

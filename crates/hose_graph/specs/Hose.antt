@@ -1,36 +1,46 @@
--- Hoses: endpoints of a network, each with the rate that bounds its traffic. Contracts see a hose as a list of pairs of
--- a node and a rate.
+-- Hoses: endpoints of a network, each with the rate that bounds its traffic. Contracts see a hose
+-- as the list of them.
 use Rattle.std.specs.Prelude.{◌≢◌, ℕ, ◌<◌, ◌≤◌, List, length, All, AllPairs, sum_by}
 use Rattle.hose_graph.specs.Limit.{IsUpTo}
 use Rattle.hose_graph.specs.Ascending.{IsAscending}
 use Rattle.hose_graph.specs.declared.limits.TheConstants.{MOST_NODES, LEAST_ENDS, MOST_ENDS, MOST_RATE}
 
+-- an endpoint is a node and a rate
+abbrev pub Endpoint : Type 0
+Endpoint = ℕ × ℕ
+
+abbrev pub node_of : Endpoint → ℕ
+node_of end = end.0
+
+abbrev pub rate_of : Endpoint → ℕ
+rate_of end = end.1
+
 -- an endpoint's node is below the greatest number of nodes, and its rate is within the limit
-pub record IsEnd (end : ℕ × ℕ) : Type 0 where
-  pub node : end.0 < MOST_NODES
-  pub rate : IsUpTo MOST_RATE end.1
+pub record IsEnd (end : Endpoint) : Type 0 where
+  pub node : node_of end < MOST_NODES
+  pub rate : IsUpTo MOST_RATE (rate_of end)
 
 -- how many endpoints there are is within the limits
-pub record IsCounted (ends : List (ℕ × ℕ)) : Type 0 where
+pub record IsCounted (ends : List Endpoint) : Type 0 where
   pub enough : LEAST_ENDS ≤ length ends
   pub few : length ends ≤ MOST_ENDS
 
--- A hose has 2 to 64 endpoints in ascending order of nodes, no node twice.
-pub record IsHose (ends : List (ℕ × ℕ)) : Type 0 where
+-- A hose has as many endpoints as the limits allow, in ascending order of nodes, no node twice.
+pub record IsHose (ends : List Endpoint) : Type 0 where
   pub counted : IsCounted ends
   pub within : All IsEnd ends
   pub ascending : IsAscending ends
 
 -- the sum of the rates
-abbrev pub total_rate : List (ℕ × ℕ) → ℕ
-total_rate ends = sum_by (λ end. end.1) ends
+abbrev pub total_rate : List Endpoint → ℕ
+total_rate ends = sum_by rate_of ends
 
 -- no two of these endpoints are at one node
-abbrev pub HasDistinctNodes : List (ℕ × ℕ) → Type 0
-HasDistinctNodes ends = AllPairs (λ one other. one.0 ≢ other.0) ends
+abbrev pub HasDistinctNodes : List Endpoint → Type 0
+HasDistinctNodes ends = AllPairs (λ one other. node_of one ≢ node_of other) ends
 
 -- These endpoints, in any order, make a hose.
-pub record MakesHose (ends : List (ℕ × ℕ)) : Type 0 where
+pub record MakesHose (ends : List Endpoint) : Type 0 where
   pub counted : IsCounted ends
   pub within : All IsEnd ends
   pub distinct : HasDistinctNodes ends

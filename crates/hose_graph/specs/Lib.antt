@@ -1,3 +1,4 @@
+pub mod Amounts
 pub mod Ascending
 pub mod Hose
 pub mod Limit

@@ -2,17 +2,18 @@
 use Rattle.std.specs.Prelude.{ℕ, ◌-◌, ◌≤◌, ◌==◌, ◌||◌, Bool, List, ◌++◌, length, replicate}
 use Rattle.std.specs.Char.{is_ascii_digit, is_ascii_lowercase}
 use Rattle.std.specs.List.{AllPass}
+use Rattle.hose_graph.specs.declared.limits.TheConstants.{MOST_NAME_BYTES}
 
 -- a byte that a name may have: `a` to `z`, `0` to `9` or `-`
 abbrev pub is_name_byte : ℕ → Bool
 is_name_byte byte = is_ascii_lowercase byte || is_ascii_digit byte || byte == 45
 
--- These bytes are a name: 1 to 16 of them, each one that a name may have.
+-- These bytes are a name: at least one and no more than the limit, each one that a name may have.
 pub record IsName (bytes : List ℕ) : Type 0 where
   pub some : 1 ≤ length bytes
-  pub short : length bytes ≤ 16
+  pub short : length bytes ≤ MOST_NAME_BYTES
   pub allowed : AllPass is_name_byte bytes
 
--- a name's bytes, with zeros behind them up to the greatest length
+-- a name's bytes, and then zeros up to the greatest length
 abbrev pub padded : List ℕ → List ℕ
-padded bytes = bytes ++ replicate (16 - length bytes) 0
+padded bytes = bytes ++ replicate (MOST_NAME_BYTES - length bytes) 0

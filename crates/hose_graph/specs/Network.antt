@@ -1,4 +1,5 @@
--- Networks: named nodes, and the links that join two of them. This is what contracts see of a topology.
+-- Networks: named nodes, and the links that join two of them. This is what contracts see of a
+-- topology.
 use Rattle.std.specs.Prelude.{◌≢◌, ℕ, ◌<◌, ◌≤◌, List, length, All, AllPairs}
 use Rattle.hose_graph.specs.Limit.{IsUpTo}
 use Rattle.hose_graph.specs.Name.{IsName}
@@ -18,13 +19,14 @@ pub record IsInRange (network : Network) (link : Link) : Type 0 where
   pub distance : IsUpTo MOST_LENGTH link.length
   pub cost : IsUpTo MOST_COST link.cost
 
--- The network can have this link: its nodes and numbers are in range, and it joins two different nodes.
+-- The network can have this link: its nodes and numbers are in range, and it joins two different
+-- nodes.
 pub record IsLink (network : Network) (link : Link) : Type 0 where
   pub in_range : IsInRange network link
   pub no_loop : link.a ≢ link.b
 
--- There are no more nodes and links than the limits, no two nodes have one name, and each link is one that the
--- network can have.
+-- There are no more nodes and links than the limits, no two nodes have one name, and each link is
+-- one that the network can have.
 pub record IsNetwork (network : Network) : Type 0 where
   pub few_nodes : length network.nodes ≤ MOST_NODES
   pub few_links : length network.links ≤ MOST_LINKS

@@ -5,12 +5,15 @@ ghost use Rattle.hose_graph.specs.Ascending.{IsAscending};
 use std::alloc::{AllocError, Global};
 use std::marker::Model;
 
-/// Amounts reserved on links, in ascending order of links.
+/// A link's number, and what is reserved on it, in the customer's unit of bandwidth.
+pub type ReservedLink = (u32, u64);
+
+/// What is reserved on links, in ascending order of links.
 ///
-/// A contract sees it as a list of pairs of a link and an amount.
+/// A contract sees it as the list of them.
 #[derive(Debug, Drop)]
 pub struct Amounts {
-    pairs: Vec<(u32, u64)>,
+    pairs: Vec<ReservedLink>,
 }
 
 impl Model for Amounts {
@@ -25,8 +28,8 @@ impl Model for Amounts {
 }
 
 impl Amounts {
-    /// These amounts, each a link and what is reserved on it.
-    pub fn build(alloc: Global, pairs: &[(u32, u64)]) -> Result<Amounts, AllocError>
+    /// The amounts of these links.
+    pub fn build(alloc: Global, pairs: &[ReservedLink]) -> Result<Amounts, AllocError>
         requires { IsAscending pairs.now }
         ensures { IfOk result (λ amounts. amounts ≡ pairs.now) }
     {
@@ -36,7 +39,7 @@ impl Amounts {
     }
 
     /// The links with their amounts, in ascending order of links.
-    pub fn pairs(&self) -> &[(u32, u64)]
+    pub fn pairs(&self) -> &[ReservedLink]
         ensures value { result.now ≡ self.now }
         ensures ascending { IsAscending self.now }
     {

@@ -1,6 +1,6 @@
 // Hoses: endpoints with their rates, checked and sorted.
 ghost use Rattle.std.specs.Prelude.{◌≡◌, ℕ, ◌*◌, ◌<◌, ◌≤◌, ◌↔◌, List, length, IsTrue, IsOk, IsErrOf, IfOk, All, Any, IsPermutation};
-ghost use Rattle.hose_graph.specs.Hose.{IsEnd, IsHose, IsCounted, MakesHose, HasDistinctNodes, total_rate};
+ghost use Rattle.hose_graph.specs.Hose.{IsEnd, IsHose, IsCounted, MakesHose, HasDistinctNodes, node_of, total_rate};
 
 use crate::limits::{LEAST_ENDS, MOST_ENDS, MOST_NODES, MOST_RATE};
 use std::alloc::{AllocError, Global};
@@ -13,7 +13,7 @@ pub enum HoseFault {
     Many,
     /// There are fewer endpoints than a hose has.
     Few,
-    /// A node is none that any network has, or a rate is outside its limits.
+    /// A node's number is above that of any network, or a rate is outside its limits.
     Range,
     /// A node is named twice.
     Repeat,
@@ -21,13 +21,16 @@ pub enum HoseFault {
     Memory,
 }
 
-/// The endpoints of a customer's network, each a node and the rate that bounds the sum of its traffic, in ascending
-/// order of nodes.
+/// An endpoint of a customer's network: the number of its node, and the rate that bounds the sum of
+/// all that it sends and is sent, in the customer's unit of bandwidth.
+pub type Endpoint = (u32, u64);
+
+/// The endpoints of a customer's network, in ascending order of nodes.
 ///
 /// A contract sees it as the list of its endpoints.
 #[derive(Debug, Drop)]
 pub struct Hose {
-    ends: Vec<(u32, u64)>,
+    ends: Vec<Endpoint>,
 }
 
 impl Model for Hose {
@@ -42,34 +45,45 @@ impl Model for Hose {
 }
 
 impl Hose {
-    /// The hose of these endpoints, each a node and its rate, which may stand in any order.
-    pub fn build(alloc: Global, ends: &[(u32, u64)]) -> Result<Hose, HoseFault>
+    /// The hose of these endpoints, which may stand in any order. A rate is in the customer's unit
+    /// of bandwidth.
+    pub fn build(alloc: Global, ends: &[Endpoint]) -> Result<Hose, HoseFault>
         ensures hose { IfOk result IsHose }
         ensures same_ends { IfOk result (λ hose. IsPermutation ends.now hose) }
 
         // Each refusal comes only where those before it do not.
         ensures many { IsErrOf result HoseFault.Many ↔ (MOST_ENDS < length ends.now) }
         ensures few { IsErrOf result HoseFault.Few ↔ (length ends.now < LEAST_ENDS) }
-        ensures range { IsErrOf result HoseFault.Range ↔ (IsCounted ends.now × (¬ All IsEnd ends.now)) }
+        ensures range { IsErrOf result HoseFault.Range
+            ↔ (IsCounted ends.now × (¬ All IsEnd ends.now)) }
         ensures repeat { IsErrOf result HoseFault.Repeat
             ↔ (IsCounted ends.now × All IsEnd ends.now × (¬ HasDistinctNodes ends.now)) }
         ensures memory { IsErrOf result HoseFault.Memory → MakesHose ends.now }
     {
         check(ends)?;
-        let mut sorted = Vec::from_slice(alloc, ends).map_err(|_| HoseFault::Memory)?;
+        Hose::from_ends(alloc, ends).map_err(|_| HoseFault::Memory)
+    }
+
+    /// The hose of these endpoints, which may stand in any order, where they are known to make one.
+    pub fn from_ends(alloc: Global, ends: &[Endpoint]) -> Result<Hose, AllocError>
+        requires { MakesHose ends.now }
+        ensures hose { IfOk result IsHose }
+        ensures same_ends { IfOk result (λ hose. IsPermutation ends.now hose) }
+    {
+        let mut sorted = Vec::from_slice(alloc, ends)?;
         sorted.sort_unstable_by_key(|end| end.0);
         Ok(Hose { ends: sorted })
     }
 
     /// The endpoints in ascending order of nodes.
-    pub fn ends(&self) -> &[(u32, u64)]
+    pub fn ends(&self) -> &[Endpoint]
         ensures value { result.now ≡ self.now }
         ensures hose { IsHose self.now }
     {
         &self.ends
     }
 
-    /// The sum of the rates.
+    /// The sum of the rates, in the customer's unit of bandwidth.
     pub fn total(&self) -> u64
         ensures sum { result ≡ total_rate self.now }
         ensures bound { result ≤ MOST_ENDS * MOST_RATE }
@@ -88,11 +102,12 @@ impl Hose {
 }
 
 // Says whether the endpoints make a hose, and if not, why.
-fn check(ends: &[(u32, u64)]) -> Result<(), HoseFault>
+fn check(ends: &[Endpoint]) -> Result<(), HoseFault>
     ensures ok { IsOk result ↔ MakesHose ends.now }
     ensures many { IsErrOf result HoseFault.Many ↔ (MOST_ENDS < length ends.now) }
     ensures few { IsErrOf result HoseFault.Few ↔ (length ends.now < LEAST_ENDS) }
-    ensures range { IsErrOf result HoseFault.Range ↔ (IsCounted ends.now × (¬ All IsEnd ends.now)) }
+    ensures range { IsErrOf result HoseFault.Range
+        ↔ (IsCounted ends.now × (¬ All IsEnd ends.now)) }
     ensures repeat { IsErrOf result HoseFault.Repeat
         ↔ (IsCounted ends.now × All IsEnd ends.now × (¬ HasDistinctNodes ends.now)) }
     ensures no_memory { ¬ IsErrOf result HoseFault.Memory }
@@ -113,14 +128,14 @@ fn check(ends: &[(u32, u64)]) -> Result<(), HoseFault>
 }
 
 // Whether each endpoint's node and rate are within the limits.
-fn are_within(ends: &[(u32, u64)]) -> bool
+fn are_within(ends: &[Endpoint]) -> bool
     ensures { IsTrue result ↔ All IsEnd ends.now }
 {
     ends.iter().all(|end| end.0 < MOST_NODES && (1..=MOST_RATE).contains(&end.1))
 }
 
 // Whether no two of the endpoints are at one node.
-fn has_distinct_nodes(ends: &[(u32, u64)]) -> bool
+fn has_distinct_nodes(ends: &[Endpoint]) -> bool
     ensures { IsTrue result ↔ HasDistinctNodes ends.now }
 {
     for (place, end) in ends.iter().enumerate() {
@@ -132,8 +147,8 @@ fn has_distinct_nodes(ends: &[(u32, u64)]) -> bool
 }
 
 // Whether one of the endpoints is at the node.
-fn has_node(ends: &[(u32, u64)], node: u32) -> bool
-    ensures { IsTrue result ↔ Any (λ end. end.0 ≡ node) ends.now }
+fn has_node(ends: &[Endpoint], node: u32) -> bool
+    ensures { IsTrue result ↔ Any (λ end. node_of end ≡ node) ends.now }
 {
     ends.iter().any(|end| end.0 == node)
 }
@@ -157,7 +172,7 @@ mod tests {
     #[test]
     fn refuses_in_order(rt: HostRuntime) {
         let many = [(600, 0); 65];
-        let table: [(&[(u32, u64)], HoseFault); 7] = [
+        let table: [(&[Endpoint], HoseFault); 7] = [
             (&many, HoseFault::Many),
             (&[(0, 3)], HoseFault::Few),
             (&[(0, 0), (1, 1)], HoseFault::Range),

@@ -1,5 +1,14 @@
-//! The types that the whole of `hosed` speaks of: networks and their names, hoses, amounts reserved on links, and the
-//! entries of a book. Each is valid by its own invariant, and contracts see it as plain lists and records.
+//! The types that the whole of `hosed` speaks of: networks and their names, hoses, amounts reserved
+//! on links, commands, replies, and the entries of a book. Each is valid by its own invariant, and
+//! contracts see it as plain lists and records.
+//!
+//! ```
+//! let mut top = Topology::new(alloc)?;
+//! let a = top.add_node(Name::read(b"a").ok_or(NoName)?)?;
+//! let b = top.add_node(Name::read(b"b").ok_or(NoName)?)?;
+//! top.add_link(Link { a, b, capacity: 10, length: 1, cost: 1 })?;
+//! let hose = Hose::build(alloc, &[(a, 3), (b, 4)])?;
+//! ```
 #![tactic(auto)]
 
 mod amounts;
@@ -16,13 +25,13 @@ mod step;
 mod topology;
 mod vpn;
 
-pub use amounts::Amounts;
+pub use amounts::{Amounts, ReservedLink};
 pub use command::Command;
 pub use entry::Entry;
-pub use hose::{Hose, HoseFault};
+pub use hose::{Endpoint, Hose, HoseFault};
 pub use limits::{
-    LEAST_ENDS, MOST_CAPACITY, MOST_COST, MOST_ENDS, MOST_EPOCH, MOST_LENGTH, MOST_LINKS,
-    MOST_LIVE, MOST_NODES, MOST_RATE,
+    LEAST_ENDS, MOST_AMOUNT, MOST_CAPACITY, MOST_COST, MOST_DISTANCE, MOST_ENDS, MOST_EPOCH,
+    MOST_LENGTH, MOST_LINKS, MOST_LIVE, MOST_NAME_BYTES, MOST_NODES, MOST_RATE, MOST_TREE_LINKS,
 };
 pub use link::Link;
 pub use name::Name;

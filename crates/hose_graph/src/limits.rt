@@ -6,13 +6,16 @@ pub const MOST_NODES: u32 = 512;
 /// The greatest number of links of a network.
 pub const MOST_LINKS: u32 = 2048;
 
-/// The greatest capacity of a link.
+/// The greatest number of bytes of a name.
+pub const MOST_NAME_BYTES: usize = 16;
+
+/// The greatest capacity of a link, in the customer's unit of bandwidth.
 pub const MOST_CAPACITY: u64 = 1_000_000_000;
 
-/// The greatest length of a link.
+/// The greatest length of a link, in whatever unit the network is measured in.
 pub const MOST_LENGTH: u64 = 1_000_000;
 
-/// The greatest cost of a link.
+/// The greatest cost of a link, for one unit of bandwidth.
 pub const MOST_COST: u64 = 1_000_000;
 
 /// The least number of endpoints of a hose.
@@ -21,11 +24,20 @@ pub const LEAST_ENDS: usize = 2;
 /// The greatest number of endpoints of a hose.
 pub const MOST_ENDS: usize = 64;
 
-/// The greatest rate of an endpoint.
+/// The greatest rate of an endpoint, in the customer's unit of bandwidth.
 pub const MOST_RATE: u64 = 1_000_000;
 
-/// The greatest epoch, and so the greatest number of a VPN.
+/// The greatest epoch, which counts accepted entries, and so the greatest number of a VPN.
 pub const MOST_EPOCH: u64 = 4_000_000_000;
 
 /// The greatest number of live VPNs.
 pub const MOST_LIVE: usize = 20_000;
+
+/// The greatest number of links that a tree can have: one less than there can be nodes.
+pub const MOST_TREE_LINKS: u32 = MOST_NODES - 1;
+
+/// The greatest amount that a hose can reserve on a link: half of the greatest sum of rates.
+pub const MOST_AMOUNT: u64 = MOST_ENDS as u64 * MOST_RATE / 2;
+
+/// The greatest distance of two nodes: what a walk costs at most that comes to no node twice.
+pub const MOST_DISTANCE: u64 = MOST_TREE_LINKS as u64 * MOST_COST;

@@ -5,18 +5,16 @@ ghost use Rattle.std.specs.Cmp.{partial_equiv_from_equiv};
 ghost use Rattle.std.specs.Cmp.Lexicographic.{nat_list_eq_equiv};
 ghost use Rattle.hose_graph.specs.Name.{IsName, is_name_byte};
 
+use crate::limits::MOST_NAME_BYTES;
 use std::marker::Model;
-
-/// The greatest number of bytes of a name.
-const MOST_BYTES: usize = 16;
 
 /// The name of a node or of a customer: 1 to 16 bytes of `a` to `z`, `0` to `9` and `-`.
 ///
 /// A contract sees it as its bytes.
 #[derive(Clone, Copy, Debug)]
 pub struct Name {
-    // The bytes behind the name's own are zero, so that one name has one form.
-    bytes: [u8; MOST_BYTES],
+    // The bytes after the name's own are zero, so that one name has one form.
+    bytes: [u8; MOST_NAME_BYTES],
     len: u8,
 }
 
@@ -45,11 +43,11 @@ impl Name {
         ensures is_name { IsSome result ↔ IsName bytes.now }
         ensures same { IfSome result (λ name. name ≡ bytes.now) }
     {
-        let is_short = (1..=MOST_BYTES).contains(&bytes.len());
+        let is_short = (1..=MOST_NAME_BYTES).contains(&bytes.len());
         if !is_short || !bytes.iter().all(|byte| is_allowed(*byte)) {
             return None;
         }
-        let mut padded = [0; MOST_BYTES];
+        let mut padded = [0; MOST_NAME_BYTES];
         padded[..bytes.len()].copy_from_slice(bytes);
         Some(Name {
             bytes: padded,

@@ -4,15 +4,16 @@ use crate::amounts::Amounts;
 use crate::hose::Hose;
 use crate::node_list::NodeList;
 
-/// What a line is answered. `at` is the epoch at which the reply holds: the one after the entry where there is one, and
-/// that of the decision for all others.
+/// What a line is answered. `at` is the epoch at which the reply holds: the one after the entry
+/// where there is one, and that of the decision for all others.
 #[derive(Debug, Drop)]
 pub enum Reply {
     /// A session began.
     Welcome {
         at: u64,
     },
-    /// The network has the number `id`. Each link of its tree reserves its amount, and `cost` is what these cost.
+    /// The network has the number `id`. Each link of its tree reserves its amount, and `cost` is
+    /// what these cost.
     Admitted {
         id: u64,
         cost: u64,
@@ -26,7 +27,8 @@ pub enum Reply {
         at: u64,
         amounts: Amounts,
     },
-    /// There is no room. `side` is what the lowest endpoint reaches over links with half of the rates free.
+    /// There is no room. `side` is what the lowest endpoint reaches over links with half of the
+    /// rates free.
     Refused {
         at: u64,
         side: NodeList,
@@ -83,7 +85,8 @@ pub enum Reply {
     },
     /// There was no memory, and nothing was done.
     Memory,
-    /// The line is none of the grammar. `word` is the first one that is not allowed, counted from 1.
+    /// The line is not one of the grammar. `word` is the first one that is not allowed, counted
+    /// from 1.
     Bad {
         word: u64,
     },

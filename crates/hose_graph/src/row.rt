@@ -6,11 +6,13 @@ use std::marker::Model;
 /// A contract sees it as `Distances`.
 #[derive(Debug, Drop)]
 pub struct Row {
+    /// The root's node.
     pub root: u32,
-    /// What a shortest walk from the root costs, or none where there is no walk.
+    /// What a cheapest walk from the root costs for one unit of bandwidth, or none where there is
+    /// no walk.
     pub dist: Vec<Option<u64>>,
-    /// The lowest-numbered link by which a shortest walk from the root comes to the node, or none for the root and where
-    /// there is no walk.
+    /// The lowest-numbered link by which a shortest walk from the root comes to the node, or none
+    /// for the root and where there is no walk.
     pub tight: Vec<Option<u32>>,
 }
 
@@ -19,5 +21,6 @@ impl Model for Row {
 
     ghost Value = { Distances };
 
-    ghost view = { λ row. record { root = row.root; dist = row.dist.items; tight = row.tight.items } };
+    ghost view = { λ row.
+        record { root = row.root; dist = row.dist.items; tight = row.tight.items } };
 }

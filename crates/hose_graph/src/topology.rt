@@ -41,7 +41,8 @@ impl Model for Topology {
     ghost view = { λ top. record { nodes = top.names.items; links = top.links.items } };
 
     // There is room for the greatest topology from the start, so that adding takes no memory.
-    ghost invariant = { λ top. IsNetwork (record { nodes = top.names.items; links = top.links.items })
+    ghost invariant = { λ top.
+        IsNetwork (record { nodes = top.names.items; links = top.links.items })
         × (MOST_NODES ≤ vec_capacity top.names)
         × (MOST_LINKS ≤ vec_capacity top.links) };
 }
@@ -57,10 +58,25 @@ impl Topology {
         })
     }
 
-    /// Adds a node, and gives its number.
+    /// Adds a node that there is room for and whose name is new, and gives its number.
+    pub fn push_node(&mut self, name: Name) -> u32
+        requires room { HasNodeRoom self.old }
+        requires is_new { ¬ Contains self.old.nodes name }
+        ensures number { result ≡ length self.old.nodes }
+        ensures added { self.new ≡ record self.old { nodes = self.old.nodes ++ name ∷ [] } }
+    {
+        let node = self.nodes();
+        // That these bytes are a name is told by the call that gives them.
+        let _bytes = name.bytes();
+        self.names.push_reserved(name);
+        node
+    }
+
+    /// Adds a node, after the tests that `push_node` leaves to its caller.
     pub fn add_node(&mut self, name: Name) -> Result<u32, TopologyFault>
         ensures number { IfOk result (λ node. node ≡ length self.old.nodes) }
-        ensures added { OnOk result (self.new ≡ record self.old { nodes = self.old.nodes ++ name ∷ [] }) }
+        ensures added { OnOk result
+            (self.new ≡ record self.old { nodes = self.old.nodes ++ name ∷ [] }) }
 
         // A name that is there already counts only where there is room.
         ensures many { IsErrOf result TopologyFault.Many ↔ (¬ HasNodeRoom self.old) }
@@ -69,21 +85,32 @@ impl Topology {
         ensures ok { IsOk result ↔ (HasNodeRoom self.old × (¬ Contains self.old.nodes name)) }
         ensures err { OnErr result (self.new ≡ self.old) }
     {
-        let node = self.nodes();
-        if node == MOST_NODES {
+        if self.nodes() == MOST_NODES {
             return Err(TopologyFault::Many);
         }
         if self.find(&name).is_some() {
             return Err(TopologyFault::Repeat);
         }
-        self.names.push_reserved(name);
-        Ok(node)
+        Ok(self.push_node(name))
     }
 
-    /// Adds a link, and gives its number.
+    /// Adds a link that there is room for and that the network can have, and gives its number.
+    pub fn push_link(&mut self, link: Link) -> u32
+        requires room { HasLinkRoom self.old }
+        requires is_link { IsLink self.old link }
+        ensures number { result ≡ length self.old.links }
+        ensures added { self.new ≡ record self.old { links = self.old.links ++ link ∷ [] } }
+    {
+        let number = self.links();
+        self.links.push_reserved(link);
+        number
+    }
+
+    /// Adds a link, after the tests that `push_link` leaves to its caller.
     pub fn add_link(&mut self, link: Link) -> Result<u32, TopologyFault>
         ensures number { IfOk result (λ number. number ≡ length self.old.links) }
-        ensures added { OnOk result (self.new ≡ record self.old { links = self.old.links ++ link ∷ [] }) }
+        ensures added { OnOk result
+            (self.new ≡ record self.old { links = self.old.links ++ link ∷ [] }) }
 
         // Each refusal comes only where those before it do not.
         ensures many { IsErrOf result TopologyFault.Many ↔ (¬ HasLinkRoom self.old) }
@@ -94,8 +121,7 @@ impl Topology {
         ensures ok { IsOk result ↔ (HasLinkRoom self.old × IsLink self.old link) }
         ensures err { OnErr result (self.new ≡ self.old) }
     {
-        let number = self.links();
-        if number == MOST_LINKS {
+        if self.links() == MOST_LINKS {
             return Err(TopologyFault::Many);
         }
         if !self.is_in_range(&link) {
@@ -104,8 +130,7 @@ impl Topology {
         if link.a == link.b {
             return Err(TopologyFault::Loop);
         }
-        self.links.push_reserved(link);
-        Ok(number)
+        Ok(self.push_link(link))
     }
 
     /// How many nodes there are.

@@ -1,3 +1,5 @@
+pub mod Frames
 pub mod Gathering
 pub mod Lists
+pub mod Pieces
 pub mod Streams

@@ -1,8 +1,9 @@
 pub mod Count
 pub mod FailingCalls
-pub mod Fault
+pub mod Frame
 pub mod Gather
 pub mod SinkState
 pub mod SourceState
+pub mod StdState
 pub mod Stream
 pub mod Writing

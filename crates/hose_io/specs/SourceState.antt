@@ -1,6 +1,7 @@
 -- What contracts see of a source in memory.
-use Rattle.std.specs.Prelude.{ℕ, List, ◌++◌, take, drop}
+use Rattle.std.specs.Prelude.{ℕ, List, [], ◌++◌, take, drop}
 use Rattle.hose_io.specs.Count.{one_more}
+use Rattle.hose_io.specs.Frame.{Frame}
 use Rattle.hose_io.specs.FailingCalls.{later_calls}
 use Rattle.hose_io.specs.Stream.{Stream}
 
@@ -11,6 +12,10 @@ pub record SourceState : Type 0 where
   pub faults : ℕ
   pub failing : List ℕ
   pub number : ℕ
+
+-- its frame
+abbrev pub frame_of : SourceState → Frame
+frame_of source = record { faults = source.faults; number = source.number; loan = [] }
 
 -- a source after a call that gave the next `count` bytes
 abbrev pub after_taking : SourceState → ℕ → SourceState

@@ -1,9 +1,9 @@
 // A text on its way to a sink, in few pieces.
-ghost use Rattle.std.specs.Prelude.{◌≡◌, ◌+◌, ◌≤◌, ℕ, IsFalse, List, [], ◌++◌, OnOk, IsOk, OnErr, decimal, false, length, take};
-ghost use Rattle.hose_io.specs.Fault.{HasCause};
+ghost use Rattle.std.specs.Prelude.{◌≡◌, ◌≢◌, ◌+◌, ◌≤◌, ℕ, IsFalse, List, [], ◌++◌, OnOk, IsOk, OnErr, decimal, false, length, take};
+ghost use Rattle.hose_io.specs.Count.{one_more};
+ghost use Rattle.hose_io.specs.Frame.{Met};
 ghost use Rattle.hose_io.specs.Gather.{GoesOut, IsAdded, IsFinished};
-ghost use Rattle.hose_io.specs.Stream.{Grows};
-ghost use Rattle.hose_io.specs.Writing.{GrowsInPart};
+ghost use Rattle.hose_io.specs.Writing.{GrowsInPart, IsPut};
 
 use crate::{Failed, Sink, write_all};
 use itoa::Buffer;
@@ -48,13 +48,7 @@ impl Gather {
 
     /// Adds `bytes` to the text. They are only kept where there is room for them.
     pub fn add<S: Sink>(&mut self, sink: &mut S, bytes: &[u8])
-        ensures added { IsAdded S.Sink self.old sink.old self.new sink.new bytes.now }
-
-        // Where they fit, nothing goes out.
-        ensures held { IsFalse self.old.broke → length (self.old.held ++ bytes.now) ≤ GATHER_LIMIT →
-            self.new ≡ record self.old { held = self.old.held ++ bytes.now } }
-        ensures calls_none { length (self.old.held ++ bytes.now) ≤ GATHER_LIMIT →
-            sink.new ≡ sink.old }
+        ensures { IsAdded S.Sink self.old sink.old self.new sink.new bytes.now }
     {
         if self.broke {
             return;
@@ -92,9 +86,7 @@ impl Gather {
         ensures err { OnErr result
             (GrowsInPart (S.content sink.old) (S.content sink.new) (self.old.held ++ bytes.now)) }
         ensures broke { self.new.broke ≡ self.old.broke }
-        ensures cause { HasCause (S.faults sink.old) (S.faults sink.new) result }
-        ensures number { S.number sink.new ≡ S.number sink.old }
-        ensures loan { S.loan sink.new ≡ S.loan sink.old }
+        ensures met { Met (S.frame sink.old) (S.frame sink.new) result }
     {
         if bytes.len() <= GATHER_LIMIT - self.len {
             self.keep(bytes);
@@ -110,13 +102,9 @@ impl Gather {
 
     // Gives all that it holds to the sink. It then holds nothing, also where the sink failed.
     fn flush<S: Sink>(&mut self, sink: &mut S) -> Result<(), Failed>
-        ensures ok { OnOk result (Grows (S.content sink.old) (S.content sink.new) self.old.held) }
-        ensures err { OnErr result
-            (GrowsInPart (S.content sink.old) (S.content sink.new) self.old.held) }
+        ensures put { IsPut S.Sink sink.old sink.new self.old.held result }
+        ensures one_piece { self.old.held ≢ [] → OnOk result (S.pieces sink.new ≡ one_more (S.pieces sink.old)) }
         ensures emptied { self.new ≡ record self.old { held = [] } }
-        ensures cause { HasCause (S.faults sink.old) (S.faults sink.new) result }
-        ensures number { S.number sink.new ≡ S.number sink.old }
-        ensures loan { S.loan sink.new ≡ S.loan sink.old }
     {
         let held = self.len;
         self.len = 0;

@@ -1,7 +1,8 @@
 // Bytes in memory that are written.
-ghost use Rattle.std.specs.Prelude.{◌≡◌, ◌<◌, ◌≤◌, ℕ, Option, List, [], ◌∷◌, ◌++◌, IfOk, IsErr, OnOk, OnErr, MatchResult, Contains, length, take};
-ghost use Rattle.hose_io.specs.Fault.{HasCause};
-ghost use Rattle.hose_io.specs.SinkState.{SinkState, after_putting, after_fault, after_starving};
+ghost use Rattle.std.specs.Prelude.{◌≡◌, ◌<◌, ◌≤◌, ◌==◌, ℕ, Option, Some, List, [], ◌∷◌, ◌++◌, IfOk, IsErr, OnOk, OnErr, MatchResult, Contains, length, take, if◌then◌else◌};
+ghost use Rattle.hose_io.specs.Count.{one_more};
+ghost use Rattle.hose_io.specs.Frame.{Frame, Met};
+ghost use Rattle.hose_io.specs.SinkState.{SinkState, frame_of, after_putting, after_fault, after_starving};
 ghost use Rattle.hose_io.specs.Stream.{Grows};
 
 use crate::{Failed, FailingCalls, Sink};
@@ -14,6 +15,7 @@ pub struct MemSink {
     bytes: Vec<u8>,
     faults: u64,
     starved: u64,
+    pieces: u64,
     failing: FailingCalls,
     number: u64,
 }
@@ -27,6 +29,7 @@ impl Model for MemSink {
       given = s.bytes.items;
       faults = s.faults;
       starved = s.starved;
+      pieces = s.pieces;
       failing = s.failing;
       number = s.number;
     } };
@@ -39,6 +42,7 @@ impl MemSink {
           given = [];
           faults = 0;
           starved = 0;
+          pieces = 0;
           failing = [];
           number = 0;
         }) }
@@ -47,6 +51,7 @@ impl MemSink {
             bytes: Vec::new(alloc),
             faults: 0,
             starved: 0,
+            pieces: 0,
             failing: FailingCalls::new(alloc),
             number: 0,
         })
@@ -85,12 +90,13 @@ impl MemSink {
 
 impl Sink for MemSink {
     ghost use Rattle.std.specs.Prelude.{Some};
+    ghost use Rattle.hose_io.specs.SinkState.{frame_of};
 
-    ghost faults = { λ s. s.faults };
+    ghost frame = { frame_of };
 
     ghost content = { λ s. Some s.given };
 
-    ghost number = { λ s. s.number };
+    ghost pieces = { λ s. s.pieces };
 
     fn put(&mut self, bytes: &[u8]) -> Result<usize, Failed>
         requires { 0 < length bytes.now }
@@ -99,8 +105,10 @@ impl Sink for MemSink {
         ensures appended { MatchResult result
             (λ k. Grows (Some self.old.given) (Some self.new.given) (take k bytes.now))
             (λ _. Some self.new.given ≡ Some self.old.given) }
-        ensures cause { HasCause self.old.faults self.new.faults result }
-        ensures number { self.new.number ≡ self.old.number }
+        ensures pieces { MatchResult result
+            (λ k. self.new.pieces ≡ (if k == length bytes.now then one_more self.old.pieces else self.old.pieces))
+            (λ _. self.new.pieces ≡ self.old.pieces) }
+        ensures met { Met (frame_of self.old) (frame_of self.new) result }
 
         ensures all { IfOk result (λ k. k ≡ length bytes.now) }
         ensures given { OnOk result (self.new ≡ after_putting self.old bytes.now) }
@@ -120,6 +128,7 @@ impl Sink for MemSink {
             self.starved = self.starved.saturating_add(1);
             return Err(Failed);
         }
+        self.pieces = self.pieces.saturating_add(1);
         Ok(bytes.len())
     }
 }

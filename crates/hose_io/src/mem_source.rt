@@ -1,7 +1,7 @@
 // Bytes in memory that are read.
 ghost use Rattle.std.specs.Prelude.{◌≡◌, ◌↔◌, ◌<◌, ◌≤◌, ℕ, Option, Ok, List, [], ◌∷◌, ◌++◌, IfOk, IsErr, OnOk, OnErr, MatchResult, Contains, length, min, take};
-ghost use Rattle.hose_io.specs.Fault.{HasCause};
-ghost use Rattle.hose_io.specs.SourceState.{SourceState, after_taking, after_fault};
+ghost use Rattle.hose_io.specs.Frame.{Frame, Met};
+ghost use Rattle.hose_io.specs.SourceState.{SourceState, frame_of, after_taking, after_fault};
 ghost use Rattle.hose_io.specs.Stream.{Stream, Gives, IsAtEnd};
 
 use crate::{Failed, FailingCalls, Source};
@@ -91,12 +91,11 @@ impl MemSource {
 
 impl Source for MemSource {
     ghost use Rattle.std.specs.Prelude.{Some};
+    ghost use Rattle.hose_io.specs.SourceState.{frame_of};
 
-    ghost faults = { λ s. s.faults };
+    ghost frame = { frame_of };
 
     ghost content = { λ s. Some s.content };
-
-    ghost number = { λ s. s.number };
 
     fn take(&mut self, into: &mut [u8]) -> Result<usize, Failed>
         requires { 0 < length into.old }
@@ -105,8 +104,7 @@ impl Source for MemSource {
             (λ k. Gives (Some self.old.content) (Some self.new.content) (take k into.new))
             (λ _. Some self.new.content ≡ Some self.old.content) }
         ensures none_only_at_end { result ≡ Ok 0 → IsAtEnd (Some self.old.content) }
-        ensures cause { HasCause self.old.faults self.new.faults result }
-        ensures number { self.new.number ≡ self.old.number }
+        ensures met { Met (frame_of self.old) (frame_of self.new) result }
 
         ensures fails { IsErr result ↔ Contains self.old.failing 1 }
         ensures amount { IfOk result

@@ -1,24 +1,24 @@
 // What is written: its contract, and the same through a borrow.
-ghost use Rattle.std.specs.Prelude.{◌≡◌, ◌<◌, ◌≤◌, ℕ, Option, None, Some, List, IfOk, MatchResult, length, take};
+ghost use Rattle.std.specs.Prelude.{◌≡◌, ◌<◌, ◌≤◌, ◌==◌, ℕ, Option, None, Some, List, ◌∷◌, IfOk, MatchResult, length, take, if◌then◌else◌};
 ghost use Rattle.std.specs.Borrow.{GName};
-ghost use Rattle.hose_io.specs.Fault.{HasCause};
+ghost use Rattle.hose_io.specs.Count.{one_more};
+ghost use Rattle.hose_io.specs.Frame.{Frame, Met};
 ghost use Rattle.hose_io.specs.Stream.{Grows};
 
 use crate::Failed;
 
 /// A stream of bytes that is written: standard output, a connection, a text in memory.
 pub trait Sink: Drop {
-    /// How often it has failed.
-    ghost faults: { Self → ℕ };
+    /// How often it has failed, its number, and the borrows that lead to it. The source and the sink of one connection
+    /// have the same number.
+    ghost frame: { Self → Frame };
 
     /// The bytes that it was given, where it tells.
     ghost content: { Self → Option (List ℕ) };
 
-    /// Its number. The source and the sink of one connection have the same.
-    ghost number: { Self → ℕ };
-
-    /// Which borrow it is, where it is one. As no call changes it, the lender is known to hold what the borrow held last.
-    ghost loan: { Self → Option GName } = { λ _. None };
+    /// How many calls took all that they were given. So a text that is put by calls of which each but the last took a
+    /// part, and the next was given the rest, counts once: it went out as one piece.
+    ghost pieces: { Self → ℕ };
 
     /// Appends bytes from the front of `bytes`, one at least, and says how many.
     fn put(&mut self, bytes: &[u8]) -> Result<usize, Failed>
@@ -31,19 +31,18 @@ pub trait Sink: Drop {
             (λ k. Grows (content self.old) (content self.new) (take k bytes.now))
             (λ _. content self.new ≡ content self.old) }
 
-        ensures cause { HasCause (faults self.old) (faults self.new) result }
-        ensures number { number self.new ≡ number self.old }
-        ensures loan { loan self.new ≡ loan self.old };
+        ensures pieces { MatchResult result
+            (λ k. pieces self.new ≡ (if k == length bytes.now then one_more (pieces self.old) else pieces self.old))
+            (λ _. pieces self.new ≡ pieces self.old) }
+        ensures met { Met (frame self.old) (frame self.new) result };
 }
 
 impl<S: Sink> Sink for &mut S {
-    ghost faults = { λ s. S.faults s.now };
+    ghost frame = { λ s. record (S.frame s.now) { loan = s.ghost_name ∷ (S.frame s.now).loan } };
 
     ghost content = { λ s. S.content s.now };
 
-    ghost number = { λ s. S.number s.now };
-
-    ghost loan = { λ s. Some s.ghost_name };
+    ghost pieces = { λ s. S.pieces s.now };
 
     fn put(&mut self, bytes: &[u8]) -> Result<usize, Failed> {
         Sink::put(&mut **self, bytes)

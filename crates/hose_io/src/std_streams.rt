@@ -1,5 +1,11 @@
-// Sources and sinks over std's readers and writers. They tell nothing of content.
-ghost use Rattle.std.specs.Prelude.{◌≡◌};
+// Sources and sinks over std's readers and writers. They tell nothing of content, but what the reader or the writer
+// tells of itself is passed on.
+ghost use Rattle.std.specs.Prelude.{◌≡◌, ◌<◌, ◌≤◌, ◌==◌, Ok, IfOk, MatchResult, length, take, if◌then◌else◌};
+ghost use Rattle.std.specs.Io.KnownBytes.{ReadConsumes, WriteAppends};
+ghost use Rattle.hose_io.specs.Count.{one_more};
+ghost use Rattle.hose_io.specs.Frame.{Met};
+ghost use Rattle.hose_io.specs.Stream.{Gives, Grows, IsAtEnd};
+ghost use Rattle.hose_io.specs.StdState.{source_frame, sink_frame, untold_stream, untold_text};
 
 use crate::{Failed, Sink, Source};
 use std::io::{ErrorKind, Read, Write};
@@ -12,34 +18,42 @@ pub struct StdSource<R> {
     faults: u64,
 }
 
-// Clauses see how often it has failed.
 impl<R> Model for StdSource<R> {
-    ghost use Rattle.std.specs.Prelude.{ℕ};
+    ghost use Rattle.hose_io.specs.StdState.{StdSourceState};
 
-    ghost Value = { ℕ };
+    ghost Value = { StdSourceState R };
 
-    ghost view = { λ s. s.faults };
+    ghost view = { λ s. record { reader = s.reader; faults = s.faults } };
 }
 
 impl<R: Read + Drop> StdSource<R> {
     /// A source that has not failed. Its number is 0.
     pub fn new(reader: R) -> StdSource<R>
-        ensures faults { result ≡ 0 }
+        ensures { result ≡ record { reader = reader; faults = 0 } }
     {
         StdSource { reader, faults: 0 }
     }
 }
 
 impl<R: Read + Drop> Source for StdSource<R> {
-    ghost use Rattle.std.specs.Prelude.{None};
+    ghost use Rattle.hose_io.specs.StdState.{source_frame, untold_stream};
 
-    ghost faults = { λ s. s };
+    ghost frame = { source_frame };
 
-    ghost content = { λ _. None };
+    ghost content = { λ _. untold_stream };
 
-    ghost number = { λ _. 0 };
+    // A read that was interrupted is tried again.
+    fn take(&mut self, into: &mut [u8]) -> Result<usize, Failed>
+        requires { 0 < length into.old }
+        ensures room { IfOk result (λ k. k ≤ length into.new) }
+        ensures taken { MatchResult result (λ k. Gives untold_stream untold_stream (take k into.new))
+            (λ _. untold_stream ≡ untold_stream) }
+        ensures none_only_at_end { result ≡ Ok 0 → IsAtEnd untold_stream }
+        ensures met { Met (source_frame self.old) (source_frame self.new) result }
 
-    fn take(&mut self, into: &mut [u8]) -> Result<usize, Failed> {
+        // Where the reader tells its bytes, these were read: none only at its end, and none where it failed.
+        ensures reads { ReadConsumes (R.remaining self.old.reader) (R.remaining self.new.reader) result into.new }
+    {
         for _ in 0..u64::MAX {
             match self.reader.read(into) {
                 Ok(count) => return Ok(count),
@@ -57,46 +71,76 @@ impl<R: Read + Drop> Source for StdSource<R> {
 pub struct StdSink<W> {
     writer: W,
     faults: u64,
+    pieces: u64,
 }
 
-// Clauses see how often it has failed.
 impl<W> Model for StdSink<W> {
-    ghost use Rattle.std.specs.Prelude.{ℕ};
+    ghost use Rattle.hose_io.specs.StdState.{StdSinkState};
 
-    ghost Value = { ℕ };
+    ghost Value = { StdSinkState W };
 
-    ghost view = { λ s. s.faults };
+    ghost view = { λ s. record { writer = s.writer; faults = s.faults; pieces = s.pieces } };
 }
 
 impl<W: Write + Drop> StdSink<W> {
     /// A sink that has not failed. Its number is 0.
     pub fn new(writer: W) -> StdSink<W>
-        ensures faults { result ≡ 0 }
+        ensures { result ≡ record { writer = writer; faults = 0; pieces = 0 } }
     {
-        StdSink { writer, faults: 0 }
+        StdSink {
+            writer,
+            faults: 0,
+            pieces: 0,
+        }
     }
 }
 
 impl<W: Write + Drop> Sink for StdSink<W> {
-    ghost use Rattle.std.specs.Prelude.{None};
+    ghost use Rattle.hose_io.specs.StdState.{sink_frame, untold_text};
 
-    ghost faults = { λ s. s };
+    ghost frame = { sink_frame };
 
-    ghost content = { λ _. None };
+    ghost content = { λ _. untold_text };
 
-    ghost number = { λ _. 0 };
+    ghost pieces = { λ s. s.pieces };
 
-    // A writer that takes nothing is a failure here.
-    fn put(&mut self, bytes: &[u8]) -> Result<usize, Failed> {
+    // A write that was interrupted is tried again. A writer that takes nothing is a failure here.
+    fn put(&mut self, bytes: &[u8]) -> Result<usize, Failed>
+        requires { 0 < length bytes.now }
+        ensures some { IfOk result (λ k. 0 < k) }
+        ensures room { IfOk result (λ k. k ≤ length bytes.now) }
+        ensures appended { MatchResult result (λ k. Grows untold_text untold_text (take k bytes.now))
+            (λ _. untold_text ≡ untold_text) }
+        ensures pieces { MatchResult result
+            (λ k. self.new.pieces ≡ (if k == length bytes.now then one_more self.old.pieces else self.old.pieces))
+            (λ _. self.new.pieces ≡ self.old.pieces) }
+        ensures met { Met (sink_frame self.old) (sink_frame self.new) result }
+
+        // Where the writer tells its bytes, these were written, and none where it failed.
+        ensures writes { WriteAppends (W.contents self.old.writer) (W.contents self.new.writer) result bytes.now }
+    {
         for _ in 0..u64::MAX {
             match self.writer.write(bytes) {
                 Ok(0) => break,
-                Ok(count) => return Ok(count),
+                Ok(count) => {
+                    self.count_piece(count == bytes.len());
+                    return Ok(count);
+                }
                 Err(error) if error.kind() == ErrorKind::Interrupted => {}
                 Err(_) => break,
             }
         }
         self.faults = self.faults.saturating_add(1);
         Err(Failed)
+    }
+}
+
+impl<W> StdSink<W> {
+    fn count_piece(&mut self, is_whole: bool)
+        ensures { self.new ≡ record self.old { pieces = if is_whole then one_more self.old.pieces else self.old.pieces } }
+    {
+        if is_whole {
+            self.pieces = self.pieces.saturating_add(1);
+        }
     }
 }

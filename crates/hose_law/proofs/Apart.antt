@@ -7,10 +7,11 @@ use Rattle.std.proofs.lemmas.List.Sums.{sum_by-cons}
 use Rattle.std.proofs.lemmas.List.Kept.{AllPairs-from_increasing}
 use Rattle.hose_graph.specs.Network.{Network}
 use Rattle.hose_graph.specs.declared.step.Step.{Step}
-use Rattle.hose_law.specs.Tree.{Grow}
-use Rattle.hose_law.proofs.Trees.{step_links, first_or_behind, contains_first, contains_behind, none_in_empty, link_is_new}
+use Rattle.hose_law.specs.Tree.{Grow, step_links}
+use Rattle.hose_law.proofs.Trees.{link_is_new}
+use Rattle.hose_law.proofs.Members.{contains_first, contains_rest, first_or_rest, none_in_empty}
 
--- each number is none of those behind it
+-- no number is one of those after it
 abbrev pub AreApart : List ℕ → Type 0
 AreApart [] = ⊤
 AreApart (x ∷ xs) = (Contains xs x → ⊥) × AreApart xs
@@ -30,13 +31,13 @@ record HasOut (x : ℕ) (ys : List ℕ) : Type 0 where
 
 take_out : (x : ℕ) (ys : List ℕ) → AreApart ys → Contains ys x → HasOut x ys
 take_out x [] apart there = absurd (none_in_empty x there)
-take_out x (y ∷ ys) apart there = elim (first_or_behind y x ys there) [
+take_out x (y ∷ ys) apart there = elim (first_or_rest y x ys there) [
   | inl same ↦ record {
     rest = ys;
     sums = λ f. sum_by-cons f y ys ∙ ap (λ (n : ℕ). f n + sum_by f ys) same;
     apart = apart.1;
-    keeps = λ z differ in_all. elim (first_or_behind y z ys in_all) [ inl first ↦ absurd (differ (sym first ∙ same)) | inr behind ↦ behind ];
-    was = λ z in_rest. (contains_behind y z ys in_rest, λ is_x. apart.0 (subst (Contains ys) (is_x ∙ sym same) in_rest));
+    keeps = λ z differ in_all. elim (first_or_rest y z ys in_all) [ inl first ↦ absurd (differ (sym first ∙ same)) | inr behind ↦ behind ];
+    was = λ z in_rest. (contains_rest y z ys in_rest, λ is_x. apart.0 (subst (Contains ys) (is_x ∙ sym same) in_rest));
   }
   | inr behind ↦
       let out = take_out x ys apart.1 behind in
@@ -44,13 +45,13 @@ take_out x (y ∷ ys) apart there = elim (first_or_behind y x ys there) [
         rest = y ∷ out.rest;
         sums = λ f. omega (arith, sum_by-cons f y ys, sum_by-cons f y out.rest, out.sums f);
         apart = (λ again. apart.0 (out.was y again).0, out.apart);
-        keeps = λ z differ in_all. elim (first_or_behind y z ys in_all) [
+        keeps = λ z differ in_all. elim (first_or_rest y z ys in_all) [
           | inl first ↦ contains_first y z out.rest first
-          | inr later ↦ contains_behind y z out.rest (out.keeps z differ later)
+          | inr later ↦ contains_rest y z out.rest (out.keeps z differ later)
         ];
-        was = λ z in_rest. elim (first_or_behind y z out.rest in_rest) [
+        was = λ z in_rest. elim (first_or_rest y z out.rest in_rest) [
           | inl first ↦ (contains_first y z ys first, λ is_x. apart.0 (subst (Contains ys) (sym (first ∙ is_x)) behind))
-          | inr later ↦ let old = out.was z later in (contains_behind y z ys old.0, old.1)
+          | inr later ↦ let old = out.was z later in (contains_rest y z ys old.0, old.1)
         ];
       }
 ]
@@ -62,9 +63,9 @@ same_sums f [] (y ∷ ys) one other to back = absurd (none_in_empty y (back y (c
 same_sums f (x ∷ xs) ys one other to back =
     let out = take_out x ys other (to x (contains_first x x xs refl)) in
     let into : (z : ℕ) → Contains xs z → Contains out.rest z =
-    λ z there. out.keeps z (λ is_x. one.0 (subst (Contains xs) is_x there)) (to z (contains_behind x z xs there)) in
+    λ z there. out.keeps z (λ is_x. one.0 (subst (Contains xs) is_x there)) (to z (contains_rest x z xs there)) in
     let from : (z : ℕ) → Contains out.rest z → Contains xs z =
-    λ z there. elim (first_or_behind x z xs (back z (out.was z there).0)) [
+    λ z there. elim (first_or_rest x z xs (back z (out.was z there).0)) [
       | inl first ↦ absurd ((out.was z there).1 (sym first))
       | inr behind ↦ behind
     ] in
@@ -87,7 +88,7 @@ apart_rising (x ∷ xs) rises = (
 pub alike_sums : {X : Type 0} (f g : X → ℕ) (xs : List X) → ((x : X) → Contains xs x → f x ≡ g x) → sum_by f xs ≡ sum_by g xs
 alike_sums f g [] alike = refl
 alike_sums f g (x ∷ xs) alike =
-    let rest = alike_sums f g xs (λ z there. alike z (contains_behind x z xs there)) in
+    let rest = alike_sums f g xs (λ z there. alike z (contains_rest x z xs there)) in
     omega (arith, sum_by-cons f x xs, sum_by-cons g x xs, alike x (contains_first x x xs refl), rest)
 
 -- a sum over what a function gives

@@ -1,6 +1,6 @@
 -- How much a reservation on a tree can be: its links are the network's and fewer than the nodes, each amount is at most half of the greatest total, and so its
 -- cost is bounded.
-use Rattle.std.proofs.Common.{◌≡◌, ℕ, ◌*◌, ◌<◌, ◌≤◌, ◌^◌, List, [], ◌∷◌, length, reverse, refl, sym, subst, inl, inr, arith, mul-le-mul}
+use Rattle.std.proofs.Common.{◌≡◌, ℕ, ◌*◌, ◌<◌, ◌≤◌, ◌^◌, Bool, List, [], ◌∷◌, length, reverse, refl, sym, subst, inl, inr, arith, mul-le-mul}
 use Rattle.std.specs.List.{All, Contains, sum_by}
 use Rattle.std.proofs.lemmas.Bool.{eqb-true}
 use Rattle.std.proofs.lemmas.List.{length-map}
@@ -12,21 +12,22 @@ use Rattle.std.proofs.lemmas.Option.{slice_get_within}
 use Rattle.hose_graph.specs.Ascending.{firsts}
 use Rattle.hose_graph.specs.Hose.{IsEnd, IsHose}
 use Rattle.hose_graph.specs.Network.{Network, IsNetwork}
-use Rattle.hose_graph.specs.declared.limits.TheConstants.{MOST_COST, MOST_RATE}
+use Rattle.hose_graph.specs.declared.limits.TheConstants.{MOST_AMOUNT, MOST_COST, MOST_RATE, MOST_TREE_LINKS}
 use Rattle.hose_graph.specs.declared.step.Step.{Step}
 use Rattle.hose_law.specs.Plan.{plan_cost}
-use Rattle.hose_law.specs.Tree.{Grow, IsTreeReservation, links_of}
+use Rattle.hose_law.specs.Tree.{Grow, IsTreeReservation, links_of, step_links, new_nodes}
 use Rattle.hose_law.specs.Walk.{Joins, cost_of}
 use Rattle.hose_law.proofs.Apart.{apart_links, apart_rising, same_sums}
 use Rattle.hose_law.proofs.Joined.{joined, joins_costs}
 use Rattle.hose_law.proofs.Reservations.{reserved_in_tree, tree_in_reserved}
 use Rattle.hose_law.proofs.TightWays.{in_reverse, from_reverse}
-use Rattle.hose_law.proofs.Trees.{step_links, new_nodes, first_or_behind, none_in_empty, distinct_behind, new_nodes_differ, on_is_node, start_is_not_new, rate_beyond-le}
+use Rattle.hose_law.proofs.Trees.{distinct_behind, new_nodes_differ, on_is_node, start_is_not_new, rate_beyond-le}
+use Rattle.hose_law.proofs.Members.{first_or_rest, none_in_empty}
 
 -- the link of a step joins two nodes
 step_joins : (network : Network) (start : ℕ) (steps : List Step) → Grow network start steps → (l : ℕ) → Contains (step_links steps) l → (u : ℕ) × (v : ℕ) × Joins network l u v
 step_joins network start [] grows l there = absurd (none_in_empty l there)
-step_joins network start (step ∷ earlier) grows l there = elim (first_or_behind step.link l (step_links earlier) there) [
+step_joins network start (step ∷ earlier) grows l there = elim (first_or_rest step.link l (step_links earlier) there) [
   | inl same ↦ (step.old, step.new, subst (λ (n : ℕ). Joins network n step.old step.new) same grows.3)
   | inr behind ↦ step_joins network start earlier grows.0 l behind
 ]
@@ -36,7 +37,7 @@ few_steps : (network : Network) → IsNetwork network → (start : ℕ) (steps :
 few_steps network is start steps grows =
     let nodes : List ℕ = start ∷ new_nodes steps in
     let below : (v : ℕ) → Contains nodes v → v < length network.nodes =
-    λ v there. on_is_node network is start steps v grows (elim (first_or_behind start v (new_nodes steps) there) [ inl same ↦ inl (sym same) | inr led ↦ inr led ]) in
+    λ v there. on_is_node network is start steps v grows (elim (first_or_rest start v (new_nodes steps) there) [ inl same ↦ inl (sym same) | inr led ↦ inr led ]) in
     let few = length-le_from_distinct_below nodes (length network.nodes)
     (distinct_behind start (new_nodes steps) (start_is_not_new network start steps grows) (new_nodes_differ network start steps grows))
     (λ v any. below v (Contains-from_any eqb-true v nodes any)) in
@@ -47,16 +48,16 @@ ones : (xs : List ℕ) → sum_by (λ x. 1) xs ≡ length xs
 ones [] = refl
 ones (x ∷ xs) = omega (arith, sum_by-cons (λ y. 1) x xs, ones xs)
 
-module _ (network : Network) (is : IsNetwork network) (hose pairs : List (ℕ × ℕ)) where
+module _ (network : Network) (is : IsNetwork network) (set : List Bool) (hose pairs : List (ℕ × ℕ)) where
   -- a reserved link joins two nodes
-  reserved_joins : IsTreeReservation network hose pairs → (pair : ℕ × ℕ) → Contains pairs pair → (u : ℕ) × (v : ℕ) × Joins network pair.0 u v
+  reserved_joins : IsTreeReservation network set hose pairs → (pair : ℕ × ℕ) → Contains pairs pair → (u : ℕ) × (v : ℕ) × Joins network pair.0 u v
   reserved_joins reservation pair there =
       let tree = reservation.tree in
       let in_tree : Contains (links_of tree) pair.0 = ((reservation.reserves.each pair.0 pair.1).0 there).0 in
       step_joins network tree.start (reverse tree.steps) reservation.is_tree pair.0 (in_reverse (λ (step : Step). step.link) tree.steps pair.0 in_tree)
 
   -- Each reserved link is one of the network's.
-  pub reserved_links : IsTreeReservation network hose pairs → All (λ (pair : ℕ × ℕ). pair.0 < length network.links) pairs
+  pub reserved_links : IsTreeReservation network set hose pairs → All (λ (pair : ℕ × ℕ). pair.0 < length network.links) pairs
   reserved_links reservation = All-weaker (Contains pairs) (λ (pair : ℕ × ℕ). pair.0 < length network.links) within pairs (All-contains_itself pairs)
     where
       within : (pair : ℕ × ℕ) → Contains pairs pair → pair.0 < length network.links
@@ -66,7 +67,7 @@ module _ (network : Network) (is : IsNetwork network) (hose pairs : List (ℕ ×
           slice_get_within network.links pair.0 by.link by.there
 
   -- Fewer links are reserved than a network can have nodes.
-  pub reserved_few : IsTreeReservation network hose pairs → length pairs ≤ 511
+  pub reserved_few : IsTreeReservation network set hose pairs → length pairs ≤ MOST_TREE_LINKS
   reserved_few reservation =
       let tree = reservation.tree in
       let steps : List Step = reverse tree.steps in
@@ -79,10 +80,10 @@ module _ (network : Network) (is : IsNetwork network) (hose pairs : List (ℕ ×
       omega (arith, same, ones (firsts pairs), ones (step_links steps), length-map pairs (λ (pair : ℕ × ℕ). pair.0), length-map steps link, few, is.few_nodes)
 
   -- No amount is above half of what the rates of the greatest hose add up to.
-  pub reserved_most : IsHose hose → IsTreeReservation network hose pairs → All (λ (pair : ℕ × ℕ). pair.1 ≤ 32000000) pairs
-  reserved_most is_hose reservation = All-weaker (Contains pairs) (λ (pair : ℕ × ℕ). pair.1 ≤ 32000000) most pairs (All-contains_itself pairs)
+  pub reserved_most : IsHose hose → IsTreeReservation network set hose pairs → All (λ (pair : ℕ × ℕ). pair.1 ≤ MOST_AMOUNT) pairs
+  reserved_most is_hose reservation = All-weaker (Contains pairs) (λ (pair : ℕ × ℕ). pair.1 ≤ MOST_AMOUNT) most pairs (All-contains_itself pairs)
     where
-      most : (pair : ℕ × ℕ) → Contains pairs pair → pair.1 ≤ 32000000
+      most : (pair : ℕ × ℕ) → Contains pairs pair → pair.1 ≤ MOST_AMOUNT
       most pair there =
           let tree = reservation.tree in
           let reserved = (reservation.reserves.each pair.0 pair.1).0 there in
@@ -90,14 +91,14 @@ module _ (network : Network) (is : IsNetwork network) (hose pairs : List (ℕ ×
           omega (arith, reserved.1, rate_beyond-le tree hose pair.0, total, is_hose.counted.few)
 
   -- So what a reservation costs is far within 64 bits.
-  pub cost_bound : IsHose hose → IsTreeReservation network hose pairs → plan_cost network pairs < 2 ^ 64
+  pub cost_bound : IsHose hose → IsTreeReservation network set hose pairs → plan_cost network pairs < 2 ^ 64
   cost_bound is_hose reservation =
       let cost : ℕ × ℕ → ℕ = λ (pair : ℕ × ℕ). cost_of network pair.0 * pair.1 in
-      let total = sum_by-le cost (MOST_COST * 32000000) pairs (All-weaker (Contains pairs) (λ (pair : ℕ × ℕ). cost pair ≤ MOST_COST * 32000000) most pairs (All-contains_itself pairs)) in
+      let total = sum_by-le cost (MOST_COST * MOST_AMOUNT) pairs (All-weaker (Contains pairs) (λ (pair : ℕ × ℕ). cost pair ≤ MOST_COST * MOST_AMOUNT) most pairs (All-contains_itself pairs)) in
       omega (arith, total, reserved_few reservation)
     where
-      most : (pair : ℕ × ℕ) → Contains pairs pair → cost_of network pair.0 * pair.1 ≤ MOST_COST * 32000000
+      most : (pair : ℕ × ℕ) → Contains pairs pair → cost_of network pair.0 * pair.1 ≤ MOST_COST * MOST_AMOUNT
       most pair there =
           let joins = reserved_joins reservation pair there in
-          let amount = All-contains (λ (p : ℕ × ℕ). p.1 ≤ 32000000) pairs pair (reserved_most is_hose reservation) there in
+          let amount = All-contains (λ (p : ℕ × ℕ). p.1 ≤ MOST_AMOUNT) pairs pair (reserved_most is_hose reservation) there in
           mul-le-mul (joins_costs network is pair.0 joins.0 joins.1 joins.2).1 amount

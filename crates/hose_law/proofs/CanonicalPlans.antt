@@ -1,22 +1,21 @@
 -- What canonical plans are good for: there is one alone, it reserves what the hose needs, and over the safe links it fits.
-use Rattle.std.proofs.Common.{◌≡◌, ◌∙◌, ℕ, ◌-◌, ◌≤◌, Bool, true, false, List, cond, length, min, sym, ap, subst, inl, inr, arith}
+use Rattle.std.proofs.Common.{◌≡◌, ◌∙◌, ℕ, ◌-◌, ◌≤◌, Bool, true, false, List, cond, min, refl, sym, ap, subst, inl, inr, arith}
 use Rattle.std.specs.List.{Contains}
-use Rattle.std.specs.Prelude.{nat_le}
-use Rattle.std.proofs.lemmas.Bool.{leb-true, cases_lt, false≢true}
-use Rattle.std.proofs.lemmas.List.{get_or_past}
+use Rattle.std.specs.Prelude.{slice_index}
 use Rattle.std.proofs.lemmas.List.Elements.{All-contains, All-contains_itself, All-weaker}
-use Rattle.std.proofs.lemmas.List.FromFn.{get_or-map-range_with_len, length-map-range_with_len}
 use Rattle.hose_graph.specs.Hose.{IsHose, total_rate}
 use Rattle.hose_graph.specs.Network.{Network, IsNetwork}
-use Rattle.hose_law.specs.Book.{Book, half_rate, free_rate, safe_links}
+use Rattle.hose_law.specs.Book.{Book}
 use Rattle.hose_law.specs.CanonicalPlan.{IsWeight, IsRoot, IsCanonicalTree, IsCanonicalPlan}
-use Rattle.hose_law.specs.Decision.{Fits, IsFirstFit, IsPlanned, IsRefused, AreGrounds, first_links, lowest_end, IsReachedList, HaveEqualDecisions, HaveEqualGrounds}
+use Rattle.hose_law.specs.Decision.{Fits, CanBeReserved, IsAllowed, IsPlanned, IsPlannedOver, IsRefused, AreGrounds, lowest_end, IsReachedList, HaveEqualDecisions, HaveEqualGrounds}
+use Rattle.hose_law.specs.Room.{Room, room_of, safe_links}
 use Rattle.hose_law.specs.Tree.{Growth, IsReservation, IsTreeReservation, links_of, way_up, goes_along, rate_beyond, smaller_side}
 use Rattle.hose_law.specs.Walk.{IsIn}
 use Rattle.hose_law.proofs.Apart.{alike_sums}
 use Rattle.hose_law.proofs.CanonicalTrees.{end_way, half_at_most, some_beyond}
 use Rattle.hose_law.proofs.Ordered.{pairs_unique}
 use Rattle.hose_law.proofs.Reservations.{smaller_is}
+use Rattle.hose_law.proofs.Rooms.{safe_link}
 use Rattle.hose_law.proofs.TightWays.{tight_way_unique}
 use Rattle.hose_law.proofs.Trees.{rate_beyond-le}
 
@@ -72,83 +71,115 @@ canonical_some network is set hose plan is_hose canonical pair there =
 
 -- A canonical plan is what the hose reserves on its tree.
 pub plan_reserves : (network : Network) → IsNetwork network → (set : List Bool) (hose plan : List (ℕ × ℕ)) → IsHose hose → IsCanonicalPlan network set hose plan
-    → IsTreeReservation network hose plan
+    → IsTreeReservation network set hose plan
 plan_reserves network is set hose plan is_hose canonical = record {
   tree = canonical.tree;
   is_tree = canonical.is_canonical.is_tree;
+  over = canonical.is_canonical.over;
   joins = canonical.is_canonical.joins;
   reserves = canonical.reserves;
   some =
       All-weaker (Contains plan) (λ (pair : ℕ × ℕ). 1 ≤ pair.1) (canonical_some network is set hose plan is_hose canonical) plan (All-contains_itself plan);
 }
 
--- a safe link has half of the rates free
-safe_is_free : (network : Network) (book : Book) (hose : List (ℕ × ℕ)) (l : ℕ) → IsIn (safe_links network book hose) l → half_rate hose ≤ free_rate network book l
-safe_is_free network book hose l safe =
-    let test : ℕ → Bool = λ k. nat_le (half_rate hose) (free_rate network book k) in
-    let links = length network.links in
-    elim (cases_lt l links) [
-      | inl below ↦ leb-true (half_rate hose) (free_rate network book l) (sym (get_or-map-range_with_len test 0 links l l false below (omega arith)) ∙ safe)
-      | inr past ↦
-          let long = length-map-range_with_len test 0 links in
-          absurd (false≢true (sym (get_or_past (safe_links network book hose) l false (omega (arith, long, past))) ∙ safe))
-    ]
+-- a tree over a set is one over each set that has its links
+over_more : (network : Network) (set more : List Bool) (hose plan : List (ℕ × ℕ)) → ((l : ℕ) → IsIn set l → IsIn more l) → IsTreeReservation network set hose plan
+    → IsTreeReservation network more hose plan
+over_more network set more hose plan within reserved = record {
+  tree = reserved.tree;
+  is_tree = reserved.is_tree;
+  over = All-weaker (IsIn set) (IsIn more) within (links_of reserved.tree) reserved.over;
+  joins = reserved.joins;
+  reserves = reserved.reserves;
+  some = reserved.some;
+}
 
--- The plan over the safe links fits: no amount is above half of the rates.
-pub safe_plan_fits : (network : Network) → IsNetwork network → (book : Book) (hose plan : List (ℕ × ℕ)) → IsCanonicalPlan network (safe_links network book hose) hose plan → Fits network book plan
-safe_plan_fits network is book hose plan canonical =
-    All-weaker (Contains plan) (λ (pair : ℕ × ℕ). pair.1 ≤ free_rate network book pair.0) fits plan (All-contains_itself plan)
-  where
-    fits : (pair : ℕ × ℕ) → Contains plan pair → pair.1 ≤ free_rate network book pair.0
-    fits pair there =
-        let tree = canonical.tree in
-        let reserved = (canonical.reserves.each pair.0 pair.1).0 there in
-        let safe = All-contains (IsIn (safe_links network book hose)) (links_of tree) pair.0 canonical.is_canonical.over reserved.0 in
-        omega (arith, reserved.1, rate_beyond-le tree hose pair.0, safe_is_free network book hose pair.0 safe)
+module _ (network : Network) (is : IsNetwork network) (room : Room) (hose : List (ℕ × ℕ)) where
+  -- The plan over the safe links fits: no amount is above half of the rates.
+  pub safe_plan_fits : (plan : List (ℕ × ℕ)) → IsCanonicalPlan network (safe_links room hose) hose plan → Fits room.free plan
+  safe_plan_fits plan canonical =
+      All-weaker (Contains plan) (λ (pair : ℕ × ℕ). pair.1 ≤ slice_index room.free pair.0) fits plan (All-contains_itself plan)
+    where
+      fits : (pair : ℕ × ℕ) → Contains plan pair → pair.1 ≤ slice_index room.free pair.0
+      fits pair there =
+          let tree = canonical.tree in
+          let reserved = (canonical.reserves.each pair.0 pair.1).0 there in
+          let safe = All-contains (IsIn (safe_links room hose)) (links_of tree) pair.0 canonical.is_canonical.over reserved.0 in
+          omega (arith, reserved.1, rate_beyond-le tree hose pair.0, (safe_link room hose pair.0 safe).1)
 
--- The plan that a hose is admitted with is what it reserves on a tree, and fits.
-pub planned_sound : (network : Network) → IsNetwork network → (book : Book) (hose plan : List (ℕ × ℕ)) → IsHose hose → IsPlanned network book hose plan
-    → IsTreeReservation network hose plan × Fits network book plan
-planned_sound network is book hose plan is_hose (inl first) = (plan_reserves network is (first_links network) hose plan is_hose first.is_plan, first.fits)
-planned_sound network is book hose plan is_hose (inr safe) =
-    (plan_reserves network is (safe_links network book hose) hose plan is_hose safe.1, safe_plan_fits network is book hose plan safe.1)
+  -- What a hose is planned with over the set that is allowed can be reserved.
+  pub planned_sound : (set : List Bool) (plan : List (ℕ × ℕ)) → IsHose hose → IsPlannedOver network room hose set plan → CanBeReserved network room hose plan
+  planned_sound set plan is_hose planned = elim planned.allowed [
+    | inl first ↦
+        let over_first : IsCanonicalPlan network room.links hose plan = subst (λ (s : List Bool). IsCanonicalPlan network s hose plan) first.1 planned.is_plan in
+        let same : first.0.0 ≡ plan = canonical_unique network is room.links hose first.0.0 plan first.0.1.is_plan over_first in
+        record {
+          on_tree = plan_reserves network is room.links hose plan is_hose over_first;
+          fits = subst (Fits room.free) same first.0.1.fits;
+        }
+    | inr second ↦
+        let over_safe : IsCanonicalPlan network (safe_links room hose) hose plan = subst (λ (s : List Bool). IsCanonicalPlan network s hose plan) second.1 planned.is_plan in
+        record {
+          on_tree =
+              over_more network (safe_links room hose) room.links hose plan (λ l safe. (safe_link room hose l safe).0)
+              (plan_reserves network is (safe_links room hose) hose plan is_hose over_safe);
+          fits = safe_plan_fits plan over_safe;
+        }
+  ]
 
--- A hose is admitted with one plan at a book.
-pub planned_unique : (network : Network) → IsNetwork network → (book : Book) (hose one other : List (ℕ × ℕ)) → IsPlanned network book hose one → IsPlanned network book hose other → one ≡ other
-planned_unique network is book hose one other (inl first) (inl again) = canonical_unique network is (first_links network) hose one other first.is_plan again.is_plan
-planned_unique network is book hose one other (inl first) (inr safe) = absurd (safe.0 (one, first))
-planned_unique network is book hose one other (inr safe) (inl first) = absurd (safe.0 (other, first))
-planned_unique network is book hose one other (inr safe) (inr again) = canonical_unique network is (safe_links network book hose) hose one other safe.1 again.1
+  -- One set is allowed.
+  pub allowed_unique : (one other : List Bool) → IsAllowed network room hose one → IsAllowed network room hose other → one ≡ other
+  allowed_unique one other (inl first) (inl again) = first.1 ∙ sym again.1
+  allowed_unique one other (inl first) (inr safe) = absurd (safe.0 first.0)
+  allowed_unique one other (inr safe) (inl first) = absurd (safe.0 first.0)
+  allowed_unique one other (inr safe) (inr again) = safe.1 ∙ sym again.1
 
--- Equal grounds give equal plans.
-pub same_grounds : (network : Network) → IsNetwork network → (book other : Book) (hose : List (ℕ × ℕ)) (fits : Bool) (safe : List Bool)
-    → AreGrounds network book hose fits safe → AreGrounds network other hose fits safe → (plan : List (ℕ × ℕ)) → IsPlanned network book hose plan → IsPlanned network other hose plan
-same_grounds network is book other hose true safe here there plan (inl first) =
-    let same : there.0.0 ≡ plan = canonical_unique network is (first_links network) hose there.0.0 plan there.0.1.is_plan first.is_plan in
-    inl (subst (IsFirstFit network other hose) same there.0.1)
-same_grounds network is book other hose true safe here there plan (inr over_safe) = absurd (over_safe.0 here.0)
-same_grounds network is book other hose false safe here there plan (inl first) = absurd (here.0 (plan, first))
-same_grounds network is book other hose false safe here there plan (inr over_safe) =
-    inr (there.0, subst (λ (set : List Bool). IsCanonicalPlan network set hose plan) (sym here.1 ∙ there.1) over_safe.1)
+  -- A hose is planned in one way.
+  pub planned_unique : (one other : List (ℕ × ℕ)) → IsPlanned network room hose one → IsPlanned network room hose other → one ≡ other
+  planned_unique one other (set, mine) (more, theirs) =
+      let over : IsCanonicalPlan network set hose other =
+      subst (λ (s : List Bool). IsCanonicalPlan network s hose other) (allowed_unique more set theirs.allowed mine.allowed) theirs.is_plan in
+      canonical_unique network is set hose one other mine.is_plan over
+
+module _ (network : Network) (room other : Room) (links : room.links ≡ other.links) (hose : List (ℕ × ℕ)) (fits : Bool) (safe : List Bool) where
+  -- Equal grounds allow the same set.
+  same_allowed : AreGrounds network room hose fits safe → AreGrounds network other hose fits safe → (set : List Bool)
+      → IsAllowed network room hose set → IsAllowed network other hose set
+  same_allowed here there set allowed = at fits here there allowed
+    where
+      at : (fits : Bool) → AreGrounds network room hose fits safe → AreGrounds network other hose fits safe → IsAllowed network room hose set → IsAllowed network other hose set
+      at true here there (inl first) = inl (there.0, first.1 ∙ links)
+      at true here there (inr second) = absurd (second.0 here.0)
+      at false here there (inl first) = absurd (here.0 first.0)
+      at false here there (inr second) = inr (there.0, second.1 ∙ sym here.1 ∙ there.1)
+
+  -- So they give equal plans.
+  pub same_planned : AreGrounds network room hose fits safe → AreGrounds network other hose fits safe → (set : List Bool) (plan : List (ℕ × ℕ))
+      → IsPlannedOver network room hose set plan → IsPlannedOver network other hose set plan
+  same_planned here there set plan planned = record { allowed = same_allowed here there set planned.allowed; is_plan = planned.is_plan }
 
 -- Equal grounds give equal refusals.
-pub same_grounds_refused : (network : Network) → IsNetwork network → (book other : Book) (hose : List (ℕ × ℕ)) (fits : Bool) (safe : List Bool)
-    → AreGrounds network book hose fits safe → AreGrounds network other hose fits safe → (side : List ℕ) → IsRefused network book hose side → IsRefused network other hose side
-same_grounds_refused network is book other hose true safe here there side refused = absurd (refused.no_plan here.0.0 (inl here.0.1))
-same_grounds_refused network is book other hose false safe here there side refused = record {
-  no_plan = λ plan planned. refused.no_plan plan (same_grounds network is other book hose false safe there here plan planned);
+pub same_refused : (network : Network) (room other : Room) → room.links ≡ other.links → (hose : List (ℕ × ℕ)) (fits : Bool) (safe : List Bool)
+    → AreGrounds network room hose fits safe → AreGrounds network other hose fits safe → (side : List ℕ) → IsRefused network room hose side → IsRefused network other hose side
+same_refused network room other links hose true safe here there side refused =
+    absurd (refused.no_plan here.0.0 (room.links, record { allowed = inl (here.0, refl); is_plan = here.0.1.is_plan }))
+same_refused network room other links hose false safe here there side refused = record {
+  no_plan = λ plan planned. refused.no_plan plan (planned.0, same_planned network other room (sym links) hose false safe there here planned.0 plan planned.1);
   is_side = subst (λ (set : List Bool). IsReachedList network set (lowest_end hose) side) (sym here.1 ∙ there.1) refused.is_side;
 }
 
--- Equal grounds give equal decisions.
-pub same_decisions : (network : Network) → IsNetwork network → (book other : Book) (hose : List (ℕ × ℕ)) → HaveEqualGrounds network book other hose → HaveEqualDecisions network book other hose
-same_decisions network is book other hose grounds = record {
-  plans = λ plan. (
-    same_grounds network is book other hose grounds.fits grounds.safe grounds.here grounds.there plan,
-    same_grounds network is other book hose grounds.fits grounds.safe grounds.there grounds.here plan,
-  );
-  refusals = λ side. (
-    same_grounds_refused network is book other hose grounds.fits grounds.safe grounds.here grounds.there side,
-    same_grounds_refused network is other book hose grounds.fits grounds.safe grounds.there grounds.here side,
-  );
-}
+-- Equal grounds at two books give equal decisions, since the first plan is made over the same links.
+pub same_decisions : (network : Network) (book other : Book) (hose : List (ℕ × ℕ)) → HaveEqualGrounds network book other hose → HaveEqualDecisions network book other hose
+same_decisions network book other hose grounds =
+    let one = room_of network book in
+    let two = room_of network other in
+    record {
+      plans = λ set plan. (
+        same_planned network one two refl hose grounds.fits grounds.safe grounds.here grounds.there set plan,
+        same_planned network two one refl hose grounds.fits grounds.safe grounds.there grounds.here set plan,
+      );
+      refusals = λ side. (
+        same_refused network one two refl hose grounds.fits grounds.safe grounds.here grounds.there side,
+        same_refused network two one refl hose grounds.fits grounds.safe grounds.there grounds.here side,
+      );
+    }

@@ -8,20 +8,21 @@ use Rattle.hose_graph.specs.Hose.{IsEnd, IsHose, total_rate}
 use Rattle.hose_graph.specs.Network.{Network, IsNetwork}
 use Rattle.hose_graph.specs.declared.step.Step.{Step}
 use Rattle.hose_law.specs.CanonicalPlan.{IsTightWay, IsRoot, IsCanonicalTree}
-use Rattle.hose_law.specs.Tree.{Growth, Grow, IsOn, links_of, way_up, goes_along, rate_beyond}
+use Rattle.hose_law.specs.Tree.{Growth, Grow, IsOn, links_of, way_up, goes_along, rate_beyond, step_links}
 use Rattle.hose_law.specs.Walk.{IsIn, IsDistance}
 use Rattle.hose_law.proofs.Counting.{way_cost}
 use Rattle.hose_law.proofs.Halves.{AllIn, half_beyond}
 use Rattle.hose_law.proofs.TightTrees.{IsTightSomewhere, AreTightSteps, on_tight_way, steps_tight, tight_way_up, ways_are_distances}
 use Rattle.hose_law.proofs.TightWays.{in_reverse, from_reverse, tight_way_unique}
-use Rattle.hose_law.proofs.Trees.{step_links, first_or_behind, none_in_empty, on_reverse}
+use Rattle.hose_law.proofs.Trees.{on_reverse}
+use Rattle.hose_law.proofs.Members.{first_or_rest, none_in_empty}
 
 -- a way goes along each link that is in it
 along_each : (way : List ℕ) (l : ℕ) → Contains way l → goes_along way l ≡ true
 along_each [] l there = absurd (none_in_empty l there)
 along_each (m ∷ way) l there = elim (cases_eq m l) [
   | inl same ↦ rw (eq-eqb m l same) refl
-  | inr differ ↦ elim (first_or_behind m l way there) [
+  | inr differ ↦ elim (first_or_rest m l way there) [
     | inl same ↦ absurd (differ same)
     | inr behind ↦ rw (ne_eqb m l differ) (along_each way l behind)
   ]

@@ -6,10 +6,10 @@ use Rattle.std.proofs.lemmas.List.Sums.{sum_by-cons}
 use Rattle.hose_graph.specs.Network.{Network}
 use Rattle.hose_graph.specs.declared.step.Step.{Step}
 use Rattle.hose_law.specs.Book.{amount_on}
-use Rattle.hose_law.specs.Tree.{Grow, links_up}
+use Rattle.hose_law.specs.Tree.{Grow, links_up, step_links}
 use Rattle.hose_law.specs.Walk.{cost_of, walk_cost}
 use Rattle.hose_law.proofs.Apart.{alike_sums}
-use Rattle.hose_law.proofs.Trees.{step_links, rate_up, moved, moved_node, moved_beyond, last_beyond, link_is_new}
+use Rattle.hose_law.proofs.Trees.{rate_up, moved, moved_node, moved_beyond, last_beyond, link_is_new}
 
 module _ (network : Network) where
   -- what the way up of a node costs

@@ -1,4 +1,4 @@
--- Walks by what they cost: one behind another, the other way, by their last link; and distances.
+-- Walks by what they cost: one after another, the other way, by their last link; and distances.
 use Rattle.std.proofs.Common.{◌≡◌, ◌≢◌, ◌∙◌, ℕ, ◌+◌, ◌≤◌, Bool, List, [], ◌∷◌, refl, sym, ap, subst, arith, add_assoc, add-zero, zero-add}
 use Rattle.hose_graph.specs.Network.{Network}
 use Rattle.hose_law.specs.Walk.{cost_of, Joins, IsIn, IsWalk, walk_cost, IsDistance}
@@ -37,7 +37,7 @@ module _ (network : Network) (set : List Bool) where
         costs = ap (λ (n : ℕ). cost_of network l + n) has.costs;
       }
 
-  -- one walk behind another costs what both cost
+  -- one walk after another costs what both cost
   pub costs_on : (u x v : ℕ) (front : List ℕ) (c : ℕ) → IsWalk network set u x front → HasWalk network set x v c
       → HasWalk network set u v (walk_cost network front + c)
   costs_on u x v [] c same has =

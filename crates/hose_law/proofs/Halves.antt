@@ -7,12 +7,13 @@ use Rattle.hose_graph.specs.Hose.{total_rate}
 use Rattle.hose_graph.specs.Network.{Network, IsNetwork}
 use Rattle.hose_graph.specs.declared.step.Step.{Step}
 use Rattle.hose_law.specs.CanonicalPlan.{IsWeight, IsRoot}
-use Rattle.hose_law.specs.Tree.{IsOn, Grow, links_up, goes_along}
+use Rattle.hose_law.specs.Tree.{IsOn, Grow, links_up, goes_along, step_links, new_nodes}
 use Rattle.hose_law.specs.Walk.{cost_of, IsIn, IsWalk, walk_cost, IsDistance}
 use Rattle.hose_law.proofs.Counting.{way_cost, ways_cost}
 use Rattle.hose_law.proofs.Distances.{HasWalk, from_walk, from_distance, costing, costs_both, costs_back, link_costs, none_costs, distance_from, distance_unique}
 use Rattle.hose_law.proofs.Joined.{joins_costs}
-use Rattle.hose_law.proofs.Trees.{step_links, new_nodes, rate_up, off_way, first_or_behind, contains_first, contains_behind, none_in_empty, on_is_node, link_is_new, start_is_not_new}
+use Rattle.hose_law.proofs.Trees.{rate_up, off_way, on_is_node, link_is_new, start_is_not_new}
+use Rattle.hose_law.proofs.Members.{contains_first, contains_rest, first_or_rest, none_in_empty}
 
 -- the new node of the step of a link
 abbrev pub new_of : List Step → ℕ → ℕ
@@ -23,9 +24,9 @@ pub new_is_new : (steps : List Step) (l : ℕ) → Contains (step_links steps) l
 new_is_new [] l there = absurd (none_in_empty l there)
 new_is_new (step ∷ earlier) l there = elim (cases_eq step.link l) [
   | inl same ↦ rw (eq-eqb step.link l same) (contains_first step.new step.new (new_nodes earlier) refl)
-  | inr other ↦ rw (ne_eqb step.link l other) (elim (first_or_behind step.link l (step_links earlier) there) [
+  | inr other ↦ rw (ne_eqb step.link l other) (elim (first_or_rest step.link l (step_links earlier) there) [
     | inl same ↦ absurd (other same)
-    | inr behind ↦ contains_behind step.new (new_of earlier l) (new_nodes earlier) (new_is_new earlier l behind)
+    | inr behind ↦ contains_rest step.new (new_of earlier l) (new_nodes earlier) (new_is_new earlier l behind)
   ])
 ]
 
@@ -110,10 +111,10 @@ module _ (network : Network) (set : List Bool) where
   goes_through start [] grows all l there v along = absurd (none_in_empty l there)
   goes_through start (step ∷ earlier) grows all l there v along = elim (cases_eq step.link l) [
     | inl same ↦ through_last start step earlier grows l same v along
-    | inr other ↦ elim (first_or_behind step.link l (step_links earlier) there) [
+    | inr other ↦ elim (first_or_rest step.link l (step_links earlier) there) [
       | inl same ↦ absurd (other same)
       | inr behind ↦ through_earlier start step earlier grows (all step.link (contains_first step.link step.link (step_links earlier) refl)) l other behind
-          (λ u goes. goes_through start earlier grows.0 (λ m in_earlier. all m (contains_behind step.link m (step_links earlier) in_earlier)) l behind u goes) v along
+          (λ u goes. goes_through start earlier grows.0 (λ m in_earlier. all m (contains_rest step.link m (step_links earlier) in_earlier)) l behind u goes) v along
     ]
   ]
 
@@ -135,7 +136,7 @@ module _ (network : Network) (set : List Bool) where
       → ((weight : ℕ) → weight ≤ sum_by (λ (end : ℕ × ℕ). end.1 * far end.0) ends → IsWeight network set root ends weight → ⊥) → ⊥
   some_weight root far [] walks none = none 0 (omega arith) refl
   some_weight root far (end ∷ ends) walks none =
-      some_weight root far ends (λ e there. walks e (contains_behind end e ends there)) (λ rest light is_rest.
+      some_weight root far ends (λ e there. walks e (contains_rest end e ends there)) (λ rest light is_rest.
       some_distance root end.0 (far end.0) (walks end (contains_first end end ends refl)) (λ d short is_d.
       none (end.1 * d + rest)
       (omega (arith, light, sum_by-cons (λ (e : ℕ × ℕ). e.1 * far e.0) end ends, mul-le-mul (le_refl end.1) short))
@@ -152,7 +153,7 @@ module _ (network : Network) (set : List Bool) where
         sum,
         sum_by-cons (λ (e : ℕ × ℕ). e.1 * far e.0) end ends,
         ap (λ (n : ℕ). end.1 * n) same,
-        weight_is root far ends (λ e there. are e (contains_behind end e ends there)) rest is_rest,
+        weight_is root far ends (λ e there. are e (contains_rest end e ends there)) rest is_rest,
       )
 
 -- different nodes are at a distance of at least 1

@@ -7,7 +7,7 @@ use Rattle.std.proofs.lemmas.Option.{slice_get_within, get_or_from_slice_get}
 use Rattle.hose_graph.specs.declared.link.Link.{Link}
 use Rattle.hose_graph.specs.declared.limits.TheConstants.{MOST_COST}
 use Rattle.hose_graph.specs.Network.{Network, IsNetwork, IsLink}
-use Rattle.hose_law.specs.Walk.{cost_of, Joins}
+use Rattle.hose_law.specs.Walk.{capacity_of, cost_of, Joins}
 
 -- what is known of a link that joins two nodes
 pub record IsJoined (network : Network) (l u v : ℕ) : Type 0 where
@@ -48,6 +48,12 @@ pub cost_of_link : (network : Network) (l : ℕ) (k : Link) → slice_get networ
 cost_of_link network l k there =
     get_or-map (λ (link : Link). link.cost) network.links l k 0 (slice_get_within network.links l k there)
     ∙ ap (λ (link : Link). link.cost) (get_or_from_slice_get network.links l k k there)
+
+-- what a link can carry that is there
+pub capacity_of_link : (network : Network) (l : ℕ) (k : Link) → slice_get network.links l ≡ Some k → capacity_of network l ≡ k.capacity
+capacity_of_link network l k there =
+    get_or-map (λ (link : Link). link.capacity) network.links l k 0 (slice_get_within network.links l k there)
+    ∙ ap (λ (link : Link). link.capacity) (get_or_from_slice_get network.links l k k there)
 
 -- a link joins two nodes of the network, which are not the same
 pub joins_nodes : (network : Network) → IsNetwork network → (l u v : ℕ) → Joins network l u v

@@ -13,6 +13,7 @@ pub mod Ordered
 pub mod PlanWeight
 pub mod Releases
 pub mod Reservations
+pub mod Rooms
 pub mod Rows
 pub mod Scripts
 pub mod ShortWalks
@@ -22,3 +23,4 @@ pub mod TightWays
 pub mod Trees
 pub mod Unique
 pub mod Walks
+pub mod Weights

@@ -1,15 +1,17 @@
 -- A VPN is live from its admission up to its own release.
-use Rattle.std.proofs.Common.{◌≡◌, ◌≢◌, ℕ, zero, suc, ◌+◌, ◌<◌, List, [], ◌∷◌, Some, take, slice_get, Contains, refl, sym, ap, ◌∙◌, subst, arith}
+use Rattle.std.proofs.Common.{◌≡◌, ◌≢◌, ◌⊎◌, ℕ, zero, suc, ◌+◌, ◌<◌, ◌≤◌, true, List, [], ◌∷◌, Option, None, Some, length, take, not, slice_get, Contains, refl, sym, ap, ◌∙◌, subst, inl, inr, arith}
+use Rattle.std.proofs.lemmas.Bool.{false≢true}
 use Rattle.std.proofs.lemmas.Option.{none-some, same_Some}
-use Rattle.std.proofs.lemmas.List.Elements.{Contains-append_left, Contains-push}
+use Rattle.std.proofs.lemmas.List.Elements.{Contains-append_left, Contains-push, Contains-push_cases}
 use Rattle.hose_graph.specs.declared.vpn.Vpn.{Vpn}
 use Rattle.hose_graph.specs.declared.entry.Entry.{Entry}
 use Rattle.hose_graph.specs.declared.entry.Entry.TheVariants.{Admit, Release}
-use Rattle.hose_law.proofs.LiveIds.{next_epoch}
-use Rattle.hose_law.proofs.Releases.{kept_by_release}
+use Rattle.hose_law.proofs.LiveIds.{next_epoch, rising_ids}
+use Rattle.hose_law.proofs.Members.{in_filter}
+use Rattle.hose_law.proofs.Releases.{is_vpn_decides, kept_by_release}
 use Rattle.hose_law.specs.Book.{Book}
-use Rattle.hose_law.specs.History.{opening_book, next_book, book_after}
-use Rattle.hose_law.specs.Live.{NotReleased, StaysLive}
+use Rattle.hose_law.specs.History.{opening_book, next_book, book_after, book_of, is_vpn}
+use Rattle.hose_law.specs.Live.{AreLiveHeld, NotReleased, StaysLive}
 
 -- an entry that is not its release keeps a VPN live
 kept_by_entry : (book : Book) (entry : Entry) (vpn : Vpn) → Contains book.live vpn → (entry ≢ Release vpn.customer vpn.id) → Contains (next_book book entry).live vpn
@@ -34,7 +36,7 @@ live_when_admitted book id customer hose amounts is_id =
     let vpn : ℕ → Vpn = λ n. record { id = n; customer = customer; hose = hose; amounts = amounts } in
     subst (λ (n : ℕ). Contains (next_book book (Admit customer hose amounts)).live (vpn n)) (sym is_id) (Contains-push book.live (vpn (book.epoch + 1)))
 
--- The VPN of an admission behind k entries is live after each number of entries above k, if its release is not among them.
+-- The VPN of an admission after k entries is live after each number of entries above k, if its release is not among them.
 lives_from : (book : Book) (history : List Entry) (k place id : ℕ) (customer : List ℕ) (hose amounts : List (ℕ × ℕ))
     → slice_get history k ≡ Some (Admit customer hose amounts) → id ≡ book.epoch + k + 1 → k < place → NotReleased history customer id k place
     → Contains (book_after book (take place history)).live (record { id = id; customer = customer; hose = hose; amounts = amounts })
@@ -56,3 +58,105 @@ lives_from book (entry ∷ entries) (suc k) (suc place) id customer hose amounts
 pub stays_live : (epoch : ℕ) (history : List Entry) (k : ℕ) → StaysLive epoch history k
 stays_live epoch history k customer hose amounts place admits behind within held =
     lives_from (opening_book epoch) history k place (epoch + k + 1) customer hose amounts admits refl behind held
+
+-- an entry's customer and number, where it is a release
+abbrev released_customer : Entry → Option (List ℕ)
+released_customer (Admit customer hose amounts) = None
+released_customer (Release customer id) = Some customer
+
+abbrev released_id : Entry → Option ℕ
+released_id (Admit customer hose amounts) = None
+released_id (Release customer id) = Some id
+
+-- the entry makes the VPN live at a book
+abbrev IsMadeBy : Book → Entry → Vpn → Type 0
+IsMadeBy book entry vpn = (entry ≡ Admit vpn.customer vpn.hose vpn.amounts) × (vpn.id ≡ book.epoch + 1)
+
+-- a VPN that is live after an entry was live before it and is not released by it, or it is what the entry admitted
+live_before : (book : Book) (entry : Entry) (vpn : Vpn) → Contains (next_book book entry).live vpn
+    → (Contains book.live vpn × (entry ≢ Release vpn.customer vpn.id)) ⊎ IsMadeBy book entry vpn
+live_before book (Admit customer hose amounts) vpn there =
+    let made : Vpn = record { id = book.epoch + 1; customer = customer; hose = hose; amounts = amounts } in
+    elim (Contains-push_cases book.live made vpn there) [
+      | inl before ↦ inl (before, λ same. none-some vpn.id (ap released_id same))
+      | inr last ↦ inr (ap (λ (v : Vpn). Admit v.customer v.hose v.amounts) last, sym (ap (λ (v : Vpn). v.id) last))
+    ]
+live_before book (Release customer id) vpn there =
+    let left = in_filter (λ v. not (is_vpn customer id v)) book.live vpn there in
+    inl (
+      left.0,
+      λ same.
+          let ids : id ≡ vpn.id = same_Some id vpn.id (ap released_id same) in
+          let names : customer ≡ vpn.customer = same_Some customer vpn.customer (ap released_customer same) in
+          let is : is_vpn customer id vpn ≡ true = (is_vpn_decides customer id vpn).1 (sym ids, sym names) in
+          false≢true (sym (ap not is) ∙ left.1),
+    )
+
+-- a VPN that is live after entries was live before them, and no entry is its release; or an entry admitted it, and no later one is its release
+record WasLive (book : Book) (entries : List Entry) (place : ℕ) (vpn : Vpn) : Type 0 where
+  there : Contains book.live vpn
+  held : (j : ℕ) → j < place → slice_get entries j ≢ Some (Release vpn.customer vpn.id)
+
+record WasMade (book : Book) (entries : List Entry) (place : ℕ) (vpn : Vpn) : Type 0 where
+  admission : ℕ
+  before : admission < place
+  admits : slice_get entries admission ≡ Some (Admit vpn.customer vpn.hose vpn.amounts)
+  is_id : vpn.id ≡ book.epoch + admission + 1
+  held : NotReleased entries vpn.customer vpn.id admission place
+
+live_after : (book : Book) (entries : List Entry) (place : ℕ) (vpn : Vpn) → Contains (book_after book (take place entries)).live vpn
+    → WasLive book entries place vpn ⊎ WasMade book entries place vpn
+live_after book entries zero vpn there = inl (record { there = there; held = λ j below. absurd (omega (arith, below)) })
+live_after book [] (suc place) vpn there = inl (record { there = there; held = λ j below same. none-some (Release vpn.customer vpn.id) same })
+live_after book (entry ∷ entries) (suc place) vpn there =
+    elim (live_after (next_book book entry) entries place vpn there) [
+      | inl was ↦ elim (live_before book entry vpn was.there) [
+        | inl before ↦ inl (record { there = before.0; held = held_with entry entries place vpn before.1 was.held })
+        | inr made ↦ inr (record {
+          admission = 0;
+          before = omega arith;
+          admits = ap Some made.0;
+          is_id = omega (arith, made.1);
+          held = λ j above below. held_later entry entries place vpn was.held j above below;
+        })
+      ]
+      | inr made ↦ inr (record {
+        admission = suc made.admission;
+        before = omega (arith, made.before);
+        admits = made.admits;
+        is_id = omega (arith, made.is_id, next_epoch book entry);
+        held = held_behind entry entries made.admission place vpn made.held;
+      })
+    ]
+  where
+    held_with : (entry : Entry) (entries : List Entry) (place : ℕ) (vpn : Vpn) → (entry ≢ Release vpn.customer vpn.id)
+        → ((j : ℕ) → j < place → slice_get entries j ≢ Some (Release vpn.customer vpn.id))
+        → (j : ℕ) → j < suc place → slice_get (entry ∷ entries) j ≢ Some (Release vpn.customer vpn.id)
+    held_with entry entries place vpn first rest zero below same = first (same_Some entry (Release vpn.customer vpn.id) same)
+    held_with entry entries place vpn first rest (suc j) below same = rest j (omega arith) same
+
+    held_later : (entry : Entry) (entries : List Entry) (place : ℕ) (vpn : Vpn)
+        → ((j : ℕ) → j < place → slice_get entries j ≢ Some (Release vpn.customer vpn.id))
+        → NotReleased (entry ∷ entries) vpn.customer vpn.id 0 (suc place)
+    held_later entry entries place vpn rest zero above below same = absurd (omega (arith, above))
+    held_later entry entries place vpn rest (suc j) above below same = rest j (omega arith) same
+
+    held_behind : (entry : Entry) (entries : List Entry) (admission place : ℕ) (vpn : Vpn) → NotReleased entries vpn.customer vpn.id admission place
+        → NotReleased (entry ∷ entries) vpn.customer vpn.id (suc admission) (suc place)
+    held_behind entry entries admission place vpn rest zero above below same = absurd (omega (arith, above))
+    held_behind entry entries admission place vpn rest (suc j) above below same = rest j (omega arith) (omega arith) same
+
+-- At each place of a history exactly the VPNs that are held there are live.
+pub live_held : (epoch : ℕ) (history : List Entry) (place : ℕ) → place ≤ length history → AreLiveHeld epoch history place
+live_held epoch history place within = record {
+  exactly = λ vpn. (
+    λ there. elim (live_after (opening_book epoch) history place vpn there) [
+      | inl was ↦ absurd (omega (arith, was.there.1))
+      | inr made ↦ record { admission = made.admission; before = made.before; admits = made.admits; is_id = made.is_id; not_released = made.held }
+    ],
+    λ held. subst (λ (id : ℕ). Contains (book_of epoch (take place history)).live (record { id = id; customer = vpn.customer; hose = vpn.hose; amounts = vpn.amounts })) (sym held.is_id)
+        (stays_live epoch history held.admission vpn.customer vpn.hose vpn.amounts place held.admits held.before within
+        (subst (λ (id : ℕ). NotReleased history vpn.customer id held.admission place) held.is_id held.not_released)),
+  );
+  in_order = (rising_ids epoch (take place history)).rise;
+}

@@ -7,14 +7,13 @@ use Rattle.hose_graph.specs.Network.{Network, IsNetwork}
 use Rattle.hose_graph.specs.declared.step.Step.{Step}
 use Rattle.hose_law.specs.CanonicalPlan.{IsRoot, IsCanonicalTree, IsCanonicalPlan}
 use Rattle.hose_law.specs.Plan.{plan_cost}
-use Rattle.hose_law.specs.Tree.{Growth, IsReservation, links_of, rate_beyond}
+use Rattle.hose_law.specs.Tree.{Growth, IsReservation, links_of, rate_beyond, step_links}
 use Rattle.hose_law.specs.Walk.{cost_of}
 use Rattle.hose_law.proofs.Apart.{AreApart, apart_links, apart_rising, same_sums, alike_sums, sum_of_map}
 use Rattle.hose_law.proofs.CanonicalTrees.{grows, in_tree, in_steps, end_distance, half_at_most}
 use Rattle.hose_law.proofs.Counting.{way_cost, counted_twice}
 use Rattle.hose_law.proofs.Halves.{weight_is}
 use Rattle.hose_law.proofs.Reservations.{smaller_is, reserved_in_tree, tree_in_reserved}
-use Rattle.hose_law.proofs.Trees.{step_links}
 
 -- A reservation costs what the tree's links, in any order, cost for what lies beyond them, where that is half of the total at most.
 reservation_cost : (network : Network) (tree : Growth) (hose plan : List (ℕ × ℕ)) (links : List ℕ) → AreApart links

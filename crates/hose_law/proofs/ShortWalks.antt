@@ -1,12 +1,12 @@
 -- Walks that repeat no node. For every walk there is one of fewer links than there are nodes that costs no more, so no
--- distance is above what 511 links can cost.
+-- distance is above the greatest that the limits name.
 use Rattle.std.proofs.Common.{◌≡◌, ◌≢◌, ◌⊎◌, ◌∙◌, ℕ, zero, suc, ◌+◌, ◌*◌, ◌<◌, ◌≤◌, Bool, true, false, cond, List, [], ◌∷◌, length, get_or, set, replicate, sym, ap, subst, inl, inr, arith, get_or-set_other, get_or-set_same, length-set}
 use Rattle.std.specs.List.{count_by}
 use Rattle.std.proofs.lemmas.Bool.{cases_eq, cases_lt, false≢true}
 use Rattle.std.proofs.lemmas.List.{get_or_past, get_or-replicate}
 use Rattle.std.proofs.lemmas.List.Sums.{sum_by-set}
 use Rattle.std.proofs.lemmas.List.Folds.{sum_by-replicate}
-use Rattle.hose_graph.specs.declared.limits.TheConstants.{MOST_COST}
+use Rattle.hose_graph.specs.declared.limits.TheConstants.{MOST_COST, MOST_DISTANCE}
 use Rattle.hose_graph.specs.Network.{Network, IsNetwork}
 use Rattle.hose_law.specs.Walk.{cost_of, Joins, IsIn, without, IsWalk, walk_cost, IsDistance}
 use Rattle.hose_law.proofs.Joined.{joins_nodes, joins_costs}
@@ -52,7 +52,7 @@ module _ (network : Network) (set : List Bool) where
   starts_inside side u v [] inside = inside.1
   starts_inside side u v (l ∷ walk) inside = inside.1
 
-  -- what is left of a walk behind its last visit of a node, where it goes on from there
+  -- what is left of a walk after its last visit of a node, where it goes on from there
   record HasRest (side : List Bool) (a v most : ℕ) : Type 0 where
     link : ℕ
     next : ℕ
@@ -157,12 +157,12 @@ walk_cost-le network is set u v (l ∷ walk) along =
       walk_cost-le network is set along.0 v walk along.3,
     )
 
--- A shortest walk repeats no node, so it has at most 511 links.
+-- A shortest walk repeats no node, so it has fewer links than there are nodes.
 pub distance_bound : (network : Network) → IsNetwork network → (set : List Bool) (u v distance : ℕ)
-    → IsDistance network set u v distance → distance ≤ 511000000
+    → IsDistance network set u v distance → distance ≤ MOST_DISTANCE
 distance_bound network is set u v distance from = bound from.walk from.walks from.costs
   where
-    bound : (walk : List ℕ) → IsWalk network set u v walk → walk_cost network walk ≡ distance → distance ≤ 511000000
+    bound : (walk : List ℕ) → IsWalk network set u v walk → walk_cost network walk ≡ distance → distance ≤ MOST_DISTANCE
     bound [] along costs = omega (arith, costs)
     bound (l ∷ walk) along costs =
         let node = (joins_nodes network is l u along.0 along.2).0 in

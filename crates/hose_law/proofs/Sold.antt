@@ -10,9 +10,11 @@ use Rattle.hose_graph.specs.declared.entry.Entry.{Entry}
 use Rattle.hose_graph.specs.declared.entry.Entry.TheVariants.{Admit, Release}
 use Rattle.hose_graph.specs.Network.{Network}
 use Rattle.hose_law.specs.Walk.{capacity_of}
-use Rattle.hose_law.specs.Book.{Book, amount_on, load_of, free_rate, IsOversold}
+use Rattle.hose_law.specs.Book.{Book, amount_on, load_of, IsOversold}
 use Rattle.hose_law.specs.Decision.{Fits}
 use Rattle.hose_law.specs.History.{opening_book, next_book, book_after, IsSoundAt, IsSoundFrom}
+use Rattle.hose_law.specs.Room.{room_of}
+use Rattle.hose_law.proofs.Rooms.{room_of-within}
 use Rattle.hose_law.proofs.Releases.{load_after_release}
 
 abbrev Plan : Type 0
@@ -21,7 +23,7 @@ Plan = List (ℕ × ℕ)
 abbrev links_of : Plan → List ℕ
 links_of plan = map (λ (pair : ℕ × ℕ). pair.0) plan
 
--- what rises goes on rising behind its first number, and above it
+-- what rises goes on rising after its first number, and above it
 rest_rises : (x : ℕ) (xs : List ℕ) → IsStrictlyIncreasing (x ∷ xs) → IsStrictlyIncreasing xs
 rest_rises x xs rises k below =
     let next : suc k + 1 ≡ suc (k + 1) = omega arith in
@@ -48,17 +50,17 @@ nothing_below l (pair ∷ plan) rises =
     grind (arith, nat_tests)
 
 -- what a plan that fits reserves on a link is at most what the link has free
-reserved_fits : (network : Network) (book : Book) (plan : Plan) (l : ℕ) → IsStrictlyIncreasing (links_of plan) → Fits network book plan → amount_on l plan ≤ free_rate network book l
-reserved_fits network book [] l rises fits = omega arith
-reserved_fits network book (pair ∷ plan) l rises fits =
-    let fit : (ℕ × ℕ) → Type 0 = λ p. p.1 ≤ free_rate network book p.0 in
+reserved_fits : (free : List ℕ) (plan : Plan) (l : ℕ) → IsStrictlyIncreasing (links_of plan) → Fits free plan → amount_on l plan ≤ get_or free l 0
+reserved_fits free [] l rises fits = omega arith
+reserved_fits free (pair ∷ plan) l rises fits =
+    let fit : (ℕ × ℕ) → Type 0 = λ p. p.1 ≤ get_or free p.0 0 in
     let first = sum_by-cons (λ (p : ℕ × ℕ). cond (eqb p.0 l) p.1 0) pair plan in
-    let here : pair.1 ≤ free_rate network book pair.0 = All-head fit pair plan fits in
-    let rest = reserved_fits network book plan l (rest_rises pair.0 (links_of plan) rises) (All-tail fit pair plan fits) in
+    let here : pair.1 ≤ get_or free pair.0 0 = All-head fit pair plan fits in
+    let rest = reserved_fits free plan l (rest_rises pair.0 (links_of plan) rises) (All-tail fit pair plan fits) in
     let none = nothing_below pair.0 plan rises in
     elim (cases_eq pair.0 l) [
       | inl same ↦ let there : amount_on l plan ≡ 0 = subst (λ (n : ℕ). amount_on n plan ≡ 0) same none in
-          let fits_here : pair.1 ≤ free_rate network book l = subst (λ (n : ℕ). pair.1 ≤ free_rate network book n) same here in
+          let fits_here : pair.1 ≤ get_or free l 0 = subst (λ (n : ℕ). pair.1 ≤ get_or free n 0) same here in
           grind (arith, nat_tests)
       | inr other ↦ grind (arith, nat_tests)
     ]
@@ -72,8 +74,8 @@ pub entry_keeps : (network : Network) (book : Book) (entry : Entry) → IsSoundA
 entry_keeps network book (Admit customer hose plan) sound kept l =
     let vpn : Vpn = record { id = book.epoch + 1; customer = customer; hose = hose; amounts = plan } in
     let more = sum_by_push (λ (v : Vpn). amount_on l v.amounts) book.live vpn in
-    let fits = reserved_fits network book plan l sound.2.reserves.ascending sound.3 in
-    omega (arith, more, fits, kept l)
+    let fits = reserved_fits (room_of network book).free plan l sound.2.on_tree.reserves.ascending sound.2.fits in
+    omega (arith, more, fits, room_of-within network book l, kept l)
 entry_keeps network book (Release customer id) sound kept l = omega (arith, load_after_release book customer id l, kept l)
 
 sound_keeps : (network : Network) (book : Book) (history : List Entry) (place : ℕ) → IsSoundFrom network book history → NoneOversold network book → NoneOversold network (book_after book (take place history))

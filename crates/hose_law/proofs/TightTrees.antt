@@ -7,13 +7,14 @@ use Rattle.hose_graph.specs.Network.{Network, IsNetwork}
 use Rattle.hose_graph.specs.declared.step.Step.{Step}
 use Rattle.hose_law.specs.CanonicalPlan.{IsTightWay}
 use Rattle.hose_law.specs.Row.{IsTight, IsTightLink}
-use Rattle.hose_law.specs.Tree.{IsOn, Grow, links_up}
+use Rattle.hose_law.specs.Tree.{IsOn, Grow, links_up, step_links, new_nodes}
 use Rattle.hose_law.specs.Walk.{cost_of, walk_cost, IsDistance}
 use Rattle.hose_law.proofs.Walks.{joins_turned}
 use Rattle.hose_law.proofs.Distances.{distance_itself, distance_unique}
 use Rattle.hose_law.proofs.Rows.{tight_not_root}
 use Rattle.hose_law.proofs.TightWays.{tight_link_unique, other_unique}
-use Rattle.hose_law.proofs.Trees.{step_links, new_nodes, first_or_behind, contains_first, contains_behind, none_in_empty, on_before, joins_only, link_is_new}
+use Rattle.hose_law.proofs.Trees.{on_before, joins_only, link_is_new}
+use Rattle.hose_law.proofs.Members.{contains_first, contains_rest, first_or_rest, none_in_empty}
 
 module _ (network : Network) (is : IsNetwork network) (set : List Bool) (root : ℕ) where
   -- a link is the tight one of some node
@@ -23,7 +24,7 @@ module _ (network : Network) (is : IsNetwork network) (set : List Bool) (root : 
   -- as are the links of a tight way
   pub on_tight_way : (v : ℕ) (way : List ℕ) → IsTightWay network set root v way → (l : ℕ) → Contains way l → IsTightSomewhere l
   on_tight_way v [] is_way l there = absurd (none_in_empty l there)
-  on_tight_way v (m ∷ way) is_way l there = elim (first_or_behind m l way there) [
+  on_tight_way v (m ∷ way) is_way l there = elim (first_or_rest m l way there) [
     | inl same ↦ (v, subst (IsTightLink network set root v) same is_way.0)
     | inr behind ↦ on_tight_way is_way.1.0 way is_way.1.2 l behind
   ]
@@ -36,7 +37,7 @@ module _ (network : Network) (is : IsNetwork network) (set : List Bool) (root : 
   tight_of : (steps : List Step) → AreTightSteps steps → (v : ℕ) → Contains (new_nodes steps) v
       → (l : ℕ) × Contains (step_links steps) l × IsTightLink network set root v l
   tight_of [] tight v there = absurd (none_in_empty v there)
-  tight_of (step ∷ earlier) tight v there = elim (first_or_behind step.new v (new_nodes earlier) there) [
+  tight_of (step ∷ earlier) tight v there = elim (first_or_rest step.new v (new_nodes earlier) there) [
     | inl same ↦ (
       step.link,
       contains_first step.link step.link (step_links earlier) refl,
@@ -44,14 +45,14 @@ module _ (network : Network) (is : IsNetwork network) (set : List Bool) (root : 
     )
     | inr behind ↦
         let found = tight_of earlier tight.1 v behind in
-        (found.0, contains_behind step.link found.0 (step_links earlier) found.1, found.2)
+        (found.0, contains_rest step.link found.0 (step_links earlier) found.1, found.2)
   ]
 
   -- A link that is the tight one of its step's old node would be an earlier step's too.
   pub steps_tight : (steps : List Step) → Grow network root steps → ((l : ℕ) → Contains (step_links steps) l → IsTightSomewhere l) → AreTightSteps steps
   steps_tight [] grows all = tt
   steps_tight (step ∷ earlier) grows all =
-      let rest = steps_tight earlier grows.0 (λ l there. all l (contains_behind step.link l (step_links earlier) there)) in
+      let rest = steps_tight earlier grows.0 (λ l there. all l (contains_rest step.link l (step_links earlier) there)) in
       let some = all step.link (contains_first step.link step.link (step_links earlier) refl) in
       (last rest some.0 some.1, rest)
     where

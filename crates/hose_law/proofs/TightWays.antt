@@ -1,5 +1,5 @@
 -- Ways along tight links to a root: each node that is reached has one alone, and trees along tight links have them whole.
-use Rattle.std.proofs.Common.{◌≡◌, ◌⊎◌, ◌∙◌, ℕ, zero, suc, ◌+◌, ◌<◌, Bool, List, [], ◌∷◌, ◌++◌, map, length, reverse, get_or, Some, All, Contains, refl, sym, ap, subst, inl, inr, arith}
+use Rattle.std.proofs.Common.{◌≡◌, ◌∙◌, ℕ, zero, suc, ◌+◌, ◌<◌, Bool, List, [], ◌∷◌, ◌++◌, map, length, reverse, Some, All, Contains, refl, sym, ap, subst, inl, inr, arith}
 use Rattle.std.proofs.lemmas.Bool.{cases_eq}
 use Rattle.std.proofs.lemmas.List.{map-append, reverse-append}
 use Rattle.std.proofs.lemmas.Option.{same_Some}
@@ -13,22 +13,9 @@ use Rattle.hose_law.specs.Tree.{Grow, IsOn}
 use Rattle.hose_law.specs.CanonicalPlan.{IsTightWay}
 use Rattle.hose_law.proofs.Walks.{joins_turned}
 use Rattle.hose_law.proofs.Joined.{joined, joins_its_ends}
+use Rattle.hose_law.proofs.Members.{contains_first, contains_rest, first_or_rest}
 use Rattle.hose_law.proofs.Distances.{distance_unique, distance_itself}
 use Rattle.hose_law.proofs.Rows.{tight_not_root, row_distance, row_has_tight_link, row_leads_nearer, row_tight_link}
-
--- an element is the first, or behind it
-pub first_or_behind : {X : Type 0} (x z : X) (xs : List X) → Contains (x ∷ xs) z → (x ≡ z) ⊎ Contains xs z
-first_or_behind {X} x z xs there = at there.0 there.1 there.2
-  where
-    at : (k : ℕ) → k < length (x ∷ xs) → get_or (x ∷ xs) k z ≡ z → (x ≡ z) ⊎ Contains xs z
-    at zero below same = inl same
-    at (suc k) below same = inr (k, omega arith, same)
-
-pub is_first : {X : Type 0} (x z : X) (xs : List X) → x ≡ z → Contains (x ∷ xs) z
-is_first x z xs same = (0, omega arith, same)
-
-pub is_behind : {X : Type 0} (x z : X) (xs : List X) → Contains xs z → Contains (x ∷ xs) z
-is_behind x z xs there = (suc there.0, omega (arith, there.1), there.2)
 
 -- what is in a list is in it the other way round
 module _ {X Y : Type 0} (f : X → Y) where
@@ -37,7 +24,7 @@ module _ {X Y : Type 0} (f : X → Y) where
 
   pub in_reverse : (xs : List X) (y : Y) → Contains (map f xs) y → Contains (map f (reverse xs)) y
   in_reverse [] y there = there
-  in_reverse (x ∷ xs) y there = rw (map_reverse x xs) (elim (first_or_behind (f x) y (map f xs) there) [
+  in_reverse (x ∷ xs) y there = rw (map_reverse x xs) (elim (first_or_rest (f x) y (map f xs) there) [
     | inl same ↦ subst (λ (z : Y). Contains (map f (reverse xs) ++ f x ∷ []) z) same (Contains-push (map f (reverse xs)) (f x))
     | inr behind ↦ Contains-append_left (map f (reverse xs)) (f x ∷ []) y (in_reverse xs y behind)
   ])
@@ -46,9 +33,9 @@ module _ {X Y : Type 0} (f : X → Y) where
   from_reverse [] y there = there
   from_reverse (x ∷ xs) y there =
       elim (Contains-append_cases (map f (reverse xs)) (f x ∷ []) y (subst (λ (ys : List Y). Contains ys y) (map_reverse x xs) there)) [
-        | inl before ↦ is_behind (f x) y (map f xs) (from_reverse xs y before)
-        | inr last ↦ elim (first_or_behind (f x) y [] last) [
-          | inl same ↦ is_first (f x) y (map f xs) same
+        | inl before ↦ contains_rest (f x) y (map f xs) (from_reverse xs y before)
+        | inr last ↦ elim (first_or_rest (f x) y [] last) [
+          | inl same ↦ contains_first (f x) y (map f xs) same
           | inr none ↦ absurd (omega (arith, none.1))
         ]
       ]
@@ -143,19 +130,19 @@ module _ (network : Network) (is : IsNetwork network) (set : List Bool) (root : 
   -- what is on a tree is on it after one more step
   pub on_after : (step : Step) (earlier : List Step) (v : ℕ) → IsOn root earlier v → IsOn root (step ∷ earlier) v
   on_after step earlier v (inl same) = inl same
-  on_after step earlier v (inr there) = inr (is_behind step.new v (map (λ (s : Step). s.new) earlier) there)
+  on_after step earlier v (inr there) = inr (contains_rest step.new v (map (λ (s : Step). s.new) earlier) there)
 
   step_to : (steps : List Step) (v : ℕ) → Grow network root steps → AreTight steps → Contains (map (λ (step : Step). step.new) steps) v
       → HasStep steps v
   step_to [] v grow tight there = absurd (omega (arith, there.1))
-  step_to (step ∷ earlier) v grow tight there = elim (first_or_behind step.new v (map (λ (s : Step). s.new) earlier) there) [
+  step_to (step ∷ earlier) v grow tight there = elim (first_or_rest step.new v (map (λ (s : Step). s.new) earlier) there) [
     | inl same ↦ record {
       link = step.link;
       old = step.old;
       on = on_after step earlier step.old grow.1;
       joins = subst (λ (n : ℕ). Joins network step.link n step.old) same (joins_turned network step.link step.old step.new grow.3);
       tight = subst (λ (n : ℕ). IsTightLink network set root n step.link) same (tight zero step (omega arith));
-      there = is_first step.link step.link (map (λ (s : Step). s.link) earlier) refl;
+      there = contains_first step.link step.link (map (λ (s : Step). s.link) earlier) refl;
     }
     | inr behind ↦
         let has = step_to earlier v grow.0 (λ k d below. tight (suc k) d (omega (arith, below))) behind in
@@ -165,7 +152,7 @@ module _ (network : Network) (is : IsNetwork network) (set : List Bool) (root : 
           on = on_after step earlier has.old has.on;
           joins = has.joins;
           tight = has.tight;
-          there = is_behind step.link has.link (map (λ (s : Step). s.link) earlier) has.there;
+          there = contains_rest step.link has.link (map (λ (s : Step). s.link) earlier) has.there;
         }
   ]
 
@@ -179,7 +166,7 @@ module _ (network : Network) (is : IsNetwork network) (set : List Bool) (root : 
       let links : has.link ≡ m = tight_link_unique network set root v has.link m has.tight is_way.0 in
       let nodes : has.old ≡ is_way.1.0 =
       other_unique network is m v has.old is_way.1.0 (subst (λ (k : ℕ). Joins network k v has.old) links has.joins) is_way.1.1 in
-      elim (first_or_behind m l way there) [
+      elim (first_or_rest m l way there) [
         | inl first ↦
             subst (λ (k : ℕ). Contains (map (λ (step : Step). step.link) steps) k) (links ∙ first) has.there
         | inr behind ↦ way_stays steps grow tight is_way.1.0 way (subst (IsOn root steps) nodes has.on) is_way.1.2 l behind

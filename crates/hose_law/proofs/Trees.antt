@@ -1,6 +1,6 @@
 -- Trees: their links and new nodes are distinct, and moving the rates of the last step's new node to its old node leaves what lies beyond each earlier link.
 -- Steps come with the last one first here, as in `Grow` and `links_up`.
-use Rattle.std.proofs.Common.{◌≡◌, ◌≢◌, ◌⊎◌, ◌∙◌, ℕ, zero, suc, ◌+◌, ◌<◌, ◌≤◌, Bool, true, false, List, [], ◌∷◌, ◌++◌, Option, None, Some, length, get_or, map, reverse, cond, eqb, refl, sym, ap, subst, inl, inr, arith}
+use Rattle.std.proofs.Common.{◌≡◌, ◌≢◌, ◌⊎◌, ◌∙◌, ℕ, ◌+◌, ◌<◌, ◌≤◌, Bool, true, false, List, [], ◌∷◌, ◌++◌, Option, None, Some, length, get_or, map, reverse, cond, eqb, refl, sym, ap, subst, inl, inr, arith}
 use Rattle.std.specs.List.{All, Contains, IsDistinct, slice_get, sum_by}
 use Rattle.std.specs.Option.{IsSomeAnd}
 use Rattle.std.proofs.lemmas.Bool.{eq-eqb, ne_eqb}
@@ -16,34 +16,12 @@ use Rattle.hose_graph.specs.Network.{Network, IsNetwork}
 use Rattle.hose_graph.specs.declared.link.Link.{Link}
 use Rattle.hose_graph.specs.declared.step.Step.{Step}
 use Rattle.hose_law.specs.Book.{amount_on}
-use Rattle.hose_law.specs.Tree.{Growth, IsOn, Grow, IsTree, links_up, goes_along, rate_beyond, links_of}
+use Rattle.hose_law.specs.Tree.{Growth, IsOn, Grow, IsTree, links_up, goes_along, rate_beyond, links_of, step_links, new_nodes}
 use Rattle.hose_law.specs.Walk.{Joins}
 use Rattle.hose_law.proofs.Joined.{joins_nodes}
+use Rattle.hose_law.proofs.Members.{contains_first, contains_rest, first_or_rest, none_in_empty}
 
-abbrev pub step_links : List Step → List ℕ
-step_links steps = map (λ (step : Step). step.link) steps
-
-abbrev pub new_nodes : List Step → List ℕ
-new_nodes steps = map (λ (step : Step). step.new) steps
-
--- an element is the first or behind it
-pub first_or_behind : {X : Type 0} (x y : X) (xs : List X) → Contains (x ∷ xs) y → (x ≡ y) ⊎ Contains xs y
-first_or_behind {X} x y xs there = at there.0 there.1 there.2
-  where
-    at : (k : ℕ) → k < length (x ∷ xs) → get_or (x ∷ xs) k y ≡ y → (x ≡ y) ⊎ Contains xs y
-    at zero below same = inl same
-    at (suc k) below same = inr (k, omega arith, same)
-
-pub contains_first : {X : Type 0} (x y : X) (xs : List X) → x ≡ y → Contains (x ∷ xs) y
-contains_first x y xs same = (0, omega arith, same)
-
-pub contains_behind : {X : Type 0} (x y : X) (xs : List X) → Contains xs y → Contains (x ∷ xs) y
-contains_behind x y xs there = (suc there.0, omega (arith, there.1), there.2)
-
-pub none_in_empty : {X : Type 0} (y : X) → Contains [] y → ⊥
-none_in_empty y there = omega (arith, there.1)
-
--- numbers are distinct where the first is not behind
+-- numbers are distinct where the first is not among the rest
 pub distinct_behind : (x : ℕ) (xs : List ℕ) → (Contains xs x → ⊥) → IsDistinct eqb xs → IsDistinct eqb (x ∷ xs)
 distinct_behind x xs absent distinct =
     let apart : All (λ (y : ℕ). eqb x y ≡ false) xs =
@@ -61,7 +39,7 @@ on_unreverse start steps v (inl same) = inl same
 on_unreverse start steps v (inr led) =
     inr (Contains-permutation (new_nodes (reverse steps)) (new_nodes steps) v (IsPermutation-map (λ (step : Step). step.new) (reverse steps) steps (IsPermutation-sym steps (reverse steps) (IsPermutation-reverse steps))) led)
 
--- a step more, behind the others
+-- a step more, after the others
 pub grow_push : (network : Network) (start : ℕ) (steps : List Step) (step : Step) → Grow network start (reverse steps)
     → IsOn start steps step.old → (IsOn start steps step.new → ⊥) → Joins network step.link step.old step.new
     → Grow network start (reverse (steps ++ step ∷ []))
@@ -71,7 +49,7 @@ grow_push network start steps step grows old_on new_off joins =
 -- what is on the tree stays on it by one step more, and the step's new node is on it
 pub on_still : (start : ℕ) (step : Step) (earlier : List Step) (v : ℕ) → IsOn start earlier v → IsOn start (step ∷ earlier) v
 on_still start step earlier v (inl same) = inl same
-on_still start step earlier v (inr led) = inr (contains_behind step.new v (new_nodes earlier) led)
+on_still start step earlier v (inr led) = inr (contains_rest step.new v (new_nodes earlier) led)
 
 pub on_new : (start : ℕ) (step : Step) (earlier : List Step) → IsOn start (step ∷ earlier) step.new
 on_new start step earlier = inr (contains_first step.new step.new (new_nodes earlier) refl)
@@ -80,7 +58,7 @@ on_new start step earlier = inr (contains_first step.new step.new (new_nodes ear
 pub on_before : (start : ℕ) (step : Step) (earlier : List Step) (v : ℕ) → IsOn start (step ∷ earlier) v → (v ≡ step.new) ⊎ IsOn start earlier v
 on_before start step earlier v (inl same) = inr (inl same)
 on_before start step earlier v (inr led) =
-    elim (first_or_behind step.new v (new_nodes earlier) led) [
+    elim (first_or_rest step.new v (new_nodes earlier) led) [
       | inl same ↦ inl (sym same)
       | inr behind ↦ inr (inr behind)
     ]
@@ -117,7 +95,7 @@ link_ends_on network start (step ∷ earlier) l u v grows there joins =
     let old_on : IsOn start (step ∷ earlier) step.old = on_still start step earlier step.old grows.1 in
     let new_on : IsOn start (step ∷ earlier) step.new = on_new start step earlier in
     let On : ℕ → Type 0 = λ n. IsOn start (step ∷ earlier) n in
-    elim (first_or_behind step.link l (step_links earlier) there) [
+    elim (first_or_rest step.link l (step_links earlier) there) [
       | inl same ↦
           let here : Joins network l step.old step.new = subst (λ (n : ℕ). Joins network n step.old step.new) same grows.3 in
           elim (joins_only network l step.old step.new u v here joins) [
@@ -129,7 +107,7 @@ link_ends_on network start (step ∷ earlier) l u v grows there joins =
           (on_still start step earlier u both.0, on_still start step earlier v both.1)
     ]
 
--- the link of the last step is none of an earlier one's
+-- the link of the last step is not an earlier one's
 pub link_is_new : (network : Network) (start : ℕ) (step : Step) (earlier : List Step) → Grow network start (step ∷ earlier) → Contains (step_links earlier) step.link → ⊥
 link_is_new network start step earlier grows there =
     grows.2 (link_ends_on network start earlier step.link step.old step.new grows.0 there grows.3).1
@@ -154,7 +132,7 @@ new_nodes_differ network start (step ∷ earlier) grows =
 pub start_is_not_new : (network : Network) (start : ℕ) (steps : List Step) → Grow network start steps → Contains (new_nodes steps) start → ⊥
 start_is_not_new network start [] grows there = none_in_empty start there
 start_is_not_new network start (step ∷ earlier) grows there =
-    elim (first_or_behind step.new start (new_nodes earlier) there) [
+    elim (first_or_rest step.new start (new_nodes earlier) there) [
       | inl same ↦ grows.2 (inl same)
       | inr behind ↦ start_is_not_new network start earlier grows.0 behind
     ]
@@ -170,8 +148,8 @@ pub off_way : (steps : List Step) (v l : ℕ) → (Contains (step_links steps) l
 off_way [] v l absent = refl
 off_way (step ∷ earlier) v l absent =
     let other : eqb step.link l ≡ false = ne_eqb step.link l (λ same. absent (contains_first step.link l (step_links earlier) same)) in
-    let from_old : goes_along (links_up earlier step.old) l ≡ false = off_way earlier step.old l (λ there. absent (contains_behind step.link l (step_links earlier) there)) in
-    let from_here : goes_along (links_up earlier v) l ≡ false = off_way earlier v l (λ there. absent (contains_behind step.link l (step_links earlier) there)) in
+    let from_old : goes_along (links_up earlier step.old) l ≡ false = off_way earlier step.old l (λ there. absent (contains_rest step.link l (step_links earlier) there)) in
+    let from_here : goes_along (links_up earlier v) l ≡ false = off_way earlier v l (λ there. absent (contains_rest step.link l (step_links earlier) there)) in
     at (eqb v step.new) other from_old from_here
   where
     at : (leads : Bool) → eqb step.link l ≡ false → goes_along (links_up earlier step.old) l ≡ false → goes_along (links_up earlier v) l ≡ false

@@ -13,9 +13,10 @@ use Rattle.hose_law.proofs.LiveIds.{HasDistinctIds, live_ids, vpn_unique}
 use Rattle.hose_law.proofs.CanonicalPlans.{planned_unique}
 use Rattle.hose_law.proofs.Ordered.{same_by_elements}
 use Rattle.hose_law.specs.Plan.{plan_cost}
-use Rattle.hose_law.specs.Book.{Book, safe_links}
+use Rattle.hose_law.specs.Book.{Book}
 use Rattle.hose_law.specs.Decision.{IsReachedList, lowest_end}
 use Rattle.hose_law.specs.History.{book_of}
+use Rattle.hose_law.specs.Room.{room_of, safe_links}
 use Rattle.hose_law.specs.Answer.{IsAdmitAnswer, IsReleaseAnswer, IsShowAnswer, IsLinkAnswer, IsAnswer, IsStep, with_entry}
 use Rattle.hose_law.specs.Script.{ReadLine, Asks, IsBad, IsLong, Unread, IsLineStep, IsScript, WithoutMemory}
 
@@ -34,7 +35,7 @@ module _ (network : Network) (is : IsNetwork network) (book : Book) (customer : 
       → (Refused at side ≡ other) × (None ≡ more)
   refused_alone at side (Refused when nodes) None one two =
       let times : at ≡ when = one.0 ∙ sym two.0 in
-      let sides : side ≡ nodes = side_unique network (safe_links network book hose) (lowest_end hose) side nodes one.1.is_side two.1.is_side in
+      let sides : side ≡ nodes = side_unique network (safe_links (room_of network book) hose) (lowest_end hose) side nodes one.1.is_side two.1.is_side in
       (ap (λ (n : ℕ). Refused n side) times ∙ ap (λ (s : List ℕ). Refused when s) sides, refl)
   refused_alone at side (Spent when) None one two = absurd (one.1.no_plan two.2.0 two.2.1)
   refused_alone at side (Full when) None one two = absurd (one.1.no_plan two.3.0 two.3.1)
@@ -67,7 +68,7 @@ module _ (network : Network) (is : IsNetwork network) (book : Book) (customer : 
   admitted_alone id cost at amounts entry (Spent when) None one two = absurd (omega (arith, one.0, two.1))
   admitted_alone id cost at amounts entry (Full when) None one two = absurd (omega (arith, one.1, two.2))
   admitted_alone id cost at amounts entry (Admitted id' cost' when amounts') (Some entry') one two =
-      let plans : amounts ≡ amounts' = planned_unique network is book hose amounts amounts' one.2 two.2 in
+      let plans : amounts ≡ amounts' = planned_unique network is (room_of network book) hose amounts amounts' one.2 two.2 in
       let ids : id ≡ id' = one.3 ∙ sym two.3 in
       let times : at ≡ when = one.4 ∙ sym two.4 in
       let costs : cost ≡ cost' = one.5 ∙ ap (plan_cost network) plans ∙ sym two.5 in
@@ -191,7 +192,7 @@ answer_unique network is book customer (Release id) reply other entry more disti
 answer_unique network is book customer (Show id) reply other entry more distinct one two = show_answer_unique network book customer id reply other entry more distinct one two
 answer_unique network is book customer (Link link) reply other entry more distinct one two = link_answer_unique book link reply other entry more one two
 
--- behind a reply that is not for want of memory
+-- after a reply that is not for want of memory
 free_behind : (reply : Reply) (replies : List Reply) → WithoutMemory (reply ∷ replies) → WithoutMemory replies
 free_behind Memory replies free = absurd free
 free_behind reply replies free = free

@@ -12,7 +12,7 @@ stays network set side closed u v [] same here = subst (IsIn side) same here
 stays network set side closed u v (l ∷ walk) along here =
     stays network set side closed along.0 v walk along.3 (closed l u along.0 along.1 along.2 here)
 
--- one walk behind another
+-- one walk after another
 joined : (network : Network) (set : List Bool) (u x v : ℕ) (front back : List ℕ) → IsWalk network set u x front → IsWalk network set x v back → IsWalk network set u v (front ++ back)
 joined network set u x v [] back same along = subst (λ (n : ℕ). IsWalk network set n v back) (sym same) along
 joined network set u x v (l ∷ front) back along behind =

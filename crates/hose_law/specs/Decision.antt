@@ -1,62 +1,96 @@
--- What the server decides of a hose at a book, and on which grounds.
-use Rattle.std.specs.Prelude.{◌≡◌, ◌⊎◌, ℕ, ◌≤◌, Bool, true, false, List, [], ◌∷◌, length, replicate, All, Contains, ◌↔◌}
+-- What the server decides of a hose at the room that a book leaves, and on which grounds.
+use Rattle.std.specs.Prelude.{◌≡◌, ◌⊎◌, ℕ, ◌≤◌, Bool, true, false, List, [], ◌∷◌, length, replicate, slice_index, All, Contains, ◌↔◌}
 use Rattle.std.specs.List.Sorted.{IsStrictlyIncreasing}
+use Rattle.hose_graph.specs.Amounts.{ReservedLink, link_of, amount_of}
+use Rattle.hose_graph.specs.Hose.{Endpoint, node_of}
 use Rattle.hose_graph.specs.Network.{Network}
-use Rattle.hose_law.specs.Walk.{Reaches, all_links}
+use Rattle.hose_law.specs.Walk.{Reaches}
 use Rattle.hose_law.specs.CanonicalPlan.{IsCanonicalPlan}
-use Rattle.hose_law.specs.Book.{Book, free_rate, safe_links}
-
--- the links over which the first plan is made
-abbrev pub first_links : Network → List Bool
-first_links network = all_links network
+use Rattle.hose_law.specs.Tree.{IsTreeReservation}
+use Rattle.hose_law.specs.Book.{Book}
+use Rattle.hose_law.specs.Room.{Room, room_of, safe_links}
 
 -- each amount is at most what its link has free
-abbrev pub Fits : Network → Book → List (ℕ × ℕ) → Type 0
-Fits network book plan = All (λ (pair : ℕ × ℕ). pair.1 ≤ free_rate network book pair.0) plan
+abbrev pub Fits : List ℕ → List ReservedLink → Type 0
+Fits free plan =
+    All (λ (pair : ReservedLink). amount_of pair ≤ slice_index free (link_of pair)) plan
+
+-- these amounts can be reserved: they are what the hose reserves on some tree of the room's links,
+-- and fit
+pub record CanBeReserved (network : Network) (room : Room) (hose : List Endpoint)
+    (plan : List ReservedLink) : Type 0 where
+  pub on_tree : IsTreeReservation network room.links hose plan
+  pub fits : Fits room.free plan
 
 -- this is the first plan, and it fits
-pub record IsFirstFit (network : Network) (book : Book) (hose plan : List (ℕ × ℕ)) : Type 0 where
-  pub is_plan : IsCanonicalPlan network (first_links network) hose plan
-  pub fits : Fits network book plan
+pub record IsFirstFit (network : Network) (room : Room) (hose : List Endpoint)
+    (plan : List ReservedLink) : Type 0 where
+  pub is_plan : IsCanonicalPlan network room.links hose plan
+  pub fits : Fits room.free plan
 
 -- the first plan exists and fits
-abbrev pub HasFirstFit : Network → Book → List (ℕ × ℕ) → Type 0
-HasFirstFit network book hose = (plan : List (ℕ × ℕ)) × IsFirstFit network book hose plan
+abbrev pub HasFirstFit : Network → Room → List Endpoint → Type 0
+HasFirstFit network room hose = (plan : List ReservedLink) × IsFirstFit network room hose plan
 
--- The decision is to admit the hose with this plan: it is the first plan, and fits; or that does not exist or fit, and it is the plan over the safe
--- links, which always fits.
-abbrev pub IsPlanned : Network → Book → List (ℕ × ℕ) → List (ℕ × ℕ) → Type 0
-IsPlanned network book hose plan =
-    IsFirstFit network book hose plan ⊎ ((HasFirstFit network book hose → ⊥) × IsCanonicalPlan network (safe_links network book hose) hose plan)
+-- the set of links over which a plan is allowed: that of the first plan where it exists and fits,
+-- else the safe links
+abbrev pub IsAllowed : Network → Room → List Endpoint → List Bool → Type 0
+IsAllowed network room hose set =
+    (HasFirstFit network room hose × (set ≡ room.links))
+    ⊎ ((¬ HasFirstFit network room hose) × (set ≡ safe_links room hose))
+
+-- The decision is to admit the hose with this plan over this set: the set is the one that is
+-- allowed, and the plan is the canonical one over it. Over the safe links a plan always fits.
+pub record IsPlannedOver (network : Network) (room : Room) (hose : List Endpoint)
+    (set : List Bool) (plan : List ReservedLink) : Type 0 where
+  pub allowed : IsAllowed network room hose set
+  pub is_plan : IsCanonicalPlan network set hose plan
+
+-- the decision is to admit the hose with this plan, over whichever set is allowed
+abbrev pub IsPlanned : Network → Room → List Endpoint → List ReservedLink → Type 0
+IsPlanned network room hose plan = (set : List Bool) × IsPlannedOver network room hose set plan
 
 -- the nodes that a node reaches over a set of links, ascending
-pub record IsReachedList (network : Network) (set : List Bool) (from : ℕ) (nodes : List ℕ) : Type 0 where
+pub record IsReachedList (network : Network) (set : List Bool) (from : ℕ)
+    (nodes : List ℕ) : Type 0 where
   pub ascending : IsStrictlyIncreasing nodes
   pub reached : (v : ℕ) → Contains nodes v ↔ Reaches network set from v
 
--- the lowest-numbered endpoint: a hose names its endpoints in ascending order
-abbrev pub lowest_end : List (ℕ × ℕ) → ℕ
+-- the lowest-numbered endpoint's node: a hose names its endpoints in ascending order
+abbrev pub lowest_end : List Endpoint → ℕ
 lowest_end [] = 0
-lowest_end (end ∷ ends) = end.0
+lowest_end (end ∷ ends) = node_of end
 
--- the decision is to refuse the hose: there is no plan to admit it with, and the side is what the lowest endpoint reaches over the safe links
-pub record IsRefused (network : Network) (book : Book) (hose : List (ℕ × ℕ)) (side : List ℕ) : Type 0 where
-  pub no_plan : (plan : List (ℕ × ℕ)) → IsPlanned network book hose plan → ⊥
-  pub is_side : IsReachedList network (safe_links network book hose) (lowest_end hose) side
+-- The decision is to refuse the hose: there is no plan to admit it with, and the side is what the
+-- lowest endpoint reaches over the safe links.
+pub record IsRefused (network : Network) (room : Room) (hose : List Endpoint)
+    (side : List ℕ) : Type 0 where
+  pub no_plan : (plan : List ReservedLink) → ¬ IsPlanned network room hose plan
+  pub is_side : IsReachedList network (safe_links room hose) (lowest_end hose) side
 
--- The grounds of a decision: whether the first plan exists and fits; and where it does not, the safe links, else no link.
-abbrev pub AreGrounds : Network → Book → List (ℕ × ℕ) → Bool → List Bool → Type 0
-AreGrounds network book hose true safe = HasFirstFit network book hose × (safe ≡ replicate (length network.links) false)
-AreGrounds network book hose false safe = (HasFirstFit network book hose → ⊥) × (safe ≡ safe_links network book hose)
+-- The grounds of a decision: whether the first plan exists and fits; and where it does not, the
+-- safe links, else no link.
+abbrev pub AreGrounds : Network → Room → List Endpoint → Bool → List Bool → Type 0
+AreGrounds network room hose true safe =
+    HasFirstFit network room hose × (safe ≡ replicate (length network.links) false)
+AreGrounds network room hose false safe =
+    (¬ HasFirstFit network room hose) × (safe ≡ safe_links room hose)
 
 -- the decisions on a hose at two books have the same grounds
-pub record HaveEqualGrounds (network : Network) (one other : Book) (hose : List (ℕ × ℕ)) : Type 0 where
+pub record HaveEqualGrounds (network : Network) (one other : Book)
+    (hose : List Endpoint) : Type 0 where
   pub fits : Bool
   pub safe : List Bool
-  pub here : AreGrounds network one hose fits safe
-  pub there : AreGrounds network other hose fits safe
+  pub here : AreGrounds network (room_of network one) hose fits safe
+  pub there : AreGrounds network (room_of network other) hose fits safe
 
--- the decisions on a hose at two books are the same: one admits it with a plan just where the other does, and refuses it with a side just where the other does
-pub record HaveEqualDecisions (network : Network) (one other : Book) (hose : List (ℕ × ℕ)) : Type 0 where
-  pub plans : (plan : List (ℕ × ℕ)) → IsPlanned network one hose plan ↔ IsPlanned network other hose plan
-  pub refusals : (side : List ℕ) → IsRefused network one hose side ↔ IsRefused network other hose side
+-- The decisions on a hose at two books are the same: one admits it with a plan over a set just
+-- where the other does, and refuses it with a side just where the other does.
+pub record HaveEqualDecisions (network : Network) (one other : Book)
+    (hose : List Endpoint) : Type 0 where
+  pub plans : (set : List Bool) (plan : List ReservedLink)
+      → IsPlannedOver network (room_of network one) hose set plan
+      ↔ IsPlannedOver network (room_of network other) hose set plan
+  pub refusals : (side : List ℕ)
+      → IsRefused network (room_of network one) hose side
+      ↔ IsRefused network (room_of network other) hose side

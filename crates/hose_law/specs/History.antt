@@ -1,4 +1,5 @@
--- Histories: lists of accepted entries, the books that they lead to, and which of them are sound and decided.
+-- Histories: lists of accepted entries, the books that they lead to, and which of them are sound
+-- and decided.
 use Rattle.std.specs.Prelude.{ℕ, zero, suc, ◌+◌, ◌<◌, ◌==◌, ◌&&◌, not, Bool, List, [], ◌∷◌, ◌++◌, filter, length, Option, None, Some, ⊤}
 use Rattle.std.specs.Str.{bytes_eq}
 use Rattle.hose_graph.specs.declared.entry.Entry.{Entry}
@@ -7,8 +8,8 @@ use Rattle.hose_graph.specs.declared.vpn.Vpn.{Vpn}
 use Rattle.hose_graph.specs.declared.limits.TheConstants.{MOST_EPOCH, MOST_LIVE}
 use Rattle.hose_graph.specs.Network.{Network}
 use Rattle.hose_law.specs.Book.{Book, HasVpn}
-use Rattle.hose_law.specs.Decision.{Fits, IsPlanned}
-use Rattle.hose_law.specs.Tree.{IsTreeReservation}
+use Rattle.hose_law.specs.Decision.{CanBeReserved, IsPlanned}
+use Rattle.hose_law.specs.Room.{room_of}
 
 -- the book of an epoch with nothing live
 abbrev pub opening_book : ℕ → Book
@@ -18,12 +19,13 @@ opening_book epoch = record { epoch = epoch; live = [] }
 abbrev pub is_vpn : List ℕ → ℕ → Vpn → Bool
 is_vpn customer id vpn = (vpn.id == id) && bytes_eq vpn.customer customer
 
--- The book after an entry: the epoch is one more. An admitted VPN, whose id is the new epoch, is the last of the live, and a released one is none
--- of them.
+-- The book after an entry: the epoch is one more. An admitted VPN, whose id is the new epoch, is
+-- the last of the live, and a released one is not live any more.
 abbrev pub next_book : Book → Entry → Book
 next_book book (Admit customer hose amounts) = record {
   epoch = book.epoch + 1;
-  live = book.live ++ record { id = book.epoch + 1; customer = customer; hose = hose; amounts = amounts } ∷ [];
+  live = book.live
+      ++ record { id = book.epoch + 1; customer = customer; hose = hose; amounts = amounts } ∷ [];
 }
 next_book book (Release customer id) = record {
   epoch = book.epoch + 1;
@@ -46,11 +48,12 @@ last_epoch = MOST_EPOCH
 abbrev pub most_live : ℕ
 most_live = MOST_LIVE
 
--- An entry is sound at a book: an epoch is left; an admission has room among the live, and reserves what the hose needs on some tree, where that is free;
--- a release has a VPN of its customer to give up.
+-- An entry is sound at a book: an epoch is left; an admission has room among the live, and its
+-- amounts can be reserved; a release has a VPN of its customer to give up.
 abbrev pub IsSoundAt : Network → Book → Entry → Type 0
 IsSoundAt network book (Admit customer hose amounts) =
-    (book.epoch < last_epoch) × (length book.live < most_live) × IsTreeReservation network hose amounts × Fits network book amounts
+    (book.epoch < last_epoch) × (length book.live < most_live)
+    × CanBeReserved network (room_of network book) hose amounts
 IsSoundAt network book (Release customer id) = (book.epoch < last_epoch) × HasVpn book customer id
 
 -- an entry, if there is one, is sound at a book
@@ -60,13 +63,16 @@ IsSoundWith network book (Some entry) = IsSoundAt network book entry
 
 -- An entry is decided at a book: it is sound there, and an admission's plan is the decision's.
 abbrev pub IsDecidedAt : Network → Book → Entry → Type 0
-IsDecidedAt network book (Admit customer hose amounts) = IsSoundAt network book (Admit customer hose amounts) × IsPlanned network book hose amounts
+IsDecidedAt network book (Admit customer hose amounts) =
+    IsSoundAt network book (Admit customer hose amounts)
+    × IsPlanned network (room_of network book) hose amounts
 IsDecidedAt network book (Release customer id) = IsSoundAt network book (Release customer id)
 
 -- each entry is sound at the book of the entries before it
 abbrev pub IsSoundFrom : Network → Book → List Entry → Type 0
 IsSoundFrom network book [] = ⊤
-IsSoundFrom network book (entry ∷ entries) = IsSoundAt network book entry × IsSoundFrom network (next_book book entry) entries
+IsSoundFrom network book (entry ∷ entries) =
+    IsSoundAt network book entry × IsSoundFrom network (next_book book entry) entries
 
 abbrev pub IsSound : Network → ℕ → List Entry → Type 0
 IsSound network epoch history = IsSoundFrom network (opening_book epoch) history
@@ -74,10 +80,12 @@ IsSound network epoch history = IsSoundFrom network (opening_book epoch) history
 -- each entry from a place on is decided at the book of the entries before it
 abbrev pub IsDecidedFrom : Network → Book → ℕ → List Entry → Type 0
 IsDecidedFrom network book place [] = ⊤
-IsDecidedFrom network book zero (entry ∷ entries) = IsDecidedAt network book entry × IsDecidedFrom network (next_book book entry) zero entries
-IsDecidedFrom network book (suc place) (entry ∷ entries) = IsDecidedFrom network (next_book book entry) place entries
+IsDecidedFrom network book zero (entry ∷ entries) =
+    IsDecidedAt network book entry × IsDecidedFrom network (next_book book entry) zero entries
+IsDecidedFrom network book (suc place) (entry ∷ entries) =
+    IsDecidedFrom network (next_book book entry) place entries
 
 -- a history is sound, and decided from a place on
-pub record IsDecided (network : Network) (epoch : ℕ) (place : ℕ) (history : List Entry) : Type 0 where
+pub record IsDecided (network : Network) (epoch place : ℕ) (history : List Entry) : Type 0 where
   pub sound : IsSound network epoch history
   pub decided : IsDecidedFrom network (opening_book epoch) place history

@@ -1,4 +1,5 @@
 pub mod Walk
+pub mod Room
 pub mod Row
 pub mod Matrix
 pub mod Plan

@@ -1,33 +1,59 @@
 -- How long an admitted VPN is live, and the ids of the live ones.
-use Rattle.std.specs.Prelude.{◌≡◌, ◌≢◌, ℕ, ◌+◌, ◌<◌, ◌≤◌, List, length, take, All, AllPairs, Contains, Some, slice_get}
+use Rattle.std.specs.Prelude.{◌≡◌, ◌≢◌, ℕ, ◌+◌, ◌<◌, ◌≤◌, ◌↔◌, List, length, take, All, AllPairs, Contains, Some, slice_get}
 use Rattle.hose_graph.specs.declared.entry.Entry.{Entry}
 use Rattle.hose_graph.specs.declared.entry.Entry.TheVariants.{Admit, Release}
 use Rattle.hose_graph.specs.declared.vpn.Vpn.{Vpn}
+use Rattle.hose_graph.specs.Amounts.{ReservedLink}
+use Rattle.hose_graph.specs.Hose.{Endpoint}
 use Rattle.hose_law.specs.Book.{Book}
 use Rattle.hose_law.specs.History.{book_of}
 
 -- the entry at a place of a history is an admission
 abbrev pub IsAdmission : List Entry → ℕ → Type 0
 IsAdmission history place =
-    (customer : List ℕ) × (hose : List (ℕ × ℕ)) × (amounts : List (ℕ × ℕ)) × (slice_get history place ≡ Some (Admit customer hose amounts))
+    (customer : List ℕ) × (hose : List Endpoint) × (amounts : List ReservedLink)
+    × (slice_get history place ≡ Some (Admit customer hose amounts))
 
--- what an admission at a place of a history that begins at an epoch makes live: its id is the epoch after it
-abbrev pub admitted_vpn : ℕ → ℕ → List ℕ → List (ℕ × ℕ) → List (ℕ × ℕ) → Vpn
-admitted_vpn epoch place customer hose amounts = record { id = epoch + place + 1; customer = customer; hose = hose; amounts = amounts }
+-- what an admission at a place of a history that begins at an epoch makes live: its id is the epoch
+-- after it
+abbrev pub admitted_vpn : ℕ → ℕ → List ℕ → List Endpoint → List ReservedLink → Vpn
+admitted_vpn epoch place customer hose amounts =
+    record { id = epoch + place + 1; customer = customer; hose = hose; amounts = amounts }
 
--- no entry behind a place and before another is the customer's release of the number
+-- no entry after a place and before another is the customer's release of the number
 abbrev pub NotReleased : List Entry → List ℕ → ℕ → ℕ → ℕ → Type 0
-NotReleased history customer id from to = (j : ℕ) → from < j → j < to → slice_get history j ≢ Some (Release customer id)
+NotReleased history customer id from to =
+    (j : ℕ) → from < j → j < to → slice_get history j ≢ Some (Release customer id)
 
--- What the admission at a place k made live stays so, and as it was admitted, at each later place up to its customer's release of it.
+-- What the admission at a place k made live stays so, and as it was admitted, at each later place
+-- up to its customer's release of it.
 abbrev pub StaysLive : ℕ → List Entry → ℕ → Type 0
-StaysLive epoch history k = (customer : List ℕ) (hose amounts : List (ℕ × ℕ)) (place : ℕ)
-    → slice_get history k ≡ Some (Admit customer hose amounts) → k < place → place ≤ length history → NotReleased history customer (epoch + k + 1) k place
-    → Contains (book_of epoch (take place history)).live (admitted_vpn epoch k customer hose amounts)
+StaysLive epoch history k =
+    (customer : List ℕ) (hose : List Endpoint) (amounts : List ReservedLink) (place : ℕ)
+    → slice_get history k ≡ Some (Admit customer hose amounts) → k < place → place ≤ length history
+    → NotReleased history customer (epoch + k + 1) k place
+    → Contains (book_of epoch (take place history)).live
+    (admitted_vpn epoch k customer hose amounts)
+
+-- An admission before a place of a history made the VPN live just as it is, and no later entry
+-- before that place is its customer's release of it.
+pub record IsHeld (epoch : ℕ) (history : List Entry) (place : ℕ) (vpn : Vpn) : Type 0 where
+  pub admission : ℕ
+  pub before : admission < place
+  pub admits : slice_get history admission ≡ Some (Admit vpn.customer vpn.hose vpn.amounts)
+  pub is_id : vpn.id ≡ epoch + admission + 1
+  pub not_released : NotReleased history vpn.customer vpn.id admission place
 
 -- the ids of the live VPNs rise
 abbrev pub Rise : List Vpn → Type 0
 Rise live = AllPairs (λ (one other : Vpn). one.id < other.id) live
+
+-- At a place of a history exactly the VPNs that are held there are live, each once, in the order of
+-- their admission.
+pub record AreLiveHeld (epoch : ℕ) (history : List Entry) (place : ℕ) : Type 0 where
+  pub exactly : (vpn : Vpn)
+      → Contains (book_of epoch (take place history)).live vpn ↔ IsHeld epoch history place vpn
+  pub in_order : Rise (book_of epoch (take place history)).live
 
 -- each is above a first epoch, and at most the book's
 abbrev pub IsBetween : ℕ → ℕ → Vpn → Type 0

@@ -4,8 +4,8 @@ use Rattle.hose_graph.specs.Network.{Network}
 use Rattle.hose_graph.specs.Row.{Distances, distance_of, tight_link_of}
 use Rattle.hose_law.specs.Walk.{cost_of, Joins, IsIn, IsDistance, Reaches}
 
--- A link of the set is tight for a node: the node is just as much farther from the root than the link's other end as the
--- link costs.
+-- A link of the set is tight for a node: the node is just as much farther from the root than the
+-- link's other end as the link costs.
 pub record IsTight (network : Network) (set : List Bool) (root v l : ℕ) : Type 0 where
   pub in_set : IsIn set l
   pub other : ℕ
@@ -19,14 +19,16 @@ pub record IsTightLink (network : Network) (set : List Bool) (root v l : ℕ) : 
   pub tight : IsTight network set root v l
   pub lowest : (other : ℕ) → IsTight network set root v other → l ≤ other
 
--- The row of a root has a place for each node. There stands the node's distance from the root, or nothing exactly where
--- there is no walk, and the node's tight link, which the root and a node that is not reached do not have.
+-- The row of a root has a place for each node. There stands the node's distance from the root, or
+-- nothing exactly where there is no walk, and the node's tight link, which the root and a node that
+-- is not reached do not have.
 pub record IsRow (network : Network) (set : List Bool) (root : ℕ) (row : Distances) : Type 0 where
   pub rooted : row.root ≡ root
   pub dist_places : length row.dist ≡ length network.nodes
   pub tight_places : length row.tight ≡ length network.nodes
   pub distances : (v : ℕ) → v < length network.nodes
-      → MatchOption (distance_of row v) (¬ Reaches network set root v) (IsDistance network set root v)
+      → MatchOption (distance_of row v) (¬ Reaches network set root v)
+      (IsDistance network set root v)
   pub root_has_none : tight_link_of row root ≡ None
   pub unreached_have_none : (v : ℕ) → v < length network.nodes
       → (¬ Reaches network set root v) → tight_link_of row v ≡ None

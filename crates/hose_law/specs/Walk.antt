@@ -13,7 +13,9 @@ capacity_of network l = slice_index (map (λ (link : Link). link.capacity) netwo
 
 -- the link joins the two nodes, whichever of them it names first
 abbrev pub Joins : Network → ℕ → ℕ → ℕ → Type 0
-Joins network l u v = IsSomeAnd (slice_get network.links l) (λ (link : Link). ((link.a ≡ u) × (link.b ≡ v)) ⊎ ((link.a ≡ v) × (link.b ≡ u)))
+Joins network l u v =
+    IsSomeAnd (slice_get network.links l)
+    (λ (link : Link). ((link.a ≡ u) × (link.b ≡ v)) ⊎ ((link.a ≡ v) × (link.b ≡ u)))
 
 -- A set of links has a truth value for each link: this link is in it.
 abbrev pub IsIn : List Bool → ℕ → Type 0
@@ -30,7 +32,8 @@ without set l = slice_set set l false
 -- A walk over a set of links is the list of the links that it goes along, from a node to a node.
 abbrev pub IsWalk : Network → List Bool → ℕ → ℕ → List ℕ → Type 0
 IsWalk network set u v [] = u ≡ v
-IsWalk network set u v (l ∷ walk) = (x : ℕ) × IsIn set l × Joins network l u x × IsWalk network set x v walk
+IsWalk network set u v (l ∷ walk) =
+    (x : ℕ) × IsIn set l × Joins network l u x × IsWalk network set x v walk
 
 -- the sum of its links' costs
 abbrev pub walk_cost : Network → List ℕ → ℕ
@@ -50,4 +53,5 @@ Reaches network set u v = (walk : List ℕ) × IsWalk network set u v walk
 
 -- No link of the set leads out of a side, which has a truth value for each node.
 abbrev pub IsClosed : Network → List Bool → List Bool → Type 0
-IsClosed network set side = (l u v : ℕ) → IsIn set l → Joins network l u v → IsIn side u → IsIn side v
+IsClosed network set side =
+    (l u v : ℕ) → IsIn set l → Joins network l u v → IsIn side u → IsIn side v

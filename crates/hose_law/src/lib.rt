@@ -1,21 +1,29 @@
-//! What the words of provisioning mean: walks, matrices, plans, books and histories, as definitions that the contracts
-//! of every other crate cite, and laws about them. A law is a function that takes no memory and answers nothing.
+//! What the words of provisioning mean: walks, trees, matrices, plans, books and histories, as
+//! definitions that the contracts of every other crate cite, and laws about them. `specs/` has a
+//! file for each word, and needs none of the code. A law is a function that takes no memory and
+//! answers nothing; its clauses are what it says, and no program calls it. Lemmas that other crates
+//! cite are public in `proofs/`.
+//!
+//! ```
+//! law_sold(&top, 0, &entries);
+//! ```
 #![tactic(auto)]
 
 ghost use Rattle.std.specs.Prelude.{◌≡◌, ℕ, ◌≤◌, length, take};
 ghost use Rattle.hose_law.specs.Book.{IsOversold};
-ghost use Rattle.hose_law.specs.CanonicalPlan.{IsCanonicalPlan, IsRoot};
+ghost use Rattle.hose_law.specs.CanonicalPlan.{IsCanonicalPlan, IsRoot, IsWeight};
 ghost use Rattle.hose_law.specs.Decision.{HaveEqualDecisions, HaveEqualGrounds};
 ghost use Rattle.hose_law.specs.History.{IsSound, book_of};
+ghost use Rattle.hose_law.specs.Live.{AreLiveHeld, IsAdmission, StaysLive};
 ghost use Rattle.hose_law.specs.Plan.{plan_cost};
-ghost use Rattle.hose_law.specs.Live.{IsAdmission, StaysLive};
 
 use hose_graph::{Amounts, Entry, Hose, Topology};
 
 /// In a sound history no link is oversold, at any place.
 pub fn law_sold(top: &Topology, e0: u64, h: &[Entry])
     requires { IsSound top.now e0 h.now }
-    ensures { (place l : ℕ) → place ≤ length h.now → IsOversold top.now (book_of e0 (take place h.now)) l → ⊥ }
+    ensures { (place l : ℕ) → place ≤ length h.now
+        → ¬ IsOversold top.now (book_of e0 (take place h.now)) l }
 {}
 
 /// The cost of a plan is the weight of its root.
@@ -24,8 +32,15 @@ pub fn law_weight(top: &Topology, links: &[bool], hose: &Hose, plan: &Amounts)
     ensures { (root : ℕ) × (weight : ℕ) × IsRoot top.now links.now hose.now root weight
         × (plan_cost top.now plan.now ≡ weight) }
 {
+    // That this is a network is told by the call that counts its nodes.
     let _nodes = top.nodes();
 }
+
+/// From a root a hose has one weight at most.
+pub fn law_one_weight(top: &Topology, links: &[bool], hose: &Hose, root: u32)
+    ensures { (one other : ℕ) → IsWeight top.now links.now root hose.now one
+        → IsWeight top.now links.now root hose.now other → one ≡ other }
+{}
 
 /// A VPN is live and unchanged from its admission up to its own release.
 pub fn law_lives(top: &Topology, e0: u64, h: &[Entry], k: u64)
@@ -34,10 +49,17 @@ pub fn law_lives(top: &Topology, e0: u64, h: &[Entry], k: u64)
     ensures { StaysLive e0 h.now k }
 {}
 
+/// At each place of a sound history exactly those VPNs are live that were admitted before it and
+/// that their own customers have not released since, each once and as it was admitted.
+pub fn law_held(top: &Topology, e0: u64, h: &[Entry])
+    requires { IsSound top.now e0 h.now }
+    ensures { (place : ℕ) → place ≤ length h.now → AreLiveHeld e0 h.now place }
+{}
+
 /// Where a hose has equal grounds at two places of a history, it has equal decisions there.
 pub fn law_grounds(top: &Topology, e0: u64, h: &[Entry], i: u64, j: u64, hose: &Hose)
-    requires { HaveEqualGrounds top.now (book_of e0 (take i h.now)) (book_of e0 (take j h.now)) hose.now }
-    ensures { HaveEqualDecisions top.now (book_of e0 (take i h.now)) (book_of e0 (take j h.now)) hose.now }
-{
-    let _nodes = top.nodes();
-}
+    requires { HaveEqualGrounds top.now (book_of e0 (take i h.now)) (book_of e0 (take j h.now))
+        hose.now }
+    ensures { HaveEqualDecisions top.now (book_of e0 (take i h.now)) (book_of e0 (take j h.now))
+        hose.now }
+{}

@@ -1,5 +1,5 @@
-//! Sets of the links of a topology, for the planner and the book: a place for each link, true where the link is in the
-//! set. A contract sees the list of these truth values, in the links' order.
+//! Sets of the links of a topology, for the planner and the book: a place for each link, true where
+//! the link is in the set. A contract sees the list of these truth values, in the links' order.
 //!
 //! ```
 //! let mut links = LinkSet::new(alloc, 3)?;

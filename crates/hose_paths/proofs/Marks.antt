@@ -44,10 +44,10 @@ mark_same P Q old new number to from (inr fails) = inr (λ q. fails.0 (from q), 
 
 -- a link of the set is tight for one of its nodes where a step leads there from its other node
 module _ (network : Network) (set : List Bool) (table : List (Option ℕ)) (number : ℕ) (link : Link) (there : slice_get network.links number ≡ Some link) (in_set : IsIn set number) where
-  abbrev IsEnd : ℕ → Type 0
-  IsEnd v = ((v ≡ link.b) × IsFartherBy table link.a v link.cost) ⊎ ((v ≡ link.a) × IsFartherBy table link.b v link.cost)
+  abbrev IsTightEnd : ℕ → Type 0
+  IsTightEnd v = ((v ≡ link.b) × IsFartherBy table link.a v link.cost) ⊎ ((v ≡ link.a) × IsFartherBy table link.b v link.cost)
 
-  tight_at_end : (v : ℕ) → IsEnd v → IsTightIn network set table v number
+  tight_at_end : (v : ℕ) → IsTightEnd v → IsTightIn network set table v number
   tight_at_end v (inl at_b) =
       record {
         in_set = in_set;
@@ -65,7 +65,7 @@ module _ (network : Network) (set : List Bool) (table : List (Option ℕ)) (numb
         step = subst (IsFartherBy table link.b v) (sym (cost_of_link network number link there)) at_a.1;
       }
 
-  end_if_tight : (v : ℕ) → IsTightIn network set table v number → IsEnd v
+  end_if_tight : (v : ℕ) → IsTightIn network set table v number → IsTightEnd v
   end_if_tight v tight =
       let costs = cost_of_link network number link there in
       let step = subst (IsFartherBy table tight.other v) costs tight.step in
@@ -74,9 +74,9 @@ module _ (network : Network) (set : List Bool) (table : List (Option ℕ)) (numb
         | inr turned ↦ inl (sym turned.1, subst (λ (n : ℕ). IsFartherBy table n v link.cost) (sym turned.0) step)
       ]
 
-  pub mark_by_link : (v : ℕ) (old new : Option ℕ) → IsMark (IsEnd v) old new number → IsMark (IsTightIn network set table v number) old new number
+  pub mark_by_link : (v : ℕ) (old new : Option ℕ) → IsMark (IsTightEnd v) old new number → IsMark (IsTightIn network set table v number) old new number
   mark_by_link v old new mark =
-      mark_same (IsEnd v) (IsTightIn network set table v number) old new number (tight_at_end v) (end_if_tight v) mark
+      mark_same (IsTightEnd v) (IsTightIn network set table v number) old new number (tight_at_end v) (end_if_tight v) mark
 
 -- a link out of the set is tight for no node
 pub mark_passed : (network : Network) (set : List Bool) (table : List (Option ℕ)) (number v : ℕ) (place : Option ℕ) → (¬ IsIn set number)

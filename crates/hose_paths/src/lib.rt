@@ -1,5 +1,6 @@
-//! Rows: the distances of all nodes of a topology from one of them, over a set of its links, and each node's tight link.
-//! The planner takes what makes them by its contract alone, and has the plain maker here.
+//! Rows: the distances of all nodes of a topology from one of them, over a set of its links, and
+//! each node's tight link. The planner takes what makes them by its contract alone, and has the
+//! plain maker here.
 //!
 //! ```
 //! let row = PlainRows::new().row(alloc, &top, &links, root)?;
@@ -7,6 +8,7 @@
 #![tactic(auto)]
 
 ghost use Rattle.std.specs.Prelude.{◌≡◌, ◌<◌, IfOk, length};
+ghost use Rattle.hose_graph.specs.Row.{HasBoundedDistances};
 ghost use Rattle.hose_law.specs.Row.{IsRow};
 
 mod plain;
@@ -31,5 +33,6 @@ pub trait RowMaker {
     ) -> Result<Row, AllocError>
         requires places { length links.now ≡ length top.now.links }
         requires is_node { root < length top.now.nodes }
-        ensures { IfOk result (IsRow top.now links.now root) };
+        ensures row { IfOk result (IsRow top.now links.now root) }
+        ensures bounded { IfOk result HasBoundedDistances };
 }

@@ -12,7 +12,7 @@ use Rattle.hose_law.specs.Row.{IsRow}
 use Rattle.hose_law.specs.Walk.{IsDistance}
 use Rattle.hose_law.proofs.Rows.{row_has_distance}
 use Rattle.hose_root.specs.Choice.{weight_at, IsLowestLeast}
-use Rattle.hose_root.proofs.Weighing.{weight_unique}
+use Rattle.hose_law.proofs.Weights.{weight_unique}
 use Rattle.hose_plan.specs.Rooting.{AreWeights, IsBestRoot}
 
 module _ (network : Network) (set : List Bool) (hose : List (ℕ × ℕ)) (weights : List (Option ℕ)) (are : AreWeights network set hose weights) where
@@ -20,7 +20,7 @@ module _ (network : Network) (set : List Bool) (hose : List (ℕ × ℕ)) (weigh
   weight_there : (v weight : ℕ) → v < length network.nodes → IsWeight network set v hose weight → weight_at weights v ≡ Some weight
   weight_there v weight node is = at (weight_at weights v) refl (are.each v node)
     where
-      at : (found : Option ℕ) → weight_at weights v ≡ found → MatchOption found ((w : ℕ) → IsWeight network set v hose w → ⊥) (IsWeight network set v hose)
+      at : (found : Option ℕ) → weight_at weights v ≡ found → MatchOption found ((w : ℕ) → ¬ IsWeight network set v hose w) (IsWeight network set v hose)
           → weight_at weights v ≡ Some weight
       at None there none = absurd (none weight is)
       at (Some w) there has = there ∙ ap Some (weight_unique network set v hose w weight has is)

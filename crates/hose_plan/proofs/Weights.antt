@@ -4,18 +4,18 @@ use Rattle.std.specs.Option.{IfSome, MatchOption}
 use Rattle.std.proofs.lemmas.List.{get_or-replicate, get_or_default, length-replicate, take_more}
 use Rattle.std.proofs.lemmas.Nat.{mul-le}
 use Rattle.hose_graph.specs.Network.{Network}
-use Rattle.hose_graph.specs.Row.{Distances, distance_of}
+use Rattle.hose_graph.specs.declared.limits.TheConstants.{MOST_DISTANCE, MOST_RATE}
+use Rattle.hose_graph.specs.Row.{Distances, HasBoundedDistances, IsWithinReach, distance_of}
 use Rattle.hose_law.specs.CanonicalPlan.{IsWeight}
 use Rattle.hose_law.specs.Row.{IsRow}
 use Rattle.hose_law.specs.Walk.{IsDistance, Reaches}
 use Rattle.hose_law.proofs.Distances.{distance_back}
 use Rattle.hose_law.proofs.Walks.{reaches_back}
 use Rattle.hose_root.specs.Choice.{weight_at}
-use Rattle.hose_root.specs.Weight.{IsBounded}
 use Rattle.hose_plan.specs.Rooting.{AreWeights, AreLight, heavier, most_share}
 
 module _ (network : Network) (set : List Bool) where
-  -- an endpoint more, behind the others, weighs its rate times its distance
+  -- an endpoint more, after the others, weighs its rate times its distance
   weight_push : (v : ℕ) (ends : List (ℕ × ℕ)) (end : ℕ × ℕ) (weight distance : ℕ) → IsWeight network set v ends weight → IsDistance network set v end.0 distance
       → IsWeight network set v (ends ++ end ∷ []) (weight + end.1 * distance)
   weight_push v [] end weight distance is far = (distance, 0, far, refl, omega (arith, is))
@@ -76,13 +76,13 @@ module _ (network : Network) (set : List Bool) where
   }
 
 -- a weight that is small, and one more endpoint's share
-light_at : (ends rate : ℕ) → rate ≤ 1000000 → (weight distance : Option ℕ) → IfSome weight (λ w. w ≤ ends * most_share) → IfSome distance (λ d. d ≤ 511000000)
+light_at : (ends rate : ℕ) → rate ≤ MOST_RATE → (weight distance : Option ℕ) → IfSome weight (λ w. w ≤ ends * most_share) → IsWithinReach distance
     → IfSome (heavier weight rate distance) (λ w. w ≤ (ends + 1) * most_share)
 light_at ends rate few None distance small near = tt
 light_at ends rate few (Some weight) None small near = tt
-light_at ends rate few (Some weight) (Some distance) small near = omega (arith, small, mul-le rate distance 1000000 511000000 few near)
+light_at ends rate few (Some weight) (Some distance) small near = omega (arith, small, mul-le rate distance MOST_RATE MOST_DISTANCE few near)
 
-pub light_more : (ends rate : ℕ) → rate ≤ 1000000 → (row : Distances) → IsBounded row → (before after : List (Option ℕ)) → length row.dist ≡ length before → length after ≡ length before
+pub light_more : (ends rate : ℕ) → rate ≤ MOST_RATE → (row : Distances) → HasBoundedDistances row → (before after : List (Option ℕ)) → length row.dist ≡ length before → length after ≡ length before
     → AreLight ends before
     → ((v : ℕ) → v < length before → weight_at after v ≡ heavier (weight_at before v) rate (distance_of row v)) → AreLight (ends + 1) after
 light_more ends rate few row bounded before after places long light each k d below =

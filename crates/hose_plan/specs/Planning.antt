@@ -1,33 +1,46 @@
--- What is decided of a hose at a book, as the planner answers it.
-use Rattle.std.specs.Prelude.{◌≡◌, ℕ, ◌<◌, List, All, length, MatchOption, ⊤}
+-- What is decided of a hose beside loads, as the planner answers it.
+use Rattle.std.specs.Prelude.{◌≡◌, ℕ, ◌<◌, Bool, List, All, length, if◌then◌else◌, ⊤}
 use Rattle.hose_plan.specs.declared.decision.Grounds.{Grounds}
 use Rattle.hose_plan.specs.declared.decision.Decision.{Decision}
 use Rattle.hose_plan.specs.declared.decision.Decision.TheVariants.{Plan, Refused}
+use Rattle.hose_graph.specs.Hose.{Endpoint}
 use Rattle.hose_graph.specs.Network.{Network}
-use Rattle.hose_law.specs.Book.{Book, half_rate}
-use Rattle.hose_law.specs.CanonicalPlan.{IsCanonicalPlan}
-use Rattle.hose_law.specs.Decision.{AreGrounds, Fits, IsPlanned, IsRefused, first_links}
+use Rattle.hose_law.specs.Decision.{AreGrounds, CanBeReserved, IsPlannedOver, IsRefused}
 use Rattle.hose_law.specs.Plan.{plan_cost}
-use Rattle.hose_law.specs.Tree.{IsTreeReservation}
+use Rattle.hose_law.specs.Room.{Room, free_rates, half_rate}
+use Rattle.hose_law.specs.Walk.{all_links}
+use Rattle.hose_plan.specs.Rooting.{IsPlanOver}
+
+-- the room beside loads: the first plan may be made over all links, and each link has free what its
+-- load leaves of its capacity
+abbrev pub room_beside : Network → List ℕ → Room
+room_beside network loads = record { links = all_links network; free = free_rates network loads }
 
 -- these are the grounds of the decision, with the hose's first plan, or none where there is none
-pub record AreGroundsOf (network : Network) (book : Book) (hose : List (ℕ × ℕ)) (grounds : Grounds) : Type 0 where
-  pub first : MatchOption grounds.first
-      ((plan : List (ℕ × ℕ)) → IsCanonicalPlan network (first_links network) hose plan → ⊥)
-      (IsCanonicalPlan network (first_links network) hose)
+pub record AreGroundsOf (network : Network) (room : Room) (hose : List Endpoint)
+    (grounds : Grounds) : Type 0 where
+  pub first : IsPlanOver network room.links hose grounds.first
   pub half : grounds.half ≡ half_rate hose
-  pub rests_on : AreGrounds network book hose grounds.first_fits grounds.safe
+  pub rests_on : AreGrounds network room hose grounds.first_fits grounds.safe
 
--- the decision is this plan at this cost, on these grounds; or a refusal with this side
-abbrev pub IsDecision : Network → Book → List (ℕ × ℕ) → Decision → Type 0
-IsDecision network book hose (Plan grounds amounts cost) =
-    IsPlanned network book hose amounts × (cost ≡ plan_cost network amounts) × AreGroundsOf network book hose grounds
-IsDecision network book hose (Refused side) = IsRefused network book hose side
+-- the links over which grounds allow a plan: those of the first plan where it fits, else the safe
+-- ones
+abbrev pub allowed_links : Room → Grounds → List Bool
+allowed_links room grounds = if grounds.first_fits then room.links else grounds.safe
 
--- a plan reserves what the hose needs on a tree, where that is free
-abbrev pub IsSoundDecision : Network → Book → List (ℕ × ℕ) → Decision → Type 0
-IsSoundDecision network book hose (Plan grounds amounts cost) = IsTreeReservation network hose amounts × Fits network book amounts
-IsSoundDecision network book hose (Refused side) = ⊤
+-- the decision is this plan over the links that are allowed, at this cost and on these grounds; or
+-- a refusal with this side
+abbrev pub IsDecision : Network → Room → List Endpoint → Decision → Type 0
+IsDecision network room hose (Plan grounds amounts cost) =
+    IsPlannedOver network room hose (allowed_links room grounds) amounts
+    × (cost ≡ plan_cost network amounts) × AreGroundsOf network room hose grounds
+IsDecision network room hose (Refused side) = IsRefused network room hose side
+
+-- what it admits can be reserved
+abbrev pub IsSoundDecision : Network → Room → List Endpoint → Decision → Type 0
+IsSoundDecision network room hose (Plan grounds amounts cost) =
+    CanBeReserved network room hose amounts
+IsSoundDecision network room hose (Refused side) = ⊤
 
 -- each node of its side is one of the network
 abbrev pub NamesNodes : Network → Decision → Type 0

@@ -1,14 +1,19 @@
 -- What some endpoints cost from each node, and the root.
 use Rattle.std.specs.Prelude.{◌≡◌, ℕ, ◌+◌, ◌*◌, ◌<◌, ◌≤◌, Bool, List, length, All, Option, None, Some, IfSome, MatchOption}
+use Rattle.hose_graph.specs.declared.limits.TheConstants.{MOST_DISTANCE, MOST_RATE}
+use Rattle.hose_graph.specs.Amounts.{ReservedLink}
+use Rattle.hose_graph.specs.Hose.{Endpoint}
 use Rattle.hose_graph.specs.Network.{Network}
 use Rattle.hose_law.specs.CanonicalPlan.{IsCanonicalPlan, IsRoot, IsWeight}
 use Rattle.hose_root.specs.Choice.{weight_at}
 
 -- each node has the weight of these endpoints, or none where it does not reach them all
-pub record AreWeights (network : Network) (set : List Bool) (ends : List (ℕ × ℕ)) (weights : List (Option ℕ)) : Type 0 where
+pub record AreWeights (network : Network) (set : List Bool) (ends : List Endpoint)
+    (weights : List (Option ℕ)) : Type 0 where
   pub places : length weights ≡ length network.nodes
   pub each : (v : ℕ) → v < length network.nodes
-      → MatchOption (weight_at weights v) ((weight : ℕ) → IsWeight network set v ends weight → ⊥) (IsWeight network set v ends)
+      → MatchOption (weight_at weights v) ((weight : ℕ) → ¬ IsWeight network set v ends weight)
+      (IsWeight network set v ends)
 
 -- a weight with that of an endpoint more, which has this rate and is at this distance
 abbrev pub heavier : Option ℕ → ℕ → Option ℕ → Option ℕ
@@ -18,18 +23,20 @@ heavier (Some weight) rate (Some distance) = Some (weight + rate * distance)
 
 -- the most that an endpoint weighs: the greatest rate at the greatest distance
 abbrev pub most_share : ℕ
-most_share = 511000000000000
+most_share = MOST_RATE * MOST_DISTANCE
 
 -- no weight is more than that of this many endpoints
 abbrev pub AreLight : ℕ → List (Option ℕ) → Type 0
 AreLight ends weights = All (λ weight. IfSome weight (λ w. w ≤ ends * most_share)) weights
 
 -- this is the root of the hose over the set; or no node is
-abbrev pub IsBestRoot : Network → List Bool → List (ℕ × ℕ) → Option ℕ → Type 0
+abbrev pub IsBestRoot : Network → List Bool → List Endpoint → Option ℕ → Type 0
 IsBestRoot network set hose found =
-    MatchOption found ((root weight : ℕ) → IsRoot network set hose root weight → ⊥) (λ root. (weight : ℕ) × IsRoot network set hose root weight)
+    MatchOption found ((root weight : ℕ) → ¬ IsRoot network set hose root weight)
+    (λ root. (weight : ℕ) × IsRoot network set hose root weight)
 
 -- this is the plan of the hose over the set; or there is none
-abbrev pub IsPlanOver : Network → List Bool → List (ℕ × ℕ) → Option (List (ℕ × ℕ)) → Type 0
+abbrev pub IsPlanOver : Network → List Bool → List Endpoint → Option (List ReservedLink) → Type 0
 IsPlanOver network set hose found =
-    MatchOption found ((plan : List (ℕ × ℕ)) → IsCanonicalPlan network set hose plan → ⊥) (IsCanonicalPlan network set hose)
+    MatchOption found ((plan : List ReservedLink) → ¬ IsCanonicalPlan network set hose plan)
+    (IsCanonicalPlan network set hose)

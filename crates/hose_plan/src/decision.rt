@@ -1,15 +1,15 @@
 // The decision on a hose, and its grounds.
 ghost use Rattle.std.specs.Prelude.{IfOk};
 ghost use Rattle.hose_graph.specs.Hose.{IsHose};
-ghost use Rattle.hose_law.specs.Book.{AreLoads, Book};
-ghost use Rattle.hose_law.specs.Decision.{HasFirstFit, first_links};
+ghost use Rattle.hose_law.specs.Decision.{HasFirstFit};
 ghost use Rattle.hose_law.specs.Plan.{AreNodes};
-ghost use Rattle.hose_plan.specs.Planning.{IsDecision, IsSoundDecision, NamesNodes};
+ghost use Rattle.hose_law.specs.Walk.{all_links};
+ghost use Rattle.hose_plan.specs.Planning.{IsDecision, IsSoundDecision, NamesNodes, room_beside};
 ghost use Rattle.hose_plan.specs.Rooting.{IsPlanOver};
 ghost use Rattle.hose_tree.specs.Amounts.{AreCarried};
 
 use crate::canonical::plan;
-use crate::safe::{first_links, safe_links};
+use crate::safe::{all_links, safe_links};
 use hose_graph::{Amounts, Hose, NodeList, Topology};
 use hose_links::LinkSet;
 use hose_paths::RowMaker;
@@ -25,7 +25,8 @@ pub struct Grounds {
     pub half: u64,
     /// Whether the first plan exists, and each of its amounts is at most what its link has free.
     pub first_fits: bool,
-    /// The links that have half of the hose's rates free; no link where the first plan fits, since the others do not matter then.
+    /// The links that have half of the hose's rates free; no link where the first plan fits, since
+    /// the others do not matter then.
     pub safe: LinkSet,
 }
 
@@ -41,14 +42,15 @@ pub enum Decision {
         /// What that costs: the sum of each link's cost per unit times its amount.
         cost: u64,
     },
-    /// It is refused: these are the nodes that its lowest-numbered endpoint reaches over the safe links.
+    /// It is refused: these are the nodes that its lowest-numbered endpoint reaches over the safe
+    /// links.
     Refused {
         side: NodeList,
     },
 }
 
-/// Decides on a hose beside the loads of a topology's links: the first plan where it fits, else the plan over the safe links, else a refusal. There is a
-/// load for each link, at most its capacity.
+/// Decides on a hose beside the loads of a topology's links: the first plan where it fits, else the
+/// plan over the safe links, else a refusal. There is a load for each link, at most its capacity.
 pub fn decide<R: RowMaker>(
     alloc: Global,
     top: &Topology,
@@ -58,14 +60,14 @@ pub fn decide<R: RowMaker>(
 ) -> Result<Decision, AllocError>
     requires loads { AreCarried top.now loads.now }
     requires nodes { AreNodes top.now hose.now }
-    ensures decision { IfOk result (λ decision. (book : Book) → AreLoads top.now book loads.now
-        → IsDecision top.now book hose.now decision) }
-    ensures sound { IfOk result (λ decision. (book : Book) → AreLoads top.now book loads.now
-        → IsSoundDecision top.now book hose.now decision) }
+    ensures decision { IfOk result
+        (IsDecision top.now (room_beside top.now loads.now) hose.now) }
+    ensures sound { IfOk result
+        (IsSoundDecision top.now (room_beside top.now loads.now) hose.now) }
     ensures names { IfOk result (NamesNodes top.now) }
     ensures hose { IfOk result (λ _. IsHose hose.now) }
 {
-    let all = first_links(alloc, top)?;
+    let all = all_links(alloc, top)?;
     let Some(first) = plan(alloc, top, &all, hose, rows)? else {
         return decide_over_safe(alloc, top, loads, hose, None, rows);
     };
@@ -87,7 +89,8 @@ pub fn decide<R: RowMaker>(
     })
 }
 
-// The decision where the first plan does not exist or fit. A plan over the safe links always fits, so there is no second test.
+// The decision where the first plan does not exist or fit. A plan over the safe links always fits,
+// so there is no second test.
 fn decide_over_safe<R: RowMaker>(
     alloc: Global,
     top: &Topology,
@@ -98,12 +101,12 @@ fn decide_over_safe<R: RowMaker>(
 ) -> Result<Decision, AllocError>
     requires loads { AreCarried top.now loads.now }
     requires nodes { AreNodes top.now hose.now }
-    requires first { IsPlanOver top.now (first_links top.now) hose.now first }
-    requires no_fit { (book : Book) → AreLoads top.now book loads.now → HasFirstFit top.now book hose.now → ⊥ }
-    ensures decision { IfOk result (λ decision. (book : Book) → AreLoads top.now book loads.now
-        → IsDecision top.now book hose.now decision) }
-    ensures sound { IfOk result (λ decision. (book : Book) → AreLoads top.now book loads.now
-        → IsSoundDecision top.now book hose.now decision) }
+    requires first { IsPlanOver top.now (all_links top.now) hose.now first }
+    requires no_fit { ¬ HasFirstFit top.now (room_beside top.now loads.now) hose.now }
+    ensures decision { IfOk result
+        (IsDecision top.now (room_beside top.now loads.now) hose.now) }
+    ensures sound { IfOk result
+        (IsSoundDecision top.now (room_beside top.now loads.now) hose.now) }
     ensures names { IfOk result (NamesNodes top.now) }
     ensures hose { IfOk result (λ _. IsHose hose.now) }
 {

@@ -1,4 +1,5 @@
-//! The planner: whether a hose is admitted beside the loads that a network carries, with which plan and at which cost, and on which grounds.
+//! The planner: whether a hose is admitted beside the loads that a network carries, with which plan
+//! and at which cost, and on which grounds.
 //!
 //! ```
 //! match decide(alloc, &top, &loads, &hose, &mut PlainRows::new())? {

@@ -1,14 +1,13 @@
 // The root of a hose: the node from which it costs least.
-ghost use Rattle.std.specs.Prelude.{◌≡◌, ℕ, ◌+◌, ◌*◌, ◌<◌, ◌≤◌, ◌^◌, length, All, IfOk, IfSome};
+ghost use Rattle.std.specs.Prelude.{◌≡◌, ℕ, ◌+◌, ◌-◌, ◌*◌, ◌<◌, ◌≤◌, ◌^◌, length, All, IfOk, IfSome};
 ghost use Rattle.hose_graph.specs.Hose.{IsHose};
 ghost use Rattle.hose_graph.specs.Network.{IsNetwork};
-ghost use Rattle.hose_graph.specs.Row.{distance_of};
+ghost use Rattle.hose_graph.specs.Row.{HasBoundedDistances, IsWithinReach, distance_of};
 ghost use Rattle.hose_law.specs.Plan.{AreNodes};
 ghost use Rattle.hose_plan.specs.Rooting.{AreLight, AreWeights, IsBestRoot, heavier, most_share};
 ghost use Rattle.hose_root.specs.Choice.{weight_at};
-ghost use Rattle.hose_root.specs.Weight.{IsBounded};
 
-use hose_graph::{Hose, Row, Topology};
+use hose_graph::{Hose, MOST_ENDS, MOST_NODES, MOST_RATE, Row, Topology};
 use hose_links::LinkSet;
 use hose_paths::RowMaker;
 use hose_root::choose;
@@ -32,7 +31,8 @@ pub fn best_root<R: RowMaker>(
     Ok(choose(&weights))
 }
 
-// What the hose costs from each node. It is as far from an endpoint to a node as back, so the endpoints' rows give the weights of all nodes.
+// What the hose costs from each node. It is as far from an endpoint to a node as back, so the
+// endpoints' rows give the weights of all nodes.
 fn weights<R: RowMaker>(
     alloc: Global,
     top: &Topology,
@@ -43,7 +43,7 @@ fn weights<R: RowMaker>(
     requires places { length links.now ≡ length top.now.links }
     requires nodes { AreNodes top.now hose.now }
     ensures weights { IfOk result (λ weights. AreWeights top.now links.now hose.now weights.items) }
-    ensures few { IfOk result (λ weights. length weights.items ≤ 512) }
+    ensures few { IfOk result (λ weights. length weights.items ≤ MOST_NODES) }
     ensures network { IsNetwork top.now }
     ensures hose { IsHose hose.now }
 {
@@ -56,12 +56,13 @@ fn weights<R: RowMaker>(
     Ok(weights)
 }
 
-// Adds to each node's weight what an endpoint of this rate costs from there, which is the root of the row.
+// Adds to each node's weight what an endpoint of this rate costs from there, which is the root of
+// the row.
 fn add_row(weights: &mut [Option<u64>], row: &Row, rate: u64)
     requires places { length row.now.dist ≡ length weights.old }
-    requires bounded { IsBounded row.now }
-    requires rate { rate ≤ 1000000 }
-    requires light { AreLight 63 weights.old }
+    requires bounded { HasBoundedDistances row.now }
+    requires rate { rate ≤ MOST_RATE }
+    requires light { AreLight (MOST_ENDS - 1) weights.old }
     ensures places { length weights.new ≡ length weights.old }
     ensures light { (ends : ℕ) → AreLight ends weights.old → AreLight (ends + 1) weights.new }
     ensures each { (v : ℕ) → v < length weights.old
@@ -74,9 +75,9 @@ fn add_row(weights: &mut [Option<u64>], row: &Row, rate: u64)
 
 // A weight and that of an endpoint of this rate at this distance; none where one of both is none.
 fn add(weight: Option<u64>, rate: u64, distance: Option<u64>) -> Option<u64>
-    requires weight { IfSome weight (λ w. w ≤ 63 * most_share) }
-    requires rate { rate ≤ 1000000 }
-    requires distance { IfSome distance (λ d. d ≤ 511000000) }
+    requires weight { IfSome weight (λ w. w ≤ (MOST_ENDS - 1) * most_share) }
+    requires rate { rate ≤ MOST_RATE }
+    requires distance { IsWithinReach distance }
     ensures { result ≡ heavier weight rate distance }
 {
     Some(weight? + rate * distance?)

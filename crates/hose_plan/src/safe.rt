@@ -1,7 +1,8 @@
 // The sets of links over which plans are made.
-ghost use Rattle.std.specs.Prelude.{◌≡◌, ◌≤◌, ◌<◌, ℕ, IfOk, length};
-ghost use Rattle.hose_law.specs.Book.{AreLoads, Book, safe_links};
-ghost use Rattle.hose_law.specs.Decision.{first_links};
+ghost use Rattle.std.specs.Prelude.{◌≡◌, IfOk, length};
+ghost use Rattle.hose_law.specs.Room.{safe_links};
+ghost use Rattle.hose_law.specs.Walk.{all_links};
+ghost use Rattle.hose_plan.specs.Planning.{room_beside};
 ghost use Rattle.hose_tree.specs.Amounts.{AreCarried};
 
 use hose_graph::{Hose, Topology};
@@ -9,9 +10,9 @@ use hose_links::LinkSet;
 use hose_tree::free_rate;
 use std::alloc::{AllocError, Global};
 
-/// The links over which the first plan is made: all.
-pub fn first_links(alloc: Global, top: &Topology) -> Result<LinkSet, AllocError>
-    ensures links { IfOk result (λ links. links ≡ first_links top.now) }
+/// All links, over which the first plan is made.
+pub fn all_links(alloc: Global, top: &Topology) -> Result<LinkSet, AllocError>
+    ensures links { IfOk result (λ links. links ≡ all_links top.now) }
     ensures places { IfOk result (λ links. length links ≡ length top.now.links) }
 {
     let mut links = LinkSet::new(alloc, top.links())?;
@@ -27,8 +28,8 @@ pub fn safe_links(
     hose: &Hose,
 ) -> Result<LinkSet, AllocError>
     requires loads { AreCarried top.now loads.now }
-    ensures links { IfOk result (λ links. (book : Book) → AreLoads top.now book loads.now
-        → links ≡ safe_links top.now book hose.now) }
+    ensures links { IfOk result
+        (λ links. links ≡ safe_links (room_beside top.now loads.now) hose.now) }
     ensures places { IfOk result (λ links. length links ≡ length top.now.links) }
 {
     let half = hose.total() / 2;

@@ -11,7 +11,8 @@ use hose_paths::PlainRows;
 use std::alloc::Global;
 use std::test::Fail;
 
-// Nodes by their letters, and links by their nodes, their capacity, and their length, which is also the cost.
+// Nodes by their letters, and links by their nodes, their capacity, and their length, which is also
+// the cost.
 #[derive(Clone, Copy)]
 struct Network<'a> {
     nodes: &'a [u8],

@@ -1,27 +1,22 @@
 // The texts of replies on their way to a sink.
-ghost use Rattle.std.specs.Prelude.{◌≡◌, ◌<◌, ℕ, All, OnOk, OnErr, ◌++◌, codes, decimal, length, Some};
+ghost use Rattle.std.specs.Prelude.{◌≡◌, ◌<◌, ◌≤◌, ℕ, All, OnOk, ◌++◌, codes, decimal, length, Some};
 ghost use Rattle.std.specs.List.{flat_map};
-ghost use Rattle.hose_io.specs.Fault.{HasCause};
+ghost use Rattle.hose_io.specs.Count.{one_more};
 ghost use Rattle.hose_io.specs.Gather.{IsAdded};
-ghost use Rattle.hose_io.specs.Stream.{Grows};
-ghost use Rattle.hose_io.specs.Writing.{GrowsInPart};
+ghost use Rattle.hose_io.specs.Writing.{IsPut};
 ghost use Rattle.hose_proto.specs.ReplyText.{NamesPlaces, line_of, reply_text, priced_text, pair_text, node_text, end_text, link_text};
 ghost use Rattle.hose_proto.specs.ReplyWords.{IsOfKind, IsReply};
 ghost use Rattle.hose_words.specs.Words.{words_of};
 
 use hose_graph::{Amounts, Link, Reply, Topology};
-use hose_io::{Failed, Gather, Sink};
+use hose_io::{Failed, GATHER_LIMIT, Gather, Sink};
 
 /// Writes a reply as a line. A line of up to 4,096 bytes is given to the sink as one piece, and none takes memory.
 pub fn put_reply<S: Sink>(sink: &mut S, top: &Topology, reply: &Reply) -> Result<(), Failed>
     requires { NamesPlaces top.now reply.now }
-    ensures ok { OnOk result
-        (Grows (S.content sink.old) (S.content sink.new) (line_of (reply_text top.now reply.now))) }
-    ensures err { OnErr result
-        (GrowsInPart (S.content sink.old) (S.content sink.new) (line_of (reply_text top.now reply.now))) }
-    ensures cause { HasCause (S.faults sink.old) (S.faults sink.new) result }
-    ensures number { S.number sink.new ≡ S.number sink.old }
-    ensures loan { S.loan sink.new ≡ S.loan sink.old }
+    ensures put { IsPut S.Sink sink.old sink.new (line_of (reply_text top.now reply.now)) result }
+    ensures one_piece { length (line_of (reply_text top.now reply.now)) ≤ GATHER_LIMIT
+        → OnOk result (S.pieces sink.new ≡ one_more (S.pieces sink.old)) }
 
     // The words of the text tell this reply again.
     ensures read_again { IsOfKind top.now reply.now

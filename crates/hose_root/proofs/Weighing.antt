@@ -1,27 +1,25 @@
 -- What the sum over a row's distances is of a weight.
 use Rattle.std.proofs.Common.{◌≡◌, ◌≢◌, ◌∙◌, ℕ, zero, suc, ◌+◌, ◌*◌, ◌<◌, ◌≤◌, Bool, List, [], ◌∷◌, Option, None, Some, All, length, get_or, take, refl, sym, ap, subst, inl, inr, arith}
-use Rattle.std.specs.Option.{IfSome, unwrap_or}
+use Rattle.std.specs.Option.{unwrap_or}
 use Rattle.std.proofs.lemmas.Bool.{cases_eq, cases_lt}
 use Rattle.std.proofs.lemmas.List.{get_or-take, get_or_default, length-take, get_or_past}
 use Rattle.std.proofs.lemmas.List.Sums.{sum_by_more, sum_by-cons}
 use Rattle.std.proofs.lemmas.Nat.{mul-le}
 use Rattle.std.proofs.lemmas.Option.{MatchOption-at_some, MatchOption-at_none, none-some}
 use Rattle.hose_graph.specs.Hose.{IsEnd}
-use Rattle.hose_graph.specs.Network.{Network, IsNetwork}
-use Rattle.hose_graph.specs.Row.{Distances, distance_of}
+use Rattle.hose_graph.specs.Network.{Network}
+use Rattle.hose_graph.specs.Row.{Distances, HasBoundedDistances, IsWithinReach, distance_of}
+use Rattle.hose_graph.specs.declared.limits.TheConstants.{MOST_DISTANCE, MOST_RATE}
 use Rattle.hose_law.specs.Row.{IsRow}
 use Rattle.hose_law.specs.Walk.{IsDistance, Reaches}
 use Rattle.hose_law.specs.CanonicalPlan.{IsWeight}
-use Rattle.hose_law.proofs.Distances.{distance_unique}
-use Rattle.hose_law.proofs.Rows.{row_bound}
-use Rattle.hose_root.specs.Weight.{IsBounded, LeavesOut, weight_of}
+use Rattle.hose_root.specs.Weight.{LeavesOut, weight_of}
 
 -- a node's distance is bounded where those of the row are
-bounded_at : (row : Distances) → IsBounded row → (v distance : ℕ) → distance_of row v ≡ Some distance → distance ≤ 511000000
+bounded_at : (row : Distances) → HasBoundedDistances row → (v distance : ℕ) → distance_of row v ≡ Some distance → distance ≤ MOST_DISTANCE
 bounded_at row bounded v distance there = elim (cases_lt v (length row.dist)) [
   | inl below ↦
-      let P : Option ℕ → Type 0 = λ o. IfSome o (λ d. d ≤ 511000000) in
-      subst P there (bounded v None below)
+      subst IsWithinReach there (bounded v None below)
   | inr past ↦ absurd (none-some distance (sym (get_or_past row.dist v None past) ∙ there))
 ]
 
@@ -59,10 +57,10 @@ module _ (row : Distances) (hose : List (ℕ × ℕ)) (i distance : ℕ) (below 
       ]
 
   -- it weighs no more than the greatest rate at the greatest distance
-  pub weight_small : IsBounded row → All IsEnd hose → (get_or hose i (0, 0)).1 * distance ≤ 511000000000000
+  pub weight_small : HasBoundedDistances row → All IsEnd hose → (get_or hose i (0, 0)).1 * distance ≤ MOST_RATE * MOST_DISTANCE
   weight_small bounded within =
       let end = get_or hose i (0, 0) in
-      mul-le end.1 distance 1000000 511000000 (within i (0, 0) below).rate.1 (bounded_at row bounded end.0 distance there)
+      mul-le end.1 distance MOST_RATE MOST_DISTANCE (within i (0, 0) below).rate.1 (bounded_at row bounded end.0 distance there)
 
 -- an endpoint without a distance is left out of all
 pub left_out : (row : Distances) (hose : List (ℕ × ℕ)) (i : ℕ) → i < length hose → distance_of row (get_or hose i (0, 0)).0 ≡ None
@@ -121,27 +119,3 @@ module _ (network : Network) (set : List Bool) (root : ℕ) (row : Distances) (i
         is_weight hose (in_behind end hose are) (λ out. all (behind_left_out end hose out)),
         sum_by-cons weigh end hose ∙ ap (λ (o : Option ℕ). end.1 * unwrap_or o 0 + weight_of row hose) found.1,
       )
-
--- a root has one weight for a hose
-pub weight_unique : (network : Network) (set : List Bool) (root : ℕ) (hose : List (ℕ × ℕ)) (one other : ℕ) → IsWeight network set root hose one
-    → IsWeight network set root hose other → one ≡ other
-weight_unique network set root [] one other is also = is ∙ sym also
-weight_unique network set root (end ∷ hose) one other is also =
-    let distances : is.0 ≡ also.0 = distance_unique network set root end.0 is.0 also.0 is.2 also.2 in
-    let rests : is.1 ≡ also.1 = weight_unique network set root hose is.1 also.1 is.3 also.3 in
-    is.4 ∙ ap (λ (d : ℕ). end.1 * d + is.1) distances ∙ ap (λ (r : ℕ). end.1 * also.0 + r) rests ∙ sym also.4
-
--- the distances of a network's row are bounded
-pub row_is_bounded : (network : Network) → IsNetwork network → (set : List Bool) (root : ℕ) (row : Distances) → IsRow network set root row
-    → IsBounded row
-row_is_bounded network is set root row is_row v d below =
-    subst P (sym (get_or_default row.dist v d None below)) (at (distance_of row v) refl)
-  where
-    P : Option ℕ → Type 0
-    P o = IfSome o (λ d. d ≤ 511000000)
-
-    at : (found : Option ℕ) → distance_of row v ≡ found → IfSome (distance_of row v) (λ d. d ≤ 511000000)
-    at None there = rw there tt
-    at (Some distance) there =
-        let bound = row_bound network is set root row is_row v distance (omega (arith, below, is_row.dist_places)) there in
-        rw there bound

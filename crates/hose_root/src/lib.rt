@@ -1,4 +1,6 @@
-//! Roots of trees: what a hose costs from a root, and which root costs least.
+//! Roots of trees: what a hose costs from a root, and which root costs least. The planner takes
+//! `choose`. `weight` is not on the program's way today, since the planner adds up the endpoints'
+//! rows in place of making a row for each root; it is there for who has the row of a root.
 //!
 //! ```
 //! let weights = [weight(&row_of_a, &hose), weight(&row_of_b, &hose)];
@@ -7,20 +9,21 @@
 #![tactic(auto)]
 
 ghost use Rattle.std.specs.Prelude.{◌≡◌, ℕ, ◌<◌, ◌≤◌, ◌↔◌, Bool, List, None, All, IfSome, IsNone, IsTrue, MatchOption, length};
+ghost use Rattle.hose_graph.specs.Hose.{node_of};
 ghost use Rattle.hose_graph.specs.Network.{Network};
-ghost use Rattle.hose_graph.specs.Row.{distance_of};
+ghost use Rattle.hose_graph.specs.Row.{HasBoundedDistances, distance_of};
 ghost use Rattle.hose_law.specs.CanonicalPlan.{IsWeight};
 ghost use Rattle.hose_law.specs.Row.{IsRow};
 ghost use Rattle.hose_root.specs.Choice.{IsLowestLeast};
-ghost use Rattle.hose_root.specs.Weight.{IsBounded, LeavesOut, weight_of};
+ghost use Rattle.hose_root.specs.Weight.{LeavesOut, weight_of};
 
-use hose_graph::{Hose, Row};
+use hose_graph::{Hose, MOST_NODES, Row};
 
-/// What the hose costs from the row's root: the sum of each endpoint's rate times its distance. None where an endpoint
-/// has no distance.
+/// What the hose costs from the row's root: the sum of each endpoint's rate times its distance.
+/// None where an endpoint has no distance.
 pub fn weight(row: &Row, hose: &Hose) -> Option<u64>
-    requires bounded { IsBounded row.now }
-    requires nodes { All (λ end. end.0 < length row.now.dist) hose.now }
+    requires bounded { HasBoundedDistances row.now }
+    requires nodes { All (λ end. node_of end < length row.now.dist) hose.now }
     ensures none { IsNone result ↔ LeavesOut row.now hose.now }
     ensures sum { IfSome result (λ weight. weight ≡ weight_of row.now hose.now) }
     ensures weight { (network : Network) (set : List Bool) → IsRow network set row.now.root row.now
@@ -46,7 +49,7 @@ fn distance(row: &Row, node: u32) -> Option<u64>
 
 /// The lowest place of the least weight. None where no place has a weight.
 pub fn choose(weights: &[Option<u64>]) -> Option<u32>
-    requires { length weights.now ≤ 512 }
+    requires { length weights.now ≤ MOST_NODES }
     ensures none { IsNone result ↔ All (λ weight. weight ≡ None) weights.now }
     ensures least { IfSome result (IsLowestLeast weights.now) }
 {

@@ -3,13 +3,15 @@ use Rattle.std.proofs.Common.{◌≡◌, ◌∙◌, ℕ, ◌+◌, ◌^◌, ◌�
 use Rattle.std.specs.List.{after_first}
 use Rattle.hose_io.specs.declared.source.Source.{Ghosts}
 use Rattle.hose_words.specs.Words.{words_of}
-use Rattle.hose_words.specs.Lines.{Reader, GivesLine, IsNext, is_line_feed}
+use Rattle.hose_words.specs.Lines.{Reader, GivesLine, IsNext, StopsAt, StopsBehindLines, is_line_feed}
 use Rattle.hose_words.specs.Reading.{ReadsOn, WhereTold}
 use Rattle.hose_words.specs.declared.lines.Line.{Line}
 use Rattle.hose_words.specs.declared.lines.Line.TheVariants.{Text, Long}
 use Rattle.hose_words.specs.declared.lines.LineFault.{LineFault}
-use Rattle.hose_words.proofs.OnReading.{ReadsOn-next, ReadsOn-start, ReadsOn-then, WhereTold-map, WhereTold-same, WhereTold-then}
+use Rattle.hose_words.proofs.OnReading.{ReadsOn-next, ReadsOn-start, ReadsOn-then, WhereTold-both, WhereTold-map, WhereTold-same, WhereTold-then}
 use Rattle.hose_graph.specs.Network.{Network, IsNetwork}
+use Rattle.hose_words.specs.declared.lines.LineFault.TheVariants.{Read, TooLong}
+use Rattle.hose_topo.specs.Reading.{fault_of}
 use Rattle.hose_topo.specs.Taken.{TakesRead, TakesNext}
 use Rattle.hose_topo.specs.TopologyText.{HasLine, AddLines, no_more, no_network, IsTopologyText, IsWrongLine, IsWrongAt}
 use Rattle.hose_topo.specs.declared.line.Taken.{Taken}
@@ -37,6 +39,13 @@ is_wrong (Some (Text shown)) text rest was now word gives takes = inr (inr (word
 left_behind : (read : Option Line) (text rest : List ℕ) → GivesLine read text rest → rest ≡ after_first is_line_feed text
 left_behind None text rest gives = rw (gives.0, gives.1) refl
 left_behind (Some line) text rest gives = gives.2
+
+-- faults of reading are told apart by what they are called
+pub fault_of_is : (one other : LineFault) → fault_of one ≡ fault_of other → one ≡ other
+fault_of_is Read Read is = refl
+fault_of_is Read TooLong is = absurd (cc is)
+fault_of_is TooLong Read is = absurd (cc is)
+fault_of_is TooLong TooLong is = refl
 
 -- ---- how far the reading has come
 
@@ -107,6 +116,20 @@ module _ {S : Type 0} (source : Ghosts S) where
   ended_alone old now new count was next has takes =
       WhereTold-map (source.content old.source) (source.content new.source) _ _ (ended old now new count was next has takes)
       (λ before after text other rest there. (topology_unique (old.pending ++ before) other next rest (new.pending ++ after) there text).0)
+
+  -- the reader met a fault after lines that add to a network
+  pub stopped : (old now new : Reader S) (count : ℕ) (was next : Network) (fault : LineFault) → HasRead old now count was → TakesNext source now new (Err fault) was next → old.fault ≡ None
+      → WhereTold (source.content old.source) (source.content new.source) (λ before after. (network : Network) × (lines : ℕ) × (rest : List ℕ)
+      × AddLines no_network (old.pending ++ before) lines network rest × StopsBehindLines fault (old.pending ++ before) rest after)
+  stopped old now new count was next fault has (Err same, given, takes) none =
+      let before_end = given.before_end (has.fault ∙ none) refl in
+      WhereTold-then (source.content old.source) (source.content now.source) (source.content new.source) has.on.takes.0 _ _ _ has.on.takes.1
+      (WhereTold-both (source.content old.source) (source.content now.source) _ _ has.lines (has.on.whole (has.fault ∙ none) before_end))
+      (given.answer (has.fault ∙ none))
+      (λ before between after lines stops. (was, count, now.pending ++ between, lines.0, (lines.1, subst (λ f. StopsAt f (now.pending ++ between) after) (sym takes.0) stops)))
+  stopped old now new count was next fault has (Ok (Some (Text shown)), given, takes) none = absurd takes
+  stopped old now new count was next fault has (Ok (Some Long), given, takes) none = absurd takes
+  stopped old now new count was next fault has (Ok None, given, takes) none = absurd takes
 
   pub wrong : (old now new : Reader S) (count word : ℕ) (was next : Network) → HasRead old now count was → TakesNext source now new (Ok (Wrong word)) was next
       → WhereTold (source.content old.source) (source.content new.source) (λ before after. IsWrongAt (old.pending ++ before) (count + 1) word (new.pending ++ after))

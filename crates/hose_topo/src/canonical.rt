@@ -1,10 +1,8 @@
 // The canonical text of a topology and its digest.
-ghost use Rattle.std.specs.Prelude.{◌≡◌, ℕ, ◌<◌, List, ◌++◌, OnOk, OnErr, [], codes, length, slice_index_or};
+ghost use Rattle.std.specs.Prelude.{◌≡◌, ℕ, ◌<◌, List, ◌++◌, [], codes, length, slice_index_or};
 ghost use Rattle.std.specs.List.{flat_map};
 ghost use Rattle.sha2.specs.Sha256.{sha256};
-ghost use Rattle.hose_io.specs.Fault.{HasCause};
-ghost use Rattle.hose_io.specs.Stream.{Grows};
-ghost use Rattle.hose_io.specs.Writing.{GrowsInPart};
+ghost use Rattle.hose_io.specs.Writing.{IsPut};
 ghost use Rattle.hose_graph.specs.Network.{IsLink};
 ghost use Rattle.hose_topo.specs.Canonical.{canonical_text, node_line, link_line};
 ghost use Rattle.hose_topo.specs.TopologyText.{IsTopologyText};
@@ -19,13 +17,7 @@ use sha2::{Digest, Sha256};
 /// It takes no memory, and goes out in pieces of up to 4,096 bytes.
 pub fn put_canonical<S: Sink>(sink: &mut S, top: &Topology) -> Result<(), Failed>
     requires some { 0 < length top.now.nodes }
-    ensures ok { OnOk result
-        (Grows (S.content sink.old) (S.content sink.new) (canonical_text top.now)) }
-    ensures err { OnErr result
-        (GrowsInPart (S.content sink.old) (S.content sink.new) (canonical_text top.now)) }
-    ensures cause { HasCause (S.faults sink.old) (S.faults sink.new) result }
-    ensures number { S.number sink.new ≡ S.number sink.old }
-    ensures loan { S.loan sink.new ≡ S.loan sink.old }
+    ensures put { IsPut S.Sink sink.old sink.new (canonical_text top.now) result }
 
     // Whatever follows the text, it is read as this topology.
     ensures reads { (rest : List ℕ) → IsTopologyText (canonical_text top.now ++ rest) top.now rest }

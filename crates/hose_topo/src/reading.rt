@@ -1,6 +1,6 @@
 // A topology's text, line by line.
 ghost use Rattle.std.specs.Prelude.{◌≡◌, ◌⊎◌, ◌↔◌, ℕ, ◌+◌, ◌^◌, ◌<◌, ◌≤◌, List, ◌++◌, length, Some, None, Ok, Err, IfOk};
-ghost use Rattle.hose_io.specs.Fault.{Rose};
+ghost use Rattle.hose_io.specs.Frame.{Rose};
 ghost use Rattle.hose_words.specs.Lines.{StopsBehindLines};
 ghost use Rattle.hose_words.specs.Reading.{ReadsOn, WhereTold};
 ghost use Rattle.hose_words.specs.declared.lines.LineFault.{LineFault};
@@ -35,7 +35,7 @@ pub fn read<S: Source>(alloc: Global, lines: &mut LineReader<S>) -> Result<Topol
         (network : Network) (rest : List ℕ) → IsTopologyText (lines.old.pending ++ before) network rest → ⊥) }
 
     ensures read { result ≡ Err TopoFault.Read → (lines.old.fault ≡ Some LineFault.Read)
-        ⊎ Rose (S.faults lines.old.source) (S.faults lines.new.source) }
+        ⊎ Rose (S.frame lines.old.source) (S.frame lines.new.source) }
     ensures too_long { lines.old.taken ≤ 2 ^ 30
         → ((result ≡ Err TopoFault.TooLong) ↔ (2 ^ 30 < lines.new.taken)) }
     // Whole lines that add to a network were taken, and then bytes that end no line.

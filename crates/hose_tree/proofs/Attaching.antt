@@ -9,13 +9,14 @@ use Rattle.hose_graph.specs.Network.{Network, IsNetwork}
 use Rattle.hose_graph.specs.Row.{Distances, distance_of, tight_link_of}
 use Rattle.hose_law.specs.Walk.{cost_of, Joins, IsIn, IsDistance}
 use Rattle.hose_law.specs.Row.{IsTightLink, IsRow}
-use Rattle.hose_law.specs.Tree.{IsOn}
+use Rattle.hose_law.specs.Tree.{IsOn, step_links, new_nodes}
 use Rattle.hose_law.proofs.Walks.{joins_turned}
 use Rattle.hose_law.proofs.Joined.{joined}
 use Rattle.hose_law.proofs.Distances.{distance_unique}
 use Rattle.hose_law.proofs.Rows.{tight_nearer, tight_not_root, row_has_tight_link, row_leads_nearer, row_tight_link}
-use Rattle.hose_law.proofs.TightWays.{first_or_behind, is_first, is_behind, other_unique, other_nearer, tight_way, on_after}
-use Rattle.hose_tree.specs.Attached.{new_nodes, step_links, IsTightTree, IsAttached, IsNoFarther, IsOnTightWay}
+use Rattle.hose_law.proofs.TightWays.{other_unique, other_nearer, tight_way, on_after}
+use Rattle.hose_tree.specs.Attached.{IsTightTree, IsAttached, IsNoFarther, IsOnTightWay}
+use Rattle.hose_law.proofs.Members.{contains_first, contains_rest, first_or_rest}
 
 -- a node that has a distance is a place of the row
 pub reached_place : (row : Distances) (v : ℕ) → IsSome (distance_of row v) → v < length row.dist
@@ -120,12 +121,12 @@ module _ (network : Network) (is : IsNetwork network) (set_of : List Bool) (root
           tight = All-cons (λ (s : Step). IsTightLink network set_of root s.new s.link) step mid link_is by.is_tree.tight;
           marks = λ u. elim (cases_eq u v) [
             | inl same ↦ (
-              λ in_on. is_first v u (new_nodes mid) (sym same),
+              λ in_on. contains_first v u (new_nodes mid) (sym same),
               λ new. subst (IsIn (set on v true)) (sym same) (get_or-set_same on v true false below),
             )
             | inr differ ↦ (
-              λ in_on. is_behind v u (new_nodes mid) ((by.is_tree.marks u).0 (sym (get_or-set_other on v u true false differ) ∙ in_on)),
-              λ new. elim (first_or_behind v u (new_nodes mid) new) [
+              λ in_on. contains_rest v u (new_nodes mid) ((by.is_tree.marks u).0 (sym (get_or-set_other on v u true false differ) ∙ in_on)),
+              λ new. elim (first_or_rest v u (new_nodes mid) new) [
                 | inl same ↦ absurd (differ (sym same))
                 | inr behind ↦ get_or-set_other on v u true false differ ∙ (by.is_tree.marks u).1 behind
               ],
@@ -134,7 +135,7 @@ module _ (network : Network) (is : IsNetwork network) (set_of : List Bool) (root
         }
 
     nodes : (u : ℕ) → Contains (new_nodes (step ∷ mid)) u → Contains (new_nodes old) u ⊎ IsNoFarther network set_of root u v
-    nodes u new = elim (first_or_behind v u (new_nodes mid) new) [
+    nodes u new = elim (first_or_rest v u (new_nodes mid) new) [
       | inl same ↦ inr (λ d far is_d is_far. omega (
         arith,
         distance_unique network set_of root v d far (subst (λ (n : ℕ). IsDistance network set_of root n d) (sym same) is_d) is_far,
@@ -150,14 +151,14 @@ module _ (network : Network) (is : IsNetwork network) (set_of : List Bool) (root
     ]
 
     links : (m : ℕ) → Contains (step_links (step ∷ mid)) m → Contains (step_links old) m ⊎ IsOnTightWay network set_of root v m
-    links m in_tree = elim (first_or_behind l m (step_links mid) in_tree) [
+    links m in_tree = elim (first_or_rest l m (step_links mid) in_tree) [
       | inl same ↦
           let fall = falls v l other some there joins in
           let rest = tight_way network is set_of root row is_row other fall.0 (is_node other (some_there other fall.0 fall.2)) fall.2 in
-          inr (l ∷ rest.way, (link_is, (other, joins, rest.is_way)), is_first l m rest.way same)
+          inr (l ∷ rest.way, (link_is, (other, joins, rest.is_way)), contains_first l m rest.way same)
       | inr behind ↦ elim (by.links m behind) [
         | inl earlier ↦ inl earlier
-        | inr on_way ↦ inr (l ∷ on_way.0, (link_is, (other, joins, on_way.1)), is_behind l m on_way.0 on_way.2)
+        | inr on_way ↦ inr (l ∷ on_way.0, (link_is, (other, joins, on_way.1)), contains_rest l m on_way.0 on_way.2)
       ]
     ]
 
@@ -165,9 +166,9 @@ module _ (network : Network) (is : IsNetwork network) (set_of : List Bool) (root
     attached_by_step =
         record {
           is_tree = tree;
-          here = inr (is_first v v (new_nodes mid) refl);
+          here = inr (contains_first v v (new_nodes mid) refl);
           keeps = λ u earlier. on_after network is set_of root step mid u (by.keeps u earlier);
           nodes = nodes;
-          keeps_links = λ m earlier. is_behind l m (step_links mid) (by.keeps_links m earlier);
+          keeps_links = λ m earlier. contains_rest l m (step_links mid) (by.keeps_links m earlier);
           links = links;
         }

@@ -4,9 +4,9 @@ use Rattle.std.specs.List.{Any, Contains}
 use Rattle.std.proofs.lemmas.List.{get_or-map, get_or_default, length-map, take_more}
 use Rattle.hose_graph.specs.Network.{Network}
 use Rattle.hose_graph.specs.declared.step.Step.{Step}
-use Rattle.hose_law.specs.Tree.{Grow, IsOn}
+use Rattle.hose_law.specs.Tree.{Grow, IsOn, new_nodes}
 use Rattle.hose_law.specs.Walk.{Joins}
-use Rattle.hose_law.proofs.Trees.{new_nodes, grow_push}
+use Rattle.hose_law.proofs.Trees.{grow_push}
 
 -- a step leads to a node just where it is one of their new nodes
 pub new_from_any : (steps : List Step) (v : ℕ) → Any (λ (step : Step). step.new ≡ v) steps → Contains (new_nodes steps) v

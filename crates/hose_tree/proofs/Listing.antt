@@ -6,7 +6,7 @@ use Rattle.std.proofs.lemmas.List.{length_push, get_or_append_left, get_or_push}
 use Rattle.std.proofs.lemmas.List.Elements.{Contains-push, Contains-append_left, Contains-push_cases, All-push}
 use Rattle.hose_graph.specs.Network.{Network, IsNetwork}
 use Rattle.hose_law.specs.Walk.{IsIn, IsWalk, Reaches}
-use Rattle.hose_law.specs.Plan.{IsSide}
+use Rattle.hose_law.specs.Plan.{IsReachedSet}
 use Rattle.hose_law.specs.Decision.{IsReachedList}
 use Rattle.hose_law.proofs.Joined.{joins_nodes}
 use Rattle.hose_tree.specs.Nodes.{AreNodesBelow}
@@ -73,7 +73,7 @@ reached_below network set u v is_network inside reach = along u reach.0 inside r
 
 -- the list of a side is the list of what is reached
 pub reached_list : (network : Network) (set : List Bool) (from : ℕ) (side : List Bool) (nodes : List ℕ) → IsNetwork network → from < length network.nodes
-    → IsSide network set from side → AreNodesBelow side (length side) nodes → IsReachedList network set from nodes
+    → IsReachedSet network set from side → AreNodesBelow side (length side) nodes → IsReachedList network set from nodes
 reached_list network set from side nodes is_network inside is_side are = record {
   ascending = are.ascending;
   reached = λ v. (

@@ -9,9 +9,10 @@ use Rattle.std.proofs.lemmas.Map.Keys.{IsDistinct-IsPermutation, IsStrictlyIncre
 use Rattle.hose_graph.specs.Ascending.{firsts, IsAscending}
 use Rattle.hose_graph.specs.Network.{Network}
 use Rattle.hose_graph.specs.declared.step.Step.{Step}
-use Rattle.hose_law.specs.Tree.{Growth, IsTree, IsReservation, smaller_side}
-use Rattle.hose_law.proofs.Trees.{step_links, first_or_behind, contains_first, contains_behind, none_in_empty, tree_links_differ}
-use Rattle.hose_tree.specs.Rates.{amount_of}
+use Rattle.hose_law.specs.Tree.{Growth, IsTree, IsReservation, smaller_side, step_links}
+use Rattle.hose_law.proofs.Trees.{tree_links_differ}
+use Rattle.hose_tree.specs.Rates.{reserved_by}
+use Rattle.hose_law.proofs.Members.{contains_first, contains_rest, first_or_rest, none_in_empty}
 
 -- pairs that begin with distinct numbers ascend once they are sorted by those
 ascend_sorted : (pairs sorted : List (ℕ × ℕ)) → IsDistinct eqb (firsts pairs) → IsPermutation pairs sorted → IsNonDecreasingBy (λ (pair : ℕ × ℕ). pair.0) sorted → IsAscending sorted
@@ -26,38 +27,38 @@ ascend_sorted pairs sorted apart moves rises =
 
 module _ (tree : Growth) (hose : List (ℕ × ℕ)) where
   -- the amounts of steps begin with their links
-  firsts_are_links : (steps : List Step) → firsts (map (amount_of tree hose) steps) ≡ step_links steps
+  firsts_are_links : (steps : List Step) → firsts (map (reserved_by tree hose) steps) ≡ step_links steps
   firsts_are_links [] = refl
   firsts_are_links (step ∷ steps) = ap (λ (links : List ℕ). step.link ∷ links) (firsts_are_links steps)
 
   -- a pair is among the amounts of steps just where its link is a step's and its amount the smaller side
-  has_link : (steps : List Step) (l amount : ℕ) → Contains (map (amount_of tree hose) steps) (l, amount) → Contains (step_links steps) l × (amount ≡ smaller_side tree hose l)
+  has_link : (steps : List Step) (l amount : ℕ) → Contains (map (reserved_by tree hose) steps) (l, amount) → Contains (step_links steps) l × (amount ≡ smaller_side tree hose l)
   has_link [] l amount there = absurd (none_in_empty (l, amount) there)
   has_link (step ∷ steps) l amount there =
-      elim (first_or_behind (amount_of tree hose step) (l, amount) (map (amount_of tree hose) steps) there) [
+      elim (first_or_rest (reserved_by tree hose step) (l, amount) (map (reserved_by tree hose) steps) there) [
         | inl same ↦
             let link : step.link ≡ l = ap (λ (pair : ℕ × ℕ). pair.0) same in
             (contains_first step.link l (step_links steps) link, sym (ap (λ (pair : ℕ × ℕ). pair.1) same) ∙ ap (smaller_side tree hose) link)
         | inr behind ↦
             let rest = has_link steps l amount behind in
-            (contains_behind step.link l (step_links steps) rest.0, rest.1)
+            (contains_rest step.link l (step_links steps) rest.0, rest.1)
       ]
 
-  has_amount : (steps : List Step) (l amount : ℕ) → Contains (step_links steps) l → amount ≡ smaller_side tree hose l → Contains (map (amount_of tree hose) steps) (l, amount)
+  has_amount : (steps : List Step) (l amount : ℕ) → Contains (step_links steps) l → amount ≡ smaller_side tree hose l → Contains (map (reserved_by tree hose) steps) (l, amount)
   has_amount [] l amount there smaller = absurd (none_in_empty l there)
   has_amount (step ∷ steps) l amount there smaller =
-      elim (first_or_behind step.link l (step_links steps) there) [
-        | inl link ↦ contains_first (amount_of tree hose step) (l, amount) (map (amount_of tree hose) steps)
+      elim (first_or_rest step.link l (step_links steps) there) [
+        | inl link ↦ contains_first (reserved_by tree hose step) (l, amount) (map (reserved_by tree hose) steps)
             (ap (λ (n : ℕ). (n, smaller_side tree hose n)) link ∙ ap (λ (n : ℕ). (l, n)) (sym smaller))
-        | inr behind ↦ contains_behind (amount_of tree hose step) (l, amount) (map (amount_of tree hose) steps) (has_amount steps l amount behind smaller)
+        | inr behind ↦ contains_rest (reserved_by tree hose step) (l, amount) (map (reserved_by tree hose) steps) (has_amount steps l amount behind smaller)
       ]
 
-  pub IsReservation-sorted : (network : Network) (pairs sorted : List (ℕ × ℕ)) → IsTree network tree → pairs ≡ map (amount_of tree hose) (reverse tree.steps)
+  pub IsReservation-sorted : (network : Network) (pairs sorted : List (ℕ × ℕ)) → IsTree network tree → pairs ≡ map (reserved_by tree hose) (reverse tree.steps)
       → IsPermutation pairs sorted → IsNonDecreasingBy (λ (pair : ℕ × ℕ). pair.0) sorted → IsReservation tree hose sorted
   IsReservation-sorted network pairs sorted is are moves rises =
-      let amounts = map (amount_of tree hose) tree.steps in
-      let turned : IsPermutation amounts (map (amount_of tree hose) (reverse tree.steps)) =
-      IsPermutation-map (amount_of tree hose) tree.steps (reverse tree.steps) (IsPermutation-reverse tree.steps) in
+      let amounts = map (reserved_by tree hose) tree.steps in
+      let turned : IsPermutation amounts (map (reserved_by tree hose) (reverse tree.steps)) =
+      IsPermutation-map (reserved_by tree hose) tree.steps (reverse tree.steps) (IsPermutation-reverse tree.steps) in
       let all : IsPermutation amounts sorted =
       IsPermutation-trans amounts pairs sorted (subst (IsPermutation amounts) (sym are) turned) moves in
       let apart : IsDistinct eqb (firsts amounts) = subst (IsDistinct eqb) (sym (firsts_are_links tree.steps)) (tree_links_differ network tree is) in

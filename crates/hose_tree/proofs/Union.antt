@@ -8,13 +8,14 @@ use Rattle.hose_graph.specs.Network.{Network, IsNetwork}
 use Rattle.hose_graph.specs.Row.{Distances, distance_of}
 use Rattle.hose_law.specs.Walk.{IsIn, IsWalk}
 use Rattle.hose_law.specs.Row.{IsRow}
-use Rattle.hose_law.specs.Tree.{IsOn}
+use Rattle.hose_law.specs.Tree.{IsOn, step_links}
 use Rattle.hose_law.specs.CanonicalPlan.{IsTightWay, IsOnWay, IsCanonicalTree}
 use Rattle.hose_law.proofs.Joined.{joins_nodes}
 use Rattle.hose_law.proofs.Rows.{row_distance}
-use Rattle.hose_law.proofs.TightWays.{first_or_behind, in_reverse, from_reverse, way_stays}
-use Rattle.hose_tree.specs.Attached.{step_links, IsTightTree, IsAttached}
+use Rattle.hose_law.proofs.TightWays.{in_reverse, from_reverse, way_stays}
+use Rattle.hose_tree.specs.Attached.{IsTightTree, IsAttached}
 use Rattle.hose_tree.proofs.Attaching.{its_distance, is_node}
+use Rattle.hose_law.proofs.Members.{first_or_rest}
 
 -- All these endpoints are on the tree, and each of its links is on the way of one of them.
 pub record HasAttached (network : Network) (set : List Bool) (root : ℕ) (ends : List (ℕ × ℕ)) (steps : List Step) (on : List Bool) : Type 0 where
@@ -80,7 +81,7 @@ module _ (network : Network) (is : IsNetwork network) (set : List Bool) (root : 
   -- the links of a tight way are in the set
   way_in_set : (v l : ℕ) (way : List ℕ) → IsTightWay network set root v way → Contains way l → IsIn set l
   way_in_set v l [] is_way there = absurd (omega (arith, there.1))
-  way_in_set v l (m ∷ way) is_way there = elim (first_or_behind m l way there) [
+  way_in_set v l (m ∷ way) is_way there = elim (first_or_rest m l way there) [
     | inl same ↦ subst (IsIn set) same is_way.0.tight.in_set
     | inr behind ↦ way_in_set is_way.1.0 l way is_way.1.2 behind
   ]

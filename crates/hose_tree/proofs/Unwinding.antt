@@ -6,10 +6,10 @@ use Rattle.hose_graph.specs.Hose.{total_rate}
 use Rattle.hose_graph.specs.Network.{Network, IsNetwork}
 use Rattle.hose_graph.specs.declared.limits.TheConstants.{MOST_NODES}
 use Rattle.hose_graph.specs.declared.step.Step.{Step}
-use Rattle.hose_law.specs.Tree.{Growth, Grow, IsTree, rate_beyond, smaller_side}
+use Rattle.hose_law.specs.Tree.{Growth, Grow, IsTree, rate_beyond, smaller_side, step_links}
 use Rattle.hose_law.proofs.Joined.{joins_nodes}
-use Rattle.hose_law.proofs.Trees.{step_links, moved, rate_up, rate_beyond-le, link_is_new, old_is_not_new, last_beyond, moved_beyond, moved_total, step_amounts-le}
-use Rattle.hose_tree.specs.Rates.{AreRatesOf, amount_of}
+use Rattle.hose_law.proofs.Trees.{moved, rate_up, rate_beyond-le, link_is_new, old_is_not_new, last_beyond, moved_beyond, moved_total, step_amounts-le}
+use Rattle.hose_tree.specs.Rates.{AreRatesOf, reserved_by}
 use Rattle.hose_tree.proofs.Moving.{rates_moved}
 
 -- With these steps left, the last one first: where the rates have moved to, and the amounts of the steps that are off.
@@ -21,7 +21,7 @@ pub record IsUnwound (tree : Growth) (hose : List (ℕ × ℕ)) (left : List Ste
   pub total : total_rate ends ≡ total_rate hose
   pub beyond : (l : ℕ) → Contains (step_links left) l → rate_up left ends l ≡ rate_beyond tree hose l
   pub at_nodes : AreRatesOf ends rates
-  pub amounts : pairs ++ map (amount_of tree hose) left ≡ map (amount_of tree hose) (reverse tree.steps)
+  pub amounts : pairs ++ map (reserved_by tree hose) left ≡ map (reserved_by tree hose) (reverse tree.steps)
 
 -- with no step off yet
 pub unwound_none : (tree : Growth) (hose : List (ℕ × ℕ)) (network : Network) (rates : List ℕ) → IsNetwork network → IsTree network tree → AreRatesOf hose rates
@@ -46,7 +46,7 @@ unwound_last tree hose steps earlier step rates pairs ends_so is =
 
 -- with all steps off
 pub unwound_all : (tree : Growth) (hose : List (ℕ × ℕ)) (left : List Step) (rates : List ℕ) (pairs : List (ℕ × ℕ)) → length left ≡ 0
-    → IsUnwound tree hose (reverse left) rates pairs → pairs ≡ map (amount_of tree hose) (reverse tree.steps)
+    → IsUnwound tree hose (reverse left) rates pairs → pairs ≡ map (reserved_by tree hose) (reverse tree.steps)
 unwound_all tree hose [] rates pairs none is = sym (append-nil pairs) ∙ is.amounts
 unwound_all tree hose (step ∷ left) rates pairs none is = absurd (omega arith)
 
@@ -90,7 +90,7 @@ module _ (tree : Growth) (hose : List (ℕ × ℕ)) (step : Step) (earlier : Lis
   unwound_more after amount places long at_old at_new others smaller =
       let here : amount ≡ smaller_side tree hose step.link =
       smaller ∙ ap (λ (rate : ℕ). min rate (total_rate hose - rate)) (rate_at_new places) in
-      let pair : (step.link, amount) ≡ amount_of tree hose step = ap (λ (n : ℕ). (step.link, n)) here in
+      let pair : (step.link, amount) ≡ reserved_by tree hose step = ap (λ (n : ℕ). (step.link, n)) here in
       record {
         network = is.network;
         is_network = is.is_network;
@@ -100,7 +100,7 @@ module _ (tree : Growth) (hose : List (ℕ × ℕ)) (step : Step) (earlier : Lis
         beyond = λ l there. sym (moved_beyond step earlier is.ends l (λ same. link_apart (subst (Contains (step_links earlier)) (sym same) there)))
             ∙ is.beyond l (suc there.0, omega (arith, there.1), there.2);
         at_nodes = rates_moved step is.ends rates after nodes_differ (omega (arith, old_has_place)) (omega (arith, new_has_place)) is.at_nodes long at_old at_new others;
-        amounts = append_assoc pairs ((step.link, amount) ∷ []) (map (amount_of tree hose) earlier)
-            ∙ ap (λ (p : ℕ × ℕ). pairs ++ p ∷ map (amount_of tree hose) earlier) pair
+        amounts = append_assoc pairs ((step.link, amount) ∷ []) (map (reserved_by tree hose) earlier)
+            ∙ ap (λ (p : ℕ × ℕ). pairs ++ p ∷ map (reserved_by tree hose) earlier) pair
             ∙ is.amounts;
       }

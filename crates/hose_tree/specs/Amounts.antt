@@ -1,18 +1,13 @@
 -- Amounts on the links of a network, and the loads that its links carry.
 use Rattle.std.specs.Prelude.{◌≡◌, ℕ, ◌<◌, ◌≤◌, List, length, All, slice_index}
+use Rattle.hose_graph.specs.Amounts.{ReservedLink, link_of}
 use Rattle.hose_graph.specs.Network.{Network}
 use Rattle.hose_law.specs.Walk.{capacity_of}
 
 -- each amount is on a link of the network
-abbrev pub AreOnLinks : Network → List (ℕ × ℕ) → Type 0
-AreOnLinks network amounts = All (λ (pair : ℕ × ℕ). pair.0 < length network.links) amounts
-
--- how many links a tree can have, and how much a hose can reserve on one of them, which is half of its rates
-abbrev pub most_links : ℕ
-most_links = 511
-
-abbrev pub most_amount : ℕ
-most_amount = 32000000
+abbrev pub AreOnLinks : Network → List ReservedLink → Type 0
+AreOnLinks network amounts =
+    All (λ (pair : ReservedLink). link_of pair < length network.links) amounts
 
 -- there is a load for each link, and none is above its link's capacity
 pub record AreCarried (network : Network) (loads : List ℕ) : Type 0 where

@@ -13,7 +13,8 @@ AllReached network set from side = (v : ℕ) → IsIn side v → Reaches network
 
 -- this link, if it is of the set, does not lead out of the side
 abbrev pub IsClosedAt : Network → List Bool → List Bool → ℕ → Type 0
-IsClosedAt network set side l = (u v : ℕ) → IsIn set l → Joins network l u v → IsIn side u → IsIn side v
+IsClosedAt network set side l =
+    (u v : ℕ) → IsIn set l → Joins network l u v → IsIn side u → IsIn side v
 
 -- nor does any below a number
 abbrev pub IsClosedBelow : Network → List Bool → List Bool → ℕ → Type 0

@@ -1,5 +1,6 @@
 // The tree that joins a hose to the root of a row by shortest walks.
 ghost use Rattle.std.specs.Prelude.{◌≡◌, ℕ, ◌<◌, Bool, List, All, IfOk, IsSome, OnOk, length, reverse};
+ghost use Rattle.hose_graph.specs.Hose.{node_of};
 ghost use Rattle.hose_graph.specs.Network.{IsNetwork};
 ghost use Rattle.hose_graph.specs.Row.{distance_of, tight_link_of};
 ghost use Rattle.hose_law.specs.CanonicalPlan.{IsCanonicalTree};
@@ -15,7 +16,8 @@ use hose_graph::{Hose, Row, Step, Topology};
 use std::alloc::{AllocError, Global};
 
 impl Tree {
-    /// The tree that joins a hose to the root of a row: the union of the endpoints' ways to the root along tight links.
+    /// The tree that joins a hose to the root of a row: the union of the endpoints' ways to the
+    /// root along tight links.
     ///
     /// It starts at the root, which need not be an endpoint.
     pub fn from_row(
@@ -25,7 +27,7 @@ impl Tree {
         hose: &Hose,
     ) -> Result<Tree, AllocError>
         requires is_row { (set : List Bool) × IsRow top.now set row.now.root row.now }
-        requires reaches { All (λ end. IsSome (distance_of row.now end.0)) hose.now }
+        requires reaches { All (λ end. IsSome (distance_of row.now (node_of end))) hose.now }
         ensures { IfOk result (λ tree. (set : List Bool) → IsRow top.now set row.now.root row.now
             → IsCanonicalTree top.now set hose.now row.now.root tree) }
     {
@@ -41,8 +43,8 @@ impl Tree {
     }
 }
 
-// Attaches a node to the tree by steps along its way to the root, as far as that is not on the tree. `on` says to which
-// nodes steps lead.
+// Attaches a node to the tree by steps along its way to the root, as far as that is not on the
+// tree. `on` says to which nodes steps lead.
 fn attach(
     top: &Topology,
     row: &Row,
@@ -56,7 +58,8 @@ fn attach(
     requires places { length on.old ≡ length top.now.nodes }
     ensures { OnOk result ((set : List Bool) → IsRow top.now set row.now.root row.now
         → IsTightTree top.now set row.now.root (reverse steps.old.items) on.old
-        → IsAttached top.now set row.now.root node (reverse steps.old.items) (reverse steps.new.items) on.new) }
+        → IsAttached top.now set row.now.root node
+        (reverse steps.old.items) (reverse steps.new.items) on.new) }
 {
     if on[node as usize] {
         return Ok(());

@@ -1,17 +1,17 @@
 // Whether amounts fit beside loads.
-ghost use Rattle.std.specs.Prelude.{◌≡◌, ◌-◌, ◌<◌, ◌≤◌, ◌↔◌, length, slice_index, All, IsTrue};
-ghost use Rattle.hose_law.specs.Walk.{capacity_of};
+ghost use Rattle.std.specs.Prelude.{◌≡◌, ◌<◌, ◌↔◌, length, slice_index, IsTrue};
+ghost use Rattle.hose_law.specs.Decision.{Fits};
+ghost use Rattle.hose_law.specs.Room.{free_rates};
 ghost use Rattle.hose_tree.specs.Amounts.{AreOnLinks, AreCarried};
 
 use hose_graph::{Amounts, Topology};
 
-/// Whether each amount is at most what its link has free: the link's capacity without the load there. There is a load for
-/// each link of the topology, at most the link's capacity.
+/// Whether each amount is at most what its link has free: the link's capacity without the load
+/// there. There is a load for each link of the topology, at most the link's capacity.
 pub fn fits(top: &Topology, loads: &[u64], amounts: &Amounts) -> bool
     requires loads { AreCarried top.now loads.now }
     requires links { AreOnLinks top.now amounts.now }
-    ensures { IsTrue result
-        ↔ All (λ pair. pair.1 ≤ capacity_of top.now pair.0 - slice_index loads.now pair.0) amounts.now }
+    ensures { IsTrue result ↔ Fits (free_rates top.now loads.now) amounts.now }
 {
     amounts
         .pairs()
@@ -19,11 +19,12 @@ pub fn fits(top: &Topology, loads: &[u64], amounts: &Amounts) -> bool
         .all(|pair| pair.1 <= free_rate(top, loads, pair.0))
 }
 
-/// What a link has free: its capacity without the load there. There is a load for each link of the topology, at most the link's capacity.
+/// What a link has free: its capacity without the load there. There is a load for each link of the
+/// topology, at most the link's capacity.
 pub fn free_rate(top: &Topology, loads: &[u64], link: u32) -> u64
     requires loads { AreCarried top.now loads.now }
     requires link { link < length top.now.links }
-    ensures { result ≡ capacity_of top.now link - slice_index loads.now link }
+    ensures { result ≡ slice_index (free_rates top.now loads.now) link }
 {
     top.link(link).capacity - loads[link as usize]
 }

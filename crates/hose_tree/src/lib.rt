@@ -1,5 +1,14 @@
-//! Trees of links: the one that joins a hose by shortest walks to a root, what a hose reserves on the links of any tree, and what fits.
-//! The planner stands on it.
+//! Trees of links: the one that joins a hose by shortest walks to the root of a row, what a hose
+//! reserves on the links of any tree, what that costs, whether it fits beside loads, and what a
+//! node reaches. The planner stands on it; the ledger uses `cost` to tell a network once more.
+//!
+//! ```
+//! let tree = Tree::from_row(alloc, &top, &row, &hose)?;
+//! let amounts = reservations(alloc, &tree, &hose)?;
+//! if fits(&top, &loads, &amounts) {
+//!     let cost = cost(&top, &amounts);
+//! }
+//! ```
 #![tactic(auto)]
 
 ghost use Rattle.std.specs.Prelude.{◌≡◌};
@@ -52,7 +61,7 @@ impl Tree {
         self.start
     }
 
-    /// The steps, each behind the one that leads to its old node.
+    /// The steps, each after the one that leads to its old node.
     pub fn steps(&self) -> &[Step]
         ensures steps { result.now ≡ self.now.steps }
         ensures is_tree { (network : Network) × IsNetwork network × IsTree network self.now }

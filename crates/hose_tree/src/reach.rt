@@ -1,8 +1,8 @@
 // Which nodes a node reaches over a set of links.
-ghost use Rattle.std.specs.Prelude.{◌≡◌, ℕ, ◌<◌, false, true, length, replicate, All, IfOk, slice_index_or, slice_set};
+ghost use Rattle.std.specs.Prelude.{◌≡◌, ◌≢◌, ℕ, ◌<◌, false, true, length, replicate, All, IfOk, slice_index_or, slice_set};
 ghost use Rattle.hose_graph.specs.Network.{IsNetwork};
 ghost use Rattle.hose_law.specs.Decision.{IsReachedList};
-ghost use Rattle.hose_law.specs.Plan.{IsSide};
+ghost use Rattle.hose_law.specs.Plan.{IsReachedSet};
 ghost use Rattle.hose_law.specs.Walk.{IsIn, IsClosed};
 ghost use Rattle.hose_tree.specs.Nodes.{AreNodesBelow};
 ghost use Rattle.hose_tree.specs.Reach.{count_on, AllReached, IsClosedAt};
@@ -11,7 +11,8 @@ use hose_graph::{NodeList, Topology};
 use hose_links::LinkSet;
 use std::alloc::{AllocError, Global};
 
-/// The nodes that a node reaches over a set of links, itself included, ascending. The set has a place for each link of the topology.
+/// The nodes that a node reaches over a set of links, itself included, ascending. The set has a
+/// place for each link of the topology.
 pub fn reached(
     alloc: Global,
     top: &Topology,
@@ -33,7 +34,7 @@ fn reach_from(top: &Topology, links: &LinkSet, from: u32, side: &mut [bool])
     requires places { length links.now ≡ length top.now.links }
     requires is_node { from < length top.now.nodes }
     requires none { side.old ≡ replicate (length top.now.nodes) false }
-    ensures { IsSide top.now links.now from side.new }
+    ensures { IsReachedSet top.now links.now from side.new }
 {
     side[from as usize] = true;
     spread_all(top, links, side);
@@ -51,7 +52,8 @@ fn spread_all(top: &Topology, links: &LinkSet, side: &mut [bool])
     while spread(top, links, side) {}
 }
 
-// Where one node of a link of the set is on the side, so is the other from now on. Says whether that added a node.
+// Where one node of a link of the set is on the side, so is the other from now on. Says whether
+// that added a node.
 fn spread(top: &Topology, links: &LinkSet, side: &mut [bool]) -> bool
     requires places { length links.now ≡ length top.now.links }
     requires nodes { length side.old ≡ length top.now.nodes }
@@ -91,9 +93,10 @@ fn join(side: &mut [bool], a: usize, b: usize) -> bool
     requires a { a < length side.old }
     requires b { b < length side.old }
     ensures same { result ≡ false → side.new ≡ side.old }
-    ensures alike { result ≡ false → slice_index_or side.old a false ≡ slice_index_or side.old b false }
+    ensures alike { result ≡ false
+        → slice_index_or side.old a false ≡ slice_index_or side.old b false }
     ensures differ { result ≡ true
-        → (slice_index_or side.old a false ≡ slice_index_or side.old b false → ⊥) }
+        → slice_index_or side.old a false ≢ slice_index_or side.old b false }
     ensures both { result ≡ true → side.new ≡ slice_set (slice_set side.old a true) b true }
 {
     if side[a] == side[b] {

@@ -3,18 +3,18 @@ ghost use Rattle.std.specs.Prelude.{◌≡◌, ◌≢◌, ℕ, ◌+◌, ◌<◌,
 ghost use Rattle.hose_graph.specs.Hose.{IsHose};
 ghost use Rattle.hose_graph.specs.Network.{Network};
 ghost use Rattle.hose_law.specs.Tree.{IsTree, JoinsHose, IsReservation};
-ghost use Rattle.hose_tree.specs.Rates.{AreRatesOf, amount_of};
+ghost use Rattle.hose_tree.specs.Rates.{AreRatesOf, reserved_by};
 
 #[cfg(test)]
 mod tests;
 
 use crate::Tree;
-use hose_graph::{Amounts, Hose, MOST_NODES, Step};
+use hose_graph::{Amounts, Endpoint, Hose, MOST_NODES, ReservedLink, Step};
 use std::alloc::{AllocError, Global};
 use std::mem;
 
-/// What a hose reserves on the links of a tree: on each link the rate sum of its smaller side. The tree may start at any
-/// of its nodes, and its steps may come in any order that grows it.
+/// What a hose reserves on the links of a tree: on each link the rate sum of its smaller side. The
+/// tree may start at any of its nodes, and its steps may come in any order that grows it.
 pub fn reservations(alloc: Global, tree: &Tree, hose: &Hose) -> Result<Amounts, AllocError>
     requires joins { JoinsHose tree.now hose.now }
     ensures { IfOk result (IsReservation tree.now hose.now) }
@@ -27,7 +27,7 @@ pub fn reservations(alloc: Global, tree: &Tree, hose: &Hose) -> Result<Amounts, 
 }
 
 // Adds the rates of a hose at its nodes, where none stood.
-fn add_rates(rates: &mut [u64], ends: &[(u32, u64)])
+fn add_rates(rates: &mut [u64], ends: &[Endpoint])
     requires hose { IsHose ends.now }
     requires places { length rates.old ≡ MOST_NODES }
     requires empty { AreRatesOf [] rates.old }
@@ -38,18 +38,18 @@ fn add_rates(rates: &mut [u64], ends: &[(u32, u64)])
     }
 }
 
-// The amounts of the steps' links, the last step's first. Beyond the last step's link lies what is at its new node, and
-// once that has moved to its old node, the same is true of the step before.
+// The amounts of the steps' links, the last step's first. Beyond the last step's link lies what is
+// at its new node, and once that has moved to its old node, the same is true of the step before.
 fn amounts_by_step(
     alloc: Global,
     tree: &Tree,
     hose: &Hose,
     rates: &mut [u64],
-) -> Result<Vec<(u32, u64)>, AllocError>
+) -> Result<Vec<ReservedLink>, AllocError>
     requires places { length rates.old ≡ MOST_NODES }
     requires rates { AreRatesOf hose.now rates.old }
     ensures amounts { IfOk result (λ pairs.
-        pairs.items ≡ map (amount_of tree.now hose.now) (reverse tree.now.steps)) }
+        pairs.items ≡ map (reserved_by tree.now hose.now) (reverse tree.now.steps)) }
     ensures is_tree { (network : Network) × IsTree network tree.now }
 {
     let total = hose.total();
@@ -66,7 +66,8 @@ fn move_rate(rates: &mut [u64], step: &Step) -> u64
     requires old { step.now.old < length rates.old }
     requires new { step.now.new < length rates.old }
     requires differ { step.now.old ≢ step.now.new }
-    requires fits { slice_index rates.old step.now.old + slice_index rates.old step.now.new < 2 ^ 64 }
+    requires fits { slice_index rates.old step.now.old + slice_index rates.old step.now.new
+        < 2 ^ 64 }
     ensures rate { result ≡ slice_index rates.old step.now.new }
     ensures old { slice_index rates.new step.now.old ≡ slice_index rates.old step.now.old + result }
     ensures new { slice_index rates.new step.now.new ≡ 0 }

@@ -1,15 +1,16 @@
 -- How far a call of `next` has come, and what it answers from there.
-use Rattle.std.proofs.Common.{◌≡◌, ◌≢◌, ℕ, ◌+◌, ◌^◌, ◌<◌, ◌≤◌, Bool, true, false, nat_lt, eqb, cond, List, [], ◌∷◌, ◌++◌, length, sym, ap, ◌∙◌, refl, arith, le_trans, inl, inr, ⊎_elim, Option, None, Some, IfSome, OnSome, Ok, Err, MatchBool, All}
+use Rattle.std.proofs.Common.{◌≡◌, ◌≢◌, ℕ, ◌+◌, ◌^◌, ◌<◌, ◌≤◌, Bool, true, false, IsTrue, nat_lt, eqb, cond, List, [], ◌∷◌, ◌++◌, length, sym, ap, ◌∙◌, refl, arith, inl, inr, ⊎_elim, Option, None, Some, IfSome, OnSome, Ok, Err, MatchBool, All, Contains}
 use Rattle.std.specs.Bool.{OnTrue}
 use Rattle.std.specs.List.{position_or_len}
 use Rattle.std.proofs.lemmas.List.{append-nil, append_assoc, length-append, length-drop, nil_from_length}
 use Rattle.std.proofs.lemmas.Bool.{ltb-true, ltb-false, eqb-true, eqb-false, cases_lt}
-use Rattle.hose_io.specs.Fault.{Rose}
+use Rattle.std.proofs.lemmas.List.Elements.{All-contains, Contains-append_left}
+use Rattle.hose_io.proofs.Frames.{Stays-same}
 use Rattle.hose_io.specs.Stream.{Stream, Gives, IsAtEnd}
 use Rattle.hose_io.specs.declared.source.Source.{Ghosts}
 use Rattle.hose_words.specs.Buffer.{CutsLine}
 use Rattle.hose_words.specs.Intake.{found_of, last_of, ShowsFound, TakesBytes, IsTurn}
-use Rattle.hose_words.specs.Lines.{Reader, is_line_feed, GivesLine, IsBehindLines, StopsAt, IsNext}
+use Rattle.hose_words.specs.Lines.{Reader, is_line_feed, GivesLine, IsBehindLines, IsDropped, StopsAt, IsNext}
 use Rattle.hose_words.specs.declared.intake.Found.TheVariants as found
 use Rattle.hose_words.specs.declared.lines.Line.{Line}
 use Rattle.hose_words.specs.declared.lines.LineFault.{LineFault}
@@ -71,10 +72,6 @@ OnSome-line None text rest P gives holds = tt
 OnSome-line (Some l) text rest P gives holds =
     ⊎_elim holds (λ none. absurd (gives.0 (nil_from_length text (omega arith)))) (cases_lt 0 (length text))
 
-risen : {a b c : ℕ} → a ≤ b → Rose b c → Rose a c
-risen low (inl more) = inl (omega arith)
-risen low (inr full) = inr full
-
 -- ---- how far a call has come
 
 module _ {S : Type 0} (source : Ghosts S) where
@@ -92,9 +89,10 @@ module _ {S : Type 0} (source : Ghosts S) where
     pub fault : now.fault ≡ None
     pub ended : now.ended ≡ old.ended
     pub at_end : OnTrue now.ended (IsAtEnd (source.content now.source))
-    pub never_falls : source.faults old.source ≤ source.faults now.source
-    pub number : source.number now.source ≡ source.number old.source
-    pub loan : source.loan now.source ≡ source.loan old.source
+    pub frame : source.frame now.source ≡ source.frame old.source
+    -- nothing was asked for where a line was pending whole, or after the end
+    pub whole_pending : Contains old.pending 10 → now.source ≡ old.source
+    pub after_end : IsTrue old.ended → now.source ≡ old.source
 
   -- no line is pending whole, and what was too long was dropped
   pub record HasPassed (old now : Reader S) (is_long : Bool) : Type 0 where
@@ -121,9 +119,9 @@ module _ {S : Type 0} (source : Ghosts S) where
           fault = fault ∙ h.fault;
           ended = ended ∙ h.ended;
           at_end = rw (source', ended) h.at_end;
-          never_falls = rw source' h.never_falls;
-          number = rw source' h.number;
-          loan = rw source' h.loan;
+          frame = rw source' h.frame;
+          whole_pending = λ line. source' ∙ h.whole_pending line;
+          after_end = λ over. source' ∙ h.after_end over;
         };
         plain = rw drops.1 refl;
         short = rw drops.1 (omega arith);
@@ -144,17 +142,30 @@ module _ {S : Type 0} (source : Ghosts S) where
           fault = fault ∙ h.fault;
           ended = ended ∙ h.ended;
           at_end = rw (source', ended) h.at_end;
-          never_falls = rw source' h.never_falls;
-          number = rw source' h.number;
-          loan = rw source' h.loan;
+          frame = rw source' h.frame;
+          whole_pending = λ line. source' ∙ h.whole_pending line;
+          after_end = λ over. source' ∙ h.after_end over;
         };
         plain = rw kept plain;
         short = rw drops.1 (ltb-false 4096 (length pending) over);
       })
 
-  pub HasCome-more : (old r now : Reader S) (is_long : Bool) → HasPassed old r is_long → TakesBytes source r now
-      → source.faults r.source ≤ source.faults now.source → source.number now.source ≡ source.number r.source → source.loan now.source ≡ source.loan r.source → HasCome old now is_long
-  HasCome-more old r now is_long p t falls number loan =
+  seen : (old r : Reader S) (is_long : Bool) (p : HasPassed old r is_long) → All (λ byte. byte ≢ 10) (old.pending ++ p.come.bytes)
+  seen old r is_long p =
+      All-from_IsPlain (old.pending ++ p.come.bytes) (rw p.come.split (IsPlain-append p.come.dropped r.pending p.come.plain p.plain))
+
+  -- where more is asked for, no line was pending whole
+  none_whole : (old r : Reader S) (is_long : Bool) → HasPassed old r is_long → Contains old.pending 10 → ⊥
+  none_whole old r is_long p line =
+      All-contains (λ byte. byte ≢ 10) _ 10 (seen old r is_long p) (Contains-append_left _ p.come.bytes _ line) refl
+
+  -- a front of a line was dropped, or nothing
+  IsDropped-from : (is_long : Bool) (dropped : List ℕ) → MatchBool is_long (4096 < length dropped) (dropped ≡ []) → IsDropped dropped
+  IsDropped-from true dropped long = inr long
+  IsDropped-from false dropped none = inl none
+
+  pub HasCome-more : (old r now : Reader S) (is_long : Bool) → HasPassed old r is_long → TakesBytes source r now → HasCome old now is_long
+  HasCome-more old r now is_long p t =
       let h = p.come in
       record {
         bytes = h.bytes ++ t.bytes;
@@ -170,16 +181,12 @@ module _ {S : Type 0} (source : Ghosts S) where
         fault = t.fault;
         ended = t.before_end.1 ∙ (sym t.before_end.0 ∙ h.ended);
         at_end = rw t.before_end.1 tt;
-        never_falls = le_trans h.never_falls falls;
-        number = number ∙ h.number;
-        loan = loan ∙ h.loan;
+        frame = t.frame ∙ h.frame;
+        whole_pending = λ line. absurd (none_whole old r is_long p line);
+        after_end = λ over. absurd (cc (over, h.ended, t.before_end.0));
       }
 
   -- ---- what a call answers
-
-  seen : (old r : Reader S) (is_long : Bool) (p : HasPassed old r is_long) → All (λ byte. byte ≢ 10) (old.pending ++ p.come.bytes)
-  seen old r is_long p =
-      All-from_IsPlain (old.pending ++ p.come.bytes) (rw p.come.split (IsPlain-append p.come.dropped r.pending p.come.plain p.plain))
 
   -- what stands before the rest of the text ends with the line feed that was found
   behind_found : (old r now : Reader S) (is_long : Bool) (line : List ℕ) (h : HasCome old r is_long) → CutsLine true r.pending line now.pending
@@ -209,22 +216,23 @@ module _ {S : Type 0} (source : Ghosts S) where
             inr (h.dropped ++ line, behind_found old r now is_long line h cut rest));
         ended = λ false'. sym h.ended ∙ (sym ended ∙ false');
         before_end = λ _ err. absurd (cc err);
-        takes = (h.bytes, gives, taken ∙ h.taken);
+        takes = (h.bytes, gives, taken ∙ h.taken, λ _. tt);
+        whole_pending = λ line. source' ∙ h.whole_pending line;
+        after_end = λ over. source' ∙ h.after_end over;
         limit = omega (arith, taken, h.limit);
         too_long = (λ e. absurd (cc e), λ over. absurd (omega (arith, taken, h.limit)));
         read = λ e. absurd (cc e);
         fault = (h.was, fault ∙ h.fault);
         progress = OnSome-from shown _ (omega (arith, cut.0, ap length cut.2, length-drop (n + 1) r.pending, ap length h.split, length-append old.pending h.bytes, length-append h.dropped r.pending, taken, h.taken));
-        never_falls = rw source' h.never_falls;
-        number = rw source' h.number;
-        loan = rw source' h.loan;
+        stays = Stays-same (rw source' h.frame);
+        unfailed = λ _. rw source' h.frame;
       }
 
   pub IsNext-last : (old r m now : Reader S) (is_long : Bool) (shown : Option Line) → HasPassed old r is_long → IsTurn source r m (Ok false)
       → now ≡ record { source = m.source; pending = []; taken = m.taken; fault = m.fault; ended = m.ended } → ShowsFound (last_of is_long m.pending) m.pending shown → IsNext source old now (Ok shown)
   IsNext-last old r m now is_long shown p turn same shows =
       let h = p.come in
-      let end = turn.cases in
+      let end = turn in
       let whole : IsPlain (h.dropped ++ r.pending) = IsPlain-append h.dropped r.pending h.plain p.plain in
       let all : GivesLine shown (h.dropped ++ r.pending) [] =
       GivesLine-last is_long h.dropped r.pending shown whole h.long (rw end.pending at shows) in
@@ -235,42 +243,44 @@ module _ {S : Type 0} (source : Ghosts S) where
         whole = λ before. absurd (cc (end.ended, before));
         ended = λ before. absurd (cc (end.ended, before));
         before_end = λ _ err. absurd (cc err);
-        takes = (h.bytes, rw end.content h.gives, end.taken ∙ h.taken);
+        takes = (h.bytes, rw end.content h.gives, end.taken ∙ h.taken, λ _. tt);
+        whole_pending = λ line. absurd (none_whole old r is_long p line);
+        after_end = λ over. end.not_asked (h.ended ∙ over) ∙ h.after_end over;
         limit = omega (arith, end.taken, h.limit);
         too_long = (λ e. absurd (cc e), λ over. absurd (omega (arith, end.taken, h.limit)));
         read = λ e. absurd (cc e);
         fault = (h.was, end.fault);
         progress = OnSome-line shown (h.dropped ++ r.pending) [] _ all (λ some. omega (arith, some, ap length h.split, length-append old.pending h.bytes, length-append h.dropped r.pending, end.taken, h.taken));
-        never_falls = le_trans h.never_falls turn.never_falls;
-        number = turn.number ∙ h.number;
-        loan = turn.loan ∙ h.loan;
+        stays = Stays-same (end.frame ∙ h.frame);
+        unfailed = λ _. end.frame ∙ h.frame;
       })
 
   pub IsNext-fault : (old r now : Reader S) (is_long : Bool) (fault : LineFault) → HasPassed old r is_long → IsTurn source r now (Err fault) → IsNext source old now (Err fault)
   IsNext-fault old r now is_long Read p turn =
       let h = p.come in
-      let met = turn.cases in
+      let met = turn in
       let gives : Gives (source.content old.source) (source.content now.source) h.bytes = rw met.0 h.gives in
       record {
         after_fault = rw h.was tt;
         answer = λ _. told (source.content old.source) (source.content now.source) h.bytes (λ before after. StopsAt Read (old.pending ++ before) after) gives (λ rest.
             (old.pending ++ h.bytes, sym (append_assoc old.pending h.bytes rest), seen old r is_long p));
         whole = tt;
-        ended = λ _. sym h.ended ∙ met.4.0;
-        before_end = λ _ _. sym h.ended ∙ met.4.0;
-        takes = (h.bytes, gives, met.1 ∙ h.taken);
+        ended = λ _. sym h.ended ∙ met.6.0;
+        before_end = λ _ _. sym h.ended ∙ met.6.0;
+        whole_pending = λ line. absurd (none_whole old r is_long p line);
+        after_end = λ over. absurd (cc (over, h.ended, met.6.0));
+        takes = (h.bytes, gives, met.1 ∙ h.taken, λ _. (h.dropped, IsDropped-from is_long h.dropped h.long, rw met.3 h.split));
         limit = omega (arith, met.1, h.limit);
         too_long = (λ e. absurd (cc e), λ over. absurd (omega (arith, met.1, h.limit)));
-        read = λ _. inr (risen h.never_falls met.3);
+        read = λ _. inr (rw h.frame at met.5);
         fault = met.2;
         progress = tt;
-        never_falls = le_trans h.never_falls turn.never_falls;
-        number = turn.number ∙ h.number;
-        loan = turn.loan ∙ h.loan;
+        stays = rw h.frame at met.4;
+        unfailed = λ other. absurd (other refl);
       }
   IsNext-fault old r now is_long TooLong p turn =
       let h = p.come in
-      let met = turn.cases in
+      let met = turn in
       let byte = met.0.0 in
       let all = h.bytes ++ byte ∷ [] in
       let gives = Gives-append _ _ _ h.bytes (byte ∷ []) h.gives met.0.1 in
@@ -279,15 +289,26 @@ module _ {S : Type 0} (source : Ghosts S) where
         answer = λ _. told (source.content old.source) (source.content now.source) all (λ before after. StopsAt TooLong (old.pending ++ before) after) gives (λ rest.
             (byte, (old.pending ++ h.bytes, ap (λ l. old.pending ++ l) (append_assoc h.bytes (byte ∷ []) rest) ∙ sym (append_assoc old.pending h.bytes (byte ∷ rest)), seen old r is_long p)));
         whole = tt;
-        ended = λ _. sym h.ended ∙ met.4.0;
-        before_end = λ _ _. sym h.ended ∙ met.4.0;
-        takes = (all, gives, omega (arith, met.1, met.2, h.taken, length-append h.bytes (byte ∷ [])));
+        ended = λ _. sym h.ended ∙ met.6.0;
+        before_end = λ _ _. sym h.ended ∙ met.6.0;
+        whole_pending = λ line. absurd (none_whole old r is_long p line);
+        after_end = λ over. absurd (cc (over, h.ended, met.6.0));
+        takes = (
+          all,
+          gives,
+          omega (arith, met.1, met.2, h.taken, length-append h.bytes (byte ∷ [])),
+          λ _. (
+            h.dropped,
+            byte,
+            IsDropped-from is_long h.dropped h.long,
+            sym (append_assoc old.pending h.bytes (byte ∷ [])) ∙ (ap (λ l. l ++ byte ∷ []) h.split ∙ (append_assoc h.dropped r.pending (byte ∷ []) ∙ ap (λ l. h.dropped ++ (l ++ byte ∷ [])) (sym met.4))),
+          ),
+        );
         limit = omega (arith, met.2);
         too_long = (λ _. omega (arith, met.2), λ _. refl);
         read = λ e. absurd (cc e);
         fault = met.3;
         progress = tt;
-        never_falls = le_trans h.never_falls turn.never_falls;
-        number = turn.number ∙ h.number;
-        loan = turn.loan ∙ h.loan;
+        stays = Stays-same (met.5 ∙ h.frame);
+        unfailed = λ _. met.5 ∙ h.frame;
       }

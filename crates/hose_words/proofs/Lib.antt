@@ -1,7 +1,14 @@
 pub mod BufferLemmas
 pub mod Coming
 pub mod DecimalLemmas
+pub mod Exits
 pub mod FirstLine
+pub mod Forms
 pub mod Judging
+pub mod Keywords
+pub mod Listing
 pub mod OnReading
+pub mod Passing
+pub mod Spaced
+pub mod Until
 pub mod WordLemmas

@@ -1,6 +1,7 @@
 -- Readings one behind the other, and what is told of them.
-use Rattle.std.proofs.Common.{◌∙◌, ℕ, List, [], ◌∷◌, ◌++◌, Option, None, Some, Result, Ok, Err, inl, inr, refl, sym, subst, ap, arith, le_refl, le_trans, append_assoc, length-append}
+use Rattle.std.proofs.Common.{◌∙◌, ℕ, List, [], ◌∷◌, ◌++◌, Option, None, Some, Result, Ok, Err, inl, inr, refl, sym, subst, ap, arith, append_assoc, length-append}
 use Rattle.hose_io.specs.Stream.{Stream, Gives}
+use Rattle.hose_io.proofs.Frames.{Stays-none, Stays-next}
 use Rattle.hose_io.specs.declared.source.Source.{Ghosts}
 use Rattle.hose_words.specs.Lines.{Reader, IsBehindLines, IsNext}
 use Rattle.hose_words.specs.Reading.{ReadsOn, WhereTold}
@@ -50,10 +51,10 @@ module _ {S : Type 0} (source : Ghosts S) where
     takes = ([], Gives-nil (source.content reader.source), omega arith);
     whole = λ _ _. WhereTold-same (source.content reader.source) _ (λ left. inl refl);
     fault = λ none. none;
+    read = λ read. read;
     ended = λ before. before;
-    never_falls = le_refl _;
-    number = refl;
-    loan = refl;
+    stays = Stays-none (source.frame reader.source);
+    unfailed = λ _. refl;
   }
 
   pub ReadsOn-then : (old mid new : Reader S) → ReadsOn source old mid → ReadsOn source mid new → ReadsOn source old new
@@ -67,28 +68,30 @@ module _ {S : Type 0} (source : Ghosts S) where
         (first.whole (second.fault none) (second.ended before)) (second.whole none before)
         (λ a b c here there. IsBehindLines-then (old.pending ++ a) (mid.pending ++ b) (new.pending ++ c) here there);
     fault = λ none. first.fault (second.fault none);
+    read = λ read. second.read (first.read read);
     ended = λ before. first.ended (second.ended before);
-    never_falls = le_trans first.never_falls second.never_falls;
-    number = second.number ∙ first.number;
-    loan = second.loan ∙ first.loan;
+    stays = Stays-next first.stays second.stays;
+    unfailed = λ other. second.unfailed other ∙ first.unfailed (λ read. other (second.read read));
   }
 
   pub ReadsOn-next : (old new : Reader S) (read : Result (Option Line) LineFault) → IsNext source old new read → ReadsOn source old new
   ReadsOn-next old new (Ok line) next = record {
-    takes = next.takes;
+    takes = (next.takes.0, next.takes.1, next.takes.2);
     whole = λ _. next.whole;
     fault = λ _. next.fault.0;
+    read = λ read. absurd (cc (read, next.fault.0));
     ended = next.ended;
-    never_falls = next.never_falls;
-    number = next.number;
-    loan = next.loan;
+    stays = next.stays;
+    unfailed = λ _. next.unfailed (λ err. absurd (cc err));
   }
   ReadsOn-next old new (Err fault) next = record {
-    takes = next.takes;
+    takes = (next.takes.0, next.takes.1, next.takes.2);
     whole = λ none. absurd (cc (none, next.fault));
     fault = λ none. absurd (cc (none, next.fault));
+    read = λ read.
+        let kept = rw read at next.after_fault in
+        ap (λ (reader : Reader S). reader.fault) kept.1;
     ended = next.ended;
-    never_falls = next.never_falls;
-    number = next.number;
-    loan = next.loan;
+    stays = next.stays;
+    unfailed = λ other. next.unfailed (λ err. other (cc (err, next.fault)));
   }

@@ -3,8 +3,8 @@ use Rattle.std.proofs.Common.{◌≡◌, ℕ, ◌+◌, ◌-◌, ◌<◌, ◌≤�
 use Rattle.std.proofs.Math.Numerals.{one-add}
 use Rattle.std.specs.List.{prefix_len, position_or_len, slice_split, filter, All}
 use Rattle.std.proofs.lemmas.List.{drop_more, drop_all, take_all, length-take-le, take_rest}
-use Rattle.std.proofs.lemmas.List.Sums.{prefix_len-le-length, prefix_len_stops, passes_at_first, fails_before_first}
-use Rattle.std.proofs.lemmas.List.Splits.{slice_split_none, slice_split_first, slice_split-cons_yes}
+use Rattle.std.proofs.lemmas.List.Sums.{prefix_len-le-length, prefix_len_stops, passes_at_first, fails_before_first, count_by-le-length, length-filter}
+use Rattle.std.proofs.lemmas.List.Splits.{slice_split_none, slice_split_first, slice_split-cons_yes, length-slice_split}
 use Rattle.std.proofs.lemmas.Bool.{lt-ltb, cases_lt, cond_both, cond-true}
 use Rattle.hose_words.specs.Words.{words_of}
 
@@ -65,7 +65,7 @@ words_of-none bs none =
     (λ whole. ap words_of (drop_all k bs whole))
     (cases_lt k (length bs))
 
--- the first word, where there is one: the bytes from `from` on are those behind the spaces
+-- the first word, where there is one: the bytes from `from` on are those after the spaces
 pub first_word_is : (bs word rest : List ℕ) (k n : ℕ) → k ≡ prefix_len is_space bs → n ≡ position_or_len is_space (take (length bs - k) (drop k bs)) → 0 < n → word ≡ take n (take (length bs - k) (drop k bs)) → rest ≡ drop n (take (length bs - k) (drop k bs)) → words_of bs ≡ word ∷ words_of rest
 first_word_is bs word rest k n spaces len some front back =
     let here : 0 < position_or_len is_space (drop (prefix_len is_space bs) bs) = rw (← spaces, ← take_rest bs k, ← len) some in
@@ -74,5 +74,11 @@ first_word_is bs word rest k n spaces len some front back =
 pub no_word : (bs : List ℕ) (k n : ℕ) → k ≡ prefix_len is_space bs → n ≡ position_or_len is_space (take (length bs - k) (drop k bs)) → n ≡ 0 → words_of bs ≡ []
 no_word bs k n spaces len none =
     words_of-none bs (rw (← spaces, ← take_rest bs k) (sym len ∙ none))
+
+-- a line has no more words than bytes, and one
+pub few_words : (line : List ℕ) → length (words_of line) ≤ length line + 1
+few_words line =
+    let parts = slice_split is_space line in
+    omega (arith, length-filter is_word parts, count_by-le-length is_word parts, length-slice_split is_space line, count_by-le-length is_space line)
 
 pub ruleset front_bound = prefix_len-le-length

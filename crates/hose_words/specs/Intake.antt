@@ -1,7 +1,7 @@
 -- What a reader keeps beside its source, and what one turn of its loop does.
 use Rattle.std.specs.Prelude.{◌≡◌, ◌+◌, ◌^◌, ◌<◌, ◌≤◌, ℕ, Bool, true, IsTrue, IsFalse, ◌||◌, not, ◌&&◌, ◌==◌, nat_lt, if◌then◌else◌, List, [], ◌∷◌, ◌++◌, length, Option, None, Some, Result, Ok, Err, MatchResult, ⊤}
 use Rattle.std.specs.Bool.{MatchBool}
-use Rattle.hose_io.specs.Fault.{Rose}
+use Rattle.hose_io.specs.Frame.{Rose, Stays}
 use Rattle.hose_io.specs.Stream.{Gives, IsAtEnd}
 use Rattle.hose_io.specs.declared.source.Source.{Ghosts}
 use Rattle.hose_words.specs.declared.intake.Found.{Found}
@@ -60,8 +60,9 @@ module _ {S : Type 0} (source : Ghosts S) (old new : Reader S) where
     pub limit : new.taken ≤ 2 ^ 30
     pub fault : new.fault ≡ None
     pub before_end : IsBeforeEnd
+    pub frame : source.frame new.source ≡ source.frame old.source
 
-  -- the source met its end
+  -- the source met its end, now or before; where it did before, it was not asked
   pub record MeetsEnd : Type 0 where
     pub content : source.content new.source ≡ source.content old.source
     pub at_end : IsAtEnd (source.content old.source)
@@ -69,15 +70,18 @@ module _ {S : Type 0} (source : Ghosts S) (old new : Reader S) where
     pub taken : new.taken ≡ old.taken
     pub fault : new.fault ≡ None
     pub ended : IsTrue new.ended
+    pub frame : source.frame new.source ≡ source.frame old.source
+    pub not_asked : IsTrue old.ended → new.source ≡ old.source
 
   -- a call failed, or the byte past the limit was taken
   abbrev pub MeetsFault : LineFault → Type 0
-  MeetsFault Read = (source.content new.source ≡ source.content old.source) × (new.taken ≡ old.taken) × (new.fault ≡ Some Read) × Rose (source.faults old.source) (source.faults new.source) × IsBeforeEnd
-  MeetsFault TooLong = ((byte : ℕ) × Gives (source.content old.source) (source.content new.source) (byte ∷ [])) × (old.taken ≡ 2 ^ 30) × (new.taken ≡ 2 ^ 30 + 1) × (new.fault ≡ Some TooLong) × IsBeforeEnd
+  MeetsFault Read = (source.content new.source ≡ source.content old.source) × (new.taken ≡ old.taken)
+      × (new.fault ≡ Some Read) × (new.pending ≡ old.pending) × Stays (source.frame old.source) (source.frame new.source)
+      × Rose (source.frame old.source) (source.frame new.source) × IsBeforeEnd
+  MeetsFault TooLong = ((byte : ℕ) × Gives (source.content old.source) (source.content new.source) (byte ∷ []))
+      × (old.taken ≡ 2 ^ 30) × (new.taken ≡ 2 ^ 30 + 1) × (new.fault ≡ Some TooLong) × (new.pending ≡ old.pending)
+      × (source.frame new.source ≡ source.frame old.source) × IsBeforeEnd
 
   -- a turn takes at least one byte, meets the end, or meets a fault
-  pub record IsTurn (result : Result Bool LineFault) : Type 0 where
-    pub cases : MatchResult result (λ more. MatchBool more TakesBytes MeetsEnd) MeetsFault
-    pub never_falls : source.faults old.source ≤ source.faults new.source
-    pub number : source.number new.source ≡ source.number old.source
-    pub loan : source.loan new.source ≡ source.loan old.source
+  abbrev pub IsTurn : Result Bool LineFault → Type 0
+  IsTurn result = MatchResult result (λ more. MatchBool more TakesBytes MeetsEnd) MeetsFault

@@ -1,7 +1,7 @@
 -- Lines of a source, as a reader gives them.
-use Rattle.std.specs.Prelude.{◌≡◌, ◌≢◌, ◌⊎◌, ◌↔◌, ◌+◌, ◌^◌, ◌<◌, ◌≤◌, ℕ, Bool, IsFalse, ◌==◌, List, [], ◌∷◌, ◌++◌, length, All, Option, None, Some, IfSome, OnSome, Result, Err, IsErr, IfOk, MatchResult}
+use Rattle.std.specs.Prelude.{◌≡◌, ◌≢◌, ◌⊎◌, ◌↔◌, ◌+◌, ◌^◌, ◌<◌, ◌≤◌, ℕ, Bool, IsTrue, IsFalse, ◌==◌, List, [], ◌∷◌, ◌++◌, length, All, Contains, ⊤, Option, None, Some, IfSome, OnSome, Result, Err, IsErr, IfOk, MatchResult}
 use Rattle.std.specs.List.{before_first, after_first}
-use Rattle.hose_io.specs.Fault.{Rose}
+use Rattle.hose_io.specs.Frame.{Rose, Stays}
 use Rattle.hose_io.specs.Stream.{Gives}
 use Rattle.hose_io.specs.declared.source.Source.{Ghosts}
 use Rattle.hose_words.specs.declared.lines.Line.{Line}
@@ -48,6 +48,16 @@ StopsAt TooLong text rest = (byte : ℕ) × PassesOver text (byte ∷ rest)
 abbrev pub StopsBehindLines : LineFault → List ℕ → List ℕ → List ℕ → Type 0
 StopsBehindLines fault text behind rest = IsBehindLines text behind × StopsAt fault behind rest
 
+-- a front of a line that was dropped, since the line is too long to be shown; or nothing
+abbrev pub IsDropped : List ℕ → Type 0
+IsDropped front = (front ≡ []) ⊎ (4096 < length front)
+
+-- What is pending after a fault is the line that was being read, but for a front that was dropped. The byte past the limit
+-- is not pending.
+abbrev pub KeepsLine : LineFault → List ℕ → List ℕ → Type 0
+KeepsLine Read line pending = (front : List ℕ) × IsDropped front × (line ≡ front ++ pending)
+KeepsLine TooLong line pending = (front : List ℕ) × (byte : ℕ) × IsDropped front × (line ≡ front ++ (pending ++ byte ∷ []))
+
 -- what a call of `next` does to a reader, and what it answers
 pub record IsNext {S : Type 0} (source : Ghosts S) (old new : Reader S) (result : Result (Option Line) LineFault) : Type 0 where
   -- after a fault the reader stays as it is and answers the same
@@ -63,15 +73,19 @@ pub record IsNext {S : Type 0} (source : Ghosts S) (old new : Reader S) (result 
   pub before_end : old.fault ≡ None → IsErr result → IsFalse old.ended
   -- the source gave these bytes in this call
   pub takes : (bytes : List ℕ) × Gives (source.content old.source) (source.content new.source) bytes × (new.taken ≡ old.taken + length bytes)
+      × (old.fault ≡ None → MatchResult result (λ _. ⊤) (λ fault. KeepsLine fault (old.pending ++ bytes) new.pending))
+  -- a source is asked only where no whole line is pending, and not again after its end
+  pub whole_pending : Contains old.pending 10 → new.source ≡ old.source
+  pub after_end : IsTrue old.ended → new.source ≡ old.source
   pub limit : new.taken ≤ 2 ^ 30 + 1
   -- exactly where the source gave more than 1 GiB
   pub too_long : (result ≡ Err TooLong) ↔ (2 ^ 30 < new.taken)
   -- only where a call failed, now or before
-  pub read : result ≡ Err Read → (old.fault ≡ Some Read) ⊎ Rose (source.faults old.source) (source.faults new.source)
+  pub read : result ≡ Err Read → (old.fault ≡ Some Read) ⊎ Rose (source.frame old.source) (source.frame new.source)
   -- a fault is kept
   pub fault : MatchResult result (λ _. (old.fault ≡ None) × (new.fault ≡ None)) (λ fault. new.fault ≡ Some fault)
   -- each line uses up at least one byte
   pub progress : IfOk result (λ line. OnSome line (length new.pending + old.taken < length old.pending + new.taken))
-  pub never_falls : source.faults old.source ≤ source.faults new.source
-  pub number : source.number new.source ≡ source.number old.source
-  pub loan : source.loan new.source ≡ source.loan old.source
+  pub stays : Stays (source.frame old.source) (source.frame new.source)
+  -- only a call of the source that fails raises its count
+  pub unfailed : result ≢ Err Read → source.frame new.source ≡ source.frame old.source

@@ -1,8 +1,10 @@
 -- What reading lines does to a reader, whatever it reads.
-use Rattle.std.specs.Prelude.{◌≡◌, ℕ, ◌+◌, ◌≤◌, IsFalse, List, ◌++◌, length, Option, None, IfSome}
+use Rattle.std.specs.Prelude.{◌≡◌, ◌≢◌, ℕ, ◌+◌, IsFalse, List, ◌++◌, length, Option, None, Some, IfSome}
+use Rattle.hose_io.specs.Frame.{Stays}
 use Rattle.hose_io.specs.Stream.{Stream, Gives}
 use Rattle.hose_io.specs.declared.source.Source.{Ghosts}
 use Rattle.hose_words.specs.Lines.{Reader, IsBehindLines}
+use Rattle.hose_words.specs.declared.lines.LineFault.TheVariants.{Read}
 
 -- what holds of the bytes that a source had left and those that it has left, where it tells them
 abbrev pub WhereTold : Option Stream → Option Stream → (List ℕ → List ℕ → Type 0) → Type 0
@@ -16,7 +18,8 @@ pub record ReadsOn {S : Type 0} (source : Ghosts S) (old new : Reader S) : Type 
       IsBehindLines (old.pending ++ before) (new.pending ++ after))
   -- a fault is kept, and so is the end
   pub fault : new.fault ≡ None → old.fault ≡ None
+  pub read : old.fault ≡ Some Read → new.fault ≡ Some Read
   pub ended : IsFalse new.ended → IsFalse old.ended
-  pub never_falls : source.faults old.source ≤ source.faults new.source
-  pub number : source.number new.source ≡ source.number old.source
-  pub loan : source.loan new.source ≡ source.loan old.source
+  pub stays : Stays (source.frame old.source) (source.frame new.source)
+  -- only a call of the source that fails raises its count
+  pub unfailed : new.fault ≢ Some Read → source.frame new.source ≡ source.frame old.source

@@ -2,7 +2,7 @@
 ghost use Rattle.std.specs.Prelude.{◌≡◌, ◌+◌, ◌<◌, ◌≤◌, ◌^◌, [], length, take, drop, Ok, IfOk, MatchResult};
 ghost use Rattle.std.specs.Bool.{MatchBool};
 ghost use Rattle.std.specs.List.{position, position_or_len};
-ghost use Rattle.hose_io.specs.Fault.{HasCause};
+ghost use Rattle.hose_io.specs.Frame.{Met};
 ghost use Rattle.hose_io.specs.Stream.{Gives, IsAtEnd};
 ghost use Rattle.hose_words.specs.Lines.{is_line_feed};
 ghost use Rattle.hose_words.specs.Buffer.{CutsLine, Appends};
@@ -118,12 +118,12 @@ impl Buffer {
         requires room { 0 < self.old.room }
         ensures most { IfOk result (λ count. count ≤ most) }
         ensures taken { MatchResult result
-            (λ count. Appends (S.content source.old) (S.content source.new) self.old.pending self.new.pending count)
-            (λ _. (S.content source.new ≡ S.content source.old) × (self.new.pending ≡ self.old.pending)) }
+            (λ count. Appends (S.content source.old) (S.content source.new)
+            self.old.pending self.new.pending count)
+            (λ _. (S.content source.new ≡ S.content source.old)
+            × (self.new.pending ≡ self.old.pending)) }
         ensures none_only_at_end { result ≡ Ok 0 → IsAtEnd (S.content source.old) }
-        ensures cause { HasCause (S.faults source.old) (S.faults source.new) result }
-        ensures number { S.number source.new ≡ S.number source.old }
-        ensures loan { S.loan source.new ≡ S.loan source.old }
+        ensures met { Met (S.frame source.old) (S.frame source.new) result }
     {
         let most = most.min(ROOM - self.end);
         let taken = take_behind(source, &mut self.bytes, self.end, most);
@@ -156,9 +156,7 @@ fn take_behind<S: Source>(
         (λ count. Gives (S.content source.old) (S.content source.new) (take count (drop end bytes.new)))
         (λ _. S.content source.new ≡ S.content source.old) }
     ensures none_only_at_end { result ≡ Ok 0 → IsAtEnd (S.content source.old) }
-    ensures cause { HasCause (S.faults source.old) (S.faults source.new) result }
-    ensures number { S.number source.new ≡ S.number source.old }
-    ensures loan { S.loan source.new ≡ S.loan source.old }
+    ensures met { Met (S.frame source.old) (S.frame source.new) result }
 {
     source.take(&mut bytes[end..end + most])
 }

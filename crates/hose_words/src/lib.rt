@@ -1,12 +1,28 @@
 //! Lines, words and numbers of a stream of bytes, for the readers of the rest of `hosed`.
+//!
+//! A `LineReader` cuts a source into lines, and a `Cursor` reads the words of a line one after the other:
+//!
+//! ```
+//! let mut lines = LineReader::new(source);
+//! while let Some(Line::Text(line)) = lines.next()? {
+//!     let mut words = Cursor::new(line);
+//!     words.expect(b"show")?;
+//!     let id = words.number()?;
+//!     words.finish()?;
+//! }
+//! ```
+//!
+//! Which words a line may have is said by a form (`specs/Form.antt`), part by part as the cursor reads them.
 #![tactic(auto)]
 
 mod buffer;
+mod cursor;
 mod decimal;
 mod intake;
 mod lines;
 mod words;
 
+pub use cursor::{Cursor, Keyword, WrongWord};
 pub use decimal::number;
 pub use lines::{Line, LineFault, LineReader};
 pub use words::{Words, split};

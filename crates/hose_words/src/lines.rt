@@ -3,9 +3,6 @@ ghost use Rattle.std.specs.Prelude.{◌≡◌, ◌≤◌, [], None, false, lengt
 ghost use Rattle.std.specs.Borrow.{sem};
 ghost use Rattle.std.specs.Io.BufRead.{Rests};
 
-#[cfg(test)]
-mod tests;
-
 use crate::intake::Intake;
 use hose_io::Source;
 use std::marker::Model;

@@ -1,9 +1,7 @@
-pub mod Complete
-pub mod LastLine
 pub mod Loads
 pub mod OneReading
 pub mod OneRun
-pub mod Refused
+pub mod Outcomes
 pub mod Releasing
 pub mod Reserved
 pub mod Running

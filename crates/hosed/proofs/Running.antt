@@ -1,63 +1,30 @@
 -- A run as a whole, from its topology and the turns behind it.
-use Rattle.std.proofs.Common.{◌≡◌, ℕ, List, [], ◌++◌, Option, Result, Ok, Err, refl, subst, arith}
-use Rattle.std.specs.Prelude.{IfOk}
+use Rattle.std.proofs.Common.{◌≡◌, ◌≢◌, ◌∙◌, ℕ, List, [], ◌++◌, Option, Some, None, Result, Ok, Err, inl, inr, refl, ap, subst}
 use Rattle.hose_io.specs.Stream.{Stream, Grows}
 use Rattle.hose_io.specs.declared.source.Source.{Ghosts}
 use Rattle.hose_words.specs.Lines.{Reader, StopsBehindLines}
 use Rattle.hose_words.specs.Reading.{WhereTold, ReadsOn}
 use Rattle.hose_words.specs.declared.lines.LineFault.{LineFault}
 use Rattle.hose_words.specs.declared.lines.LineFault.TheVariants as line
-use Rattle.hose_words.proofs.OnReading.{WhereTold-both, WhereTold-map, WhereTold-then}
+use Rattle.hose_words.proofs.OnReading.{IsBehindLines-then, WhereTold-both, WhereTold-map, WhereTold-then}
 use Rattle.hose_graph.specs.Network.{Network, IsNetwork}
 use Rattle.hose_graph.specs.declared.reply.Reply.{Reply}
 use Rattle.hose_law.specs.Script.{ReadLine}
 use Rattle.hose_law.proofs.Lives.{stays_live}
 use Rattle.hose_law.proofs.Sold.{sold}
-use Rattle.hosed.specs.Ending.{IsStatus, status_of_done}
-use Rattle.hosed.specs.Fault.{of_line, of_topology}
-use Rattle.hosed.specs.Run.{HasRun, IsCutOff, IsRun, StopsInTopology, TellsNoNetwork}
-use Rattle.hosed.specs.Serving.{CutsLast, IsAllTaken, IsEndOf, SayLines, ServesUpTo, texts_of}
-use Rattle.hose_topo.specs.Reading.{fault_of}
+use Rattle.hose_io.specs.Frame.{Rose}
+use Rattle.hose_io.specs.declared.sink.Sink.{Ghosts as SinkGhosts}
+use Rattle.hosed.specs.RunOutcome.{RunLeaves}
+use Rattle.hosed.specs.Fault.{of_topology}
+use Rattle.hosed.specs.Run.{HasRun, IsCutOff, IsRun, IsRunUpTo, StopsInTopology, TellsNoNetwork}
+use Rattle.hosed.specs.Serving.{CutsLast, IsAllTaken, IsEndOf, SayLines, Serves, ServesUntil, ServesUpTo, texts_of}
+use Rattle.hose_topo.specs.Reading.{fault_of, KeepsFault}
 use Rattle.hose_topo.specs.TopologyText.{AddLines, IsTopologyText, IsWrongAt, no_network}
 use Rattle.hosed.specs.declared.fault.Fault.{Fault}
 use Rattle.hosed.specs.declared.fault.Fault.TheVariants as fault
 use Rattle.hose_topo.specs.declared.fault.TopoFault.{TopoFault}
 use Rattle.hose_topo.specs.declared.fault.TopoFault.TheVariants.{At, Read, TooLong, Memory}
 use Rattle.hosed.proofs.OneRun.{right_alone}
-
--- a run is told that its topology is wrong at a word only where the reader of topologies said so
-pub wrong_alone : (line word : ℕ) (topology : TopoFault) → fault.Topology line word ≡ of_topology topology → topology ≡ At line word
-wrong_alone line word (At l w) same = cc
-wrong_alone line word Read same = cc
-wrong_alone line word TooLong same = cc
-wrong_alone line word Memory same = cc
-
--- and of a fault of reading only where that was one
-pub line_alone : (topology : TopoFault) (fault : LineFault) → of_line fault ≡ of_topology topology → topology ≡ fault_of fault
-line_alone Read line.Read same = refl
-line_alone Read line.TooLong same = cc
-line_alone TooLong line.Read same = cc
-line_alone TooLong line.TooLong same = refl
-line_alone (At l w) line.Read same = cc
-line_alone (At l w) line.TooLong same = cc
-line_alone Memory line.Read same = cc
-line_alone Memory line.TooLong same = cc
-
-pub same_line : (fault other : LineFault) → of_line fault ≡ of_line other → fault ≡ other
-same_line line.Read line.Read same = refl
-same_line line.Read line.TooLong same = cc
-same_line line.TooLong line.Read same = cc
-same_line line.TooLong line.TooLong same = refl
-
-pub never_write : (topology : TopoFault) → fault.Write ≡ of_topology topology → ⊥
-never_write (At l w) same = cc
-never_write Read same = cc
-never_write TooLong same = cc
-never_write Memory same = cc
-
-pub line_never_writes : (met : LineFault) → of_line met ≡ fault.Write → ⊥
-line_never_writes line.Read same = cc
-line_never_writes line.TooLong same = cc
 
 -- reading stopped inside the topology
 pub stopped_told : {S : Type 0} (source : Ghosts S) (start last : Reader S) (fault : LineFault) → start.pending ≡ []
@@ -135,16 +102,71 @@ cut_of old new network lines replies before after run cuts = record {
   out = cuts.3;
 }
 
-pub ok_so : {T : Type 0} (result : Result T Fault) (A B : Type 0) → IfOk result (λ _. A) → (A → B) → IfOk result (λ _. B)
-ok_so (Ok _) A B holds other = other holds
-ok_so (Err _) A B holds other = tt
+-- ---- what a run leaves
 
--- what was done has one of the program's statuses
-pub status_among : {T : Type 0} (done : Result T Fault) → IsStatus (status_of_done done)
-status_among (Ok _) = (0, omega arith, refl)
-status_among (Err (fault.Words word)) = (1, omega arith, refl)
-status_among (Err (fault.Topology line word)) = (2, omega arith, refl)
-status_among (Err fault.Read) = (3, omega arith, refl)
-status_among (Err fault.Write) = (4, omega arith, refl)
-status_among (Err fault.Memory) = (5, omega arith, refl)
-status_among (Err fault.TooLong) = (6, omega arith, refl)
+-- the reader has no fault of reading where that is not why no topology was read
+pub not_read : (topology : TopoFault) (old new : Option LineFault) → old ≡ None → KeepsFault old new (Err topology) → (topology ≡ Read → ⊥) → new ≢ Some line.Read
+not_read (At l word) old new none kept other read = cc (kept.1, read)
+not_read Read old new none kept other read = other refl
+not_read TooLong old new none kept other read = cc (kept, read)
+not_read Memory old new none kept other read = cc (kept, none, read)
+
+-- where no topology was read
+pub leaves_topology : {S O : Type 0} (T : Type 0) (source : Ghosts S) (sink : SinkGhosts O) (start last : Reader S) (output : O) (topology : TopoFault)
+    → ((line word : ℕ) → topology ≡ At line word → TellsNoNetwork line word (source.content start.source) (source.content last.source))
+    → ((fault : LineFault) → topology ≡ fault_of fault → StopsInTopology fault (source.content start.source) (source.content last.source))
+    → (topology ≡ Read → Rose (source.frame start.source) (source.frame last.source)) → ((topology ≡ Read → ⊥) → source.frame last.source ≡ source.frame start.source)
+    → (topology ≡ Memory → last ≡ start) → RunLeaves source sink start.source last.source output output {T = T} (Err (of_topology topology))
+leaves_topology T source sink start last output (At line word) wrong stopped read unfailed memory = (wrong line word refl, unfailed (λ is. absurd (cc is)), refl)
+leaves_topology T source sink start last output Read wrong stopped read unfailed memory = (inl (stopped line.Read refl, refl), read refl)
+leaves_topology T source sink start last output TooLong wrong stopped read unfailed memory = (inl (stopped line.TooLong refl, refl), unfailed (λ is. absurd (cc is)))
+leaves_topology {S = S} T source sink start last output Memory wrong stopped read unfailed memory =
+    (inl (ap (λ (reader : Reader S). reader.source) (memory refl)), unfailed (λ is. absurd (cc is)), refl)
+
+-- where a topology was read, and then lines were answered
+module _ {S O : Type 0} (source : Ghosts S) (sink : SinkGhosts O) (start middle last : Reader S) (network : Network) (output output' : O) (is : IsNetwork network) (empty : start.pending ≡ [])
+    (text : WhereTold (source.content start.source) (source.content middle.source) (λ input left. IsTopologyText (start.pending ++ input) network (middle.pending ++ left)))
+    (reads : ReadsOn source start middle) (none : middle.fault ≡ None) (more : ReadsOn source middle last) where
+  held_before : source.frame middle.source ≡ source.frame start.source
+  held_before = reads.unfailed (λ read. absurd (cc (none, read)))
+
+  held_over : last.fault ≢ Some line.Read → source.frame last.source ≡ source.frame start.source
+  held_over other = more.unfailed other ∙ held_before
+
+  -- where `stops` says nothing of the text before
+  whatever_before : (stops : List ℕ → List ℕ → Type 0) → WhereTold (source.content start.source) (source.content middle.source) (λ _ _. (behind rest : List ℕ) → stops behind rest → stops behind rest)
+  whatever_before stops = WhereTold-map (source.content start.source) (source.content middle.source) _ _ text (λ _ _ _ _ _ same. same)
+
+  run_until : (fault : LineFault) → ServesUntil source sink middle last output output' network fault
+      → IsRunUpTo fault (source.content start.source) (source.content last.source) (sink.content output) (sink.content output')
+  run_until fault served =
+      let joins = WhereTold-map (source.content start.source) (source.content middle.source) _
+      (λ input left. (behind rest : List ℕ) → StopsBehindLines fault (middle.pending ++ left) behind rest → StopsBehindLines fault (start.pending ++ input) behind rest)
+      (reads.whole none served.before_end)
+      (λ input left lines behind rest stops. (IsBehindLines-then (start.pending ++ input) (middle.pending ++ left) behind lines stops.0, stops.1)) in
+      record {
+        network = network;
+        lines = served.serves.lines;
+        replies = served.serves.replies;
+        run = has_run source start middle last network (StopsBehindLines fault) _ empty text reads joins served.serves;
+        out = served.serves.out;
+      }
+
+  pub leaves_served : {T : Type 0} (done : Result T Fault) → Serves source sink middle last output output' network done → RunLeaves source sink start.source last.source output output' done
+  leaves_served (Ok value) served = (
+    run_of (source.content start.source) (source.content last.source) network served.0.lines served.0.replies (sink.content output) (sink.content output') is
+        (has_run source start middle last network IsAllTaken _ empty text reads (whatever_before (IsAllTaken [])) served.0) served.0.out,
+    held_over (λ read. absurd (cc (served.1, read))),
+    served.2,
+  )
+  leaves_served (Err (fault.Words word)) served = absurd served
+  leaves_served (Err (fault.Topology l word)) served = absurd served
+  leaves_served (Err fault.Memory) served = absurd served
+  leaves_served (Err fault.Read) served = (inr (run_until line.Read served.0, served.0.held), rw held_before at served.1)
+  leaves_served (Err fault.TooLong) served = (inr (run_until line.TooLong served, served.held), held_over (λ read. absurd (cc (served.kept, read))))
+  leaves_served (Err fault.Write) served = (
+    cut_of (source.content start.source) (source.content last.source) network served.0.lines served.0.replies (sink.content output) (sink.content output')
+        (has_run source start middle last network IsEndOf _ empty text reads (whatever_before (IsEndOf [])) served.0) served.0.out,
+    held_over (λ read. absurd (cc (served.1, read))),
+    served.2,
+  )

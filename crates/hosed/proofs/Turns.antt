@@ -1,5 +1,5 @@
 -- Turns, one behind another.
-use Rattle.std.proofs.Common.{◌≡◌, ◌≢◌, ℕ, List, [], ◌∷◌, ◌++◌, Option, None, Some, Ok, refl, sym, ◌∙◌, ap, subst, arith, length, length-append, take, append-nil}
+use Rattle.std.proofs.Common.{◌≡◌, ◌≢◌, ◌⊎◌, inl, inr, ℕ, List, [], ◌∷◌, ◌++◌, Option, None, Some, Bool, Result, Ok, Err, false, refl, sym, ◌∙◌, ap, subst, arith, length, length-append, take, append-nil}
 use Rattle.std.proofs.lemmas.List.{nil_from_length}
 use Rattle.std.specs.Prelude.{IfSome, ⊤}
 use Rattle.std.specs.List.{before_first, after_first}
@@ -9,6 +9,10 @@ use Rattle.hose_io.proofs.Streams.{Grows-nil, Grows-append}
 use Rattle.hose_io.specs.Writing.{GrowsInPart}
 use Rattle.hose_words.proofs.OnReading.{WhereTold-both, WhereTold-map, WhereTold-then}
 use Rattle.hose_io.specs.declared.source.Source.{Ghosts}
+use Rattle.hose_io.specs.declared.sink.Sink.{Ghosts as SinkGhosts}
+use Rattle.hose_words.specs.declared.lines.LineFault.TheVariants as line_fault
+use Rattle.hosed.specs.declared.fault.Fault.{Fault}
+use Rattle.hosed.specs.declared.fault.Fault.TheVariants as fault
 use Rattle.hose_words.specs.Grammar.{IsFirstNotAllowed}
 use Rattle.hose_words.specs.Words.{words_of}
 use Rattle.hose_words.specs.Lines.{is_line_feed, Shows, Reader, IsNext, GivesLine, IsBehindLines, StopsBehindLines}
@@ -29,8 +33,10 @@ use Rattle.hose_law.specs.Script.ReadLine.{Asks, IsBad, IsLong, Unread}
 use Rattle.hosed.specs.ScriptLine.{IsAsking, script_grammar}
 use Rattle.hose_words.specs.Reading.{WhereTold, ReadsOn}
 use Rattle.hose_proto.specs.ReplyText.{line_of, reply_text}
+use Rattle.hose_io.specs.Frame.{Rose}
+use Rattle.hosed.specs.Fault.{of_line}
 use Rattle.hosed.specs.Ledger.{Ledger, book_with}
-use Rattle.hosed.specs.Serving.{Says, SaysRead, SayLines, no_line, one_more, AnswersLine, AreAnswered, CutsLast, HasServed, IsAllTaken, IsEndOf, IsOver, MeetsFault, ServesUpTo, TakesTurn, texts_of}
+use Rattle.hosed.specs.Serving.{Says, SaysRead, SayLines, no_line, one_more, AnswersLine, AreAnswered, CutsLast, HasServed, IsAllTaken, IsEndOf, IsOver, MeetsFault, Serves, ServesLine, ServesUntil, ServesUpTo, TakesTurn, texts_of}
 
 -- what a reader shows of a line says what the line says
 pub says_shown : (network : Network) (shown : Line) (bytes : List ℕ) (said : ReadLine) → Shows shown bytes → SaysRead network shown said → Says network bytes said
@@ -70,6 +76,29 @@ turn_of source old new ledger shown reply book network puts next answers same ou
   out = subst (λ (n : Network). puts (line_of (reply_text n reply))) same out;
   progress = next.progress;
 }
+
+-- a fault of reading that was not met before was met now
+pub rose_now : {S : Type 0} (source : Ghosts S) (old new : Reader S) → old.fault ≡ None → (old.fault ≡ Some line_fault.Read) ⊎ Rose (source.frame old.source) (source.frame new.source)
+    → Rose (source.frame old.source) (source.frame new.source)
+rose_now source old new none (inl read) = absurd (cc (none, read))
+rose_now source old new none (inr rose) = rose
+
+met_fault : {S : Type 0} (source : Ghosts S) (old new : Reader S) (met : LineFault) → old.fault ≡ None → IsNext source old new (Err met) → MeetsFault source old new met
+met_fault source old new met none next = record { stops = next.answer none; before_end = next.before_end none refl; kept = next.fault }
+
+-- the same line in other words
+pub as_line : {S O : Type 0} (source : Ghosts S) (sink : SinkGhosts O) (old new : Reader S) (output output' : O) (ledger : Ledger) (next : Book) (network : Network) (result other : Result Bool Fault)
+    → ledger.network ≡ network → result ≡ other → ServesLine source sink old new output output' ledger next result
+    → ServesLine source sink old new output output' (record { network = network; book = ledger.book }) next other
+as_line source sink old new output output' ledger next network result other same is line =
+    subst (λ (n : Network). ServesLine source sink old new output output' (record { network = n; book = ledger.book }) next other) same
+    (subst (λ (r : Result Bool Fault). ServesLine source sink old new output output' ledger next r) is line)
+
+-- reading met a fault
+pub serves_read : {S O : Type 0} (source : Ghosts S) (sink : SinkGhosts O) (old new : Reader S) (output : O) (ledger : Ledger) (book : Book) (met : LineFault) → old.fault ≡ None → IsNext source old new (Err met)
+    → ServesLine source sink old new output output ledger book (Err (of_line met))
+serves_read source sink old new output ledger book line_fault.Read none next = (met_fault source old new line_fault.Read none next, rose_now source old new none (next.read refl), refl)
+serves_read source sink old new output ledger book line_fault.TooLong none next = (met_fault source old new line_fault.TooLong none next, refl)
 
 -- ---- histories that turns lead to
 
@@ -217,16 +246,49 @@ module _ {S : Type 0} (source : Ghosts S) (start now new : Reader S) (network : 
   }
 
   -- reading ended
-  pub served_over : (ledger : Ledger) → HasServed source start now network book first middle → ReadsOn source start now → IsOver source now new ledger next middle last
+  served_over : (ledger : Ledger) → HasServed source start now network book first middle → ReadsOn source start now → IsOver source now new ledger next → last ≡ middle
       → ServesUpTo source start new network IsAllTaken (λ replies. Grows first last (texts_of network replies))
   served_over ledger served reads over = served_up_to (λ _ _. ⊤) IsAllTaken served reads
       (WhereTold-map (source.content start.source) (source.content now.source) _ _ served.said (λ _ _ _. tt))
       (WhereTold-map (source.content now.source) (source.content new.source) _ _ over.ended (λ was left ended text _. (ended.0, behind_nothing new.pending left ended.1)))
-      over.same_output
 
-  -- reading met a fault: the lines before all ended with line feeds, as a source is asked no more behind one that did not
-  pub served_broke : (fault : LineFault) → HasServed source start now network book first middle → ReadsOn source start now → now.fault ≡ None → MeetsFault source now new fault middle last
+  -- reading met a fault: the lines before all ended with line feeds, as a source is asked no more after one that did not
+  served_broke : (fault : LineFault) → HasServed source start now network book first middle → ReadsOn source start now → now.fault ≡ None → MeetsFault source now new fault → last ≡ middle
       → ServesUpTo source start new network (StopsBehindLines fault) (λ replies. Grows first last (texts_of network replies))
   served_broke fault served reads none met = served_up_to IsBehindLines (StopsBehindLines fault) served reads (reads.whole none met.before_end)
       (WhereTold-map (source.content now.source) (source.content new.source) _ _ met.stops (λ was left stops text lines. (lines, stops)))
-      met.same_output
+
+-- ---- what answering lines comes to
+
+module _ {S O : Type 0} (source : Ghosts S) (sink : SinkGhosts O) (start now new : Reader S) (network : Network) (book next : Book) (first middle last : O)
+    (served : HasServed source start now network book (sink.content first) (sink.content middle)) (reads : ReadsOn source start now) (none : now.fault ≡ None) (held : sink.frame middle ≡ sink.frame first) where
+  -- no source that is read without a fault has failed
+  source_held : source.frame now.source ≡ source.frame start.source
+  source_held = reads.unfailed (λ read. absurd (cc (none, read)))
+
+  -- the output is as it was
+  until : (fault : LineFault) → MeetsFault source now new fault → last ≡ middle → ServesUntil source sink start new first last network fault
+  until fault met same = record {
+    serves = served_broke source start now new network book next (sink.content first) (sink.content middle) (sink.content last) fault served reads none met (ap sink.content same);
+    before_end = reads.ended met.before_end;
+    kept = met.kept;
+    held = ap sink.frame same ∙ held;
+  }
+
+  -- a fault ends it
+  pub serves_fault : (T : Type 0) (fault : Fault) → ServesLine source sink now new middle last (record { network = network; book = book }) next (Err fault) → Serves {T = T} source sink start new first last network (Err fault)
+  serves_fault T (fault.Words word) line = absurd line
+  serves_fault T (fault.Topology l word) line = absurd line
+  serves_fault T fault.Memory line = absurd line
+  serves_fault T fault.Read line = (until line_fault.Read line.0 line.2, rw source_held at line.1)
+  serves_fault T fault.TooLong line = until line_fault.TooLong line.0 line.1
+  serves_fault T fault.Write line =
+      (served_cut source start now new network book next (sink.content first) (sink.content middle) (sink.content last) served reads line.0, line.1, rw held at line.2)
+
+  -- no line is left
+  pub serves_all : (T : Type 0) (value : T) → ServesLine source sink now new middle last (record { network = network; book = book }) next (Ok false) → Serves source sink start new first last network (Ok value)
+  serves_all T value line = (
+    served_over source start now new network book next (sink.content first) (sink.content middle) (sink.content last) (record { network = network; book = book }) served reads line.0 (ap sink.content line.2),
+    line.1,
+    ap sink.frame line.2 ∙ held,
+  )

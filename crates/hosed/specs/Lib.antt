@@ -3,5 +3,6 @@ pub mod Fault
 pub mod Ledger
 pub mod ProgramWords
 pub mod Run
+pub mod RunOutcome
 pub mod ScriptLine
 pub mod Serving

@@ -1,10 +1,8 @@
 -- A run from its first byte to its last.
-use Rattle.std.specs.Prelude.{◌≡◌, ◌⊎◌, ℕ, ◌^◌, ◌≤◌, List, [], ◌∷◌, ◌++◌, length, Option, None, Some, ⊤, take}
-use Rattle.hose_io.specs.Fault.{Rose}
+use Rattle.std.specs.Prelude.{◌≡◌, ℕ, ◌^◌, ◌≤◌, List, [], ◌∷◌, ◌++◌, length, Option, None, Some, take}
 use Rattle.hose_io.specs.Stream.{Stream, Grows}
 use Rattle.hose_words.specs.Lines.{StopsBehindLines}
 use Rattle.hose_words.specs.declared.lines.LineFault.{LineFault}
-use Rattle.hose_words.specs.declared.lines.LineFault.TheVariants.{Read, TooLong}
 use Rattle.hose_graph.specs.declared.entry.Entry.{Entry}
 use Rattle.hose_graph.specs.declared.reply.Reply.{Reply}
 use Rattle.hose_graph.specs.Network.{Network}
@@ -17,8 +15,6 @@ use Rattle.hose_words.specs.Reading.{WhereTold}
 use Rattle.hosed.specs.Ending.{GrowsShort}
 use Rattle.hose_proto.specs.ReplyText.{line_of, reply_text}
 use Rattle.hosed.specs.Serving.{IsAllTaken, IsEndOf, SayLines, texts_of}
-use Rattle.hosed.specs.declared.fault.Fault.{Fault}
-use Rattle.hosed.specs.declared.fault.Fault.TheVariants as fault
 
 -- This output is right for this input: the input is the text of a network and then lines, the output is the replies of their script, and none is for want of memory.
 pub record IsRightFor (input output : List ℕ) : Type 0 where
@@ -61,15 +57,6 @@ pub record IsRunUpTo (fault : LineFault) (old new : Option Stream) (before after
   pub run : HasRun old new network lines replies (StopsBehindLines fault)
   pub out : Grows before after (texts_of network replies)
 
--- Reading stopped at a fault behind the topology and whole lines. The output has the replies to these lines and then a last line, whole; or its
--- count of faults rose, and a part of the last line is out behind the replies.
-pub record BreaksOff (fault : LineFault) (old new : Option Stream) (before after : Option (List ℕ)) (faults more_faults : ℕ) (last : List ℕ) : Type 0 where
-  pub network : Network
-  pub lines : List ReadLine
-  pub replies : List Reply
-  pub run : HasRun old new network lines replies (StopsBehindLines fault)
-  pub out : Grows before after (texts_of network replies ++ last) ⊎ (Rose faults more_faults × GrowsShort before after (texts_of network replies) last)
-
 -- The output was cut off in a reply: it has the replies before, and a part of this one. Bytes behind the lines may have been taken.
 pub record IsCutOff (old new : Option Stream) (before after : Option (List ℕ)) : Type 0 where
   pub network : Network
@@ -92,15 +79,6 @@ StopsInTopology fault old new = WhereTold old new (λ input left. (network : Net
 abbrev pub IsRefusedText : Option Stream → Option Stream → Type 0
 IsRefusedText (Some old) (Some new) = (network : Network) (rest : List ℕ) → IsTopologyText old.left network rest → ⊥
 IsRefusedText _ _ = ⊥
-
--- What comes of such an input: status 2; or want of memory; or the input stopped before its topology was refused.
-abbrev pub EndsRefused : ℕ → Option Stream → Option Stream → Type 0
-EndsRefused status old new = (status ≡ 2) ⊎ ((status ≡ 7) ⊎ (((status ≡ 3) × StopsInTopology Read old new) ⊎ ((status ≡ 8) × StopsInTopology TooLong old new)))
-
--- the faults of a run
-abbrev pub IsRunFault : Fault → Type 0
-IsRunFault (fault.Words word) = ⊥
-IsRunFault _ = ⊤
 
 -- The input is told: it begins with the text of a network, and is not too long.
 abbrev pub IsServable : Option Stream → Type 0

@@ -1,12 +1,16 @@
 -- What the lines behind a topology say, and what is answered to them.
-use Rattle.std.specs.Prelude.{◌≡◌, ◌≢◌, ℕ, ◌+◌, ◌<◌, ◌≤◌, IsFalse, List, [], ◌∷◌, ◌++◌, length, Option, ⊤}
+use Rattle.std.specs.Prelude.{◌≡◌, ◌≢◌, ℕ, ◌+◌, ◌<◌, ◌≤◌, Bool, true, false, IsFalse, List, [], ◌∷◌, ◌++◌, length, Option, None, Some, Result, Ok, Err, ⊤}
 use Rattle.std.specs.List.{before_first, after_first, flat_map}
+use Rattle.hose_io.specs.Frame.{Rose}
 use Rattle.hose_io.specs.Stream.{Grows}
+use Rattle.hose_io.specs.Writing.{GrowsInPart}
+use Rattle.hose_io.specs.declared.sink.Sink.{Ghosts as SinkGhosts}
 use Rattle.hose_io.specs.declared.source.Source.{Ghosts}
 use Rattle.hose_words.specs.Grammar.{IsFirstNotAllowed}
 use Rattle.hose_words.specs.Words.{words_of}
-use Rattle.hose_words.specs.Lines.{Reader, StopsAt, is_line_feed}
+use Rattle.hose_words.specs.Lines.{Reader, StopsAt, StopsBehindLines, is_line_feed}
 use Rattle.hose_words.specs.declared.lines.LineFault.{LineFault}
+use Rattle.hose_words.specs.declared.lines.LineFault.TheVariants as line_fault
 use Rattle.hose_words.specs.declared.lines.Line.{Line}
 use Rattle.hose_words.specs.declared.lines.Line.TheVariants as line
 use Rattle.hose_graph.specs.declared.entry.Entry.{Entry}
@@ -69,13 +73,6 @@ pub record AreAnswered (network : Network) (lines : List ReadLine) (replies : Li
   pub decided : IsDecided network 0 0 history
   pub is_book : book ≡ book_of 0 history
 
--- the faults that end the answering of lines
-abbrev pub IsStreamFault : Fault → Type 0
-IsStreamFault fault.Read = ⊤
-IsStreamFault fault.Write = ⊤
-IsStreamFault fault.TooLong = ⊤
-IsStreamFault _ = ⊥
-
 -- A turn: the first line that was to come was read and answered. `puts` says how much is out of the line of its reply.
 pub record TakesTurn {S : Type 0} (source : Ghosts S) (old new : Reader S) (ledger : Ledger) (book : Book) (puts : List ℕ → Type 0) : Type 0 where
   pub said : ReadLine
@@ -88,16 +85,27 @@ pub record TakesTurn {S : Type 0} (source : Ghosts S) (old new : Reader S) (ledg
   pub progress : length new.pending + old.taken < length old.pending + new.taken
 
 -- No line was to come, so nothing was done.
-pub record IsOver {S : Type 0} (source : Ghosts S) (old new : Reader S) (ledger : Ledger) (book : Book) (before after : Option (List ℕ)) : Type 0 where
+pub record IsOver {S : Type 0} (source : Ghosts S) (old new : Reader S) (ledger : Ledger) (book : Book) : Type 0 where
   pub ended : WhereTold (source.content old.source) (source.content new.source) (λ was now. (old.pending ++ was ≡ []) × (new.pending ++ now ≡ []))
   pub same_book : book ≡ ledger.book
-  pub same_output : after ≡ before
 
--- Reading met a fault before the next line ended and before the source did, so nothing was answered.
-pub record MeetsFault {S : Type 0} (source : Ghosts S) (old new : Reader S) (fault : LineFault) (before after : Option (List ℕ)) : Type 0 where
+-- Reading met a fault before the next line ended and before the source did.
+pub record MeetsFault {S : Type 0} (source : Ghosts S) (old new : Reader S) (fault : LineFault) : Type 0 where
   pub stops : WhereTold (source.content old.source) (source.content new.source) (λ was left. StopsAt fault (old.pending ++ was) left)
   pub before_end : IsFalse old.ended
-  pub same_output : after ≡ before
+  pub kept : new.fault ≡ Some fault
+
+-- What the next line comes to: it has its reply; or there is none; or reading met a fault, and nothing is out; or the output failed in the reply.
+abbrev pub ServesLine : {S O : Type 0} → Ghosts S → SinkGhosts O → Reader S → Reader S → O → O → Ledger → Book → Result Bool Fault → Type 0
+ServesLine source sink old new output output' ledger book (Ok true) =
+    TakesTurn source old new ledger book (Grows (sink.content output) (sink.content output')) × (new.fault ≡ None) × (sink.frame output' ≡ sink.frame output)
+ServesLine source sink old new output output' ledger book (Ok false) = IsOver source old new ledger book × (new.fault ≡ None) × (output' ≡ output)
+ServesLine source sink old new output output' ledger book (Err fault.Read) =
+    MeetsFault source old new line_fault.Read × Rose (source.frame old.source) (source.frame new.source) × (output' ≡ output)
+ServesLine source sink old new output output' ledger book (Err fault.TooLong) = MeetsFault source old new line_fault.TooLong × (output' ≡ output)
+ServesLine source sink old new output output' ledger book (Err fault.Write) =
+    TakesTurn source old new ledger book (GrowsInPart (sink.content output) (sink.content output')) × (new.fault ≡ None) × Rose (sink.frame output) (sink.frame output')
+ServesLine source sink old new output output' ledger book (Err _) = ⊥
 
 -- Turns from the empty history on: lines that were to come were read and answered, each by a reply that is out.
 pub record HasServed {S : Type 0} (source : Ghosts S) (start now : Reader S) (network : Network) (book : Book) (before after : Option (List ℕ)) : Type 0 where
@@ -130,3 +138,22 @@ pub record ServesUpTo {S : Type 0} (source : Ghosts S) (start now : Reader S) (n
       (λ was left. (behind : List ℕ) × SayLines network (start.pending ++ was) lines behind × stops (start.pending ++ was) behind left)
   pub answered : AreAnswered network lines replies book
   pub out : puts replies
+
+-- Lines that were to come were answered, until reading met a fault.
+pub record ServesUntil {S O : Type 0} (source : Ghosts S) (sink : SinkGhosts O) (start last : Reader S) (output output' : O) (network : Network) (fault : LineFault) : Type 0 where
+  pub serves : ServesUpTo source start last network (StopsBehindLines fault) (λ replies. Grows (sink.content output) (sink.content output') (texts_of network replies))
+  pub before_end : IsFalse start.ended
+  pub kept : last.fault ≡ Some fault
+  pub held : sink.frame output' ≡ sink.frame output
+
+-- What answering all lines comes to: each has its reply, and no more is to come; or reading met a fault, or the output failed in a reply.
+abbrev pub Serves : {S O T : Type 0} → Ghosts S → SinkGhosts O → Reader S → Reader S → O → O → Network → Result T Fault → Type 0
+Serves source sink start last output output' network (Ok _) =
+    ServesUpTo source start last network IsAllTaken (λ replies. Grows (sink.content output) (sink.content output') (texts_of network replies))
+    × (last.fault ≡ None) × (sink.frame output' ≡ sink.frame output)
+Serves source sink start last output output' network (Err fault.Read) = ServesUntil source sink start last output output' network line_fault.Read
+    × Rose (source.frame start.source) (source.frame last.source)
+Serves source sink start last output output' network (Err fault.TooLong) = ServesUntil source sink start last output output' network line_fault.TooLong
+Serves source sink start last output output' network (Err fault.Write) = ServesUpTo source start last network IsEndOf (CutsLast network (sink.content output) (sink.content output'))
+    × (last.fault ≡ None) × Rose (sink.frame output) (sink.frame output')
+Serves source sink start last output output' network (Err _) = ⊥

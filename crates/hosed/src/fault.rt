@@ -1,8 +1,6 @@
 // What ends a run before its input is all read, and how that is told.
-ghost use Rattle.std.specs.Prelude.{◌≡◌, [], OnOk, OnErr};
-ghost use Rattle.hose_io.specs.Fault.{HasCause};
-ghost use Rattle.hose_io.specs.Stream.{Grows};
-ghost use Rattle.hose_io.specs.Writing.{GrowsInPart};
+ghost use Rattle.std.specs.Prelude.{◌≡◌, []};
+ghost use Rattle.hose_io.specs.Writing.{IsPut};
 ghost use Rattle.hosed.specs.declared.fault.Fault.TheVariants.{Memory, Write};
 ghost use Rattle.hosed.specs.Fault.{status_of, last_line, of_line, of_topology};
 
@@ -45,14 +43,8 @@ impl Fault {
 
     /// Writes the last line, which tells the fault. Where the output failed there is none.
     pub fn put<O: Sink>(self, output: &mut O) -> Result<(), Failed>
-        ensures ok { OnOk result
-            (Grows (O.content output.old) (O.content output.new) (last_line self)) }
-        ensures err { OnErr result
-            (GrowsInPart (O.content output.old) (O.content output.new) (last_line self)) }
+        ensures put { IsPut O.Sink output.old output.new (last_line self) result }
         ensures calls_none { last_line self ≡ [] → output.new ≡ output.old }
-        ensures cause { HasCause (O.faults output.old) (O.faults output.new) result }
-        ensures number { O.number output.new ≡ O.number output.old }
-        ensures loan { O.loan output.new ≡ O.loan output.old }
     {
         match self {
             Fault::Words(word) => put_words(output, word),
@@ -107,13 +99,7 @@ impl From<TopoFault> for Fault {
 
 // Writes the last line that tells which of the program's words is wrong.
 fn put_words<O: Sink>(output: &mut O, word: u64) -> Result<(), Failed>
-    ensures ok { OnOk result (Grows (O.content output.old) (O.content output.new)
-        (last_line (Fault.Words word))) }
-    ensures err { OnErr result (GrowsInPart (O.content output.old) (O.content output.new)
-        (last_line (Fault.Words word))) }
-    ensures cause { HasCause (O.faults output.old) (O.faults output.new) result }
-    ensures number { O.number output.new ≡ O.number output.old }
-    ensures loan { O.loan output.new ≡ O.loan output.old }
+    ensures { IsPut O.Sink output.old output.new (last_line (Fault.Words word)) result }
 {
     let mut gather = Gather::new();
     gather.add(output, b"words ");
@@ -124,13 +110,7 @@ fn put_words<O: Sink>(output: &mut O, word: u64) -> Result<(), Failed>
 
 // Writes the last line that tells where the topology is wrong.
 fn put_place<O: Sink>(output: &mut O, line: u64, word: u64) -> Result<(), Failed>
-    ensures ok { OnOk result (Grows (O.content output.old) (O.content output.new)
-        (last_line (Fault.Topology line word))) }
-    ensures err { OnErr result (GrowsInPart (O.content output.old) (O.content output.new)
-        (last_line (Fault.Topology line word))) }
-    ensures cause { HasCause (O.faults output.old) (O.faults output.new) result }
-    ensures number { O.number output.new ≡ O.number output.old }
-    ensures loan { O.loan output.new ≡ O.loan output.old }
+    ensures { IsPut O.Sink output.old output.new (last_line (Fault.Topology line word)) result }
 {
     let mut gather = Gather::new();
     gather.add(output, b"topology ");

@@ -4,18 +4,16 @@
 //! topology text and then lines `CUSTOMER COMMAND`, and writes one reply line for each.
 #![tactic(auto)]
 
-ghost use Rattle.std.specs.Prelude.{◌≡◌, ◌⊎◌, ◌↔◌, ◌+◌, ◌^◌, ◌<◌, ◌≤◌, ℕ, List, length, map, Err, IfOk, IfErr};
+ghost use Rattle.std.specs.Prelude.{◌≡◌, ◌↔◌, map};
 ghost use Rattle.std.specs.String.{string_bytes};
-ghost use Rattle.hose_io.specs.Fault.{Rose};
-ghost use Rattle.hose_io.specs.Stream.{Gives};
-ghost use Rattle.hose_words.specs.declared.lines.LineFault.{LineFault};
-ghost use Rattle.hosed.specs.Ending.{IsStatus, IsOut, IsEarly, status_of_done};
-ghost use Rattle.hosed.specs.Fault.{last_line, of_line};
+ghost use Rattle.hose_io.specs.Frame.{Stays};
+ghost use Rattle.hosed.specs.Ending.{IsLastLine, IsOut, status_of_done};
+ghost use Rattle.hosed.specs.Fault.{last_line};
 ghost use Rattle.hosed.specs.ProgramWords.{AreRunWords, first_wrong};
-ghost use Rattle.hosed.specs.Run.{BreaksOff, EndsRefused, IsCutOff, IsRefusedText, IsRun, IsRunFault, IsServable, IsRunUpTo, StopsInTopology, TellsNoNetwork};
+ghost use Rattle.hosed.specs.RunOutcome.{RunOutcome};
 
-mod book;
 mod fault;
+mod ledger;
 mod run;
 mod script_line;
 mod words;
@@ -36,112 +34,29 @@ pub fn hosed<I: Source, O: Sink>(
     input: &mut I,
     output: &mut O,
 ) -> u8
-    ensures status { IsStatus result }
-
-    // 0: the output is the replies of a script, in one history that is decided and sound.
-    ensures all_read { result ≡ 0 → IsRun (I.content input.old) (I.content input.new)
-        (O.content output.old) (O.content output.new) }
-
+    // Wrong words take nothing of the input, and the last line tells the first of them.
     ensures words { (result ≡ 1) ↔ (AreRunWords (map string_bytes words.now) → ⊥) }
-    ensures words_line { result ≡ 1 → IsOut (O.content output.old) (O.content output.new)
-        (O.faults output.old) (O.faults output.new)
-        (last_line (Fault.Words (first_wrong (map string_bytes words.now)))) }
-    ensures topology { result ≡ 2
-        → (line : ℕ) × (word : ℕ) × TellsNoNetwork line word (I.content input.old) (I.content input.new)
-        × IsOut (O.content output.old) (O.content output.new) (O.faults output.old) (O.faults output.new)
-        (last_line (Fault.Topology line word)) }
+    ensures wrong_words { result ≡ 1 → (input.new ≡ input.old)
+        × IsOut O.Sink output.old output.new (last_line (Fault.Words (first_wrong (map string_bytes words.now)))) }
 
-    // A topology that is refused gives 2, but for want of memory and an input that stopped inside it.
-    ensures refused { AreRunWords (map string_bytes words.now)
-        → IsRefusedText (I.content input.old) (I.content input.new)
-        → EndsRefused result (I.content input.old) (I.content input.new) }
+    ensures run { AreRunWords (map string_bytes words.now)
+        → RunOutcome I.Source O.Sink input.old input.new output.old output.new result }
 
-    // An input that can be served is served to its end, but for want of memory and where a call failed.
-    ensures complete { AreRunWords (map string_bytes words.now) → IsServable (I.content input.old)
-        → (Rose (I.faults input.old) (I.faults input.new) → ⊥) → (Rose (O.faults output.old) (O.faults output.new) → ⊥)
-        → (result ≡ 0) ⊎ (result ≡ 7) }
-
-    ensures input_failed { result ≡ 3 → Rose (I.faults input.old) (I.faults input.new) }
-    ensures output_failed { result ≡ 4 → Rose (O.faults output.old) (O.faults output.new) }
-    ensures too_long { (bytes : List ℕ) × Gives (I.content input.old) (I.content input.new) bytes
-        × (length bytes ≤ 2 ^ 30 + 1) × ((result ≡ 8) ↔ (2 ^ 30 < length bytes)) }
-
-    // 3 and 8: the input stopped inside the topology, and the last line alone is out; or behind it, and the output is the replies of a
-    // script as at 0, to all whole lines that were taken and to no part of one, and then the last line.
-    ensures input_failed_where { result ≡ 3
-        → (StopsInTopology LineFault.Read (I.content input.old) (I.content input.new)
-        × IsOut (O.content output.old) (O.content output.new) (O.faults output.old) (O.faults output.new)
-        (last_line Fault.Read))
-        ⊎ BreaksOff LineFault.Read (I.content input.old) (I.content input.new)
-        (O.content output.old) (O.content output.new) (O.faults output.old) (O.faults output.new)
-        (last_line Fault.Read) }
-    ensures too_long_where { result ≡ 8
-        → (StopsInTopology LineFault.TooLong (I.content input.old) (I.content input.new)
-        × IsOut (O.content output.old) (O.content output.new) (O.faults output.old) (O.faults output.new)
-        (last_line Fault.TooLong))
-        ⊎ BreaksOff LineFault.TooLong (I.content input.old) (I.content input.new)
-        (O.content output.old) (O.content output.new) (O.faults output.old) (O.faults output.new)
-        (last_line Fault.TooLong) }
-
-    // 4: the output is the replies of such a script, but for a part of the last.
-    ensures output_failed_where { result ≡ 4 → IsCutOff (I.content input.old) (I.content input.new)
-        (O.content output.old) (O.content output.new) }
-
-    ensures memory_line { result ≡ 7 → IsOut (O.content output.old) (O.content output.new)
-        (O.faults output.old) (O.faults output.new) (last_line Fault.Memory) }
-
-    ensures input_never_falls { I.faults input.old ≤ I.faults input.new }
-    ensures output_never_falls { O.faults output.old ≤ O.faults output.new }
-    ensures input_number { I.number input.new ≡ I.number input.old }
-    ensures output_number { O.number output.new ≡ O.number output.old }
+    ensures input { Stays (I.frame input.old) (I.frame input.new) }
+    ensures output { Stays (O.frame output.old) (O.frame output.new) }
 {
-    let done = do_words(alloc, words, input, output);
+    if let Some(word) = words::first_not_allowed(words) {
+        return end(Err(Fault::Words(word)), output);
+    }
+    let done = run::run(alloc, input, output);
     end(done, output)
 }
 
-// Does what the words say.
-fn do_words<I: Source, O: Sink>(
-    alloc: Global,
-    words: &[String],
-    input: &mut I,
-    output: &mut O,
-) -> Result<(), Fault>
-    ensures ran { IfOk result (λ _. IsRun (I.content input.old) (I.content input.new)
-        (O.content output.old) (O.content output.new)) }
-    ensures words { (AreRunWords (map string_bytes words.now) → ⊥)
-        → result ≡ Err (Fault.Words (first_wrong (map string_bytes words.now))) }
-    ensures kinds { AreRunWords (map string_bytes words.now) → IfErr result IsRunFault }
-    ensures topology { (line word : ℕ) → result ≡ Err (Fault.Topology line word)
-        → TellsNoNetwork line word (I.content input.old) (I.content input.new) }
-    ensures read { result ≡ Err Fault.Read → Rose (I.faults input.old) (I.faults input.new) }
-    ensures write { result ≡ Err Fault.Write → Rose (O.faults output.old) (O.faults output.new) }
-    ensures takes { (bytes : List ℕ) × Gives (I.content input.old) (I.content input.new) bytes
-        × (length bytes ≤ 2 ^ 30 + 1) × ((result ≡ Err Fault.TooLong) ↔ (2 ^ 30 < length bytes)) }
-    ensures broke { (fault : LineFault) → result ≡ Err (of_line fault)
-        → (StopsInTopology fault (I.content input.old) (I.content input.new) × (output.new ≡ output.old))
-        ⊎ IsRunUpTo fault (I.content input.old) (I.content input.new) (O.content output.old) (O.content output.new) }
-    ensures cut { result ≡ Err Fault.Write → IsCutOff (I.content input.old) (I.content input.new)
-        (O.content output.old) (O.content output.new) }
-    ensures early { IfErr result (λ fault. IsEarly fault → output.new ≡ output.old) }
-    ensures input_never_falls { I.faults input.old ≤ I.faults input.new }
-    ensures output_never_falls { O.faults output.old ≤ O.faults output.new }
-    ensures input_number { I.number input.new ≡ I.number input.old }
-    ensures output_number { O.number output.new ≡ O.number output.old }
-{
-    match words::first_not_allowed(words) {
-        Some(word) => Err(Fault::Words(word)),
-        None => run::run(alloc, input, output),
-    }
-}
-
-// The status of what was done, and its last line, if it has one.
+// The status of what was done, after its last line, if it has one.
 fn end<O: Sink>(done: Result<(), Fault>, output: &mut O) -> u8
     ensures status { result ≡ status_of_done done }
-    ensures ok { IfOk done (λ _. output.new ≡ output.old) }
-    ensures err { IfErr done (λ fault. IsOut (O.content output.old) (O.content output.new)
-        (O.faults output.old) (O.faults output.new) (last_line fault)) }
-    ensures never_falls { O.faults output.old ≤ O.faults output.new }
-    ensures number { O.number output.new ≡ O.number output.old }
+    ensures last_line { IsLastLine O.Sink output.old output.new done }
+    ensures output { Stays (O.frame output.old) (O.frame output.new) }
 {
     match done {
         Ok(()) => 0,

@@ -5,4 +5,4 @@ use Rattle.hose_law.proofs.law_grounds.Goals as goal
 
 pub returns : goal.returns
 returns c =
-    same_decisions c.args.top.now c.nodes-nodes.ensures.network (book_of c.args.e0 (take c.args.i c.args.h.now)) (book_of c.args.e0 (take c.args.j c.args.h.now)) c.args.hose.now c.requires
+    same_decisions c.args.top.now (book_of c.args.e0 (take c.args.i c.args.h.now)) (book_of c.args.e0 (take c.args.j c.args.h.now)) c.args.hose.now c.requires

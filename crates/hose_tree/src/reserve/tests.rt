@@ -1,4 +1,5 @@
-// What hoses reserve on small trees, worked out by hand, from each kind of start and in other orders of steps.
+// What hoses reserve on small trees, worked out by hand, from each kind of start and in other
+// orders of steps.
 ghost use Rattle.std.specs.Prelude.{◌≡◌, ◌↔◌, Any, IsTrue};
 ghost use Rattle.hose_law.specs.Tree.{IsOn, JoinsHose};
 ghost use Rattle.hose_law.specs.Walk.{Joins};
@@ -9,7 +10,8 @@ use hose_graph::{Hose, Link, Name, Step, Topology};
 use std::alloc::{AllocError, Global};
 use std::test::Fail;
 
-// The tree that grows by these steps, or none where one of them does not lead from the tree to a new node.
+// The tree that grows by these steps, or none where one of them does not lead from the tree to a
+// new node.
 fn grown(
     alloc: Global,
     top: &Topology,
@@ -30,7 +32,8 @@ fn grown(
 
 // Whether a step leads from the tree of the steps before it to a new node.
 fn leads_on(top: &Topology, start: u32, earlier: &[Step], step: &Step) -> bool
-    ensures { IsTrue result ↔ (IsOn start earlier.now step.now.old × (¬ IsOn start earlier.now step.now.new)
+    ensures { IsTrue result ↔ (IsOn start earlier.now step.now.old
+        × (¬ IsOn start earlier.now step.now.new)
         × Joins top.now step.now.link step.now.old step.now.new) }
 {
     is_on(start, earlier, step.old)

@@ -1,4 +1,5 @@
-use Rattle.std.proofs.Common.{length, ◌-◌, ◌≡◌, ◌≤◌, take}
+use Rattle.std.proofs.Common.{length, ◌-◌, ◌<◌, ◌≡◌, ◌≢◌, ◌≤◌, take}
+use Rattle.hose_io.specs.Count.{one_more}
 use Rattle.hose_io.specs.Stream.{Grows}
 use Rattle.hose_io.proofs.writing.write_all.Given as goal
 
@@ -6,10 +7,10 @@ abbrev pub invariant-loop-written : goal.invariant-loop-written
 invariant-loop-written g l = record {
   within : l.written ≤ length l.bytes;
   grows : Grows (g.S.Sink.content l.initial.sink) (g.S.Sink.content l.sink) (take l.written l.bytes);
-  never_falls : g.S.Sink.faults l.initial.sink ≤ g.S.Sink.faults l.sink;
-  number : g.S.Sink.number l.sink ≡ g.S.Sink.number l.initial.sink;
-  loan : g.S.Sink.loan l.sink ≡ g.S.Sink.loan l.initial.sink;
+  frame : g.S.Sink.frame l.sink ≡ g.S.Sink.frame l.initial.sink;
   untouched : l.written ≡ 0 → l.sink ≡ l.initial.sink;
+  no_piece : l.written < length l.bytes → g.S.Sink.pieces l.sink ≡ g.S.Sink.pieces l.initial.sink;
+  one_piece : l.written ≡ length l.bytes → l.written ≢ 0 → g.S.Sink.pieces l.sink ≡ one_more (g.S.Sink.pieces l.initial.sink);
 }
 
 abbrev pub decreases-loop-written : goal.decreases-loop-written

@@ -4,14 +4,9 @@ use Rattle.std.proofs.lemmas.List.{take_all, take_at}
 use Rattle.hose_graph.specs.Row.{distance_of}
 use Rattle.hose_law.specs.Row.{IsRow}
 use Rattle.hose_root.specs.Choice.{weight_at}
-use Rattle.hose_root.proofs.Weighing.{row_is_bounded}
 use Rattle.hose_plan.specs.Rooting.{AreLight, AreWeights, heavier}
 use Rattle.hose_plan.proofs.Weights.{weights_more}
 use Rattle.hose_plan.proofs.root.weights.Goals as goal
-
-pub add_row-requires-clause-bounded : goal.add_row-requires-clause-bounded
-add_row-requires-clause-bounded g c =
-    row_is_bounded c.args.top.now c.nodes.ensures.network c.args.links.now (get_or c.ends-ends.result.now c.loop-node.node-index (0, 0)).0 c.in_ok-row.row c.in_ok-row.ensures
 
 pub loop-node-preserved : goal.loop-node-preserved
 loop-node-preserved g c =
@@ -25,7 +20,7 @@ loop-node-preserved g c =
     let same : ends ≡ hose = c.ends-ends.ensures.value in
     let inside : i < length hose = omega (arith, c.loop-node-test.true, ap length same) in
     let end : get_or ends i (0, 0) ≡ get_or hose i (0, 0) = ap (λ (es : List (ℕ × ℕ)). get_or es i (0, 0)) same in
-    let is_row : IsRow c.args.top.now c.args.links.now (get_or hose i (0, 0)).0 row = subst (λ (e : ℕ × ℕ). IsRow c.args.top.now c.args.links.now e.0 row) end c.in_ok-row.ensures in
+    let is_row : IsRow c.args.top.now c.args.links.now (get_or hose i (0, 0)).0 row = subst (λ (e : ℕ × ℕ). IsRow c.args.top.now c.args.links.now e.0 row) end c.in_ok-row.ensures.row in
     let was : given ≡ before = c.deref_mut.ensures.value in
     let long : length after ≡ length before = c.add_row.ensures.places ∙ ap length was in
     let each : (v : ℕ) → v < length before → weight_at after v ≡ heavier (weight_at before v) (get_or hose i (0, 0)).1 (distance_of row v) = λ v below.

@@ -1,8 +1,8 @@
 use Rattle.std.proofs.Common.{length}
 use Rattle.hose_proto.specs.ReplyGrammar.{names_form}
-use Rattle.hose_proto.specs.ReplyWords.{node_word}
+use Rattle.hose_proto.specs.Places.{node_word}
 use Rattle.hose_proto.proofs.Items.{AreNodes}
-use Rattle.hose_proto.proofs.Listing.{Listing}
+use Rattle.hose_words.proofs.Listing.{Listing}
 use Rattle.hose_proto.proofs.reply_lists.read_side.Given as goal
 
 abbrev pub invariant-loop-nodes : goal.invariant-loop-nodes

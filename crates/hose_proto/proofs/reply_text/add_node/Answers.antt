@@ -7,4 +7,4 @@ pub returns : goal.returns
 returns g c =
     let named : c.bytes.result.now ≡ get_or c.args.top.now.nodes c.args.node [] =
     c.bytes.ensures.value ∙ sym (get_or_from_slice_get c.args.top.now.nodes c.args.node _ [] c.name.ensures) in
-    IsAdded-next c.add.ensures.added (rw named at c.add-2.ensures.added)
+    IsAdded-next c.add.ensures (rw named at c.add-2.ensures)

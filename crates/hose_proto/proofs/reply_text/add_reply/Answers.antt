@@ -12,7 +12,7 @@ returns-in-Quoted g c = rw c.in-Quoted.is (IsAdded-next c.add_number-in-Quoted.e
 pub returns-in-Refused : goal.returns-in-Refused
 returns-in-Refused g c =
     rw c.in-Refused.is
-    (IsAdded-next (IsAdded-next c.add_number-in-Refused.ensures c.add.ensures.added) (rw c.nodes.ensures.value at c.add_side.ensures))
+    (IsAdded-next (IsAdded-next c.add_number-in-Refused.ensures c.add.ensures) (rw c.nodes.ensures.value at c.add_side.ensures))
 
 pub returns-in-Stale : goal.returns-in-Stale
 returns-in-Stale g c =
@@ -37,8 +37,8 @@ pub returns-in-Shown : goal.returns-in-Shown
 returns-in-Shown g c =
     let cost = IsAdded-two (codes " cost ") (decimal c.in-Shown.cost) c.add_number-in-Shown.ensures c.add_number-in-Shown-2.ensures in
     let at = IsAdded-two (codes " at ") (decimal c.in-Shown.at) cost c.add_number-in-Shown-3.ensures in
-    let ends = IsAdded-next (IsAdded-next at c.add-in-Shown.ensures.added) (rw c.ends.ensures.value at c.add_ends.ensures) in
-    rw c.in-Shown.is (IsAdded-next (IsAdded-next ends c.add-in-Shown-2.ensures.added) (rw c.pairs.ensures.value at c.add_links.ensures))
+    let ends = IsAdded-next (IsAdded-next at c.add-in-Shown.ensures) (rw c.ends.ensures.value at c.add_ends.ensures) in
+    rw c.in-Shown.is (IsAdded-next (IsAdded-next ends c.add-in-Shown-2.ensures) (rw c.pairs.ensures.value at c.add_links.ensures))
 
 pub returns-in-LinkState : goal.returns-in-LinkState
 returns-in-LinkState g c =

@@ -1,5 +1,6 @@
-use Rattle.std.proofs.Common.{Ok, Err}
-use Rattle.hose_topo.proofs.TopologyReading.{HasRead-start, reads_on, added, ended_alone, no_text}
+use Rattle.std.proofs.Common.{◌≡◌, Ok, Err, rules}
+use Rattle.std.proofs.lemmas.Result.{err_from_is_err_and}
+use Rattle.hose_topo.proofs.TopologyReading.{HasRead-start, fault_of_is, reads_on, added, ended, ended_alone, no_text, stopped, wrong}
 use Rattle.hose_topo.proofs.reading.read.Goals as goal
 
 pub loop-top-init : goal.loop-top-init
@@ -35,3 +36,22 @@ returns-in-Wrong-clause-no_text g c _ _ _ =
     let l = c.loop-top in
     no_text g.S.Source c.args.lines.now l.lines c.take_next.new.lines l.line c.in-Wrong.word l.top c.take_next.new.top c.in_ok-take_next.ensures.network l.invariant
     (rw c.in-Wrong.is at c.in_ok-take_next.ensures.takes)
+
+pub returns-in-End-clause-topology : goal.returns-in-End-clause-topology
+returns-in-End-clause-topology g c =
+    let l = c.loop-top in
+    ended g.S.Source c.args.lines.now l.lines c.take_next.new.lines l.line l.top c.take_next.new.top l.invariant (rw c.in-End.is at c.in_ok-take_next.ensures.takes)
+
+pub returns-in-Wrong-clause-wrong : goal.returns-in-Wrong-clause-wrong
+returns-in-Wrong-clause-wrong g c line word is =
+    let l = c.loop-top in
+    let told = wrong g.S.Source c.args.lines.now l.lines c.take_next.new.lines l.line c.in-Wrong.word l.top c.take_next.new.top l.invariant (rw c.in-Wrong.is at c.in_ok-take_next.ensures.takes) in
+    search rules
+
+pub returns-in_err-take_next-clause-front : goal.returns-in_err-take_next-clause-front
+returns-in_err-take_next-clause-front g c none fault is =
+    let l = c.loop-top in
+    let met = c.in_err-take_next.field-0.0 in
+    let told = err_from_is_err_and c.from_residual-in_err-take_next.result c.from_residual-in_err-take_next.ensures.1 in
+    let same : met ≡ fault = fault_of_is met fault (cc (is, told.1, told.2)) in
+    rw (← same) (stopped g.S.Source c.args.lines.now l.lines c.take_next.new.lines l.line l.top c.take_next.new.top met l.invariant c.in_err-take_next.ensures.takes none)

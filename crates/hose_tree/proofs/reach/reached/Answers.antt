@@ -1,14 +1,14 @@
 use Rattle.std.proofs.Common.{◌≡◌, ◌∙◌, ℕ, ◌<◌, All, length, drop, sym, subst, arith}
 use Rattle.std.proofs.lemmas.List.{take_at}
 use Rattle.std.proofs.lemmas.Result.{IfOk-weaker}
-use Rattle.hose_law.specs.Plan.{IsSide}
+use Rattle.hose_law.specs.Plan.{IsReachedSet}
 use Rattle.hose_law.specs.Decision.{IsReachedList}
 use Rattle.hose_tree.specs.Nodes.{AreNodesBelow}
 use Rattle.hose_tree.proofs.Listing.{reached_list}
 use Rattle.hose_tree.proofs.reach.reached.Goals as goal
 
 -- the side of what is reached
-side_of_reached : (c : goal.After-drop-side) → IsSide c.args.top.now c.args.links.now c.args.from c.deref.result.now
+side_of_reached : (c : goal.After-drop-side) → IsReachedSet c.args.top.now c.args.links.now c.args.from c.deref.result.now
 side_of_reached c =
     let network = c.args.top.now in
     let links = c.args.links.now in
@@ -17,7 +17,7 @@ side_of_reached c =
     let behind = drop (length c.reach_from.new.side) c.in_ok-side.side.items in
     let long : length c.reach_from.new.side ≡ c.in_ok-side.side.len = omega (arith, c.reach_from.auto.side, c.deref_mut.ensures.len) in
     let side_is : c.reach_from.new.side ≡ side = sym (c.deref.ensures.value ∙ take_at c.reach_from.new.side behind c.in_ok-side.side.len long) in
-    subst (IsSide network links from) side_is c.reach_from.ensures
+    subst (IsReachedSet network links from) side_is c.reach_from.ensures
 
 pub returns-clause-list : goal.returns-clause-list
 returns-clause-list c =

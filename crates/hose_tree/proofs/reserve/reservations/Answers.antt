@@ -3,7 +3,7 @@ use Rattle.std.specs.List.Sorted.{IsPermutation, IsNonDecreasingBy}
 use Rattle.std.proofs.lemmas.List.Sorted.{IsNonDecreasingBy-from_sort_by_key}
 use Rattle.std.proofs.lemmas.Result.{IfOk-weaker}
 use Rattle.hose_law.specs.Tree.{IsReservation}
-use Rattle.hose_tree.specs.Rates.{amount_of}
+use Rattle.hose_tree.specs.Rates.{reserved_by}
 use Rattle.hose_tree.proofs.Reserving.{IsReservation-sorted}
 use Rattle.hose_tree.proofs.reserve.reservations.Goals as goal
 use Rattle.hose_tree.proofs.reserve.reservations.Goals.{After-sort_unstable_by_key}
@@ -13,7 +13,7 @@ reserves : (c : After-sort_unstable_by_key) → IsReservation c.args.tree.now c.
 reserves c =
     let pairs = c.in_ok-pairs.pairs.items in
     let sorted = c.sort_unstable_by_key.new.self.items in
-    let are : pairs ≡ map (amount_of c.args.tree.now c.args.hose.now) (reverse c.args.tree.now.steps) = search rules in
+    let are : pairs ≡ map (reserved_by c.args.tree.now c.args.hose.now) (reverse c.args.tree.now.steps) = search rules in
     let moves : IsPermutation pairs sorted = search rules in
     let rises : IsNonDecreasingBy (λ (pair : ℕ × ℕ). pair.0) sorted =
     IsNonDecreasingBy-from_sort_by_key (λ (pair : ℕ × ℕ). pair.0) sorted c.sort_unstable_by_key.ensures.sorted (λ a r f' called. search rules) in

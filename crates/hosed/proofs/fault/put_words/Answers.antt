@@ -3,6 +3,5 @@ use Rattle.hosed.proofs.fault.put_words.Goals as goal
 
 pub returns : goal.returns
 returns g c =
-    let words = IsAdded-next (IsAdded-next c.add.ensures.added c.add_number.ensures) c.add-2.ensures.added in
-    let put = IsPut-finished c.finish.result (rw c.new-gather.ensures at words) c.finish.ensures in
-    record { ok = put.ok; err = put.err; cause = put.cause; number = put.number; loan = put.loan }
+    let words = IsAdded-next (IsAdded-next c.add.ensures c.add_number.ensures) c.add-2.ensures in
+    IsPut-finished c.finish.result (rw c.new-gather.ensures at words) c.finish.ensures

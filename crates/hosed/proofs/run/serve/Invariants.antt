@@ -4,14 +4,14 @@ use Rattle.hosed.specs.Serving.{HasServed}
 use Rattle.hosed.proofs.run.serve.Given as goal
 
 abbrev pub invariant-loop : goal.invariant-loop
-invariant-loop g l = HasServed g.S.Source l.fn.lines l.lines l.fn.book.network l.book.book (g.O.Sink.content l.fn.output) (g.O.Sink.content l.output)
-    × ReadsOn g.S.Source l.fn.lines l.lines
-    × (l.book.network ≡ l.fn.book.network)
-    × (l.lines.fault ≡ None)
-    × (l.lines.taken ≤ 2 ^ 30 + 1)
-    × (g.O.Sink.faults l.fn.output ≤ g.O.Sink.faults l.output)
-    × (g.O.Sink.number l.output ≡ g.O.Sink.number l.fn.output)
-    × (g.O.Sink.loan l.output ≡ g.O.Sink.loan l.fn.output)
+invariant-loop g l = record {
+  served : HasServed g.S.Source l.fn.lines l.lines l.fn.book.network l.book.book (g.O.Sink.content l.fn.output) (g.O.Sink.content l.output);
+  reads : ReadsOn g.S.Source l.fn.lines l.lines;
+  network : l.book.network ≡ l.fn.book.network;
+  none : l.lines.fault ≡ None;
+  limit : l.lines.taken ≤ 2 ^ 30 + 1;
+  held : g.O.Sink.frame l.output ≡ g.O.Sink.frame l.fn.output;
+}
 
 abbrev pub decreases-loop : goal.decreases-loop
 decreases-loop g l = 2 ^ 30 + 1 - l.lines.taken + length l.lines.pending

@@ -1,28 +1,45 @@
-use Rattle.std.proofs.Common.{◌≡◌, Ok, Err, refl, sym, ◌∙◌, ap, subst}
+use Rattle.std.proofs.Common.{◌≡◌, Ok, Err, refl, ◌∙◌, ap, subst}
+use Rattle.std.proofs.lemmas.Result.{err_from_is_err_and}
 use Rattle.hose_io.specs.Stream.{Grows}
 use Rattle.hose_io.specs.Writing.{GrowsInPart}
 use Rattle.hose_words.specs.Lines.{IsNext}
-use Rattle.hosed.proofs.Running.{same_line}
-use Rattle.hosed.proofs.Turns.{turn_of}
+use Rattle.hosed.specs.declared.fault.Fault.TheVariants.{Write}
+use Rattle.hosed.specs.Fault.{of_line}
+use Rattle.hosed.proofs.Turns.{serves_read, turn_of}
 use Rattle.hosed.proofs.run.serve_line.Goals as goal
 
-pub returns-in_err-line-clause-broke : goal.returns-in_err-line-clause-broke
-returns-in_err-line-clause-broke g c = λ fault is.
-    let same : fault ≡ c.in_err-line.field-0.0 = same_line fault c.in_err-line.field-0.0 (rw is at c.from_residual.ensures.1) in
-    let next : IsNext g.S.Source c.args.lines.now c.next.follows.lender-at-none (Err fault) =
-    subst (IsNext g.S.Source c.args.lines.now c.next.follows.lender-at-none) (c.in_err-line.was ∙ ap Err (sym same)) c.next.follows.holds-at-none in
-    record { stops = next.answer c.requires.no_fault; before_end = next.before_end c.requires.no_fault refl; same_output = refl }
+pub returns-in_err-line-clause-serves : goal.returns-in_err-line-clause-serves
+returns-in_err-line-clause-serves g c =
+    let met = c.in_err-line.field-0.0 in
+    let new = c.next.follows.lender-at-none in
+    let next = subst (IsNext g.S.Source c.args.lines.now new) c.in_err-line.was c.next.follows.holds-at-none in
+    let told = err_from_is_err_and c.from_residual.result c.from_residual.ensures.1 in
+    let is : c.from_residual.result ≡ Err (of_line met) = told.1 ∙ ap Err told.2 in
+    rw is (serves_read g.S.Source g.O.Sink c.args.lines.now new c.args.output.now c.args.book.now c.args.book.now.book met c.requires.no_fault next)
 
-pub returns-in_err-put_reply-clause-cut : goal.returns-in_err-put_reply-clause-cut
-returns-in_err-put_reply-clause-cut g c = λ _.
-    turn_of g.S.Source c.args.lines.now c.next.follows.lender-at-none c.args.book.now c.in-Some.line c.answer-reply.result c.answer-reply.new.book.book c.topology.result.now
-    (GrowsInPart (g.O.Sink.content c.args.output.now) (g.O.Sink.content c.put_reply.new.sink))
-    (subst (IsNext g.S.Source c.args.lines.now c.next.follows.lender-at-none) (c.in_ok-line.was ∙ ap Ok c.in-Some.is) c.next.follows.holds-at-none)
-    c.answer-reply.ensures.answers (c.topology.ensures.value ∙ c.answer-reply.ensures.network) c.in_err-put_reply.ensures.err
+pub returns-in_err-put_reply-clause-serves : goal.returns-in_err-put_reply-clause-serves
+returns-in_err-put_reply-clause-serves g c =
+    let new = c.next.follows.lender-at-none in
+    let next = subst (IsNext g.S.Source c.args.lines.now new) (c.in_ok-line.was ∙ ap Ok c.in-Some.is) c.next.follows.holds-at-none in
+    let put = c.in_err-put_reply.ensures.put in
+    let told = err_from_is_err_and c.from_residual-in_err-put_reply.result c.from_residual-in_err-put_reply.ensures.1 in
+    let is : c.from_residual-in_err-put_reply.result ≡ Err Write = told.1 ∙ ap Err told.2 in
+    rw is (
+      turn_of g.S.Source c.args.lines.now new c.args.book.now c.in-Some.line c.answer-reply.result c.answer-reply.new.book.book c.topology.result.now
+          (GrowsInPart (g.O.Sink.content c.args.output.now) (g.O.Sink.content c.put_reply.new.sink)) next
+          c.answer-reply.ensures.answers (c.topology.ensures.value ∙ c.answer-reply.ensures.network) put.err,
+      next.fault.1,
+      put.met.failed refl,
+    )
 
-pub returns-clause-turn : goal.returns-clause-turn
-returns-clause-turn g c = λ _.
-    turn_of g.S.Source c.args.lines.now c.next.follows.lender-at-none c.args.book.now c.in-Some.line c.answer-reply.result c.answer-reply.new.book.book c.topology.result.now
-    (Grows (g.O.Sink.content c.args.output.now) (g.O.Sink.content c.put_reply.new.sink))
-    (subst (IsNext g.S.Source c.args.lines.now c.next.follows.lender-at-none) (c.in_ok-line.was ∙ ap Ok c.in-Some.is) c.next.follows.holds-at-none)
-    c.answer-reply.ensures.answers (c.topology.ensures.value ∙ c.answer-reply.ensures.network) c.in_ok-put_reply.ensures.ok
+pub returns-clause-serves : goal.returns-clause-serves
+returns-clause-serves g c =
+    let new = c.next.follows.lender-at-none in
+    let next = subst (IsNext g.S.Source c.args.lines.now new) (c.in_ok-line.was ∙ ap Ok c.in-Some.is) c.next.follows.holds-at-none in
+    let put = c.in_ok-put_reply.ensures.put in (
+      turn_of g.S.Source c.args.lines.now new c.args.book.now c.in-Some.line c.answer-reply.result c.answer-reply.new.book.book c.topology.result.now
+          (Grows (g.O.Sink.content c.args.output.now) (g.O.Sink.content c.put_reply.new.sink)) next
+          c.answer-reply.ensures.answers (c.topology.ensures.value ∙ c.answer-reply.ensures.network) put.ok,
+      next.fault.1,
+      put.met.ok,
+    )

@@ -12,4 +12,4 @@ returns-clause-ok g c = search (rules, GoesOut-all)
 
 pub returns-clause-err : goal.returns-clause-err
 returns-clause-err g c =
-    on_err_weaker c.write_all.result (GrowsInPart-after _ _ _ _ _ c.in_ok-flush.ensures.ok) c.write_all.ensures.err
+    on_err_weaker c.write_all.result (GrowsInPart-after _ _ _ _ _ c.in_ok-flush.ensures.put.ok) c.write_all.ensures.put.err

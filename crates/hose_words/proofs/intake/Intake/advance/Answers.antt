@@ -46,5 +46,5 @@ loop-self-preserved g c =
     let r = reader_of c.loop-self.source c.drop_long-is_long.new.self in
     let now = reader_of c.take_more.new.source c.take_more.new.self in
     let turn = c.in_ok-take_more.ensures in
-    let took = MatchBool-at_true (TakesBytes g.S.Source r now) (MeetsEnd g.S.Source r now) c.if-not-branch.false turn.cases in
-    HasCome-more g.S.Source old r now c.drop_long-is_long.result (passed g (goal.at.loop-self-preserved g c).After-drop_long-is_long) took turn.never_falls turn.number turn.loan
+    let took = MatchBool-at_true (TakesBytes g.S.Source r now) (MeetsEnd g.S.Source r now) c.if-not-branch.false turn in
+    HasCome-more g.S.Source old r now c.drop_long-is_long.result (passed g (goal.at.loop-self-preserved g c).After-drop_long-is_long) took
