@@ -94,10 +94,15 @@ fn names_are_read_and_compared(rt: HostRuntime) {
 }
 
 #[test]
-fn lists_are_copied(rt: HostRuntime) -> Result<(), AllocError> {
+fn amounts_are_copied(rt: HostRuntime) -> Result<(), AllocError> {
     let amounts = Amounts::build(rt.alloc(), &[(0, 3), (2, 5)])?;
     let copy = amounts.copy(rt.alloc())?;
     assert_eq!(rt; copy.pairs(), [(0, 3), (2, 5)].as_slice());
+    Ok(())
+}
+
+#[test]
+fn a_list_of_nodes_is_copied(rt: HostRuntime) -> Result<(), AllocError> {
     let nodes = NodeList::build(rt.alloc(), &[0, 2])?;
     let copy = nodes.copy(rt.alloc())?;
     assert_eq!(rt; copy.nodes(), [0, 2].as_slice());

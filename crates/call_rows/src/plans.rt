@@ -73,15 +73,24 @@ fn has_places(row: &Row, hose: &Hose) -> bool
     hose.ends().iter().all(|end| (end.0 as usize) < nodes)
 }
 
+// What a hose costs from a root.
+fn weighed(alloc: Global, top: &Topology, root: u32, hose: &Hose) -> Result<Option<u64>, Fail>
+    requires { root < length top.now.nodes }
+{
+    let row = row_from(alloc, top, root)?;
+    if !are_bounded(&row) || !has_places(&row, hose) {
+        return Err(Fail::from("no row"));
+    }
+    Ok(weight(&row, hose))
+}
+
 #[test]
-fn the_weight_of_a_hose_from_a_row(rt: HostRuntime) -> Result<(), Fail> {
+fn the_weight_of_a_hose_from_each_root(rt: HostRuntime) -> Result<(), Fail> {
     let star = network(rt.alloc(), STAR)?;
     let hose = Hose::build(rt.alloc(), &[(0, 3), (1, 4), (2, 5)])?;
     for (root, want) in [(0, 32), (1, 34), (2, 32), (3, 26)] {
         assert!(rt; root < star.nodes());
-        let row = row_from(rt.alloc(), &star, root)?;
-        assert!(rt; are_bounded(&row) && has_places(&row, &hose));
-        assert_eq!(rt; weight(&row, &hose), Some(want));
+        assert_eq!(rt; weighed(rt.alloc(), &star, root, &hose)?, Some(want));
     }
     Ok(())
 }
@@ -177,25 +186,29 @@ fn is_carried(top: &Topology, loads: &[u64], link: u32) -> bool
     loads[link as usize] <= top.link(link).capacity
 }
 
-// What a decision tells, in short.
-fn told(alloc: Global, decision: &Decision) -> Result<String, AllocError> {
-    match decision {
+// What is decided of a hose beside these loads, in short.
+fn decided(alloc: Global, top: &Topology, loads: &[u64], line: &str) -> Result<String, Fail> {
+    let hose = hose(alloc, top, line)?;
+    if !are_carried(top, loads) {
+        return Err(Fail::from("no loads"));
+    }
+    match decide(alloc, top, loads, &hose, &mut PlainRows::new())? {
         Decision::Plan {
             grounds,
             amounts,
             cost,
         } => {
             let first_fits = grounds.first_fits;
-            format!(in alloc; "{amounts:?} cost {cost}, first fits {first_fits}")
+            Ok(format!(in alloc; "{amounts:?} cost {cost}, first fits {first_fits}")?)
         }
-        Decision::Refused { side } => format!(in alloc; "refused, {side:?}"),
+        Decision::Refused { side } => Ok(format!(in alloc; "refused, {side:?}")?),
     }
 }
 
 #[test]
 fn decisions_beside_loads(rt: HostRuntime) -> Result<(), Fail> {
     let star = network(rt.alloc(), STAR)?;
-    for (loads, ends, want) in [
+    for (loads, line, want) in [
         (
             [0, 0, 0],
             "admit a:3 b:4 c:5",
@@ -207,10 +220,7 @@ fn decisions_beside_loads(rt: HostRuntime) -> Result<(), Fail> {
             "refused, NodeList { nodes: [0] }",
         ),
     ] {
-        let hose = hose(rt.alloc(), &star, ends)?;
-        assert!(rt; are_carried(&star, &loads));
-        let decision = decide(rt.alloc(), &star, &loads, &hose, &mut PlainRows::new())?;
-        assert_eq!(rt; told(rt.alloc(), &decision)?.as_str(), want);
+        assert_eq!(rt; decided(rt.alloc(), &star, &loads, line)?.as_str(), want);
     }
     Ok(())
 }

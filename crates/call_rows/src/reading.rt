@@ -35,3 +35,8 @@ pub fn hose(alloc: Global, top: &Topology, line: &str) -> Result<Hose, Fail>
 pub fn debugged<T: Debug>(alloc: Global, value: &T) -> Result<String, AllocError> {
     format!(in alloc; "{value:?}")
 }
+
+/// The next line of a reader, as it is printed for those who look for faults.
+pub fn next_line(alloc: Global, lines: &mut LineReader<MemSource>) -> Result<String, AllocError> {
+    debugged(alloc, &lines.next())
+}
