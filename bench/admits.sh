@@ -7,8 +7,7 @@
     printf 'node a\nnode b\nlink a b 1000000000 1\nend\n'
     python3 -c 'print("acme admit a:1 b:1\n" * 20001, end="")'
 } >"$work/input"
-start=$EPOCHREALTIME
-"$program" run <"$work/input" >"$work/replies"
-end=$EPOCHREALTIME
-python3 -c 'import sys; print(f"admits: {float(sys.argv[2]) - float(sys.argv[1]):.2f} s, {sys.argv[3]} replies, the last: {sys.argv[4]}")' \
-    "$start" "$end" "$(wc -l <"$work/replies")" "$(tail -n 1 "$work/replies")"
+measure
+printf 'admits: %.2f s, %s replies, the last: %s\n' \
+    "$taken" "$(wc -l <"$work/replies")" "$(last_reply)"
+reference

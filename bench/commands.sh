@@ -1,35 +1,28 @@
 #!/usr/bin/env bash
-# Seconds that a million questions after a link take from start to end, and a million admissions and releases by turns; and the memory of the
-# process with 20,000 live VPNs of 64 endpoints.
+# Seconds that a million questions about a link take from start to end, and a million admissions and
+# releases by turns; and the memory of the process with 20,000 live VPNs of 64 endpoints.
 # usage: bench/commands.sh [PROGRAM]
 . "$(dirname "$0")/setup.sh"
 
 # Runs the program on the input, and prints how long that took, and the last reply.
-measure() {
-    python3 - "$1" "$program" "$work/input" "$work/replies" <<'END'
-import resource, subprocess, sys, time
-name, program, text, replies = sys.argv[1:]
-with open(text) as source, open(replies, "w") as sink:
-    start = time.perf_counter()
-    subprocess.run([program, "run"], stdin=source, stdout=sink, check=True)
-    taken = time.perf_counter() - start
-with open(replies) as lines:
-    *_, last = lines
-peak = resource.getrusage(resource.RUSAGE_CHILDREN).ru_maxrss
-print(f"{name}: {taken:.2f} s, {peak / 1024:.0f} MiB, the last reply: {last.strip()[:60]}")
-END
+figure() { # NAME
+    measure
+    printf '%s: %.2f s, %s MiB, the last reply: %s\n' \
+        "$1" "$taken" "$((peak / 1024))" "$(last_reply)"
+    reference
 }
 
 star=$(cat demo/star.txt)
-python3 -c 'import sys; print(sys.argv[1]); print("acme link 0\n" * 1000000, end="")' "$star" >"$work/input"
-measure "a million questions after a link"
+python3 -c 'import sys; print(sys.argv[1]); print("acme link 0\n" * 1000000, end="")' \
+    "$star" >"$work/input"
+figure "a million questions about a link"
 python3 - "$star" >"$work/input" <<'END'
 import sys
 print(sys.argv[1])
 for epoch in range(1, 1000000, 2):
     print(f"acme admit a:1 b:1\nacme release {epoch}")
 END
-measure "a million admissions and releases"
+figure "a million admissions and releases"
 python3 - >"$work/input" <<'END'
 for node in range(64):
     print(f"node n{node}")
@@ -39,4 +32,4 @@ print("end")
 ends = " ".join(f"n{node}:1" for node in range(64))
 print(f"acme admit {ends}\n" * 20000, end="")
 END
-measure "20,000 VPNs of 64 endpoints"
+figure "20,000 VPNs of 64 endpoints"

@@ -1,16 +1,20 @@
 #!/usr/bin/env python3
-"""Compares `hosed run`, reply by reply, with a planner that is slow and plain, on random networks of up to 9 nodes.
+"""Compares `hosed run`, reply by reply, with a slow and plain planner on random networks.
 
-The planner here shares no code with the crates and follows the rules word by word; it is tried on rows that were worked out by hand first. Prints how
-many networks, commands and replies of each kind agreed; or the first difference, with the input up to it, and ends with status 1.
+The networks have up to 9 nodes. The planner here shares no code with the crates and follows the
+rules word by word; it is tried on rows worked out by hand first. Prints how many networks,
+commands and replies of each kind agreed, and the seconds of both; or the first difference, with the
+input up to it, and ends with status 1.
 
-usage: bench/compare_planner.py [PROGRAM [NETWORKS [SEED]]]     the PROGRAM (./hosed) as seen from the top of the repository
+usage: bench/compare_planner.py [PROGRAM [NETWORKS [SEED]]]
+The PROGRAM (./hosed) is seen from the top of the repository.
 """
 
 import os
 import random
 import subprocess
 import sys
+import time
 from collections import Counter
 from itertools import zip_longest
 from typing import NamedTuple
@@ -18,7 +22,7 @@ from typing import NamedTuple
 COMMANDS = 60  # of each network
 CUSTOMERS = ("acme", "zeta")
 MOST_RATE = 6
-SECONDS = 600  # that the program has for one network: the first run may build it
+SECONDS = 60  # that the program has for one network
 
 
 class Link(NamedTuple):
@@ -54,7 +58,7 @@ def far_end(link, node):
 
 
 def distances(network, over, root):
-    """The least cost of a walk over these links from the root to each node; none where there is no walk."""
+    """The least cost of a walk over these links from the root to each node, where there is one."""
     dist = [None] * len(network.nodes)
     dist[root] = 0
     settled = False
@@ -72,7 +76,7 @@ def distances(network, over, root):
 
 
 def weight(network, over, hose, root):
-    """The sum of each endpoint's rate times its distance from the root; none where one is not reached."""
+    """The sum of each endpoint's rate times its distance from the root, where all are reached."""
     dist = distances(network, over, root)
     if any(dist[node] is None for node, _ in hose):
         return None
@@ -90,10 +94,13 @@ def best_root(network, over, hose):
 
 
 def tight_link(network, over, dist, node):
-    """The lowest link to a node that is nearer to the root by just the link's cost, and that node."""
+    """The lowest link to a node nearer to the root by just the link's cost, and that node."""
     for number in sorted(over):
-        near = far_end(network.links[number], node)
-        if near is not None and dist[near] is not None and dist[near] + network.links[number].cost == dist[node]:
+        link = network.links[number]
+        near = far_end(link, node)
+        if near is None or dist[near] is None:
+            continue
+        if dist[near] + link.cost == dist[node]:
             return number, near
     raise AssertionError("a node that is reached has no tight link")
 
@@ -182,7 +189,8 @@ class Server:
         kind, found = decide(self.network, self.loads(), hose)
         if kind == "refused":
             self.kinds["refused"] += 1
-            return f"refused at {self.epoch} side " + " ".join(self.network.nodes[node] for node in found)
+            side = " ".join(self.network.nodes[node] for node in found)
+            return f"refused at {self.epoch} side {side}"
         self.kinds[f"admitted with the {kind} plan"] += 1
         self.epoch += 1
         cost = plan_cost(self.network, found)
@@ -210,7 +218,8 @@ class Server:
         if vpn is None:
             return self.no_vpn(number)
         self.kinds["vpn"] += 1
-        return f"vpn {number} cost {vpn.cost} at {self.epoch} ends {self.ends_text(vpn.hose)} links {pairs_text(vpn.plan)}"
+        ends, links = self.ends_text(vpn.hose), pairs_text(vpn.plan)
+        return f"vpn {number} cost {vpn.cost} at {self.epoch} ends {ends} links {links}"
 
     def link(self, number):
         if number >= len(self.network.links):
@@ -219,7 +228,9 @@ class Server:
         self.kinds["link"] += 1
         link = self.network.links[number]
         a, b = self.network.nodes[link.a], self.network.nodes[link.b]
-        return f"link {number} {a} {b} capacity {link.capacity} cost {link.cost} load {self.loads()[number]} at {self.epoch}"
+        load = self.loads()[number]
+        told = f"capacity {link.capacity} cost {link.cost} load {load} at {self.epoch}"
+        return f"link {number} {a} {b} {told}"
 
 
 def pairs_text(plan):
@@ -230,13 +241,17 @@ def pairs_text(plan):
 
 
 def random_network(draw):
-    """Few nodes and costs, so that there are cycles, parallel links and ties; little room, so that first plans often do not fit."""
+    """Few nodes and costs, and little room.
+
+    So there are cycles, parallel links and ties, and first plans often do not fit.
+    """
     names = draw.sample("abcdefghijklmnopqrstuvwxyz", draw.randint(2, 9))
     links = []
     for _ in range(draw.randint(len(names) - 1, 3 * len(names))):
         a, b = draw.sample(range(len(names)), 2)
         length = draw.randint(1, 4)
-        links.append(Link(a, b, draw.randint(1, 16), length, draw.choice((length, length, draw.randint(1, 4)))))
+        capacity, cost = draw.randint(1, 16), draw.choice((length, length, draw.randint(1, 4)))
+        links.append(Link(a, b, capacity, length, cost))
     return Network(names, links)
 
 
@@ -279,7 +294,7 @@ def random_command(draw, server):
 # ---- Rows that were worked out by hand.
 
 STAR = Network(list("abch"), [Link(0, 3, 10, 1, 1), Link(1, 3, 10, 2, 2), Link(2, 3, 10, 3, 3)])
-RING = Network(list("yaxb"), [Link(1, 2, 10, 1, 1), Link(2, 3, 10, 1, 1), Link(1, 0, 10, 1, 1), Link(0, 3, 10, 1, 1)])
+RING = Network(list("yaxb"), [Link(a, b, 10, 1, 1) for a, b in ((1, 2), (2, 3), (1, 0), (0, 3))])
 PARALLEL = Network(list("ab"), [Link(0, 1, 10, 1, 1), Link(0, 1, 10, 1, 1)])
 APART = Network(list("abc"), [Link(0, 2, 10, 1, 1)])
 TRIANGLE = Network(list("abc"), [Link(0, 1, 10, 1, 2), Link(2, 1, 10, 1, 2), Link(2, 0, 10, 9, 3)])
@@ -288,7 +303,8 @@ HUB = Network(list("abcdh"), MESH + [Link(a, 4, 10, 2, 2) for a in range(4)])
 
 
 def detour(capacity):
-    return Network(list("abc"), [Link(0, 1, 4, 1, 1), Link(0, 2, capacity, 2, 2), Link(2, 1, capacity, 2, 2)])
+    long_way = [Link(0, 2, capacity, 2, 2), Link(2, 1, capacity, 2, 2)]
+    return Network(list("abc"), [Link(0, 1, 4, 1, 1), *long_way])
 
 
 HAND = [
@@ -318,9 +334,10 @@ def check_by_hand():
 
 
 def compare(program, topology, script, wanted):
-    """Whether the program replies so to the script; else tells the first difference, and the input up to it."""
+    """Whether the program replies so to the script; else tells the first difference."""
     text = "\n".join(topology + script) + "\n"
-    run = subprocess.run([program, "run"], input=text, capture_output=True, text=True, timeout=SECONDS)
+    streams = {"input": text, "capture_output": True, "text": True}
+    run = subprocess.run([program, "run"], timeout=SECONDS, **streams)
     replies = run.stdout.splitlines()
     for place, (want, reply) in enumerate(zip_longest(wanted, replies)):
         if want != reply:
@@ -336,17 +353,26 @@ def main():
     program, networks, seed = (sys.argv[1:] + ["./hosed", "300", "1"][len(sys.argv) - 1 :])[:3]
     os.chdir(os.path.join(os.path.dirname(os.path.abspath(__file__)), ".."))
     check_by_hand()
+    # The first run may build the program.
+    subprocess.run([program, "--version"], stdout=subprocess.DEVNULL, check=True)
     kinds = Counter()
+    planner = hosed = 0.0
     for number in range(int(networks)):
         draw = random.Random(f"{seed} {number}")
         server = Server(random_network(draw))
+        start = time.perf_counter()
         script, wanted = zip(*(random_command(draw, server) for _ in range(COMMANDS)))
+        planned = time.perf_counter()
         if not compare(program, topology_lines(server.network), list(script), wanted):
             sys.exit(1)
+        planner += planned - start
+        hosed += time.perf_counter() - planned
         kinds.update(server.kinds)
     print(f"compared: {networks} networks, {sum(kinds.values())} commands")
     for kind, count in sorted(kinds.items()):
         print(f"{kind}: {count}")
+    print(f"seconds: {hosed:.2f}, with the start of {networks} processes")
+    print(f"reference: {planner:.2f} s for the planner here, ratio {hosed / planner:.2f}")
 
 
 if __name__ == "__main__":

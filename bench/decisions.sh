@@ -1,15 +1,16 @@
 #!/usr/bin/env bash
-# Decisions a second on a random network of 512 nodes and 2,048 links: 200 admissions of 2 to 5 endpoints. Beside it, as a reference point of the same
-# run, what it takes to read the topology and answer 200 questions after a link, which is no part of the decisions' time.
+# Decisions a second on a random network of 512 nodes and 2,048 links: 200 admissions of 2 to 5
+# endpoints. What it takes to read the topology and answer 200 questions about a link is measured in
+# the same run, and is not part of the decisions' time.
 # usage: bench/decisions.sh [PROGRAM [SEED]]
 . "$(dirname "$0")/setup.sh"
 
-python3 - "$program" "$work" "${2:-1}" <<'END'
-import subprocess, sys, time
-from collections import Counter
+RUNS=3
+python3 - "$work" "${2:-1}" <<'END'
+import sys
 
-program, work, seed = sys.argv[1:]
-NODES, LINKS, HOSES, RUNS = 512, 2048, 200, 3
+work, seed = sys.argv[1:]
+NODES, LINKS, HOSES = 512, 2048, 200
 state = int(seed)
 
 
@@ -43,23 +44,28 @@ def admit_line():
     return f"c{customer} admit " + " ".join(f"n{node}:{rate}" for node, rate in ends.items())
 
 
-def seconds(lines):
-    with open(f"{work}/input", "w") as text:
-        text.write("\n".join(lines) + "\n")
-    with open(f"{work}/input") as source, open(f"{work}/replies", "w") as sink:
-        start = time.perf_counter()
-        subprocess.run([program, "run"], stdin=source, stdout=sink, check=True)
-        return time.perf_counter() - start
+topology = [f"node n{node}" for node in range(NODES)]
+topology += [link_line(number) for number in range(LINKS)] + ["end"]
+scripts = {"questions": ["c0 link 0"] * HOSES, "admits": [admit_line() for _ in range(HOSES)]}
+for name, script in scripts.items():
+    with open(f"{work}/{name}", "w") as text:
+        text.write("\n".join(topology + script) + "\n")
+END
+cp "$work/questions" "$work/input"
+measure "$RUNS"
+questions=$taken
+cp "$work/admits" "$work/input"
+measure "$RUNS"
+python3 - "$taken" "$questions" "$work/replies" <<'END'
+import sys
+from collections import Counter
 
-
-topology = [f"node n{node}" for node in range(NODES)] + [link_line(number) for number in range(LINKS)] + ["end"]
-admits = [admit_line() for _ in range(HOSES)]
-questions = ["c0 link 0"] * HOSES
-reference = min(seconds(topology + questions) for _ in range(RUNS))
-taken = min(seconds(topology + admits) for _ in range(RUNS)) - reference
-with open(f"{work}/replies") as replies:
+whole, questions = map(float, sys.argv[1:3])
+taken = whole - questions
+with open(sys.argv[3]) as replies:
     kinds = Counter(line.split()[0] for line in replies)
 counts = ", ".join(f"{count} {kind}" for kind, count in sorted(kinds.items()))
-print(f"decisions: {HOSES / taken:.0f} a second, {taken * 1000:.0f} ms, {counts}")
-print(f"reference: {reference * 1000:.1f} ms for the topology and {HOSES} questions after a link")
+print(f"decisions: {kinds.total() / taken:.0f} a second, {taken * 1000:.0f} ms, {counts}")
+print(f"the topology and as many questions about a link: {questions * 1000:.1f} ms")
 END
+reference

@@ -1,8 +1,28 @@
-# What the scripts beside this one begin with. Each takes a PROGRAM (./hosed), seen from the top of the repository.
+# What the scripts beside this one begin with. Each takes a PROGRAM (./hosed), seen from the top of
+# the repository.
 set -euo pipefail
 export LC_ALL=C
-cd "$(dirname "$0")/.."
+cd "$(dirname "${BASH_SOURCE[0]}")/.."
 program=${1:-./hosed}
 work=$(mktemp -d)
 trap 'rm -rf "$work"' EXIT
-printf 'node a\nend\n' | "$program" run # where the program is not built yet, that is no part of a figure
+# Where the program is not built yet, that is not part of a figure.
+printf 'node a\nend\n' | "$program" run
+
+# Runs the program on $work/input, RUNS times, and leaves its output in $work/replies; the least
+# seconds are then in `taken`, the most KiB in `peak`.
+measure() { # [RUNS]
+    read -r taken peak < <(
+        python3 bench/measure.py "$program" "$work/input" "$work/replies" "${1:-1}"
+    )
+}
+
+# Prints what a plain loop takes for the same bytes, and how many times as long the program took.
+reference() {
+    python3 bench/reference.py "$work/input" "$work/replies" "$taken"
+}
+
+# The last reply, cut where it is long.
+last_reply() {
+    tail -n 1 "$work/replies" | cut -c 1-60
+}

@@ -1,6 +1,6 @@
 #!/usr/bin/env bash
-# Milliseconds that reading a topology of the greatest size takes, and the memory of the whole process then. The text ends in a wrong line in place
-# of `end`, so that nothing but the reading is done.
+# Milliseconds that reading a topology of the greatest size takes, and the memory of the whole
+# process then. The text ends in a wrong line in place of `end`, so that it is only read.
 # usage: bench/topology.sh [PROGRAM]
 . "$(dirname "$0")/setup.sh"
 
@@ -12,16 +12,7 @@ for link in range(2048):
     print(f"link node-of-the-n{a:03} node-of-the-n{b:03} 1000000000 1000000 1000000")
 print("ends")
 END
-python3 - "$program" "$work/input" <<'END'
-import resource, subprocess, sys, time
-program, text = sys.argv[1:]
-least = None
-for _ in range(20):
-    with open(text) as source:
-        start = time.perf_counter()
-        run = subprocess.run([program, "run"], stdin=source, stdout=subprocess.PIPE, text=True)
-        taken = time.perf_counter() - start
-    least = taken if least is None else min(least, taken)
-peak = resource.getrusage(resource.RUSAGE_CHILDREN).ru_maxrss
-print(f"topology: {least * 1000:.1f} ms, {peak} KiB, {run.stdout.strip()} (wanted: topology 2561 1)")
-END
+measure 20
+milliseconds=$(python3 -c 'import sys; print(f"{1000 * float(sys.argv[1]):.1f}")' "$taken")
+echo "topology: $milliseconds ms, $peak KiB, $(last_reply) (wanted: topology 2561 1)"
+reference

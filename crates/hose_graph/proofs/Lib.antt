@@ -1,3 +1,4 @@
 pub mod Endpoints
 pub mod Growth
 pub mod NodesByName
+pub mod Ordered

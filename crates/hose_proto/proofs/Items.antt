@@ -1,52 +1,40 @@
--- The words of amounts, endpoints and nodes: each tells its item alone.
-use Rattle.std.proofs.Common.{◌≡◌, ◌∙◌, ℕ, ◌^◌, ◌<◌, List, [], ◌∷◌, ◌++◌, Some, codes, decimal, length, refl, sym, ap, subst, arith, append_assoc, length-append}
-use Rattle.std.specs.List.{All, Contains}
+-- The items of lists: amounts, nodes and endpoints. Each is told by its own word, and lists grow item by item.
+use Rattle.std.proofs.Common.{◌≡◌, ◌≢◌, ◌∙◌, ℕ, ◌^◌, ◌<◌, List, [], ◌∷◌, ◌++◌, Some, decimal, length, get_or, sym, ap, subst, arith, length-append}
+use Rattle.std.specs.List.{All, Any}
 use Rattle.std.specs.List.Sorted.{IsStrictlyIncreasing}
-use Rattle.std.proofs.lemmas.Fmt.{decimal_is_IsNumeral, decimal_injective}
+use Rattle.std.proofs.Math.ListN.{get_or-append}
+use Rattle.std.proofs.Math.Seq.{get_or-append_seam}
+use Rattle.std.proofs.lemmas.Fmt.{decimal_injective}
 use Rattle.std.proofs.lemmas.List.{get_or_default, map-append}
 use Rattle.std.proofs.lemmas.List.Elements.{All-append, All-cons, All-nil}
-use Rattle.std.proofs.lemmas.Option.{get_or_from_slice_get, slice_get-get_or}
-use Rattle.std.proofs.lemmas.Str.Parse.{digit_at}
-use Rattle.hose_words.specs.Number.{IsNumber}
+use Rattle.std.proofs.lemmas.List.Quantifiers.{all_pairs_push}
+use Rattle.std.proofs.lemmas.Option.{slice_get-get_or}
+use Rattle.hose_words.specs.Form.{Fits64}
+use Rattle.hose_words.proofs.Forms.{AreApart}
+use Rattle.hose_words.proofs.Listing.{MakesList}
+use Rattle.hose_words.proofs.Passing.{All-front, IsClosed}
 use Rattle.hose_graph.specs.Ascending.{firsts}
 use Rattle.hose_graph.specs.Hose.{IsEnd}
-use Rattle.hose_graph.specs.Network.{Network, IsNetwork}
+use Rattle.hose_graph.specs.Network.{Network, IsNetwork, IsLinkOf, IsNodeOf, name_of}
 use Rattle.hose_graph.proofs.NodesByName.{same_node}
-use Rattle.hose_proto.specs.Command.{IsEndpoint}
+use Rattle.hose_proto.specs.Command.{AreNewEnds}
+use Rattle.hose_proto.specs.Places.{end_word}
+use Rattle.hose_proto.specs.Reading.{IsEndOf, IsNewEnd, IsNextEnd, IsNextNode, IsNextPair}
 use Rattle.hose_proto.specs.ReplyGrammar.{AreEnds}
-use Rattle.hose_proto.specs.ReplyReading.{IsNextPair, IsNextNode, IsNextEnd}
-use Rattle.hose_proto.specs.ReplyWords.{Fits64, AreAmounts, IsSide, pair_word, node_word, end_word}
-use Rattle.hose_proto.proofs.Decimals.{told_decimal, decimal_tells}
-use Rattle.hose_proto.proofs.Forms.{AreApart}
-use Rattle.hose_proto.proofs.Listing.{MakesList}
-use Rattle.hose_proto.proofs.Rising.{All-last}
-use Rattle.hose_proto.proofs.Spelling.{same_parts, same_end}
+use Rattle.hose_proto.specs.ReplyWords.{AreAmounts, IsSide, pair_word}
+use Rattle.hose_proto.proofs.Colons.{end_cut, no_colon, no_colon_decimal, pair_cut, same_parts}
+use Rattle.hose_proto.proofs.Rising.{All-last, firsts_front, rising_front}
+
+-- one item more meets what all of them meet
+push : {X : Type 0} (P : X → Type 0) (xs : List X) (x : X) → All P xs → P x → All P (xs ++ x ∷ [])
+push P xs x all here = All-append P xs (x ∷ []) all (All-cons P x [] here (All-nil P))
 
 -- ---- amounts
 
--- a decimal has no colon
-pub no_colon_decimal : (n : ℕ) → n < 2 ^ 64 → ¬ Contains (decimal n) 58
-no_colon_decimal n small there =
-    let numeral = decimal_is_IsNumeral n small in
-    omega (arith, digit_at (decimal n) there.0 numeral.0.1 there.1, get_or_default (decimal n) there.0 58 0 there.1, there.2)
-
 -- an amount on a link of the network
 pub record IsPair (network : Network) (pair : ℕ × ℕ) : Type 0 where
-  pub link : pair.0 < length network.links
+  pub link : IsLinkOf network pair.0
   pub amount : Fits64 pair.1
-
--- what stands round the colon of an amount's word
-pub pair_cut : (pair : ℕ × ℕ) → pair_word pair ≡ decimal pair.0 ++ 58 ∷ decimal pair.1
-pair_cut pair = append_assoc (decimal pair.0) (codes ":") (decimal pair.1)
-
--- what stands round the first colon is the link and the amount
-pub pair_parts : (word link amount : List ℕ) (pair : ℕ × ℕ) → pair.0 < 2 ^ 64 → word ≡ link ++ 58 ∷ amount → (¬ Contains link 58) → word ≡ pair_word pair → (link ≡ decimal pair.0) × (amount ≡ decimal pair.1)
-pair_parts word link amount pair small spelled free is =
-    same_parts link amount (decimal pair.0) (decimal pair.1) free (no_colon_decimal pair.0 small) (sym spelled ∙ is ∙ pair_cut pair)
-
-pub pair_told : (word link amount : List ℕ) (pair : ℕ × ℕ) → word ≡ link ++ 58 ∷ amount → IsNumber link pair.0 → pair.0 < 2 ^ 64 → IsNumber amount pair.1 → pair.1 < 2 ^ 64 → word ≡ pair_word pair
-pair_told word link amount pair spelled is small is' small' =
-    spelled ∙ (λ i. told_decimal link pair.0 is small i ++ 58 ∷ told_decimal amount pair.1 is' small' i) ∙ sym (pair_cut pair)
 
 pub pairs_spelled : (network : Network) → IsNetwork network → AreApart (IsPair network) pair_word
 pairs_spelled network is = record {
@@ -59,9 +47,6 @@ pairs_spelled network is = record {
       λ i. (link i, amount i);
 }
 
-pub pairs_each : (network : Network) (pairs : List (ℕ × ℕ)) → AreAmounts network pairs → All (IsPair network) pairs
-pairs_each network pairs are = λ k d below. record { link = are.links k d below; amount = are.numbers k d below }
-
 -- the amounts that were read so far
 pub record ArePairs (network : Network) (pairs : List (ℕ × ℕ)) : Type 0 where
   pub ascending : IsStrictlyIncreasing (firsts pairs)
@@ -70,7 +55,7 @@ pub record ArePairs (network : Network) (pairs : List (ℕ × ℕ)) : Type 0 whe
 pub pairs_more : (network : Network) (pairs : List (ℕ × ℕ)) (pair : ℕ × ℕ) → ArePairs network pairs → IsNextPair network pairs pair → ArePairs network (pairs ++ pair ∷ [])
 pairs_more network pairs pair are next = record {
   ascending = subst IsStrictlyIncreasing (sym (map-append (λ (p : ℕ × ℕ). p.0) pairs (pair ∷ []))) next.ascending;
-  all = All-append (IsPair network) pairs (pair ∷ []) are.all (All-cons (IsPair network) pair [] (record { link = next.link; amount = next.amount }) (All-nil (IsPair network)));
+  all = push (IsPair network) pairs pair are.all (record { link = next.link; amount = next.amount });
 }
 
 pub amounts_of : (network : Network) (pairs : List (ℕ × ℕ)) → ArePairs network pairs → 0 < length pairs → AreAmounts network pairs
@@ -81,84 +66,82 @@ amounts_of network pairs are some = record {
   numbers = λ k d below. (are.all k d below).amount;
 }
 
-pub pair_may_come : (network : Network) (pairs : List (ℕ × ℕ)) (pair : ℕ × ℕ) → AreAmounts network (pairs ++ pair ∷ []) → IsNextPair network pairs pair
+pair_may_come : (network : Network) (pairs : List (ℕ × ℕ)) (pair : ℕ × ℕ) → AreAmounts network (pairs ++ pair ∷ []) → IsNextPair network pairs pair
 pair_may_come network pairs pair are = record {
-  link = All-last (λ (p : ℕ × ℕ). p.0 < length network.links) pairs pair are.links;
+  link = All-last (λ (p : ℕ × ℕ). IsLinkOf network p.0) pairs pair are.links;
   amount = All-last (λ (p : ℕ × ℕ). Fits64 p.1) pairs pair are.numbers;
   ascending = subst IsStrictlyIncreasing (map-append (λ (p : ℕ × ℕ). p.0) pairs (pair ∷ [])) are.ascending;
 }
 
 pub makes_amounts : (network : Network) (pairs : List (ℕ × ℕ)) → IsNetwork network → ArePairs network pairs → MakesList (IsPair network) pair_word (AreAmounts network) pairs (IsNextPair network pairs)
-makes_amounts network pairs is are =
-    record { apart = pairs_spelled network is; each = pairs_each network; all = are.all; may_come = pair_may_come network pairs }
+makes_amounts network pairs is are = record {
+  apart = pairs_spelled network is;
+  each = λ others fine k d below. record { link = fine.links k d below; amount = fine.numbers k d below };
+  all = are.all;
+  may_come = pair_may_come network pairs;
+}
+
+pub amounts_closed : (network : Network) → IsClosed (AreAmounts network)
+amounts_closed network = record {
+  front = λ xs ys some are. record {
+    some = some;
+    ascending = firsts_front xs ys are.ascending;
+    links = All-front (λ (pair : ℕ × ℕ). IsLinkOf network pair.0) xs ys are.links;
+    numbers = All-front (λ (pair : ℕ × ℕ). Fits64 pair.1) xs ys are.numbers;
+  };
+}
 
 -- ---- nodes
 
--- a node of the network
-abbrev pub IsNode : Network → ℕ → Type 0
-IsNode network node = node < length network.nodes
-
-pub nodes_spelled : (network : Network) → IsNetwork network → AreApart (IsNode network) (node_word network)
+pub nodes_spelled : (network : Network) → IsNetwork network → AreApart (IsNodeOf network) (name_of network)
 nodes_spelled network is = record {
   apart = λ one other below below' same.
-      same_node network.nodes one other (node_word network one) is.differ (slice_get-get_or network.nodes one [] below)
+      same_node network.nodes one other (name_of network one) is.differ (slice_get-get_or network.nodes one [] below)
       (slice_get-get_or network.nodes other [] below' ∙ ap Some (sym same));
 }
 
 -- the nodes that were read so far
 pub record AreNodes (network : Network) (nodes : List ℕ) : Type 0 where
   pub ascending : IsStrictlyIncreasing nodes
-  pub all : All (IsNode network) nodes
+  pub all : All (IsNodeOf network) nodes
 
 pub nodes_more : (network : Network) (nodes : List ℕ) (node : ℕ) → AreNodes network nodes → IsNextNode network nodes node → AreNodes network (nodes ++ node ∷ [])
-nodes_more network nodes node are next = record {
-  ascending = next.ascending;
-  all = All-append (IsNode network) nodes (node ∷ []) are.all (All-cons (IsNode network) node [] next.is_node (All-nil (IsNode network)));
-}
+nodes_more network nodes node are next = record { ascending = next.ascending; all = push (IsNodeOf network) nodes node are.all next.is_node }
 
 pub side_of : (network : Network) (nodes : List ℕ) → AreNodes network nodes → 0 < length nodes → IsSide network nodes
 side_of network nodes are some = record { some = some; ascending = are.ascending; nodes = are.all }
 
-pub makes_side : (network : Network) (nodes : List ℕ) → IsNetwork network → AreNodes network nodes → MakesList (IsNode network) (node_word network) (IsSide network) nodes (IsNextNode network nodes)
+pub makes_side : (network : Network) (nodes : List ℕ) → IsNetwork network → AreNodes network nodes → MakesList (IsNodeOf network) (name_of network) (IsSide network) nodes (IsNextNode network nodes)
 makes_side network nodes is are = record {
   apart = nodes_spelled network is;
   each = λ others side. side.nodes;
   all = are.all;
-  may_come = λ node side. record { is_node = All-last (IsNode network) nodes node side.nodes; ascending = side.ascending };
+  may_come = λ node side. record { is_node = All-last (IsNodeOf network) nodes node side.nodes; ascending = side.ascending };
+}
+
+pub side_closed : (network : Network) → IsClosed (IsSide network)
+side_closed network = record {
+  front = λ xs ys some is. record {
+    some = some;
+    ascending = rising_front xs ys is.ascending;
+    nodes = All-front (IsNodeOf network) xs ys is.nodes;
+  };
 }
 
 -- ---- endpoints
 
--- an endpoint at a node of the network
-pub record IsEndOf (network : Network) (end : ℕ × ℕ) : Type 0 where
-  pub is_end : IsEnd end
-  pub is_node : end.0 < length network.nodes
-
-pub end_cut : (network : Network) (end : ℕ × ℕ) → end_word network end ≡ node_word network end.0 ++ 58 ∷ decimal end.1
-end_cut network end = append_assoc (node_word network end.0) (codes ":") (decimal end.1)
-
--- a word that spells an endpoint is its word
-pub endpoint_told : (network : Network) (word : List ℕ) (end : ℕ × ℕ) → IsEndpoint network word end → word ≡ end_word network end
-endpoint_told network word end is =
-    let name : is.name ≡ node_word network end.0 = sym (get_or_from_slice_get network.nodes end.0 is.name [] is.is_node) in
-    let rate : is.rate ≡ decimal end.1 = told_decimal is.rate end.1 is.is_rate (omega (arith, is.within.1)) in
-    is.spelled ∙ (λ i. name i ++ 58 ∷ rate i) ∙ sym (end_cut network end)
-
-pub told_endpoint : (network : Network) (word : List ℕ) (end : ℕ × ℕ) → word ≡ end_word network end → IsEndOf network end → IsEndpoint network word end
-told_endpoint network word end told is = record {
-  name = node_word network end.0;
-  rate = decimal end.1;
-  spelled = told ∙ end_cut network end;
-  is_node = slice_get-get_or network.nodes end.0 [] is.is_node;
-  is_rate = decimal_tells end.1 (omega (arith, is.is_end.rate.1));
-  within = is.is_end.rate;
-}
-
 pub ends_spelled : (network : Network) → IsNetwork network → AreApart (IsEndOf network) (end_word network)
 ends_spelled network is = record {
   apart = λ one other fits fits' same.
-      same_end network (end_word network one) one other is (told_endpoint network (end_word network one) one refl fits) (told_endpoint network (end_word network one) other same fits');
+      let free = no_colon (name_of network one.0) (is.names one.0 [] fits.is_node) in
+      let free' = no_colon (name_of network other.0) (is.names other.0 [] fits'.is_node) in
+      let parts = same_parts (name_of network one.0) (decimal one.1) (name_of network other.0) (decimal other.1) free free' (sym (end_cut network one) ∙ same ∙ end_cut network other) in
+      let node = (nodes_spelled network is).apart one.0 other.0 fits.is_node fits'.is_node parts.0 in
+      let rate = decimal_injective one.1 other.1 (omega (arith, fits.is_end.rate)) (omega (arith, fits'.is_end.rate)) parts.1 in
+      λ i. (node i, rate i);
 }
+
+-- ---- in order
 
 pub ends_each : (network : Network) (ends : List (ℕ × ℕ)) → AreEnds network ends → All (IsEndOf network) ends
 ends_each network ends are = λ k d below. record { is_end = are.within k d below; is_node = are.nodes k d below }
@@ -166,15 +149,78 @@ ends_each network ends are = λ k d below. record { is_end = are.within k d belo
 pub ends_more : (network : Network) (ends : List (ℕ × ℕ)) (end : ℕ × ℕ) → AreEnds network ends → IsNextEnd network ends end → AreEnds network (ends ++ end ∷ [])
 ends_more network ends end are next = record {
   few = omega (arith, next.room, length-append ends (end ∷ []));
-  within = All-append IsEnd ends (end ∷ []) are.within (All-cons IsEnd end [] next.is_end (All-nil IsEnd));
+  within = push IsEnd ends end are.within next.is_end.is_end;
   ascending = subst IsStrictlyIncreasing (sym (map-append (λ (p : ℕ × ℕ). p.0) ends (end ∷ []))) next.ascending;
-  nodes = All-append (λ (e : ℕ × ℕ). e.0 < length network.nodes) ends (end ∷ []) are.nodes (All-cons (λ (e : ℕ × ℕ). e.0 < length network.nodes) end [] next.is_node (All-nil (λ (e : ℕ × ℕ). e.0 < length network.nodes)));
+  nodes = push (λ (e : ℕ × ℕ). IsNodeOf network e.0) ends end are.nodes next.is_end.is_node;
 }
 
 pub end_may_come : (network : Network) (ends : List (ℕ × ℕ)) (end : ℕ × ℕ) → AreEnds network (ends ++ end ∷ []) → IsNextEnd network ends end
 end_may_come network ends end are = record {
-  is_end = All-last IsEnd ends end are.within;
-  is_node = All-last (λ (e : ℕ × ℕ). e.0 < length network.nodes) ends end are.nodes;
+  is_end = record { is_end = All-last IsEnd ends end are.within; is_node = All-last (λ (e : ℕ × ℕ). IsNodeOf network e.0) ends end are.nodes };
   ascending = subst IsStrictlyIncreasing (map-append (λ (p : ℕ × ℕ). p.0) ends (end ∷ [])) are.ascending;
   room = omega (arith, are.few, length-append ends (end ∷ []));
+}
+
+pub ends_closed : (network : Network) → IsClosed (AreEnds network)
+ends_closed network = record {
+  front = λ xs ys some are. record {
+    few = omega (arith, are.few, length-append xs ys);
+    within = All-front IsEnd xs ys are.within;
+    ascending = firsts_front xs ys are.ascending;
+    nodes = All-front (λ (end : ℕ × ℕ). IsNodeOf network end.0) xs ys are.nodes;
+  };
+}
+
+-- ---- in any order
+
+-- no node yet
+pub no_ends : (network : Network) → AreNewEnds network []
+no_ends network = record {
+  few = omega arith;
+  within = All-nil IsEnd;
+  distinct = λ i j d order below. absurd (omega (arith, below));
+  nodes = All-nil (λ (e : ℕ × ℕ). IsNodeOf network e.0);
+}
+
+pub new_ends_more : (network : Network) (ends : List (ℕ × ℕ)) (end : ℕ × ℕ) → AreNewEnds network ends → IsNewEnd network ends end → AreNewEnds network (ends ++ end ∷ [])
+new_ends_more network ends end are new = record {
+  few = omega (arith, new.room, length-append ends (end ∷ []));
+  within = push IsEnd ends end are.within new.is_end.is_end;
+  distinct = all_pairs_push (λ (one other : ℕ × ℕ). one.0 ≢ other.0) ends end are.distinct
+      (λ k d below same. new.is_new (k, get_or ends k d, below, get_or_default ends k (get_or ends k d) d below, same));
+  nodes = push (λ (e : ℕ × ℕ). IsNodeOf network e.0) ends end are.nodes new.is_end.is_node;
+}
+
+new_end_may_come : (network : Network) (ends : List (ℕ × ℕ)) (end : ℕ × ℕ) → AreNewEnds network (ends ++ end ∷ []) → IsNewEnd network ends end
+new_end_may_come network ends end are = record {
+  is_end = record { is_end = All-last IsEnd ends end are.within; is_node = All-last (λ (e : ℕ × ℕ). IsNodeOf network e.0) ends end are.nodes };
+  is_new = none;
+  room = omega (arith, are.few, length-append ends (end ∷ []));
+}
+  where
+    none : Any (λ (earlier : ℕ × ℕ). earlier.0 ≡ end.0) ends → ⊥
+    none (k, x, below, at, same) =
+        let here : get_or (ends ++ end ∷ []) k x ≡ x = get_or-append ends (end ∷ []) x k below ∙ at in
+        let there : get_or (ends ++ end ∷ []) (length ends) x ≡ end = get_or-append_seam ends end [] x in
+        are.distinct k (length ends) x below (omega (arith, length-append ends (end ∷ [])))
+        (ap (λ (e : ℕ × ℕ). e.0) here ∙ same ∙ sym (ap (λ (e : ℕ × ℕ). e.0) there))
+
+pub makes_ends : (network : Network) (ends : List (ℕ × ℕ)) → IsNetwork network → AreNewEnds network ends → MakesList (IsEndOf network) (end_word network) (AreNewEnds network) ends (IsNewEnd network ends)
+makes_ends network ends is are = record {
+  apart = ends_spelled network is;
+  each = λ others fine k d below. record { is_end = fine.within k d below; is_node = fine.nodes k d below };
+  all = λ k d below. record { is_end = are.within k d below; is_node = are.nodes k d below };
+  may_come = new_end_may_come network ends;
+}
+
+pub new_ends_closed : (network : Network) → IsClosed (AreNewEnds network)
+new_ends_closed network = record {
+  front = λ xs ys some are. record {
+    few = omega (arith, are.few, length-append xs ys);
+    within = All-front IsEnd xs ys are.within;
+    distinct = λ i j d order below same.
+        are.distinct i j d order (omega (arith, below, length-append xs ys))
+        (ap (λ (e : ℕ × ℕ). e.0) (get_or-append xs ys d i (omega arith)) ∙ same ∙ sym (ap (λ (e : ℕ × ℕ). e.0) (get_or-append xs ys d j below)));
+    nodes = All-front (λ (end : ℕ × ℕ). IsNodeOf network end.0) xs ys are.nodes;
+  };
 }

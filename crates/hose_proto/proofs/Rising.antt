@@ -1,11 +1,11 @@
--- One number more behind numbers that rise.
+-- One number more after numbers that rise.
 use Rattle.std.proofs.Common.{◌≡◌, ◌∙◌, ℕ, ◌+◌, ◌-◌, ◌<◌, List, [], ◌∷◌, ◌++◌, None, Some, length, get_or, ap, subst, inl, inr, arith, length-append}
 use Rattle.std.specs.List.{All, slice_get}
 use Rattle.std.specs.List.Sorted.{IsStrictlyIncreasing}
 use Rattle.std.proofs.Math.ListN.{get_or-append}
 use Rattle.std.proofs.Math.Seq.{get_or-append_seam}
 use Rattle.std.proofs.lemmas.Bool.{cases_lt}
-use Rattle.std.proofs.lemmas.List.{length-map, get_or-map}
+use Rattle.std.proofs.lemmas.List.{length-map, get_or-map, map-append}
 use Rattle.std.proofs.lemmas.Option.{get_or_from_slice_get, slice_get-get_or}
 use Rattle.hose_graph.specs.Ascending.{firsts}
 
@@ -54,3 +54,12 @@ firsts_none (pair ∷ pairs) number none =
 -- what holds of all holds of the last
 pub All-last : {X : Type 0} (P : X → Type 0) (xs : List X) (x : X) → All P (xs ++ x ∷ []) → P x
 All-last P xs x all = subst P (get_or-append_seam xs x [] x) (all (length xs) x (omega (arith, length-append xs (x ∷ []))))
+
+-- ---- fronts
+
+pub rising_front : (xs ys : List ℕ) → IsStrictlyIncreasing (xs ++ ys) → IsStrictlyIncreasing xs
+rising_front xs ys rises = λ k below.
+    omega (arith, rises k (omega (arith, below, length-append xs ys)), get_or-append xs ys 0 k (omega (arith, below)), get_or-append xs ys 0 (k + 1) below)
+
+pub firsts_front : (xs ys : List (ℕ × ℕ)) → IsStrictlyIncreasing (firsts (xs ++ ys)) → IsStrictlyIncreasing (firsts xs)
+firsts_front xs ys rises = rising_front (firsts xs) (firsts ys) (subst IsStrictlyIncreasing (map-append (λ (pair : ℕ × ℕ). pair.0) xs ys) rises)

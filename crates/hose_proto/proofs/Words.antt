@@ -1,24 +1,27 @@
 -- The words that choices are told by differ.
-use Rattle.std.proofs.Common.{◌≡◌, ◌∙◌, ◌==◌, ℕ, ◌+◌, ◌*◌, List, [], ◌∷◌, decimal, get_or, refl, sym, ap, arith}
-use Rattle.std.specs.List.{All, position_or_len}
+use Rattle.std.proofs.Common.{◌≡◌, ℕ, ◌<◌, ◌+◌, List, [], ◌∷◌, length, get_or, take, decimal, refl, add-one, arith}
+use Rattle.std.specs.List.{All}
+use Rattle.std.proofs.Math.Seq.{take-suc}
+use Rattle.std.proofs.lemmas.List.Elements.{All-append, All-cons, All-nil}
 use Rattle.std.proofs.lemmas.Fmt.{decimal_injective}
-use Rattle.hose_graph.specs.Network.{Network, IsNetwork}
-use Rattle.hose_proto.specs.ReplyGrammar.{Each, IsLinkOf, head_word, missing_word}
+use Rattle.hose_words.specs.Form.{Each}
+use Rattle.hose_words.proofs.Forms.{AreApart, apart_by}
+use Rattle.hose_words.proofs.Keywords.{choice_of}
+use Rattle.hose_graph.specs.Network.{Network, IsNetwork, IsLinkOf}
+use Rattle.hose_proto.specs.Command.{verb_word}
+use Rattle.hose_proto.specs.ReplyGrammar.{head_word, missing_word}
 use Rattle.hose_proto.specs.declared.head.Head.{Head}
 use Rattle.hose_proto.specs.declared.head.Head.TheVariants as head
 use Rattle.hose_proto.specs.declared.head.Missing.{Missing}
 use Rattle.hose_proto.specs.declared.head.Missing.TheVariants as missing
 use Rattle.hose_proto.specs.declared.head.TheConstants.{HEADS}
-use Rattle.hose_proto.proofs.Forms.{AreApart}
-
--- the bytes of a word as one number
-abbrev pub word_number : List ℕ → ℕ
-word_number [] = 0
-word_number (byte ∷ bytes) = byte + 256 * word_number bytes
+use Rattle.hose_proto.specs.declared.verb.Verb.{Verb}
+use Rattle.hose_proto.specs.declared.verb.Verb.TheVariants as verb
+use Rattle.hose_proto.specs.declared.verb.TheConstants.{VERBS}
 
 -- the first word of a reply that a word is
 abbrev pub head_of : List ℕ → Head
-head_of word = get_or HEADS (position_or_len (λ head. word_number (head_word head) == word_number word) HEADS) head.Bye
+head_of word = choice_of head_word HEADS head.Bye word
 
 pub head_of-word : (one : Head) → head_of (head_word one) ≡ one
 head_of-word head.Welcome = refl
@@ -40,7 +43,7 @@ head_of-word head.Long = refl
 head_of-word head.Bye = refl
 
 pub heads_apart : AreApart Each head_word
-heads_apart = record { apart = λ one other _ _ same. sym (head_of-word one) ∙ ap head_of same ∙ head_of-word other }
+heads_apart = apart_by head_of (λ one _. head_of-word one)
 
 -- where none of the first words is a word, it is that of no reply
 pub every_head : (P : Head → Type 0) → All P HEADS → (one : Head) → P one
@@ -62,14 +65,41 @@ every_head P all head.Bad = all 14 head.Bye (omega arith)
 every_head P all head.Long = all 15 head.Bye (omega arith)
 every_head P all head.Bye = all 16 head.Bye (omega arith)
 
+-- the word after `no` that a word is
+abbrev pub missing_of : List ℕ → Missing
+missing_of word = choice_of missing_word (missing.Vpn ∷ missing.Quote ∷ []) missing.Quote word
+
+missing_of-word : (one : Missing) → missing_of (missing_word one) ≡ one
+missing_of-word missing.Vpn = refl
+missing_of-word missing.Quote = refl
+
 pub missing_apart : AreApart Each missing_word
-missing_apart = record { apart = λ one other _ _ same. differ one other same }
-  where
-    differ : (one other : Missing) → missing_word one ≡ missing_word other → one ≡ other
-    differ missing.Vpn missing.Vpn same = refl
-    differ missing.Vpn missing.Quote same = absurd (cc same)
-    differ missing.Quote missing.Vpn same = absurd (cc same)
-    differ missing.Quote missing.Quote same = refl
+missing_apart = apart_by missing_of (λ one _. missing_of-word one)
+
+-- the first word of a command that a word is
+abbrev pub verb_of : List ℕ → Verb
+verb_of word = choice_of verb_word VERBS verb.Link word
+
+pub verb_of-word : (one : Verb) → verb_of (verb_word one) ≡ one
+verb_of-word verb.Admit = refl
+verb_of-word verb.Release = refl
+verb_of-word verb.Show = refl
+verb_of-word verb.Link = refl
+
+pub verbs_apart : AreApart Each verb_word
+verbs_apart = apart_by verb_of (λ one _. verb_of-word one)
+
+-- where none of the first words is a word, it is that of no command
+pub every_verb : (P : Verb → Type 0) → All P VERBS → (one : Verb) → P one
+every_verb P all verb.Admit = all 0 verb.Link (omega arith)
+every_verb P all verb.Release = all 1 verb.Link (omega arith)
+every_verb P all verb.Show = all 2 verb.Link (omega arith)
+every_verb P all verb.Link = all 3 verb.Link (omega arith)
 
 pub links_apart : (network : Network) → IsNetwork network → AreApart (IsLinkOf network) decimal
 links_apart network is = record { apart = λ one other below below' same. decimal_injective one other (omega (arith, below, is.few_links)) (omega (arith, below', is.few_links)) same }
+
+-- what holds of the first of a list holds of one more
+pub All-next : {X : Type 0} (P : X → Type 0) (xs : List X) (i : ℕ) (d : X) → i < length xs → All P (take i xs) → P (get_or xs i d) → All P (take (i + 1) xs)
+All-next P xs i d below all here =
+    rw (add-one, take-suc xs i d below) (All-append P (take i xs) (get_or xs i d ∷ []) all (All-cons P (get_or xs i d) [] here (All-nil P)))

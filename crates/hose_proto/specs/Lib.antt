@@ -1,6 +1,6 @@
 pub mod Command
+pub mod Places
 pub mod Reading
 pub mod ReplyGrammar
-pub mod ReplyReading
 pub mod ReplyText
 pub mod ReplyWords

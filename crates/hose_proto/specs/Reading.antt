@@ -1,49 +1,64 @@
--- What is read of the parts of a command.
-use Rattle.std.specs.Prelude.{◌≡◌, ◌≢◌, ◌⊎◌, ℕ, ◌<◌, List, [], ◌∷◌, codes, length, ⊤, All, Any}
-use Rattle.hose_words.specs.Grammar.{IsFirst, IsFirstNotAllowed}
-use Rattle.hose_words.specs.Number.{IsNumber}
-use Rattle.hose_graph.specs.Network.{Network}
+-- What is read of the words of commands and replies.
+use Rattle.std.specs.Prelude.{◌≡◌, ℕ, ◌+◌, ◌<◌, ◌≤◌, List, [], ◌∷◌, ◌++◌, ⊤, All, Any, codes, length}
+use Rattle.std.specs.List.Sorted.{IsStrictlyIncreasing}
+use Rattle.hose_words.specs.Cursor.{Position, IsWrong}
+use Rattle.hose_words.specs.Form.{Form, Fits64}
+use Rattle.hose_words.specs.Grammar.{IsFirst}
+use Rattle.hose_graph.specs.Ascending.{firsts}
+use Rattle.hose_graph.specs.Hose.{IsEnd}
+use Rattle.hose_graph.specs.Network.{Network, IsLinkOf, IsNodeOf}
 use Rattle.hose_graph.specs.declared.command.Command.{Command}
 use Rattle.hose_graph.specs.declared.command.Command.TheVariants.{Admit, Link}
-use Rattle.hose_graph.specs.declared.limits.TheConstants.{MOST_ENDS}
-use Rattle.hose_proto.specs.Command.{IsEndpoint, command_grammar}
-use Rattle.hose_proto.specs.declared.command.Verb.{Verb}
+use Rattle.hose_graph.specs.declared.limits.TheConstants.{LEAST_ENDS, MOST_ENDS}
+use Rattle.hose_proto.specs.Places.{end_word}
+use Rattle.hose_proto.specs.declared.fault.ReadFault.{ReadFault}
+use Rattle.hose_proto.specs.declared.fault.ReadFault.TheVariants.{Bad}
 
 -- each node and each link that the command names is one of the network
 abbrev pub AsksOf : Network → Command → Type 0
-AsksOf network (Admit hose) = All (λ (end : ℕ × ℕ). end.0 < length network.nodes) hose
-AsksOf network (Link link) = link < length network.links
+AsksOf network (Admit hose) = All (λ (end : ℕ × ℕ). IsNodeOf network end.0) hose
+AsksOf network (Link link) = IsLinkOf network link
 AsksOf network _ = ⊤
 
--- the first word of a command that is not allowed
-abbrev pub IsWrongCommand : Network → List (List ℕ) → ℕ → Type 0
-IsWrongCommand network words place = IsFirstNotAllowed (command_grammar network) [] words place
+-- A word that is told is the first of those to come that a form does not allow. Want of memory
+-- tells nothing of them.
+pub record IsFaultOf (form : Form) (old : Position) (fault : ReadFault) : Type 0 where
+  pub word : (number : ℕ) → fault ≡ Bad number → IsWrong form old number
 
--- the first word of a command
-abbrev pub verb_word : Verb → List ℕ
-verb_word Verb.Admit = codes "admit"
-verb_word Verb.Release = codes "release"
-verb_word Verb.Show = codes "show"
-verb_word Verb.Link = codes "link"
+-- an endpoint at a node of the network
+pub record IsEndOf (network : Network) (end : ℕ × ℕ) : Type 0 where
+  pub is_end : IsEnd end
+  pub is_node : IsNodeOf network end.0
 
--- a word begins some command
-abbrev pub IsVerb : List ℕ → Type 0
-IsVerb word = (verb : Verb) × (word ≡ verb_word verb)
+-- ---- lists
 
--- a word tells a number below a bound
-abbrev pub TellsBelow : ℕ → List ℕ → ℕ → Type 0
-TellsBelow bound word value = IsNumber word value × (value < bound)
+-- an endpoint may come after others, which stand in any order
+pub record IsNewEnd (network : Network) (ends : List (ℕ × ℕ)) (end : ℕ × ℕ) : Type 0 where
+  pub is_end : IsEndOf network end
+  pub is_new : Any (λ (earlier : ℕ × ℕ). earlier.0 ≡ end.0) ends → ⊥
+  pub room : length ends < MOST_ENDS
 
--- The words behind a command's first are not one alone that tells a number below a bound: the second or the third of the command is not allowed.
-abbrev pub IsWrongNumber : ℕ → List (List ℕ) → ℕ → Type 0
-IsWrongNumber bound words place =
-    ((place ≡ 2) × (IsFirst (λ word. (value : ℕ) × TellsBelow bound word value) words → ⊥))
-    ⊎ ((place ≡ 3) × ((word : List ℕ) × (more : List (List ℕ)) × (words ≡ word ∷ more) × (more ≢ []) × ((value : ℕ) × TellsBelow bound word value)))
+-- an endpoint may come after others, in order
+pub record IsNextEnd (network : Network) (ends : List (ℕ × ℕ)) (end : ℕ × ℕ) : Type 0 where
+  pub is_end : IsEndOf network end
+  pub ascending : IsStrictlyIncreasing (firsts ends ++ end.0 ∷ [])
+  pub room : length ends < MOST_ENDS
 
--- a word behind those that spell the earlier endpoints spells one more for a hose
-abbrev pub IsOneMore : Network → List (ℕ × ℕ) → List ℕ → ℕ × ℕ → Type 0
-IsOneMore network ends word end = IsEndpoint network word end × (length ends < MOST_ENDS) × (Any (λ (earlier : ℕ × ℕ). earlier.0 ≡ end.0) ends → ⊥)
+-- an amount may come after others
+pub record IsNextPair (network : Network) (pairs : List (ℕ × ℕ)) (pair : ℕ × ℕ) : Type 0 where
+  pub link : IsLinkOf network pair.0
+  pub amount : Fits64 pair.1
+  pub ascending : IsStrictlyIncreasing (firsts pairs ++ pair.0 ∷ [])
 
--- Each of the words before the rest may follow `admit`: what is not allowed behind them is the first of all that is not allowed.
-pub record MayAllFollow (network : Network) (before rest words : List (List ℕ)) : Type 0 where
-  pub goes_on : (place : ℕ) → IsFirstNotAllowed (command_grammar network) (codes "admit" ∷ before) rest place → IsWrongCommand network (codes "admit" ∷ words) place
+-- a node may come after others
+pub record IsNextNode (network : Network) (nodes : List ℕ) (node : ℕ) : Type 0 where
+  pub is_node : IsNodeOf network node
+  pub ascending : IsStrictlyIncreasing (nodes ++ node ∷ [])
+
+-- the next word is neither an endpoint that may come next nor the end of the list
+pub record MissesEnd (network : Network) (ends : List (ℕ × ℕ)) (old : Position) (number : ℕ)
+    : Type 0 where
+  pub none : IsFirst
+      (λ word. (end : ℕ × ℕ) × (word ≡ end_word network end) × IsNextEnd network ends end) old.left → ⊥
+  pub no_last : IsFirst (λ word. (word ≡ codes "links") × (LEAST_ENDS ≤ length ends)) old.left → ⊥
+  pub at : number ≡ old.read + 1

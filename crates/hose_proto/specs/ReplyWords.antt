@@ -1,12 +1,13 @@
 -- Replies as words. Words tell a reply exactly where they are those of its text.
-use Rattle.std.specs.Prelude.{◌≡◌, ℕ, ◌^◌, ◌<◌, ◌≤◌, List, [], ◌∷◌, ◌++◌, ⊤, All, Option, None, Some, length, map, codes, decimal, slice_get, slice_index_or}
+use Rattle.std.specs.Prelude.{◌≡◌, ℕ, ◌≤◌, List, [], ◌∷◌, ◌++◌, ⊤, All, Option, None, Some, length, map, codes, decimal, slice_get}
 use Rattle.std.specs.List.Sorted.{IsStrictlyIncreasing}
+use Rattle.hose_words.specs.Form.{Fits64}
 use Rattle.hose_graph.specs.Ascending.{IsAscending}
-use Rattle.hose_graph.specs.Hose.{IsHose}
-use Rattle.hose_graph.specs.Network.{Network}
+use Rattle.hose_graph.specs.Network.{Network, name_of, IsLinkOf, IsNodeOf}
 use Rattle.hose_graph.specs.declared.link.Link.{Link}
 use Rattle.hose_graph.specs.declared.reply.Reply.{Reply}
 use Rattle.hose_graph.specs.declared.reply.Reply.TheVariants.{Welcome, Admitted, Quoted, Refused, Stale, Released, NoVpn, NoQuote, TooMany, Shown, LinkState, Full, Spent, Disk, Memory, Bad, Long, Bye}
+use Rattle.hose_proto.specs.Places.{IsHoseOf, end_word}
 
 -- ---- the words
 
@@ -14,39 +15,45 @@ use Rattle.hose_graph.specs.declared.reply.Reply.TheVariants.{Welcome, Admitted,
 abbrev pub pair_word : ℕ × ℕ → List ℕ
 pair_word pair = decimal pair.0 ++ codes ":" ++ decimal pair.1
 
--- the name of a node
-abbrev pub node_word : Network → ℕ → List ℕ
-node_word network node = slice_index_or network.nodes node []
-
--- an endpoint: `NAME:RATE`
-abbrev pub end_word : Network → ℕ × ℕ → List ℕ
-end_word network end = node_word network end.0 ++ codes ":" ++ decimal end.1
-
 -- what a network tells of a link: its nodes, its capacity and its cost
 abbrev pub link_words : Network → Option Link → List (List ℕ)
 link_words network None = []
 link_words network (Some link) =
-    node_word network link.a ∷ node_word network link.b ∷ codes "capacity" ∷ decimal link.capacity ∷ codes "cost" ∷ decimal link.cost ∷ []
+    name_of network link.a ∷ name_of network link.b
+    ∷ codes "capacity" ∷ decimal link.capacity ∷ codes "cost" ∷ decimal link.cost ∷ []
+
+-- a number, a cost and an epoch
+abbrev pub cost_words : ℕ → ℕ → ℕ → List (List ℕ)
+cost_words id cost at = decimal id ∷ codes "cost" ∷ decimal cost ∷ codes "at" ∷ decimal at ∷ []
 
 -- a cost, an epoch, and links with their amounts
 abbrev pub priced_words : ℕ → ℕ → List (ℕ × ℕ) → List (List ℕ)
-priced_words cost at amounts = codes "cost" ∷ decimal cost ∷ codes "at" ∷ decimal at ∷ codes "links" ∷ map pair_word amounts
+priced_words cost at amounts =
+    codes "cost" ∷ decimal cost ∷ codes "at" ∷ decimal at ∷ codes "links" ∷ map pair_word amounts
 
 -- the words of a reply
 abbrev pub reply_words : Network → Reply → List (List ℕ)
 reply_words network (Welcome at) = codes "welcome" ∷ codes "at" ∷ decimal at ∷ []
-reply_words network (Admitted id cost at amounts) = codes "admitted" ∷ decimal id ∷ priced_words cost at amounts
-reply_words network (Quoted quote cost at amounts) = codes "quoted" ∷ decimal quote ∷ priced_words cost at amounts
-reply_words network (Refused at side) = codes "refused" ∷ codes "at" ∷ decimal at ∷ codes "side" ∷ map (node_word network) side
+reply_words network (Admitted id cost at amounts) =
+    codes "admitted" ∷ decimal id ∷ priced_words cost at amounts
+reply_words network (Quoted quote cost at amounts) =
+    codes "quoted" ∷ decimal quote ∷ priced_words cost at amounts
+reply_words network (Refused at side) =
+    codes "refused" ∷ codes "at" ∷ decimal at ∷ codes "side" ∷ map (name_of network) side
 reply_words network (Stale seen now) = codes "stale" ∷ decimal seen ∷ decimal now ∷ []
 reply_words network (Released id at) = codes "released" ∷ decimal id ∷ codes "at" ∷ decimal at ∷ []
-reply_words network (NoVpn id at) = codes "no" ∷ codes "vpn" ∷ decimal id ∷ codes "at" ∷ decimal at ∷ []
-reply_words network (NoQuote quote at) = codes "no" ∷ codes "quote" ∷ decimal quote ∷ codes "at" ∷ decimal at ∷ []
-reply_words network (TooMany at) = codes "too" ∷ codes "many" ∷ codes "quotes" ∷ codes "at" ∷ decimal at ∷ []
+reply_words network (NoVpn id at) =
+    codes "no" ∷ codes "vpn" ∷ decimal id ∷ codes "at" ∷ decimal at ∷ []
+reply_words network (NoQuote quote at) =
+    codes "no" ∷ codes "quote" ∷ decimal quote ∷ codes "at" ∷ decimal at ∷ []
+reply_words network (TooMany at) =
+    codes "too" ∷ codes "many" ∷ codes "quotes" ∷ codes "at" ∷ decimal at ∷ []
 reply_words network (Shown id cost at hose amounts) =
-    codes "vpn" ∷ decimal id ∷ codes "cost" ∷ decimal cost ∷ codes "at" ∷ decimal at ∷ codes "ends" ∷ map (end_word network) hose ++ codes "links" ∷ map pair_word amounts
+    codes "vpn" ∷ decimal id ∷ codes "cost" ∷ decimal cost ∷ codes "at" ∷ decimal at
+    ∷ codes "ends" ∷ map (end_word network) hose ++ codes "links" ∷ map pair_word amounts
 reply_words network (LinkState link load at) =
-    codes "link" ∷ decimal link ∷ link_words network (slice_get network.links link) ++ codes "load" ∷ decimal load ∷ codes "at" ∷ decimal at ∷ []
+    codes "link" ∷ decimal link ∷ link_words network (slice_get network.links link)
+    ++ codes "load" ∷ decimal load ∷ codes "at" ∷ decimal at ∷ []
 reply_words network (Full at) = codes "full" ∷ codes "at" ∷ decimal at ∷ []
 reply_words network (Spent at) = codes "spent" ∷ codes "at" ∷ decimal at ∷ []
 reply_words network (Disk at) = codes "disk" ∷ codes "at" ∷ decimal at ∷ []
@@ -57,41 +64,36 @@ reply_words network Bye = codes "bye" ∷ []
 
 -- ---- the replies that can be read
 
--- a number that 64 bits hold
-abbrev pub Fits64 : ℕ → Type 0
-Fits64 number = number < 2 ^ 64
-
 -- amounts on links of the network, one at least, in ascending order of links
 pub record AreAmounts (network : Network) (amounts : List (ℕ × ℕ)) : Type 0 where
   pub some : 1 ≤ length amounts
   pub ascending : IsAscending amounts
-  pub links : All (λ (pair : ℕ × ℕ). pair.0 < length network.links) amounts
+  pub links : All (λ (pair : ℕ × ℕ). IsLinkOf network pair.0) amounts
   pub numbers : All (λ (pair : ℕ × ℕ). Fits64 pair.1) amounts
 
 -- nodes of the network, one at least, in ascending order
 pub record IsSide (network : Network) (side : List ℕ) : Type 0 where
   pub some : 1 ≤ length side
   pub ascending : IsStrictlyIncreasing side
-  pub nodes : All (λ node. node < length network.nodes) side
-
--- a hose at nodes of the network
-pub record IsHoseOf (network : Network) (hose : List (ℕ × ℕ)) : Type 0 where
-  pub is_hose : IsHose hose
-  pub nodes : All (λ (end : ℕ × ℕ). end.0 < length network.nodes) hose
+  pub nodes : All (IsNodeOf network) side
 
 -- the numbers of a reply fit 64 bits, and its places are those of the network
 abbrev pub IsOfKind : Network → Reply → Type 0
 IsOfKind network (Welcome at) = Fits64 at
-IsOfKind network (Admitted id cost at amounts) = Fits64 id × Fits64 cost × Fits64 at × AreAmounts network amounts
-IsOfKind network (Quoted quote cost at amounts) = Fits64 quote × Fits64 cost × Fits64 at × AreAmounts network amounts
+IsOfKind network (Admitted id cost at amounts) =
+    Fits64 id × Fits64 cost × Fits64 at × AreAmounts network amounts
+IsOfKind network (Quoted quote cost at amounts) =
+    Fits64 quote × Fits64 cost × Fits64 at × AreAmounts network amounts
 IsOfKind network (Refused at side) = Fits64 at × IsSide network side
 IsOfKind network (Stale seen now) = Fits64 seen × Fits64 now
 IsOfKind network (Released id at) = Fits64 id × Fits64 at
 IsOfKind network (NoVpn id at) = Fits64 id × Fits64 at
 IsOfKind network (NoQuote quote at) = Fits64 quote × Fits64 at
 IsOfKind network (TooMany at) = Fits64 at
-IsOfKind network (Shown id cost at hose amounts) = Fits64 id × Fits64 cost × Fits64 at × IsHoseOf network hose × AreAmounts network amounts
-IsOfKind network (LinkState link load at) = (link < length network.links) × Fits64 load × Fits64 at
+IsOfKind network (Shown id cost at hose amounts) =
+    Fits64 id × Fits64 cost × Fits64 at × IsHoseOf network hose × AreAmounts network amounts
+IsOfKind network (LinkState link load at) =
+    IsLinkOf network link × Fits64 load × Fits64 at
 IsOfKind network (Full at) = Fits64 at
 IsOfKind network (Spent at) = Fits64 at
 IsOfKind network (Disk at) = Fits64 at

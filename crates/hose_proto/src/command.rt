@@ -1,32 +1,27 @@
 // Commands read from words.
-ghost use Rattle.std.specs.Prelude.{◌≡◌, ℕ, ◌+◌, ◌<◌, ◌≤◌, ◌↔◌, ◌++◌, [], ◌∷◌, List, codes, length, drop, Err, IfOk, OnOk, IfSome, IfNone, IsTrue, Contains, All, Any, IsPermutation};
-ghost use Rattle.std.specs.List.{AllZip};
+ghost use Rattle.std.specs.Prelude.{◌≡◌, ◌⊎◌, ℕ, ◌+◌, ◌≤◌, ◌↔◌, [], ◌∷◌, codes, decimal, length, drop, Ok, Err, IfOk, IfErr, IfSome, IfNone, IsTrue, Any};
+ghost use Rattle.hose_words.specs.Cursor.{Took, IsWrong, MissesItem};
+ghost use Rattle.hose_words.specs.Form.{IsChoice};
 ghost use Rattle.hose_words.specs.Grammar.{IsFirst, IsFirstNotAllowed};
 ghost use Rattle.hose_words.specs.Words.{words_of};
-ghost use Rattle.hose_graph.specs.Hose.{IsHose};
-ghost use Rattle.hose_graph.specs.Network.{IsNetwork};
+ghost use Rattle.hose_graph.specs.Network.{IsNetwork, IsLinkOf};
 ghost use Rattle.hose_graph.specs.declared.command.Command.{Command};
 ghost use Rattle.hose_graph.specs.declared.command.Command.TheVariants.{Admit};
-ghost use Rattle.hose_proto.specs.Command.{IsEndpoint, IsId, IsCommand, command_grammar};
-ghost use Rattle.hose_proto.specs.Reading.{AsksOf, IsWrongCommand, IsVerb, verb_word, TellsBelow, IsWrongNumber, IsOneMore, MayAllFollow};
+ghost use Rattle.hose_proto.specs.Command.{IsId, IsCommand, TakesMemory, command_form, command_grammar, ends_form, verb_form, sole_link_form, verb_word, vpn_form};
+ghost use Rattle.hose_proto.specs.Places.{end_word};
+ghost use Rattle.hose_proto.specs.Reading.{AsksOf, IsFaultOf, IsNewEnd};
 
 use crate::fault::ReadFault;
-use hose_graph::{Command, Hose, LEAST_ENDS, MOST_ENDS, MOST_EPOCH, MOST_RATE, Name, Topology};
-use hose_words::{Words, number, split};
+use crate::places::{endpoint, read_link_number};
+use crate::verb::Verb;
+use hose_graph::{Command, Hose, LEAST_ENDS, MOST_ENDS, MOST_EPOCH, Topology};
+use hose_words::{Cursor, WrongWord};
 use std::alloc::Global;
 
-// What a command's first word says is to be done.
-enum Verb {
-    Admit,
-    Release,
-    Show,
-    Link,
-}
-
-/// The command that the words of a line behind its first `from` ask for.
+/// The command that the words of a line after its first `from` ask for.
 ///
-/// The endpoints of an admission may stand in any order. A line that is not allowed may be answered `Memory` where
-/// reading it wants memory before the fault is seen.
+/// The endpoints of an admission may stand in any order. A word that is not allowed is told by its
+/// number in the line.
 pub fn read_command(
     alloc: Global,
     top: &Topology,
@@ -36,66 +31,64 @@ pub fn read_command(
     requires { from ≤ length (words_of line.now) }
     ensures ok { IfOk result (IsCommand top.now (drop from (words_of line.now))) }
     ensures bad { (word : ℕ) → result ≡ Err (ReadFault.Bad word)
-        → (place : ℕ) × (word ≡ from + place) × IsFirstNotAllowed (command_grammar top.now) [] (drop from (words_of line.now)) place }
-    ensures none { (word : ℕ) → result ≡ Err (ReadFault.Bad word)
-        → (command : Command) → IsCommand top.now (drop from (words_of line.now)) command → ⊥ }
+        → (place : ℕ) × (word ≡ from + place)
+        × IsFirstNotAllowed (command_grammar top.now) [] (drop from (words_of line.now)) place }
+
+    // A line that asks for a command is never refused, and nothing else is read of it.
+    ensures asked { (command : Command) → IsCommand top.now (drop from (words_of line.now)) command
+        → (result ≡ Ok command) ⊎ (result ≡ Err ReadFault.Memory) }
+    // Memory is wanted for endpoints alone.
+    ensures memory { result ≡ Err ReadFault.Memory
+        → IsFirst (IsChoice TakesMemory verb_word) (drop from (words_of line.now)) }
+    ensures nodes { IfOk result (AsksOf top.now) }
+{
+    let mut words = Cursor::new(line);
+    words.skip(from);
+    read_command_at(alloc, top, &mut words)
+}
+
+/// The command that the words still to come ask for, as `read_command` reads it.
+pub fn read_command_at(
+    alloc: Global,
+    top: &Topology,
+    words: &mut Cursor<'_>,
+) -> Result<Command, ReadFault>
+    ensures ok { IfOk result (IsCommand top.now words.old.left) }
+    ensures bad { IfErr result (IsFaultOf (command_form top.now) words.old) }
+    ensures asked { (command : Command) → IsCommand top.now words.old.left command
+        → (result ≡ Ok command) ⊎ (result ≡ Err ReadFault.Memory) }
+    ensures memory { result ≡ Err ReadFault.Memory
+        → IsFirst (IsChoice TakesMemory verb_word) words.old.left }
     ensures nodes { IfOk result (AsksOf top.now) }
 {
     // The call tells the proof what holds of each network: that no two nodes have one name.
     let _nodes = top.nodes();
-    let mut words = split(line);
-    skip(&mut words, from);
-    match read_words(alloc, top, words) {
-        Err(ReadFault::Bad { word }) => Err(ReadFault::Bad { word: from + word }),
-        read => read,
-    }
+    read_words(alloc, top, words)
 }
 
-// Passes over the next words.
-fn skip(words: &mut Words<'_>, count: u64)
-    ensures { words.new ≡ drop count words.old }
-{
-    for _ in 0..count {
-        words.next();
-    }
-}
-
-// The command that words ask for. A word that is not allowed is counted from the first of them.
-fn read_words(alloc: Global, top: &Topology, mut words: Words<'_>) -> Result<Command, ReadFault>
+// The same of a network.
+fn read_words(alloc: Global, top: &Topology, words: &mut Cursor<'_>) -> Result<Command, ReadFault>
     requires { IsNetwork top.now }
-    ensures ok { IfOk result (IsCommand top.now words.entry) }
-    ensures bad { (place : ℕ) → result ≡ Err (ReadFault.Bad place) → IsWrongCommand top.now words.entry place }
+    ensures ok { IfOk result (IsCommand top.now words.old.left) }
+    ensures bad { IfErr result (IsFaultOf (command_form top.now) words.old) }
+    ensures memory { result ≡ Err ReadFault.Memory
+        → IsFirst (IsChoice TakesMemory verb_word) words.old.left }
 {
-    let Some(verb) = next_verb(&mut words) else {
-        return Err(ReadFault::Bad { word: 1 });
-    };
-    read_behind(alloc, top, verb, words)
+    let verb = words.keyword()?;
+    read_after(alloc, top, verb, words)
 }
 
-// What the next word says is to be done.
-fn next_verb(words: &mut Words<'_>) -> Option<Verb>
-    ensures some { IfSome result (λ verb. words.old ≡ verb_word verb ∷ words.new) }
-    ensures none { IfNone result (IsFirst IsVerb words.old → ⊥) }
-{
-    match words.next() {
-        Some(b"admit") => Some(Verb::Admit),
-        Some(b"release") => Some(Verb::Release),
-        Some(b"show") => Some(Verb::Show),
-        Some(b"link") => Some(Verb::Link),
-        _ => None,
-    }
-}
-
-// The command of a verb and the words behind it.
-fn read_behind(
+// The command of a verb and the words after it.
+fn read_after(
     alloc: Global,
     top: &Topology,
     verb: Verb,
-    words: Words<'_>,
+    words: &mut Cursor<'_>,
 ) -> Result<Command, ReadFault>
     requires { IsNetwork top.now }
-    ensures ok { IfOk result (IsCommand top.now (verb_word verb ∷ words.entry)) }
-    ensures bad { (place : ℕ) → result ≡ Err (ReadFault.Bad place) → IsWrongCommand top.now (verb_word verb ∷ words.entry) place }
+    ensures ok { IfOk result (IsCommand top.now (verb_word verb ∷ words.old.left)) }
+    ensures bad { IfErr result (IsFaultOf (verb_form top.now verb) words.old) }
+    ensures memory { result ≡ Err ReadFault.Memory → TakesMemory verb }
 {
     match verb {
         Verb::Admit => Ok(Command::Admit(read_hose(alloc, top, words)?)),
@@ -105,89 +98,77 @@ fn read_behind(
     }
 }
 
-// The number of a VPN that stands alone behind a command's first word.
-fn read_id(words: Words<'_>) -> Result<u64, ReadFault>
-    ensures ok { IfOk result (λ id. (word : List ℕ) × (words.entry ≡ word ∷ []) × IsId word id) }
-    ensures bad { (place : ℕ) → result ≡ Err (ReadFault.Bad place) → IsWrongNumber (MOST_EPOCH + 1) words.entry place }
+// The number of a VPN that stands alone after a command's first word.
+fn read_id(words: &mut Cursor<'_>) -> Result<u64, WrongWord>
+    ensures ok { IfOk result (λ id. words.old.left ≡ decimal id ∷ []) }
+    ensures is_id { IfOk result IsId }
+    ensures wrong { IfErr result (λ wrong. IsWrong vpn_form words.old wrong.number) }
 {
-    sole_number(words, MOST_EPOCH + 1)
+    let id = words.number_within(0, MOST_EPOCH)?;
+    words.finish()?;
+    Ok(id)
 }
 
-// The number of a link that stands alone behind a command's first word.
-fn read_link(top: &Topology, words: Words<'_>) -> Result<u32, ReadFault>
-    ensures ok { IfOk result (λ link. (word : List ℕ) × (words.entry ≡ word ∷ []) × TellsBelow (length top.now.links) word link) }
-    ensures bad { (place : ℕ) → result ≡ Err (ReadFault.Bad place) → IsWrongNumber (length top.now.links) words.entry place }
-{
-    let link = sole_number(words, u64::from(top.links()))?;
-    Ok(link as u32)
-}
-
-// The number that stands alone behind a command's first word, where it is below a bound.
-fn sole_number(mut words: Words<'_>, bound: u64) -> Result<u64, ReadFault>
-    ensures ok { IfOk result (λ value. (word : List ℕ) × (words.entry ≡ word ∷ []) × TellsBelow bound word value) }
-    ensures bad { (place : ℕ) → result ≡ Err (ReadFault.Bad place) → IsWrongNumber bound words.entry place }
-{
-    let Some(word) = words.next() else {
-        return Err(ReadFault::Bad { word: 2 });
-    };
-    let Some(value) = number_below(word, bound) else {
-        return Err(ReadFault::Bad { word: 2 });
-    };
-    if words.next().is_some() {
-        return Err(ReadFault::Bad { word: 3 });
-    }
-    Ok(value)
-}
-
-// The number that a word tells, where it is below a bound.
-pub(crate) fn number_below(word: &[u8], bound: u64) -> Option<u64>
-    ensures some { IfSome result (TellsBelow bound word.now) }
-    ensures none { IfNone result ((value : ℕ) → TellsBelow bound word.now value → ⊥) }
-{
-    let value = number(word, u64::MAX)?;
-    (value < bound).then_some(value)
-}
-
-// The hose that the words behind `admit` ask for.
-fn read_hose(alloc: Global, top: &Topology, words: Words<'_>) -> Result<Hose, ReadFault>
+// The number of a link that stands alone after a command's first word.
+fn read_link(top: &Topology, words: &mut Cursor<'_>) -> Result<u32, WrongWord>
     requires { IsNetwork top.now }
-    ensures ok { IfOk result (λ hose. IsCommand top.now (codes "admit" ∷ words.entry) (Admit hose)) }
-    ensures bad { (place : ℕ) → result ≡ Err (ReadFault.Bad place) → IsWrongCommand top.now (codes "admit" ∷ words.entry) place }
+    ensures ok { IfOk result (λ link. words.old.left ≡ decimal link ∷ []) }
+    ensures is_link { IfOk result (IsLinkOf top.now) }
+    ensures wrong { IfErr result
+        (λ wrong. IsWrong (sole_link_form top.now) words.old wrong.number) }
 {
-    let ends = read_ends(alloc, top, words)?;
-    if ends.len() < LEAST_ENDS {
-        return Err(ReadFault::Bad {
-            word: ends.len() as u64 + 2,
-        });
-    }
-    // Such endpoints make a hose, so that memory alone may be short.
-    Hose::build(alloc, &ends).map_err(|_| ReadFault::Memory)
+    let link = read_link_number(top, words)?;
+    words.finish()?;
+    Ok(link)
 }
 
-// The endpoints that the words behind `admit` spell, in the order of the words.
-fn read_ends(alloc: Global, top: &Topology, words: Words<'_>) -> Result<Vec<(u32, u64)>, ReadFault>
+// The hose of the endpoints that are left.
+fn read_hose(alloc: Global, top: &Topology, words: &mut Cursor<'_>) -> Result<Hose, ReadFault>
     requires { IsNetwork top.now }
-    ensures spelled { IfOk result (λ ends. AllZip (IsEndpoint top.now) words.entry ends.items) }
-    ensures follow { OnOk result (MayAllFollow top.now words.entry [] words.entry) }
-    ensures bad { (place : ℕ) → result ≡ Err (ReadFault.Bad place) → IsWrongCommand top.now (codes "admit" ∷ words.entry) place }
+    ensures ok { IfOk result
+        (λ hose. IsCommand top.now (codes "admit" ∷ words.old.left) (Admit hose)) }
+    ensures bad { IfErr result (IsFaultOf (ends_form top.now) words.old) }
 {
     let mut ends = Vec::new(alloc);
-    for word in words {
-        let Some(end) = one_more(top, &ends, word) else {
-            return Err(ReadFault::Bad {
-                word: ends.len() as u64 + 2,
-            });
-        };
+    while let Some(end) = next_end(top, &ends, words)? {
         ends.push(end)?;
     }
-    Ok(ends)
+    let hose = Hose::from_ends(alloc, &ends)?;
+    Ok(hose)
+}
+
+// The endpoint that the next word spells, or none where the line ends.
+fn next_end(
+    top: &Topology,
+    ends: &[(u32, u64)],
+    words: &mut Cursor<'_>,
+) -> Result<Option<(u32, u64)>, WrongWord>
+    requires { IsNetwork top.now }
+    ensures next { IfOk result (λ next. IfSome next
+        (λ end. Took words.old words.new (end_word top.now end) × IsNewEnd top.now ends.now end)) }
+    ensures last { IfOk result (λ next. IfNone next
+        ((words.old.left ≡ []) × (LEAST_ENDS ≤ length ends.now))) }
+    ensures wrong { IfErr result (λ wrong. MissesItem (end_word top.now) (IsNewEnd top.now ends.now)
+        LEAST_ENDS ends.now words.old wrong.number) }
+{
+    let wrong = words.wrong();
+    match words.next() {
+        None if ends.len() < LEAST_ENDS => Err(wrong),
+        None => Ok(None),
+        Some(word) => match new_end(top, ends, word) {
+            None => Err(wrong),
+            end => Ok(end),
+        },
+    }
 }
 
 // The endpoint that a word spells, where there is room for one more and its node has none yet.
-fn one_more(top: &Topology, ends: &[(u32, u64)], word: &[u8]) -> Option<(u32, u64)>
+fn new_end(top: &Topology, ends: &[(u32, u64)], word: &[u8]) -> Option<(u32, u64)>
     requires { IsNetwork top.now }
-    ensures some { IfSome result (IsOneMore top.now ends.now word.now) }
-    ensures none { IfNone result ((end : ℕ × ℕ) → IsOneMore top.now ends.now word.now end → ⊥) }
+    ensures some { IfSome result
+        (λ end. (word.now ≡ end_word top.now end) × IsNewEnd top.now ends.now end) }
+    ensures none { IfNone result ((end : ℕ × ℕ)
+        → word.now ≡ end_word top.now end → IsNewEnd top.now ends.now end → ⊥) }
 {
     let Some(end) = endpoint(top, word) else {
         return None;
@@ -208,32 +189,10 @@ fn has_node(ends: &[(u32, u64)], node: u32) -> bool
     ends.iter().any(|end| end.0 == node)
 }
 
-// The endpoint that a word spells.
-pub(crate) fn endpoint(top: &Topology, word: &[u8]) -> Option<(u32, u64)>
-    requires { IsNetwork top.now }
-    ensures spelled { IfSome result (IsEndpoint top.now word.now) }
-    ensures none { IfNone result ((end : ℕ × ℕ) → IsEndpoint top.now word.now end → ⊥) }
-{
-    let (name, rate) = parts(word)?;
-    let node = top.find(&Name::read(name)?)?;
-    let rate = number(rate, MOST_RATE)?;
-    (rate > 0).then_some((node, rate))
-}
-
-// What stands before a word's first colon, and what stands behind it.
-pub(crate) fn parts(word: &[u8]) -> Option<(&[u8], &[u8])>
-    ensures spelled { IfSome result (λ parts. word.now ≡ parts.0.now ++ 58 ∷ parts.1.now) }
-    ensures first { IfSome result (λ parts. ¬ Contains parts.0.now 58) }
-    ensures none { IfNone result (¬ Contains word.now 58) }
-{
-    let colon = word.iter().position(|byte| *byte == b':')?;
-    Some((&word[..colon], &word[colon + 1..]))
-}
-
 #[cfg(test)]
 mod tests {
     use super::*;
-    use hose_graph::Link;
+    use hose_graph::{Link, Name};
     use std::test::Fail;
 
     fn star(alloc: Global) -> Result<Topology, Fail> {

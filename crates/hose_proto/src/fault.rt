@@ -1,14 +1,15 @@
 // Why a line was not read.
 ghost use Rattle.std.specs.Prelude.{◌≡◌};
-ghost use Rattle.hose_proto.specs.declared.fault.ReadFault.TheVariants.{Memory};
+ghost use Rattle.hose_proto.specs.declared.fault.ReadFault.TheVariants.{Bad, Memory};
 
-use std::alloc::AllocFailed;
+use hose_words::WrongWord;
+use std::alloc::{AllocError, AllocFailed};
 
 /// Why a line was not read.
 #[derive(Clone, Copy, Debug, PartialEq, Eq)]
 pub enum ReadFault {
-    /// The first word that is not allowed, by its number in the line, counted from 1. One more than the words where
-    /// the line ends too early.
+    /// The first word that is not allowed, by its number in the line, counted from 1. One more than
+    /// the words where the line ends too early.
     Bad { word: u64 },
     /// There was too little memory.
     Memory,
@@ -19,5 +20,21 @@ impl<T: Drop> From<AllocFailed<T>> for ReadFault {
 
     fn from(_failed: AllocFailed<T>) -> ReadFault {
         ReadFault::Memory
+    }
+}
+
+impl From<AllocError> for ReadFault {
+    ghost from_gives = { λ _ fault. fault ≡ Memory };
+
+    fn from(_error: AllocError) -> ReadFault {
+        ReadFault::Memory
+    }
+}
+
+impl From<WrongWord> for ReadFault {
+    ghost from_gives = { λ wrong fault. fault ≡ Bad wrong.number };
+
+    fn from(wrong: WrongWord) -> ReadFault {
+        ReadFault::Bad { word: wrong.number }
     }
 }

@@ -1,7 +1,8 @@
 // The words that tell which reply a line is.
-ghost use Rattle.std.specs.Prelude.{◌≡◌, ◌≢◌, IfSome, IfNone, All};
+ghost use Rattle.std.specs.Prelude.{◌≡◌};
 ghost use Rattle.hose_proto.specs.ReplyGrammar.{head_word, missing_word};
-ghost use Rattle.hose_proto.specs.declared.head.Missing.{Missing};
+
+use hose_words::Keyword;
 
 // The first word of a reply.
 #[derive(Clone, Copy, Debug)]
@@ -45,12 +46,10 @@ const HEADS: [Head; 17] = [
     Head::Bye,
 ];
 
-impl Head {
-    // The one that a word is.
-    pub(crate) fn of(word: &[u8]) -> Option<Head>
-        ensures some { IfSome result (λ head. head_word head ≡ word.now) }
-        ensures none { IfNone result (All (λ head. head_word head ≢ word.now) HEADS) }
-    {
+impl Keyword for Head {
+    ghost word_of = { head_word };
+
+    fn of(word: &[u8]) -> Option<Head> {
         for head in HEADS {
             if head.word() == word {
                 return Some(head);
@@ -58,7 +57,9 @@ impl Head {
         }
         None
     }
+}
 
+impl Head {
     fn word(self) -> &'static [u8]
         ensures { result.now ≡ head_word self }
     {
@@ -84,19 +85,17 @@ impl Head {
     }
 }
 
-// What there is none of, by the word behind `no`.
+// What there is none of, by the word after `no`.
 #[derive(Clone, Copy, Debug)]
 pub(crate) enum Missing {
     Vpn,
     Quote,
 }
 
-impl Missing {
-    // The one that a word is.
-    pub(crate) fn of(word: &[u8]) -> Option<Missing>
-        ensures some { IfSome result (λ missing. word.now ≡ missing_word missing) }
-        ensures none { IfNone result ((missing : Missing) → word.now ≡ missing_word missing → ⊥) }
-    {
+impl Keyword for Missing {
+    ghost word_of = { missing_word };
+
+    fn of(word: &[u8]) -> Option<Missing> {
         match word {
             b"vpn" => Some(Missing::Vpn),
             b"quote" => Some(Missing::Quote),

@@ -1,15 +1,21 @@
 //! Commands and replies as lines of words: reading a command, and writing and reading a reply.
+//!
+//! ```
+//! let command = read_command(alloc, &topology, b"acme show 7", 1)?;
+//! put_reply(&mut sink, &topology, &reply)?;
+//! ```
 #![tactic(auto)]
 
 mod command;
 mod fault;
 mod head;
-mod numbered;
+mod places;
 mod reply_lists;
 mod reply_reader;
 mod reply_text;
+mod verb;
 
-pub use command::read_command;
+pub use command::{read_command, read_command_at};
 pub use fault::ReadFault;
 pub use reply_reader::read_reply;
 pub use reply_text::put_reply;

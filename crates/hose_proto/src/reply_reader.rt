@@ -1,32 +1,33 @@
 // Replies read from words.
-ghost use Rattle.std.specs.Prelude.{◌≡◌, ◌⊎◌, ℕ, ◌+◌, ◌<◌, ◌++◌, [], ◌∷◌, List, codes, decimal, length, slice_get, IfOk, OnOk, Ok, Err};
+ghost use Rattle.std.specs.Prelude.{◌≡◌, ◌⊎◌, ℕ, ◌<◌, ◌++◌, [], ◌∷◌, codes, decimal, length, slice_get, IfOk, OnOk, IfErr, Ok, Err};
+ghost use Rattle.hose_words.specs.Cursor.{Took, TookAll, Misses, IsWrong};
+ghost use Rattle.hose_words.specs.Form.{Fits64, IsChoice, Each, anything, branch, finish, number, these};
+ghost use Rattle.hose_words.specs.Grammar.{IsFirst, IsFirstNotAllowed};
 ghost use Rattle.hose_words.specs.Words.{words_of};
-ghost use Rattle.hose_words.specs.Grammar.{IsFirstNotAllowed};
-ghost use Rattle.hose_graph.specs.Network.{Network, IsNetwork};
+ghost use Rattle.hose_graph.specs.Network.{Network, IsNetwork, name_of};
 ghost use Rattle.hose_graph.specs.declared.reply.Reply.{Reply};
-ghost use Rattle.hose_proto.specs.ReplyGrammar.{number, finish, branch, this, at_form, id_form, priced_form, side_form, shown_form, load_form, link_form, IsLinkOf, IsChoice, Each, head_word, missing_word, form_behind, reply_grammar};
-ghost use Rattle.hose_proto.specs.ReplyReading.{Took, Misses, IsWrong};
+ghost use Rattle.hose_proto.specs.Reading.{IsFaultOf};
+ghost use Rattle.hose_proto.specs.ReplyGrammar.{HasLists, at_form, cost_form, id_form, priced_form, side_form, shown_form, load_form, link_form, head_word, missing_word, head_form, reply_form, reply_grammar};
 ghost use Rattle.hose_proto.specs.ReplyText.{NamesPlaces};
-ghost use Rattle.hose_proto.specs.ReplyWords.{Fits64, AreAmounts, IsReply, node_word, link_words, priced_words};
+ghost use Rattle.hose_proto.specs.ReplyWords.{AreAmounts, IsReply, cost_words, link_words, priced_words};
 
 use crate::fault::ReadFault;
 use crate::head::{Head, Missing};
-use crate::numbered::Numbered;
+use crate::places::read_link_number;
 use crate::reply_lists::{read_amounts, read_hose, read_side};
 use hose_graph::{Amounts, Reply, Topology};
+use hose_words::{Cursor, WrongWord};
 use std::alloc::Global;
 
-// What an admission and an offer tell.
-struct Priced {
+// What an admission, an offer and a VPN tell before their lists.
+#[derive(Clone, Copy)]
+struct Costed {
     id: u64,
     cost: u64,
     at: u64,
-    amounts: Amounts,
 }
 
 /// The reply that the words of a line tell, as `put_reply` writes it.
-///
-/// A line that is not allowed may be answered `Memory` where reading it wants memory before the fault is seen.
 pub fn read_reply(alloc: Global, top: &Topology, line: &[u8]) -> Result<Reply, ReadFault>
     ensures ok { IfOk result (IsReply top.now (words_of line.now)) }
     ensures bad { (word : ℕ) → result ≡ Err (ReadFault.Bad word)
@@ -38,47 +39,38 @@ pub fn read_reply(alloc: Global, top: &Topology, line: &[u8]) -> Result<Reply, R
     // A line that tells a reply is never refused, and nothing else is read of it.
     ensures told { (reply : Reply) → IsReply top.now (words_of line.now) reply
         → (result ≡ Ok reply) ⊎ (result ≡ Err ReadFault.Memory) }
+    // Memory is wanted for lists alone.
+    ensures memory { result ≡ Err ReadFault.Memory
+        → IsFirst (IsChoice HasLists head_word) (words_of line.now) }
 {
     // The call tells the proof what holds of each network: that no two nodes have one name.
     let _nodes = top.nodes();
-    read_words(alloc, top, &mut Numbered::new(line))
+    read_words(alloc, top, &mut Cursor::new(line))
 }
 
 // The reply that words tell.
-fn read_words(alloc: Global, top: &Topology, words: &mut Numbered<'_>) -> Result<Reply, ReadFault>
+fn read_words(alloc: Global, top: &Topology, words: &mut Cursor<'_>) -> Result<Reply, ReadFault>
     requires { IsNetwork top.now }
     ensures ok { IfOk result (IsReply top.now words.old.left) }
-    ensures bad { (place : ℕ) → result ≡ Err (ReadFault.Bad place) → IsWrong (branch Each head_word (form_behind top.now)) words.old place }
+    ensures bad { IfErr result (IsFaultOf (reply_form top.now) words.old) }
+    ensures memory { result ≡ Err ReadFault.Memory
+        → IsFirst (IsChoice HasLists head_word) words.old.left }
 {
-    let head = read_head(words)?;
-    read_behind(alloc, top, head, words)
+    let head = words.keyword()?;
+    read_after(alloc, top, head, words)
 }
 
-// The first word of a reply.
-fn read_head(words: &mut Numbered<'_>) -> Result<Head, ReadFault>
-    ensures ok { IfOk result (λ head. Took words.old words.new (head_word head)) }
-    ensures bad { (place : ℕ) → result ≡ Err (ReadFault.Bad place) → Misses (IsChoice Each head_word) words.old place }
-{
-    let fault = words.fault();
-    let Some(word) = words.next() else {
-        return Err(fault);
-    };
-    let Some(head) = Head::of(word) else {
-        return Err(fault);
-    };
-    Ok(head)
-}
-
-// The reply of a first word and the words behind it.
-fn read_behind(
+// The reply of a first word and the words after it.
+fn read_after(
     alloc: Global,
     top: &Topology,
     head: Head,
-    words: &mut Numbered<'_>,
+    words: &mut Cursor<'_>,
 ) -> Result<Reply, ReadFault>
     requires { IsNetwork top.now }
     ensures ok { IfOk result (IsReply top.now (head_word head ∷ words.old.left)) }
-    ensures bad { (place : ℕ) → result ≡ Err (ReadFault.Bad place) → IsWrong (form_behind top.now head) words.old place }
+    ensures bad { IfErr result (IsFaultOf (head_form top.now head) words.old) }
+    ensures memory { result ≡ Err ReadFault.Memory → HasLists head }
 {
     match head {
         Head::Welcome => Ok(Reply::Welcome {
@@ -87,12 +79,12 @@ fn read_behind(
         Head::Admitted => read_admitted(alloc, top, words),
         Head::Quoted => read_quoted(alloc, top, words),
         Head::Refused => read_refused(alloc, top, words),
-        Head::Stale => read_stale(words),
-        Head::Released => read_released(words),
-        Head::No => read_none(words),
-        Head::Too => read_too_many(words),
+        Head::Stale => Ok(read_stale(words)?),
+        Head::Released => Ok(read_released(words)?),
+        Head::No => Ok(read_none(words)?),
+        Head::Too => Ok(read_too_many(words)?),
         Head::Vpn => read_shown(alloc, top, words),
-        Head::Link => read_link(top, words),
+        Head::Link => Ok(read_link(top, words)?),
         Head::Full => Ok(Reply::Full {
             at: read_at(words)?,
         }),
@@ -102,29 +94,20 @@ fn read_behind(
         Head::Disk => Ok(Reply::Disk {
             at: read_at(words)?,
         }),
-        Head::Memory => words.finish().map(|()| Reply::Memory),
-        Head::Bad => read_bad(words),
-        Head::Long => words.finish().map(|()| Reply::Long),
-        Head::Bye => words.finish().map(|()| Reply::Bye),
+        Head::Memory => Ok(read_alone(words, Reply::Memory)?),
+        Head::Bad => Ok(read_bad(words)?),
+        Head::Long => Ok(read_alone(words, Reply::Long)?),
+        Head::Bye => Ok(read_alone(words, Reply::Bye)?),
     }
 }
 
-// Behind `admitted`.
-fn read_admitted(
-    alloc: Global,
-    top: &Topology,
-    words: &mut Numbered<'_>,
-) -> Result<Reply, ReadFault>
+// After `admitted`.
+fn read_admitted(alloc: Global, top: &Topology, words: &mut Cursor<'_>) -> Result<Reply, ReadFault>
     requires { IsNetwork top.now }
     ensures ok { IfOk result (IsReply top.now (codes "admitted" ∷ words.old.left)) }
-    ensures bad { (place : ℕ) → result ≡ Err (ReadFault.Bad place) → IsWrong (priced_form top.now) words.old place }
+    ensures bad { IfErr result (IsFaultOf (priced_form top.now) words.old) }
 {
-    let Priced {
-        id,
-        cost,
-        at,
-        amounts,
-    } = read_priced(alloc, top, words)?;
+    let (Costed { id, cost, at }, amounts) = read_priced(alloc, top, words)?;
     Ok(Reply::Admitted {
         id,
         cost,
@@ -133,18 +116,13 @@ fn read_admitted(
     })
 }
 
-// Behind `quoted`.
-fn read_quoted(alloc: Global, top: &Topology, words: &mut Numbered<'_>) -> Result<Reply, ReadFault>
+// After `quoted`.
+fn read_quoted(alloc: Global, top: &Topology, words: &mut Cursor<'_>) -> Result<Reply, ReadFault>
     requires { IsNetwork top.now }
     ensures ok { IfOk result (IsReply top.now (codes "quoted" ∷ words.old.left)) }
-    ensures bad { (place : ℕ) → result ≡ Err (ReadFault.Bad place) → IsWrong (priced_form top.now) words.old place }
+    ensures bad { IfErr result (IsFaultOf (priced_form top.now) words.old) }
 {
-    let Priced {
-        id,
-        cost,
-        at,
-        amounts,
-    } = read_priced(alloc, top, words)?;
+    let (Costed { id, cost, at }, amounts) = read_priced(alloc, top, words)?;
     Ok(Reply::Quoted {
         quote: id,
         cost,
@@ -153,23 +131,25 @@ fn read_quoted(alloc: Global, top: &Topology, words: &mut Numbered<'_>) -> Resul
     })
 }
 
-// Behind `refused`.
-fn read_refused(alloc: Global, top: &Topology, words: &mut Numbered<'_>) -> Result<Reply, ReadFault>
+// After `refused`.
+fn read_refused(alloc: Global, top: &Topology, words: &mut Cursor<'_>) -> Result<Reply, ReadFault>
     requires { IsNetwork top.now }
     ensures ok { IfOk result (IsReply top.now (codes "refused" ∷ words.old.left)) }
-    ensures bad { (place : ℕ) → result ≡ Err (ReadFault.Bad place) → IsWrong (side_form top.now) words.old place }
+    ensures bad { IfErr result (IsFaultOf (side_form top.now) words.old) }
 {
-    words.word(b"at")?;
+    words.expect(b"at")?;
     let at = words.number()?;
-    words.word(b"side")?;
+    words.expect(b"side")?;
     let side = read_side(alloc, top, words)?;
     Ok(Reply::Refused { at, side })
 }
 
-// Behind `stale`.
-fn read_stale(words: &mut Numbered<'_>) -> Result<Reply, ReadFault>
-    ensures ok { IfOk result (λ reply. (network : Network) → IsReply network (codes "stale" ∷ words.old.left) reply) }
-    ensures bad { (place : ℕ) → result ≡ Err (ReadFault.Bad place) → IsWrong (number (number finish)) words.old place }
+// After `stale`.
+fn read_stale(words: &mut Cursor<'_>) -> Result<Reply, WrongWord>
+    ensures ok { IfOk result (λ reply. (network : Network)
+        → IsReply network (codes "stale" ∷ words.old.left) reply) }
+    ensures wrong { IfErr result
+        (λ wrong. IsWrong (number (number finish)) words.old wrong.number) }
 {
     let seen = words.number()?;
     let now = words.number()?;
@@ -177,21 +157,24 @@ fn read_stale(words: &mut Numbered<'_>) -> Result<Reply, ReadFault>
     Ok(Reply::Stale { seen, now })
 }
 
-// Behind `released`.
-fn read_released(words: &mut Numbered<'_>) -> Result<Reply, ReadFault>
-    ensures ok { IfOk result (λ reply. (network : Network) → IsReply network (codes "released" ∷ words.old.left) reply) }
-    ensures bad { (place : ℕ) → result ≡ Err (ReadFault.Bad place) → IsWrong id_form words.old place }
+// After `released`.
+fn read_released(words: &mut Cursor<'_>) -> Result<Reply, WrongWord>
+    ensures ok { IfOk result (λ reply. (network : Network)
+        → IsReply network (codes "released" ∷ words.old.left) reply) }
+    ensures wrong { IfErr result (λ wrong. IsWrong id_form words.old wrong.number) }
 {
     let (id, at) = read_id(words)?;
     Ok(Reply::Released { id, at })
 }
 
-// Behind `no`.
-fn read_none(words: &mut Numbered<'_>) -> Result<Reply, ReadFault>
-    ensures ok { IfOk result (λ reply. (network : Network) → IsReply network (codes "no" ∷ words.old.left) reply) }
-    ensures bad { (place : ℕ) → result ≡ Err (ReadFault.Bad place) → IsWrong (branch Each missing_word (λ _. id_form)) words.old place }
+// After `no`.
+fn read_none(words: &mut Cursor<'_>) -> Result<Reply, WrongWord>
+    ensures ok { IfOk result (λ reply. (network : Network)
+        → IsReply network (codes "no" ∷ words.old.left) reply) }
+    ensures wrong { IfErr result
+        (λ wrong. IsWrong (branch Each missing_word (λ _. id_form)) words.old wrong.number) }
 {
-    let missing = read_missing(words)?;
+    let missing: Missing = words.keyword()?;
     let (number, at) = read_id(words)?;
     Ok(match missing {
         Missing::Vpn => Reply::NoVpn { id: number, at },
@@ -199,43 +182,30 @@ fn read_none(words: &mut Numbered<'_>) -> Result<Reply, ReadFault>
     })
 }
 
-// What there is none of.
-fn read_missing(words: &mut Numbered<'_>) -> Result<Missing, ReadFault>
-    ensures ok { IfOk result (λ missing. Took words.old words.new (missing_word missing)) }
-    ensures bad { (place : ℕ) → result ≡ Err (ReadFault.Bad place) → Misses (IsChoice Each missing_word) words.old place }
+// After `too`.
+fn read_too_many(words: &mut Cursor<'_>) -> Result<Reply, WrongWord>
+    ensures ok { IfOk result (λ reply. (network : Network)
+        → IsReply network (codes "too" ∷ words.old.left) reply) }
+    ensures wrong { IfErr result
+        (λ wrong. IsWrong (these (codes "many" ∷ codes "quotes" ∷ []) at_form) words.old wrong.number) }
 {
-    let fault = words.fault();
-    let Some(word) = words.next() else {
-        return Err(fault);
-    };
-    Missing::of(word).ok_or(fault)
-}
-
-// Behind `too`.
-fn read_too_many(words: &mut Numbered<'_>) -> Result<Reply, ReadFault>
-    ensures ok { IfOk result (λ reply. (network : Network) → IsReply network (codes "too" ∷ words.old.left) reply) }
-    ensures bad { (place : ℕ) → result ≡ Err (ReadFault.Bad place) → IsWrong (this (codes "many") (this (codes "quotes") at_form)) words.old place }
-{
-    words.word(b"many")?;
-    words.word(b"quotes")?;
+    words.expect(b"many")?;
+    words.expect(b"quotes")?;
     let at = read_at(words)?;
     Ok(Reply::TooMany { at })
 }
 
-// Behind `vpn`.
-fn read_shown(alloc: Global, top: &Topology, words: &mut Numbered<'_>) -> Result<Reply, ReadFault>
+// After `vpn`.
+fn read_shown(alloc: Global, top: &Topology, words: &mut Cursor<'_>) -> Result<Reply, ReadFault>
     requires { IsNetwork top.now }
     ensures ok { IfOk result (IsReply top.now (codes "vpn" ∷ words.old.left)) }
-    ensures bad { (place : ℕ) → result ≡ Err (ReadFault.Bad place) → IsWrong (shown_form top.now) words.old place }
+    ensures bad { IfErr result (IsFaultOf (shown_form top.now) words.old) }
 {
-    let id = words.number()?;
-    words.word(b"cost")?;
-    let cost = words.number()?;
-    words.word(b"at")?;
-    let at = words.number()?;
-    words.word(b"ends")?;
+    let costed = read_cost(words)?;
+    words.expect(b"ends")?;
     let hose = read_hose(alloc, top, words)?;
     let amounts = read_amounts(alloc, top, words)?;
+    let Costed { id, cost, at } = costed;
     Ok(Reply::Shown {
         id,
         cost,
@@ -245,11 +215,11 @@ fn read_shown(alloc: Global, top: &Topology, words: &mut Numbered<'_>) -> Result
     })
 }
 
-// Behind `link`.
-fn read_link(top: &Topology, words: &mut Numbered<'_>) -> Result<Reply, ReadFault>
+// After `link`.
+fn read_link(top: &Topology, words: &mut Cursor<'_>) -> Result<Reply, WrongWord>
     requires { IsNetwork top.now }
     ensures ok { IfOk result (IsReply top.now (codes "link" ∷ words.old.left)) }
-    ensures bad { (place : ℕ) → result ≡ Err (ReadFault.Bad place) → IsWrong (link_form top.now) words.old place }
+    ensures wrong { IfErr result (λ wrong. IsWrong (link_form top.now) words.old wrong.number) }
 {
     let link = read_link_number(top, words)?;
     let (load, at) = read_load(top, link, words)?;
@@ -260,100 +230,111 @@ fn read_link(top: &Topology, words: &mut Numbered<'_>) -> Result<Reply, ReadFaul
     })
 }
 
-// The number of a link.
-fn read_link_number(top: &Topology, words: &mut Numbered<'_>) -> Result<u32, ReadFault>
-    ensures ok { IfOk result (λ link. Took words.old words.new (decimal link)) }
-    ensures below { IfOk result (λ link. link < length top.now.links) }
-    ensures bad { (place : ℕ) → result ≡ Err (ReadFault.Bad place) → Misses (IsChoice (IsLinkOf top.now) decimal) words.old place }
-{
-    let fault = words.fault();
-    let links = u64::from(top.links());
-    let link = words.number()?;
-    if link < links {
-        Ok(link as u32)
-    } else {
-        Err(fault)
-    }
-}
-
 // What the topology tells of a link, the link's load and an epoch.
-fn read_load(top: &Topology, link: u32, words: &mut Numbered<'_>) -> Result<(u64, u64), ReadFault>
+fn read_load(top: &Topology, link: u32, words: &mut Cursor<'_>) -> Result<(u64, u64), WrongWord>
     requires { link < length top.now.links }
     ensures ok { IfOk result (λ load. words.old.left
-        ≡ link_words top.now (slice_get top.now.links link) ++ codes "load" ∷ decimal load.0 ∷ codes "at" ∷ decimal load.1 ∷ []) }
+        ≡ link_words top.now (slice_get top.now.links link)
+        ++ codes "load" ∷ decimal load.0 ∷ codes "at" ∷ decimal load.1 ∷ []) }
     ensures small { IfOk result (λ load. Fits64 load.0 × Fits64 load.1) }
-    ensures bad { (place : ℕ) → result ≡ Err (ReadFault.Bad place) → IsWrong (load_form top.now link) words.old place }
+    ensures wrong { IfErr result
+        (λ wrong. IsWrong (load_form top.now link) words.old wrong.number) }
 {
     let link = top.link(link);
     read_node(top, link.a, words)?;
     read_node(top, link.b, words)?;
-    words.word(b"capacity")?;
-    words.exactly(link.capacity)?;
-    words.word(b"cost")?;
-    words.exactly(link.cost)?;
-    words.word(b"load")?;
+    words.expect(b"capacity")?;
+    words.expect_number(link.capacity)?;
+    words.expect(b"cost")?;
+    words.expect_number(link.cost)?;
+    words.expect(b"load")?;
     read_id(words)
 }
 
 // Passes over the next word, which has to be the name of this node.
-fn read_node(top: &Topology, node: u32, words: &mut Numbered<'_>) -> Result<(), ReadFault>
+fn read_node(top: &Topology, node: u32, words: &mut Cursor<'_>) -> Result<(), WrongWord>
     requires { node < length top.now.nodes }
-    ensures ok { OnOk result (Took words.old words.new (node_word top.now node)) }
-    ensures bad { (place : ℕ) → result ≡ Err (ReadFault.Bad place) → Misses (λ word. word ≡ node_word top.now node) words.old place }
+    ensures ok { OnOk result (Took words.old words.new (name_of top.now node)) }
+    ensures wrong { IfErr result
+        (λ wrong. Misses (λ word. word ≡ name_of top.now node) words.old wrong.number) }
 {
-    words.word(top.name(node).bytes())
+    words.expect(top.name(node).bytes())
 }
 
-// Behind `bad`.
-fn read_bad(words: &mut Numbered<'_>) -> Result<Reply, ReadFault>
-    ensures ok { IfOk result (λ reply. (network : Network) → IsReply network (codes "bad" ∷ words.old.left) reply) }
-    ensures bad { (place : ℕ) → result ≡ Err (ReadFault.Bad place) → IsWrong (number finish) words.old place }
+// After `bad`.
+fn read_bad(words: &mut Cursor<'_>) -> Result<Reply, WrongWord>
+    ensures ok { IfOk result (λ reply. (network : Network)
+        → IsReply network (codes "bad" ∷ words.old.left) reply) }
+    ensures wrong { IfErr result (λ wrong. IsWrong (number finish) words.old wrong.number) }
 {
     let word = words.number()?;
     words.finish()?;
     Ok(Reply::Bad { word })
 }
 
+// A reply of one word, which came.
+fn read_alone(words: &mut Cursor<'_>, reply: Reply) -> Result<Reply, WrongWord>
+    ensures ok { IfOk result (λ same. (same ≡ reply) × (words.old.left ≡ [])) }
+    ensures wrong { IfErr result (λ wrong. IsWrong finish words.old wrong.number) }
+{
+    words.finish()?;
+    Ok(reply)
+}
+
 // `ID cost C at N links L:R ..`, to the end of the line.
-fn read_priced(alloc: Global, top: &Topology, words: &mut Numbered<'_>) -> Result<Priced, ReadFault>
+fn read_priced(
+    alloc: Global,
+    top: &Topology,
+    words: &mut Cursor<'_>,
+) -> Result<(Costed, Amounts), ReadFault>
     requires { IsNetwork top.now }
-    ensures ok { IfOk result (λ priced. words.old.left ≡ decimal priced.id ∷ priced_words priced.cost priced.at priced.amounts) }
-    ensures small { IfOk result (λ priced. Fits64 priced.id × Fits64 priced.cost × Fits64 priced.at) }
-    ensures amounts { IfOk result (λ priced. AreAmounts top.now priced.amounts) }
-    ensures bad { (place : ℕ) → result ≡ Err (ReadFault.Bad place) → IsWrong (priced_form top.now) words.old place }
+    ensures ok { IfOk result (λ priced. words.old.left
+        ≡ decimal priced.0.id ∷ priced_words priced.0.cost priced.0.at priced.1) }
+    ensures small { IfOk result
+        (λ priced. Fits64 priced.0.id × Fits64 priced.0.cost × Fits64 priced.0.at) }
+    ensures amounts { IfOk result (λ priced. AreAmounts top.now priced.1) }
+    ensures bad { IfErr result (IsFaultOf (priced_form top.now) words.old) }
+{
+    let costed = read_cost(words)?;
+    words.expect(b"links")?;
+    let amounts = read_amounts(alloc, top, words)?;
+    Ok((costed, amounts))
+}
+
+// `ID cost C at N`.
+fn read_cost(words: &mut Cursor<'_>) -> Result<Costed, WrongWord>
+    ensures ok { IfOk result
+        (λ costed. TookAll words.old words.new (cost_words costed.id costed.cost costed.at)) }
+    ensures small { IfOk result
+        (λ costed. Fits64 costed.id × Fits64 costed.cost × Fits64 costed.at) }
+    ensures wrong { IfErr result (λ wrong. IsWrong (cost_form anything) words.old wrong.number) }
 {
     let id = words.number()?;
-    words.word(b"cost")?;
+    words.expect(b"cost")?;
     let cost = words.number()?;
-    words.word(b"at")?;
+    words.expect(b"at")?;
     let at = words.number()?;
-    words.word(b"links")?;
-    let amounts = read_amounts(alloc, top, words)?;
-    Ok(Priced {
-        id,
-        cost,
-        at,
-        amounts,
-    })
+    Ok(Costed { id, cost, at })
 }
 
 // `at N`, to the end of the line.
-fn read_at(words: &mut Numbered<'_>) -> Result<u64, ReadFault>
+fn read_at(words: &mut Cursor<'_>) -> Result<u64, WrongWord>
     ensures ok { IfOk result (λ at. words.old.left ≡ codes "at" ∷ decimal at ∷ []) }
     ensures small { IfOk result Fits64 }
-    ensures bad { (place : ℕ) → result ≡ Err (ReadFault.Bad place) → IsWrong at_form words.old place }
+    ensures wrong { IfErr result (λ wrong. IsWrong at_form words.old wrong.number) }
 {
-    words.word(b"at")?;
+    words.expect(b"at")?;
     let at = words.number()?;
     words.finish()?;
     Ok(at)
 }
 
 // `ID at N`, to the end of the line.
-fn read_id(words: &mut Numbered<'_>) -> Result<(u64, u64), ReadFault>
-    ensures ok { IfOk result (λ id. words.old.left ≡ decimal id.0 ∷ codes "at" ∷ decimal id.1 ∷ []) }
+fn read_id(words: &mut Cursor<'_>) -> Result<(u64, u64), WrongWord>
+    ensures ok { IfOk result
+        (λ id. words.old.left ≡ decimal id.0 ∷ codes "at" ∷ decimal id.1 ∷ []) }
     ensures small { IfOk result (λ id. Fits64 id.0 × Fits64 id.1) }
-    ensures bad { (place : ℕ) → result ≡ Err (ReadFault.Bad place) → IsWrong id_form words.old place }
+    ensures wrong { IfErr result (λ wrong. IsWrong id_form words.old wrong.number) }
 {
     let id = words.number()?;
     let at = read_at(words)?;

@@ -2,7 +2,7 @@
 use Rattle.std.proofs.Common.{◌≡◌, ◌∙◌, ℕ, ◌+◌, List, [], ◌∷◌, ◌++◌, length, inl, inr, refl, sym, ap, subst, arith, append_assoc, length-append}
 use Rattle.hose_words.specs.Grammar.{Grammar, IsFirst, IsFirstNotAllowed}
 use Rattle.hose_words.specs.Cursor.{Position, Took, TookAll, Misses, IsWrong}
-use Rattle.hose_words.specs.Form.{Form, anything, finish, place, branch, maybe, Follows, IsWhole, grammar_of, IsChoice, Each}
+use Rattle.hose_words.specs.Form.{Form, anything, place, branch, maybe, Follows, IsWhole, grammar_of, IsChoice}
 use Rattle.hose_words.proofs.Judging.{wrong_here}
 
 -- ---- one grammar after some words of another
@@ -153,12 +153,24 @@ wrong_past {passes} {form} {old} {new} {word} {words} {number} took follows then
     let mid : Position = record { left = words ++ new.left; read = old.read + 1 } in
     wrong_later (record { cut = took.cut; counted = refl }) follows (then mid (record { cut = refl; counted = omega (arith, took.counted) }))
 
+-- where no word came, what is wrong is wrong
+pub wrong_same : {form : Form} {old new : Position} {number : ℕ} → TookAll old new [] → IsWrong form new number → IsWrong form old number
+wrong_same {form} {old} {new} {number} took wrong = record {
+  place = wrong.place;
+  at = omega (arith, wrong.at, took.counted);
+  wrong = subst (λ w. IsFirstNotAllowed (grammar_of form) [] w wrong.place) (sym took.cut) wrong.wrong;
+}
+
 -- ---- tests of the first word
 
 -- what passes for one reason passes for a weaker one
 pub IsFirst-weaker : (strong weak : List ℕ → Type 0) → ((word : List ℕ) → strong word → weak word) → (words : List (List ℕ)) → IsFirst strong words → IsFirst weak words
 IsFirst-weaker strong weak more [] first = first
 IsFirst-weaker strong weak more (word ∷ words) first = more word first
+
+-- where the first word passes, there is one
+pub some_word : (passes : List ℕ → Type 0) (words : List (List ℕ)) → IsFirst passes words → words ≡ [] → ⊥
+some_word passes words first none = subst (IsFirst passes) none first
 
 -- where a weaker reason is missed, so is the stronger
 pub Misses-stronger : {strong weak : List ℕ → Type 0} {old : Position} {number : ℕ} → ((word : List ℕ) → strong word → weak word) → Misses weak old number → Misses strong old number
@@ -174,3 +186,12 @@ misses_word {passes} {old} {new} {word} {number} took never at = record { none =
 -- no word is there
 pub misses_end : {passes : List ℕ → Type 0} {old : Position} {number : ℕ} → old.left ≡ [] → number ≡ old.read + 1 → Misses passes old number
 misses_end {passes} {old} {number} none at = record { none = λ first. subst (IsFirst passes) none first; at = at }
+
+-- ---- a line from its start
+
+-- the word that is told of a line is the first that is not allowed
+pub wrong_at_start : {form : Form} {start : Position} {number : ℕ} (words : List (List ℕ)) → start ≡ record { left = words; read = 0 } → IsWrong form start number → IsFirstNotAllowed (grammar_of form) [] words number
+wrong_at_start {form} {start} {number} words is wrong =
+    let place : wrong.place ≡ number = omega (arith, wrong.at, ap (λ (position : Position). position.read) is) in
+    subst (λ p. IsFirstNotAllowed (grammar_of form) [] words p) place
+    (subst (λ (position : Position). IsFirstNotAllowed (grammar_of form) [] position.left wrong.place) is wrong.wrong)

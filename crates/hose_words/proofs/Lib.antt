@@ -1,6 +1,7 @@
 pub mod BufferLemmas
 pub mod Coming
 pub mod DecimalLemmas
+pub mod Exits
 pub mod FirstLine
 pub mod Forms
 pub mod Judging

@@ -1,7 +1,7 @@
 -- Words of a list that a word ends.
 use Rattle.std.proofs.Common.{◌≡◌, ◌≢◌, ◌⊎◌, ℕ, ◌+◌, ◌≤◌, suc, List, [], ◌∷◌, ◌++◌, length, map, inl, inr, refl, sym, subst, arith, append_assoc, append-nil, length-append}
 use Rattle.std.specs.List.{All}
-use Rattle.std.proofs.lemmas.List.{length-map, map-append}
+use Rattle.std.proofs.lemmas.List.{length-map}
 use Rattle.hose_words.specs.Grammar.{IsFirstNotAllowed}
 use Rattle.hose_words.specs.Cursor.{Position, Took, IsWrong}
 use Rattle.hose_words.specs.Form.{Form, until, FollowsUntil, WholeUntil, Follows, IsWhole, TellsItems, grammar_of}

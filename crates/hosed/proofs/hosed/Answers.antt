@@ -1,6 +1,6 @@
-use Rattle.std.proofs.Common.{◌≡◌, ◌⊎◌, ℕ, sym, ◌∙◌, ap, subst}
+use Rattle.std.proofs.Common.{ap}
 use Rattle.hosed.specs.Ending.{status_of_done}
-use Rattle.hosed.specs.RunOutcome.{EndsRefused, TakesWithinLimit}
+use Rattle.hosed.specs.RunOutcome.{TakesWithinLimit}
 use Rattle.hosed.proofs.Outcomes.{completes, refused_ends, too_long_at_8}
 use Rattle.hosed.proofs.hosed.Goals as goal
 

@@ -1,20 +1,21 @@
 use Rattle.std.proofs.Common.{◌++◌, ◌∷◌, [], map, sym, subst, arith, length-append}
 use Rattle.std.proofs.lemmas.List.{map-append}
-use Rattle.std.proofs.lemmas.Result.{err_from_is_err_and}
-use Rattle.hose_proto.specs.ReplyGrammar.{amounts_form, Follows}
-use Rattle.hose_proto.specs.ReplyReading.{MissesItem, IsNextPair}
+use Rattle.hose_words.specs.Cursor.{MissesItem}
+use Rattle.hose_words.specs.Form.{Follows}
+use Rattle.hose_words.proofs.Listing.{listing_more, wrong_item}
+use Rattle.hose_proto.specs.ReplyGrammar.{amounts_form}
+use Rattle.hose_proto.specs.Reading.{IsNextPair}
 use Rattle.hose_proto.specs.ReplyWords.{pair_word}
 use Rattle.hose_proto.proofs.Items.{pairs_more, amounts_of, makes_amounts}
-use Rattle.hose_proto.proofs.Listing.{listing_more, wrong_item}
+use Rattle.hose_proto.proofs.Faults.{told_wrong}
 use Rattle.hose_proto.proofs.reply_lists.read_amounts.Goals as goal
 
 pub returns-in_err-pair-clause-bad : goal.returns-in_err-pair-clause-bad
-returns-in_err-pair-clause-bad c place told =
+returns-in_err-pair-clause-bad c =
     let network = c.args.top.now in
     let items = c.loop-pairs.pairs.items in
-    let gave = err_from_is_err_and c.from_residual.result c.from_residual.ensures.1 in
-    let misses = subst (λ others. MissesItem pair_word (IsNextPair network others) others c.loop-pairs.words place) c.deref.ensures.value (c.in_err-pair.ensures.bad place (cc (gave.1, gave.2, told))) in
-    wrong_item (makes_amounts network items c.requires c.loop-pairs.invariant.pairs) c.loop-pairs.invariant.listing misses
+    let misses = subst (λ others. MissesItem pair_word (IsNextPair network others) 1 others c.loop-pairs.words c.in_err-pair.field-0.0.number) c.deref.ensures.value c.in_err-pair.ensures.wrong in
+    told_wrong c.from_residual.result c.from_residual.ensures.1 (wrong_item (makes_amounts network items c.requires c.loop-pairs.invariant.pairs) c.loop-pairs.invariant.listing misses)
 
 pub loop-pairs-preserved : goal.loop-pairs-preserved
 loop-pairs-preserved c =

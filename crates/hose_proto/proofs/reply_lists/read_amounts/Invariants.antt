@@ -2,7 +2,7 @@ use Rattle.std.proofs.Common.{length}
 use Rattle.hose_proto.specs.ReplyGrammar.{amounts_form}
 use Rattle.hose_proto.specs.ReplyWords.{pair_word}
 use Rattle.hose_proto.proofs.Items.{ArePairs}
-use Rattle.hose_proto.proofs.Listing.{Listing}
+use Rattle.hose_words.proofs.Listing.{Listing}
 use Rattle.hose_proto.proofs.reply_lists.read_amounts.Given as goal
 
 abbrev pub invariant-loop-pairs : goal.invariant-loop-pairs

@@ -1,21 +1,22 @@
-use Rattle.std.proofs.Common.{◌++◌, ◌∙◌, ℕ, ◌<◌, ◌≤◌, length, map, subst}
-use Rattle.std.specs.List.{All}
+use Rattle.std.proofs.Common.{◌++◌, ◌∙◌, ℕ, ◌≤◌, List, length, map, sym, subst}
 use Rattle.std.specs.List.Sorted.{IsPermutation}
-use Rattle.std.proofs.lemmas.Result.{err_from_is_err_and}
+use Rattle.hose_graph.specs.Hose.{MakesHose}
 use Rattle.hose_graph.specs.declared.limits.TheConstants.{LEAST_ENDS}
-use Rattle.hose_proto.specs.ReplyReading.{MissesEnd, IsNextEnd}
-use Rattle.hose_proto.specs.ReplyWords.{end_word}
+use Rattle.hose_proto.specs.Places.{end_word}
+use Rattle.hose_proto.specs.Reading.{MissesEnd, IsNextEnd}
+use Rattle.hose_proto.proofs.EndsUntil.{end_more, wrong_end, wrong_links}
+use Rattle.hose_proto.proofs.Faults.{told_wrong}
+use Rattle.hose_proto.proofs.Hoses.{hose_made, makes_hose, new_in_order, same_hose}
 use Rattle.hose_proto.proofs.Items.{ends_more}
-use Rattle.hose_proto.proofs.Until.{end_more, same_hose, wrong_end, wrong_links}
 use Rattle.hose_proto.proofs.reply_lists.read_hose.Goals as goal
 
 pub returns-in_err-end-clause-bad : goal.returns-in_err-end-clause-bad
-returns-in_err-end-clause-bad c place told =
+returns-in_err-end-clause-bad c =
     let network = c.args.top.now in
     let ends = c.loop-ends.ends.items in
-    let gave = err_from_is_err_and c.from_residual.result c.from_residual.ensures.1 in
-    let misses = subst (λ others. MissesEnd network others c.loop-ends.words place) c.deref.ensures.value (c.in_err-end.ensures.bad place (cc (gave.1, gave.2, told))) in
-    wrong_end network c.requires ends c.loop-ends.invariant.ends c.args.words.now c.loop-ends.words c.loop-ends.invariant.listing place misses
+    let misses = subst (λ others. MissesEnd network others c.loop-ends.words c.in_err-end.field-0.0.number) c.deref.ensures.value c.in_err-end.ensures.wrong in
+    told_wrong c.from_residual.result c.from_residual.ensures.1
+    (wrong_end network c.requires ends c.loop-ends.invariant.ends c.args.words.now c.loop-ends.words c.loop-ends.invariant.listing c.in_err-end.field-0.0.number misses)
 
 pub loop-ends-preserved : goal.loop-ends-preserved
 loop-ends-preserved c =
@@ -30,26 +31,33 @@ loop-ends-preserved c =
       ends = rw c.in_ok-push.ensures.items (ends_more network ends end c.loop-ends.invariant.ends next);
     }
 
+pub from_ends-requires : goal.from_ends-requires
+from_ends-requires c =
+    let network = c.args.top.now in
+    let ends = c.loop-ends.ends.items in
+    let ended = rw c.in_default.is at c.in_ok-end.ensures.last in
+    subst MakesHose (sym c.deref-2.ensures.value)
+    (makes_hose network ends (new_in_order network ends c.loop-ends.invariant.ends) (subst (λ (others : List (ℕ × ℕ)). LEAST_ENDS ≤ length others) c.deref.ensures.value ended.1))
+
 pub returns-clause-told : goal.returns-clause-told
 returns-clause-told c =
     let network = c.args.top.now in
     let ends = c.loop-ends.ends.items in
-    let moved = subst (λ others. IsPermutation others c.in-Ok.hose) c.deref-2.ensures.value c.in-Ok.ensures.same_ends in
-    let same = same_hose network ends c.in-Ok.hose c.loop-ends.invariant.ends moved c.in-Ok.ensures.hose in
-    let ended = rw c.in_default.is at c.in_ok-end.ensures.end in
-    c.loop-ends.invariant.listing.spelled ∙ (λ i. map (end_word network) (same i) ++ ended.0.cut i)
+    let moved = subst (λ others. IsPermutation others c.in_ok-hose.hose) c.deref-2.ensures.value c.in_ok-hose.ensures.same_ends in
+    let same = same_hose ends c.in_ok-hose.hose moved c.loop-ends.invariant.ends.ascending c.in_ok-hose.ensures.hose.ascending in
+    let ended = rw c.in_default.is at c.in_ok-end.ensures.last in
+    c.loop-ends.invariant.listing.took.cut ∙ (λ i. map (end_word network) (same i) ++ ended.0.cut i)
 
 pub returns-clause-hose : goal.returns-clause-hose
 returns-clause-hose c =
     let network = c.args.top.now in
     let ends = c.loop-ends.ends.items in
-    let moved = subst (λ others. IsPermutation others c.in-Ok.hose) c.deref-2.ensures.value c.in-Ok.ensures.same_ends in
-    let same = same_hose network ends c.in-Ok.hose c.loop-ends.invariant.ends moved c.in-Ok.ensures.hose in
-    record { is_hose = c.in-Ok.ensures.hose; nodes = subst (All (λ (end : ℕ × ℕ). end.0 < length network.nodes)) same c.loop-ends.invariant.ends.nodes }
+    let moved = subst (λ others. IsPermutation others c.in_ok-hose.hose) c.deref-2.ensures.value c.in_ok-hose.ensures.same_ends in
+    hose_made network ends c.in_ok-hose.hose (new_in_order network ends c.loop-ends.invariant.ends) moved c.in_ok-hose.ensures.hose
 
 pub returns-clause-later : goal.returns-clause-later
 returns-clause-later c place wrong =
     let ends = c.loop-ends.ends.items in
-    let ended = rw c.in_default.is at c.in_ok-end.ensures.end in
+    let ended = rw c.in_default.is at c.in_ok-end.ensures.last in
     wrong_links c.args.top.now c.requires ends c.loop-ends.invariant.ends c.args.words.now c.loop-ends.words c.loop-ends.invariant.listing c.next_end.new.words ended.0
-    (subst (λ others. LEAST_ENDS ≤ length others) c.deref.ensures.value ended.1) place wrong
+    (subst (λ (others : List (ℕ × ℕ)). LEAST_ENDS ≤ length others) c.deref.ensures.value ended.1) place wrong

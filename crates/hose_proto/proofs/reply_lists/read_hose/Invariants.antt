@@ -1,7 +1,7 @@
 use Rattle.std.proofs.Common.{length}
 use Rattle.hose_proto.specs.ReplyGrammar.{AreEnds, hose_form}
-use Rattle.hose_proto.specs.ReplyWords.{end_word}
-use Rattle.hose_proto.proofs.Listing.{Listing}
+use Rattle.hose_proto.specs.Places.{end_word}
+use Rattle.hose_words.proofs.Listing.{Listing}
 use Rattle.hose_proto.proofs.reply_lists.read_hose.Given as goal
 
 abbrev pub invariant-loop-ends : goal.invariant-loop-ends

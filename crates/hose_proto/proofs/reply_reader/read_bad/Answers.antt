@@ -1,9 +1,12 @@
 use Rattle.std.proofs.Common.{refl}
-use Rattle.std.proofs.lemmas.Result.{err_from_is_err_and}
-use Rattle.hose_proto.proofs.Forms.{wrong_later}
+use Rattle.hose_words.proofs.Exits.{still_wrong}
+use Rattle.hose_words.proofs.Forms.{wrong_place, wrong_later}
 use Rattle.hose_proto.proofs.reply_reader.read_bad.Goals as goal
 
-pub returns-in_err-finish-clause-bad : goal.returns-in_err-finish-clause-bad
-returns-in_err-finish-clause-bad c place told =
-    let gave = err_from_is_err_and c.from_residual-in_err-finish.result c.from_residual-in_err-finish.ensures.1 in
-    wrong_later c.in_ok-word.ensures.ok (c.in_ok-word.word, refl, c.in_ok-word.ensures.small) (c.in_err-finish.ensures.bad place (cc (gave.1, gave.2, told)))
+pub returns-in_err-word-clause-wrong : goal.returns-in_err-word-clause-wrong
+returns-in_err-word-clause-wrong c = still_wrong c.from_residual.result c.from_residual.ensures.1 (wrong_place c.in_err-word.ensures.wrong)
+
+pub returns-in_err-finish-clause-wrong : goal.returns-in_err-finish-clause-wrong
+returns-in_err-finish-clause-wrong c =
+    still_wrong c.from_residual-in_err-finish.result c.from_residual-in_err-finish.ensures.1
+    (wrong_later c.in_ok-word.ensures.ok (c.in_ok-word.word, refl, c.in_ok-word.ensures.small) c.in_err-finish.ensures.wrong)

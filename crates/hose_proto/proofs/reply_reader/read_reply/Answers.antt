@@ -1,11 +1,14 @@
-use Rattle.std.proofs.Common.{◌≡◌, [], sym, ap, subst, arith}
+use Rattle.std.proofs.Common.{◌≡◌, [], ap, subst, sym}
+use Rattle.hose_words.specs.Cursor.{Position}
 use Rattle.hose_words.specs.Grammar.{IsFirstNotAllowed}
 use Rattle.hose_words.specs.Words.{words_of}
 use Rattle.hose_proto.specs.ReplyGrammar.{reply_grammar}
-use Rattle.hose_proto.specs.ReplyReading.{Reading}
 use Rattle.hose_proto.specs.ReplyWords.{IsReply}
-use Rattle.hose_proto.proofs.Passing.{read_again, read_places}
+use Rattle.hose_proto.proofs.PassingReplies.{read_again, read_places, told_at_start}
 use Rattle.hose_proto.proofs.reply_reader.read_reply.Goals as goal
+
+pub returns-clause-bad : goal.returns-clause-bad
+returns-clause-bad c = told_at_start c.args.top.now c.new.result c.read_words.result (words_of c.args.line.now) c.new.ensures c.read_words.ensures.bad
 
 pub returns-clause-places : goal.returns-clause-places
 returns-clause-places c = read_places c.args.top.now c.new.result.left c.read_words.result c.read_words.ensures.ok
@@ -14,10 +17,7 @@ pub returns-clause-told : goal.returns-clause-told
 returns-clause-told c reply told =
     let network = c.args.top.now in
     let words = c.new.result.left in
-    let line : words ≡ words_of c.args.line.now = ap (λ (reading : Reading). reading.left) c.new.ensures in
+    let line : words ≡ words_of c.args.line.now = ap (λ (position : Position). position.left) c.new.ensures in
     read_again network c.nodes-nodes.ensures.network words c.read_words.result c.read_words.ensures.ok
-    (λ n is.
-    let wrong = c.read_words.ensures.bad n is in
-    let place : wrong.place ≡ n = omega (arith, wrong.at, ap (λ (reading : Reading). reading.read) c.new.ensures) in
-    subst (IsFirstNotAllowed (reply_grammar network) [] words) place wrong.wrong)
+    (λ n is. subst (λ w. IsFirstNotAllowed (reply_grammar network) [] w n) (sym line) (told_at_start network c.new.result c.read_words.result (words_of c.args.line.now) c.new.ensures c.read_words.ensures.bad n is))
     reply (subst (λ w. IsReply network w reply) (sym line) told)

@@ -1,9 +1,8 @@
 use Rattle.std.specs.Prelude.{⊤}
 use Rattle.std.proofs.Common.{◌≡◌, Ok, Err, true, false, refl, sym, ◌∙◌, ap, subst}
 use Rattle.std.proofs.lemmas.Result.{err_from_is_err_and}
-use Rattle.hose_graph.specs.Network.{Network}
 use Rattle.hose_law.specs.Book.{Book}
-use Rattle.hosed.specs.Serving.{HasServed, Serves, ServesLine}
+use Rattle.hosed.specs.Serving.{HasServed}
 use Rattle.hose_words.proofs.OnReading.{ReadsOn-start, ReadsOn-then}
 use Rattle.hosed.proofs.Turns.{as_line, nothing_served, serves_all, serves_fault, served_more}
 use Rattle.hosed.proofs.run.serve.Goals as goal

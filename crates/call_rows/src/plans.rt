@@ -1,0 +1,226 @@
+// Rows, roots, trees, sides and decisions on a star, worked out by hand.
+ghost use Rattle.std.specs.Prelude.{◌≡◌, ◌<◌, ◌≤◌, ◌↔◌, Bool, List, All, length};
+ghost use Rattle.std.specs.Prelude.{IfOk, IsSome, IsTrue, slice_index};
+ghost use Rattle.hose_graph.specs.Row.{distance_of};
+ghost use Rattle.hose_law.specs.Row.{IsRow};
+ghost use Rattle.hose_law.specs.Walk.{capacity_of};
+ghost use Rattle.hose_root.specs.Weight.{IsBounded};
+ghost use Rattle.hose_tree.specs.Amounts.{AreCarried};
+
+use crate::reading::{STAR, hose, network};
+use hose_graph::{Amounts, Hose, Row, Topology};
+use hose_links::LinkSet;
+use hose_paths::{PlainRows, RowMaker};
+use hose_plan::{Decision, decide};
+use hose_root::{choose, weight};
+use hose_tree::{Tree, cost, fits, reached, reservations};
+use std::alloc::{AllocError, Global};
+use std::test::Fail;
+
+// The row of a root over all links.
+fn row_from(alloc: Global, top: &Topology, root: u32) -> Result<Row, AllocError>
+    requires { root < length top.now.nodes }
+    ensures { IfOk result (λ row. (set : List Bool) × IsRow top.now set row.root row) }
+{
+    let mut links = LinkSet::new(alloc, top.links())?;
+    links.fill_where(|_| true);
+    PlainRows::new().row(alloc, top, &links, root)
+}
+
+// Whether each endpoint has a distance.
+fn reaches(row: &Row, hose: &Hose) -> bool
+    ensures { IsTrue result → All (λ end. IsSome (distance_of row.now end.0)) hose.now }
+{
+    hose.ends().iter().all(|end| has_distance(row, end.0))
+}
+
+fn has_distance(row: &Row, node: u32) -> bool
+    ensures { IsTrue result → IsSome (distance_of row.now node) }
+{
+    (node as usize) < row.dist.len() && row.dist[node as usize].is_some()
+}
+
+#[test]
+fn a_row_from_the_middle_of_a_star(rt: HostRuntime) -> Result<(), Fail> {
+    let star = network(rt.alloc(), STAR)?;
+    assert!(rt; star.nodes() == 4);
+    let row = row_from(rt.alloc(), &star, 3)?;
+    assert_eq!(rt;
+        row.dist.as_slice(),
+        [Some(1), Some(2), Some(3), Some(0)].as_slice()
+    );
+    assert_eq!(rt;
+        row.tight.as_slice(),
+        [Some(0), Some(1), Some(2), None].as_slice()
+    );
+    Ok(())
+}
+
+// Whether no distance is above the greatest.
+fn are_bounded(row: &Row) -> bool
+    ensures { IsTrue result → IsBounded row.now }
+{
+    row.dist
+        .iter()
+        .all(|distance| distance.is_none_or(|d| d <= 511_000_000))
+}
+
+// Whether each endpoint has a place in the row.
+fn has_places(row: &Row, hose: &Hose) -> bool
+    ensures { IsTrue result → All (λ end. end.0 < length row.now.dist) hose.now }
+{
+    let nodes = row.dist.len();
+    hose.ends().iter().all(|end| (end.0 as usize) < nodes)
+}
+
+// What a hose costs from a root.
+fn weighed(alloc: Global, top: &Topology, root: u32, hose: &Hose) -> Result<Option<u64>, Fail>
+    requires { root < length top.now.nodes }
+{
+    let row = row_from(alloc, top, root)?;
+    if !are_bounded(&row) || !has_places(&row, hose) {
+        return Err(Fail::from("no row"));
+    }
+    Ok(weight(&row, hose))
+}
+
+#[test]
+fn the_weight_of_a_hose_from_each_root(rt: HostRuntime) -> Result<(), Fail> {
+    let star = network(rt.alloc(), STAR)?;
+    let hose = Hose::build(rt.alloc(), &[(0, 3), (1, 4), (2, 5)])?;
+    for (root, want) in [(0, 32), (1, 34), (2, 32), (3, 26)] {
+        assert!(rt; root < star.nodes());
+        assert_eq!(rt; weighed(rt.alloc(), &star, root, &hose)?, Some(want));
+    }
+    Ok(())
+}
+
+#[test]
+fn the_lowest_of_the_least_weights_is_chosen(rt: HostRuntime) {
+    assert_eq!(rt; choose(&[Some(32), Some(34), Some(32), Some(26)]), Some(3));
+    assert_eq!(rt; choose(&[None, Some(3), Some(3)]), Some(1));
+    assert_eq!(rt; choose(&[None, None]), None);
+}
+
+// What a hose reserves on the tree of a root, and the links of that tree.
+fn reserved(alloc: Global, top: &Topology, root: u32, line: &str) -> Result<String, Fail>
+    requires { root < length top.now.nodes }
+{
+    let hose = hose(alloc, top, line)?;
+    let row = row_from(alloc, top, root)?;
+    if !reaches(&row, &hose) {
+        return Err(Fail::from("no tree"));
+    }
+    let tree = Tree::from_row(alloc, top, &row, &hose)?;
+    let amounts = reservations(alloc, &tree, &hose)?;
+    Ok(format!(in alloc; "{tree:?} {amounts:?}")?)
+}
+
+#[test]
+fn trees_and_what_is_reserved_on_them(rt: HostRuntime) -> Result<(), Fail> {
+    let star = network(rt.alloc(), STAR)?;
+    assert!(rt; star.nodes() == 4);
+    let tree = "Tree { start: 3, steps: [Step { link: 0, old: 3, new: 0 }, \
+        Step { link: 1, old: 3, new: 1 }, Step { link: 2, old: 3, new: 2 }] }";
+    for (line, amounts) in [
+        (
+            "admit a:3 b:4 c:5",
+            "Amounts { pairs: [(0, 3), (1, 4), (2, 5)] }",
+        ),
+        (
+            "admit a:9 b:1 c:1",
+            "Amounts { pairs: [(0, 2), (1, 1), (2, 1)] }",
+        ),
+    ] {
+        let want = format!(in rt.alloc(); "{tree} {amounts}")?;
+        assert_eq!(rt; reserved(rt.alloc(), &star, 3, line)?, want);
+    }
+    Ok(())
+}
+
+#[test]
+fn what_amounts_cost_and_whether_they_fit(rt: HostRuntime) -> Result<(), Fail> {
+    let star = network(rt.alloc(), STAR)?;
+    let amounts = Amounts::build(rt.alloc(), &[(0, 3), (1, 4), (2, 5)])?;
+    assert!(rt; star.links() == 3);
+    assert_eq!(rt; cost(&star, &amounts), 26);
+    for (loads, fit) in [([7, 6, 5], true), ([7, 7, 5], false)] {
+        assert!(rt; are_carried(&star, &loads));
+        assert_eq!(rt; fits(&star, &loads, &amounts), fit);
+    }
+    Ok(())
+}
+
+#[test]
+fn what_a_node_reaches_over_a_link(rt: HostRuntime) -> Result<(), Fail> {
+    let star = network(rt.alloc(), STAR)?;
+    assert!(rt; (star.nodes(), star.links()) == (4, 3));
+    let mut links = LinkSet::new(rt.alloc(), 3)?;
+    links.put(0);
+    let side = reached(rt.alloc(), &star, &links, 0)?;
+    assert_eq!(rt; side.nodes(), [0, 3].as_slice());
+    Ok(())
+}
+
+// Whether there are as many loads as links, each at most its link's capacity.
+fn are_carried(top: &Topology, loads: &[u64]) -> bool
+    ensures { IsTrue result → AreCarried top.now loads.now }
+{
+    if loads.len() != top.links() as usize {
+        return false;
+    }
+    for link in 0..top.links() {
+        if !is_carried(top, loads, link) {
+            return false;
+        }
+    }
+    true
+}
+
+// Whether the load of a link is at most its capacity.
+fn is_carried(top: &Topology, loads: &[u64], link: u32) -> bool
+    requires places { length loads.now ≡ length top.now.links }
+    requires link { link < length top.now.links }
+    ensures { IsTrue result ↔ slice_index loads.now link ≤ capacity_of top.now link }
+{
+    loads[link as usize] <= top.link(link).capacity
+}
+
+// What is decided of a hose beside these loads, in short.
+fn decided(alloc: Global, top: &Topology, loads: &[u64], line: &str) -> Result<String, Fail> {
+    let hose = hose(alloc, top, line)?;
+    if !are_carried(top, loads) {
+        return Err(Fail::from("no loads"));
+    }
+    match decide(alloc, top, loads, &hose, &mut PlainRows::new())? {
+        Decision::Plan {
+            grounds,
+            amounts,
+            cost,
+        } => {
+            let first_fits = grounds.first_fits;
+            Ok(format!(in alloc; "{amounts:?} cost {cost}, first fits {first_fits}")?)
+        }
+        Decision::Refused { side } => Ok(format!(in alloc; "refused, {side:?}")?),
+    }
+}
+
+#[test]
+fn decisions_beside_loads(rt: HostRuntime) -> Result<(), Fail> {
+    let star = network(rt.alloc(), STAR)?;
+    for (loads, line, want) in [
+        (
+            [0, 0, 0],
+            "admit a:3 b:4 c:5",
+            "Amounts { pairs: [(0, 3), (1, 4), (2, 5)] } cost 26, first fits true",
+        ),
+        (
+            [3, 4, 5],
+            "admit a:8 b:8",
+            "refused, NodeList { nodes: [0] }",
+        ),
+    ] {
+        assert_eq!(rt; decided(rt.alloc(), &star, &loads, line)?.as_str(), want);
+    }
+    Ok(())
+}

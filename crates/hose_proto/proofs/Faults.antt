@@ -1,0 +1,28 @@
+-- What is told at the exit of a `?`.
+use Rattle.std.proofs.Common.{◌≡◌, ℕ, Result, IfErr, subst}
+use Rattle.std.specs.Result.{IsErrAnd}
+use Rattle.std.proofs.lemmas.Result.{err_from_is_err_and}
+use Rattle.hose_words.specs.Cursor.{Position, IsWrong}
+use Rattle.hose_words.specs.Form.{Form}
+use Rattle.hose_proto.specs.Reading.{IsFaultOf}
+use Rattle.hose_proto.specs.declared.fault.ReadFault.{ReadFault}
+use Rattle.hose_proto.specs.declared.fault.ReadFault.TheVariants.{Bad}
+
+-- a fault that is handed on as it is
+pub handed_on : {T : Type 0} {form : Form} {old : Position} {fault : ReadFault} (result : Result T ReadFault) → IsErrAnd result (λ other. other ≡ fault) → IsFaultOf form old fault
+    → IfErr result (IsFaultOf form old)
+handed_on {T} {form} {old} {fault} result gives is =
+    let gave = err_from_is_err_and result gives in
+    rw (gave.1, gave.2) is
+
+-- a word that is wrong, told as a fault
+pub told_wrong : {T : Type 0} {form : Form} {old : Position} {number : ℕ} (result : Result T ReadFault) → IsErrAnd result (λ fault. fault ≡ Bad number) → IsWrong form old number
+    → IfErr result (IsFaultOf form old)
+told_wrong {T} {form} {old} {number} result gives is =
+    let gave = err_from_is_err_and result gives in
+    let told : IsFaultOf form old (Bad number) = record { word = λ other same. subst (IsWrong form old) (cc same) is } in
+    rw (gave.1, gave.2) told
+
+-- what a fault tells of the words to come it tells of those before them
+pub later_fault : {form rest : Form} {old new : Position} {fault : ReadFault} → ((number : ℕ) → IsWrong rest new number → IsWrong form old number) → IsFaultOf rest new fault → IsFaultOf form old fault
+later_fault {form} {rest} {old} {new} {fault} later is = record { word = λ number told. later number (is.word number told) }

@@ -1,0 +1,14 @@
+use Rattle.std.proofs.lemmas.Result.{IfErr-at_err}
+use Rattle.std.proofs.Common.{refl}
+use Rattle.hose_proto.specs.Command.{command_form}
+use Rattle.hose_proto.specs.Reading.{IsFaultOf}
+use Rattle.hose_proto.proofs.OneCommand.{asked_for, read_asks_of}
+use Rattle.hose_proto.proofs.command.read_command_at.Goals as goal
+
+pub returns-clause-asked : goal.returns-clause-asked
+returns-clause-asked c =
+    asked_for c.args.top.now c.args.words.now.left c.read_words.result c.nodes-nodes.ensures.network c.read_words.ensures.ok
+    (λ n told. let wrong = (IfErr-at_err (IsFaultOf (command_form c.args.top.now) c.args.words.now) told c.read_words.ensures.bad).word n refl in (wrong.place, wrong.wrong))
+
+pub returns-clause-nodes : goal.returns-clause-nodes
+returns-clause-nodes c = read_asks_of c.args.top.now c.args.words.now.left c.read_words.result c.read_words.ensures.ok

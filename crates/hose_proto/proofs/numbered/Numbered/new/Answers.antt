@@ -1,6 +1,0 @@
-use Rattle.std.proofs.Common.{length, ap, arith}
-use Rattle.hose_proto.proofs.Skipping.{few_words}
-use Rattle.hose_proto.proofs.numbered.Numbered.new.Goals as goal
-
-pub invariant_of-result : goal.invariant_of-result
-invariant_of-result c = omega (arith, few_words c.args.line.now, ap length c.split.ensures)

@@ -1,0 +1,69 @@
+// Words that name something of a network, and the parts of words.
+ghost use Rattle.std.specs.Prelude.{◌≡◌, ◌++◌, ◌∷◌, ℕ, decimal, Contains, IfOk, IfErr, IfSome, IfNone};
+ghost use Rattle.hose_words.specs.Cursor.{Took, Misses};
+ghost use Rattle.hose_words.specs.Form.{IsChoice};
+ghost use Rattle.hose_graph.specs.Network.{IsNetwork, IsLinkOf};
+ghost use Rattle.hose_proto.specs.Places.{end_word};
+ghost use Rattle.hose_proto.specs.Reading.{IsEndOf};
+
+use hose_graph::{MOST_RATE, Name, Topology};
+use hose_words::{Cursor, WrongWord, number};
+
+// The link whose number the next word tells.
+pub(crate) fn read_link_number(top: &Topology, words: &mut Cursor<'_>) -> Result<u32, WrongWord>
+    ensures ok { IfOk result (λ link. Took words.old words.new (decimal link)) }
+    ensures is_link { IfOk result (IsLinkOf top.now) }
+    ensures wrong { IfErr result
+        (λ wrong. Misses (IsChoice (IsLinkOf top.now) decimal) words.old wrong.number) }
+{
+    let wrong = words.wrong();
+    let Some(word) = words.next() else {
+        return Err(wrong);
+    };
+    let Some(link) = link_number(top, word) else {
+        return Err(wrong);
+    };
+    Ok(link)
+}
+
+// The link whose number a word tells.
+pub(crate) fn link_number(top: &Topology, word: &[u8]) -> Option<u32>
+    ensures told { IfSome result (λ link. word.now ≡ decimal link) }
+    ensures is_link { IfSome result (IsLinkOf top.now) }
+    ensures none { IfNone result ((link : ℕ)
+        → word.now ≡ decimal link → IsLinkOf top.now link → ⊥) }
+{
+    let links = u64::from(top.links());
+    let Some(link) = number(word, u64::MAX) else {
+        return None;
+    };
+    if link < links {
+        Some(link as u32)
+    } else {
+        None
+    }
+}
+
+// The endpoint that a word spells.
+pub(crate) fn endpoint(top: &Topology, word: &[u8]) -> Option<(u32, u64)>
+    requires { IsNetwork top.now }
+    ensures spelled { IfSome result (λ end. word.now ≡ end_word top.now end) }
+    ensures is_end { IfSome result (IsEndOf top.now) }
+    ensures none { IfNone result ((end : ℕ × ℕ)
+        → word.now ≡ end_word top.now end → IsEndOf top.now end → ⊥) }
+{
+    let (name, rate) = parts(word)?;
+    let node = top.find(&Name::read(name)?)?;
+    let rate = number(rate, MOST_RATE)?;
+    (rate > 0).then_some((node, rate))
+}
+
+// What stands before a word's first colon, and what stands after it.
+pub(crate) fn parts(word: &[u8]) -> Option<(&[u8], &[u8])>
+    ensures spelled { IfSome result (λ parts. word.now ≡ parts.0.now ++ 58 ∷ parts.1.now) }
+    ensures first { IfSome result (λ parts. ¬ Contains parts.0.now 58) }
+    ensures none { IfNone result (¬ Contains word.now 58) }
+{
+    let colon = word.iter().position(|byte| *byte == b':')?;
+    Some((&word[..colon], &word[colon + 1..]))
+}

@@ -1,0 +1,42 @@
+// The words that tell which command a line is.
+ghost use Rattle.std.specs.Prelude.{◌≡◌};
+ghost use Rattle.hose_proto.specs.Command.{verb_word};
+
+use hose_words::Keyword;
+
+// What a command's first word says is to be done.
+#[derive(Clone, Copy, Debug)]
+pub(crate) enum Verb {
+    Admit,
+    Release,
+    Show,
+    Link,
+}
+
+const VERBS: [Verb; 4] = [Verb::Admit, Verb::Release, Verb::Show, Verb::Link];
+
+impl Keyword for Verb {
+    ghost word_of = { verb_word };
+
+    fn of(word: &[u8]) -> Option<Verb> {
+        for verb in VERBS {
+            if verb.word() == word {
+                return Some(verb);
+            }
+        }
+        None
+    }
+}
+
+impl Verb {
+    fn word(self) -> &'static [u8]
+        ensures { result.now ≡ verb_word self }
+    {
+        match self {
+            Verb::Admit => b"admit",
+            Verb::Release => b"release",
+            Verb::Show => b"show",
+            Verb::Link => b"link",
+        }
+    }
+}

@@ -1,0 +1,86 @@
+// What the program's words choose: a text about itself, or the server.
+ghost use Rattle.std.specs.Prelude.{◌≡◌, map};
+ghost use Rattle.std.specs.String.{string_bytes};
+ghost use Rattle.hose_io.specs.Frame.{Stays};
+ghost use Rattle.hosed.specs.Ending.{IsOut};
+ghost use Rattle.hosed.specs.Fault.{last_line};
+ghost use Rattle.hosed.specs.ProgramWords.{AreRunWords, first_wrong};
+ghost use Rattle.hosed.specs.RunOutcome.{RunOutcome};
+ghost use Rattle.hosed.specs.declared.fault.Fault.TheVariants as fault;
+ghost use Rattle.hosed_main.specs.Asked.{asked_of};
+ghost use Rattle.hosed_main.specs.Told.{IsTold};
+
+use crate::texts::{HELP, VERSION};
+use hose_io::{Sink, Source, write_all};
+use std::alloc::Global;
+
+/// What the program's words ask for.
+#[derive(Clone, Copy)]
+pub enum Asked {
+    Help,
+    Version,
+    /// All other words, right ones and wrong ones.
+    Service,
+}
+
+/// Does what the words say, and gives the exit status.
+pub fn program<I: Source, O: Sink>(
+    alloc: Global,
+    words: &[String],
+    input: &mut I,
+    output: &mut O,
+) -> u8
+    ensures help { asked_of (map string_bytes words.now) ≡ Asked.Help
+        → (input.new ≡ input.old) × IsTold O.Sink output.old output.new HELP.now result }
+    ensures version { asked_of (map string_bytes words.now) ≡ Asked.Version
+        → (input.new ≡ input.old) × IsTold O.Sink output.old output.new VERSION.now result }
+
+    // All else is as the server's one call says.
+    ensures run { AreRunWords (map string_bytes words.now)
+        → RunOutcome I.Source O.Sink input.old input.new output.old output.new result }
+    ensures wrong_words { asked_of (map string_bytes words.now) ≡ Asked.Service
+        → (AreRunWords (map string_bytes words.now) → ⊥)
+        → (result ≡ 1) × (input.new ≡ input.old) × IsOut O.Sink output.old output.new
+        (last_line (fault.Words (first_wrong (map string_bytes words.now)))) }
+
+    ensures input { Stays (I.frame input.old) (I.frame input.new) }
+    ensures output { Stays (O.frame output.old) (O.frame output.new) }
+{
+    match asked_by(words) {
+        Asked::Help => tell(output, HELP),
+        Asked::Version => tell(output, VERSION),
+        Asked::Service => hosed::hosed(alloc, words, input, output),
+    }
+}
+
+// What the words ask for. The texts are for each of these words alone.
+fn asked_by(words: &[String]) -> Asked
+    ensures { result ≡ asked_of (map string_bytes words.now) }
+{
+    match words {
+        [word] if word.as_str() == "--help" => Asked::Help,
+        [word] if word.as_str() == "--version" => Asked::Version,
+        _ => Asked::Service,
+    }
+}
+
+// Writes a text, and gives the status.
+fn tell<O: Sink>(output: &mut O, text: &str) -> u8
+    ensures told { IsTold O.Sink output.old output.new text.now result }
+    ensures stays { Stays (O.frame output.old) (O.frame output.new) }
+{
+    match write_all(output, text.as_bytes()) {
+        Ok(()) => 0,
+        Err(_) => 4,
+    }
+}
+
+/// Tells that there is no memory for the words, and gives the status.
+pub fn no_memory<O: Sink>(output: &mut O) -> u8
+    ensures status { result ≡ 7 }
+    ensures line { IsOut O.Sink output.old output.new (last_line fault.Memory) }
+{
+    // The status stays where the line cannot be written.
+    let _ = write_all(output, b"no memory\n");
+    7
+}

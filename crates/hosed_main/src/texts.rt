@@ -1,0 +1,56 @@
+// What the program tells of itself.
+
+/// What `--help` is answered with.
+pub const HELP: &str = "\
+usage: hosed run < FILE
+       hosed --help | --version
+
+hosed run reads a topology, in which lines that begin with # are passed over, and then a line for
+each command of a customer:
+
+    node NAME                           the next node
+    link A B CAPACITY LENGTH [COST]     the next link, between two nodes named before
+    end                                 the end of the topology
+    CUSTOMER admit NAME:RATE ..         2 to 64 endpoints
+    CUSTOMER release ID
+    CUSTOMER show ID
+    CUSTOMER link L
+
+and writes one line for each of the last four:
+
+    admitted ID cost C at N links L:R ..
+    refused at N side NAME ..
+    released ID at N
+    no vpn ID at N
+    vpn ID cost C at N ends NAME:RATE .. links L:R ..
+    link L A B capacity C cost K load X at N
+    full at N, spent at N
+    bad W                               the line's first word that is not allowed
+    long                                the line has more than 4,096 bytes
+    memory                              there was none, and nothing was done
+
+epoch   how many admissions and releases there have been
+N       the epoch at which the reply holds: after an admission or a release, its own
+L       a link by its number; links and nodes count from 0, in the topology's order
+load    what is reserved on a link, of all VPNs together
+side    the nodes that the lowest endpoint reaches over links with half of the rates free
+
+A name is 1 to 16 of a to z, 0 to 9 and -. A capacity is 1 to 1,000,000,000; a length, a cost and
+a rate are 1 to 1,000,000.
+
+status  comes                           last line
+0       all was read                    none
+1       wrong words                     words K
+2       no topology                     topology LINE WORD
+3       the input failed                read
+4       the output failed               none
+7       no memory to begin              no memory
+8       input longer than 1 GiB         too long
+";
+
+/// What `--version` is answered with.
+pub const VERSION: &str = "hosed 0.1.0\n";
+
+/// What is said on standard error where the words are wrong.
+pub const USAGE: &str = "hosed takes one word: `run`, which reads a topology and commands, \
+    `--help`, which tells their forms, or `--version`.";

@@ -1,0 +1,131 @@
+// A case: one call of the server, and what must come of it.
+ghost use Rattle.std.specs.Prelude.{◌≡◌, ◌≤◌, ◌↔◌, IfOk, IsErr};
+
+use crate::fault::CaseFault;
+use crate::line::Line;
+use crate::pattern::number;
+use std::alloc::{AllocError, Global};
+
+// How many bytes a call moves where a file does not say.
+const PIECE: u64 = 4_096;
+
+/// How many bytes a stream moves in a call at most, one at least.
+#[derive(Clone, Copy, Debug)]
+pub struct Piece {
+    pub bytes: u64,
+    ghost some: { 1 ≤ bytes },
+}
+
+impl Piece {
+    /// A piece of so many bytes.
+    pub fn new(bytes: u64) -> Result<Piece, CaseFault>
+        ensures ok { IfOk result (λ piece. piece.bytes ≡ bytes) }
+        ensures zero { IsErr result ↔ (bytes ≡ 0) }
+    {
+        if bytes == 0 {
+            return Err(CaseFault::Zero);
+        }
+        Ok(Piece { bytes })
+    }
+}
+
+/// A stream of a case.
+#[derive(Clone, Debug, Drop)]
+pub struct Stream {
+    pub bytes: Vec<u8>,
+    pub piece: Piece,
+    /// The numbers of its calls that fail, counted from 1.
+    pub failing: Vec<u64>,
+}
+
+/// One call of the server, and what must come of it.
+#[derive(Clone, Debug, Drop)]
+pub struct Case {
+    pub name: String,
+    /// The words after the program's name.
+    pub words: Vec<String>,
+    pub input: Stream,
+    /// How many more bytes the input has.
+    pub more: u64,
+    pub output: Stream,
+    pub status: u64,
+    pub taken: Option<u64>,
+    /// Whether it says what must come of it.
+    pub compares: bool,
+}
+
+impl Stream {
+    fn new(alloc: Global) -> Stream {
+        Stream {
+            bytes: Vec::new(alloc),
+            piece: Piece { bytes: PIECE },
+            failing: Vec::new(alloc),
+        }
+    }
+}
+
+impl Case {
+    /// A case without a name, of which no line is read yet.
+    pub fn new(alloc: Global) -> Case {
+        Case {
+            name: String::new(alloc),
+            words: Vec::new(alloc),
+            input: Stream::new(alloc),
+            more: 0,
+            output: Stream::new(alloc),
+            status: 0,
+            taken: None,
+            compares: false,
+        }
+    }
+
+    /// Adds what a line says. A line that begins a case says nothing of this one.
+    pub fn add(&mut self, alloc: Global, line: Line) -> Result<(), CaseFault> {
+        match line {
+            Line::Nothing | Line::Case(_) => {}
+            Line::Words(rest) => self.words = words_of(alloc, rest)?,
+            Line::Input(pattern) => pattern.add_to(&mut self.input.bytes)?,
+            Line::More(count) => self.more = count,
+            Line::Read(piece) => self.input.piece = Piece::new(piece)?,
+            Line::Write(piece) => self.output.piece = Piece::new(piece)?,
+            Line::ReadFails(rest) => self.input.failing = calls_of(alloc, rest)?,
+            Line::WriteFails(rest) => self.output.failing = calls_of(alloc, rest)?,
+            wanted => self.add_wanted(wanted)?,
+        }
+        Ok(())
+    }
+
+    // Adds what a line says of what must come of the case.
+    fn add_wanted(&mut self, line: Line) -> Result<(), CaseFault> {
+        match line {
+            Line::Output(pattern) => pattern.add_to(&mut self.output.bytes)?,
+            Line::Status(status) => self.status = status,
+            Line::Taken(taken) => self.taken = Some(taken),
+            _ => return Ok(()),
+        }
+        self.compares = true;
+        Ok(())
+    }
+}
+
+// The words of a line.
+fn words_of(alloc: Global, rest: &str) -> Result<Vec<String>, AllocError> {
+    let mut words = Vec::new(alloc);
+    for word in rest.split_whitespace() {
+        words.push(String::from_str(alloc, word)?)?;
+    }
+    Ok(words)
+}
+
+// The numbers of calls in a line.
+fn calls_of(alloc: Global, rest: &str) -> Result<Vec<u64>, CaseFault> {
+    let mut calls = Vec::new(alloc);
+    for word in rest.split_whitespace() {
+        let nth = number(word)?;
+        if nth == 0 {
+            return Err(CaseFault::Zero);
+        }
+        calls.push(nth)?;
+    }
+    Ok(calls)
+}

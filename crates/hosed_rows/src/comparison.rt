@@ -1,0 +1,90 @@
+// What came of a case beside what must come of it.
+ghost use Rattle.std.specs.Prelude.{◌≤◌, length};
+
+use crate::case::Case;
+use crate::run::{Outcome, run_case};
+use std::alloc::{AllocError, Global};
+use std::io;
+
+// How many bytes of an output are shown, and how many of them stand before the first that differs.
+const SHOWN: usize = 72;
+
+const BEFORE: usize = 24;
+
+/// Runs a case, and prints whether it went as it says and what differs. Answers whether something
+/// does.
+pub fn tell_case<R: Print + AllocGlobal>(rt: &R, file: &str, case: &Case) -> io::Result<bool> {
+    let outcome = run_case(rt.alloc(), case)?;
+    let differs = differs(case, &outcome);
+    let verdict = if differs { "differs" } else { "ok" };
+    let name = case.name.as_str();
+    println!(rt; "{verdict:<8}{file}: {name}")?;
+    if differs {
+        tell_difference(rt, case, &outcome)?;
+    }
+    Ok(differs)
+}
+
+fn differs(case: &Case, outcome: &Outcome) -> bool {
+    u64::from(outcome.status) != case.status
+        || case.taken.is_some_and(|taken| taken != outcome.taken)
+        || outcome.output.bytes() != case.output.bytes.as_slice()
+}
+
+// Prints a line for each thing that is not as the case says.
+fn tell_difference<R: Print + AllocGlobal>(
+    rt: &R,
+    case: &Case,
+    outcome: &Outcome,
+) -> io::Result<()> {
+    let status = u64::from(outcome.status);
+    if status != case.status {
+        let wanted = case.status;
+        println!(rt; "        the status is {status}, and {wanted} is wanted")?;
+    }
+    let taken = outcome.taken;
+    let wanted = case.taken.unwrap_or(taken);
+    if taken != wanted {
+        println!(rt; "        {taken} bytes of the input are taken, and {wanted} are wanted")?;
+    }
+    tell_output(rt, outcome.output.bytes(), &case.output.bytes)
+}
+
+// Prints where two outputs differ first, and what stands there.
+fn tell_output<R: Print + AllocGlobal>(rt: &R, output: &[u8], wanted: &[u8]) -> io::Result<()> {
+    if output == wanted {
+        return Ok(());
+    }
+    let place = common(output, wanted);
+    let line = output[..place]
+        .iter()
+        .filter(|byte| **byte == b'\n')
+        .count()
+        .saturating_add(1);
+    let is = shown(rt.alloc(), output, place)?;
+    let wanted = shown(rt.alloc(), wanted, place)?;
+    println!(rt; "        line {line} of the output has {is:?}, and {wanted:?} is wanted")
+}
+
+// How many bytes they begin with in common.
+fn common(one: &[u8], other: &[u8]) -> usize
+    ensures one { result ≤ length one.now }
+    ensures other { result ≤ length other.now }
+{
+    let shorter = one.len().min(other.len());
+    for place in 0..shorter {
+        if one[place] != other[place] {
+            return place;
+        }
+    }
+    shorter
+}
+
+// What stands round a place.
+fn shown(alloc: Global, bytes: &[u8], place: usize) -> Result<String, AllocError>
+    requires { place ≤ length bytes.now }
+{
+    let start = place.saturating_sub(BEFORE);
+    let end = bytes.len().min(start.saturating_add(SHOWN));
+    String::from_utf8_lossy(alloc, &bytes[start..end])
+}

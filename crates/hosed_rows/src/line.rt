@@ -1,0 +1,65 @@
+// The lines of a case file.
+use crate::fault::CaseFault;
+use crate::pattern::{Pattern, number};
+
+/// What a line of a case file says. The words of a list are read where they are used.
+#[derive(Clone, Copy, Debug, PartialEq, Eq)]
+pub enum Line<'a> {
+    /// An empty line, or a comment.
+    Nothing,
+    /// The name of the case that begins here.
+    Case(&'a str),
+    /// The program's words.
+    Words(&'a str),
+    /// Bytes of the input.
+    Input(Pattern<'a>),
+    /// Bytes of the output.
+    Output(Pattern<'a>),
+    /// How many more bytes the input has, that are not stored.
+    More(u64),
+    /// How many bytes the input gives in a call.
+    Read(u64),
+    /// How many bytes the output takes in a call.
+    Write(u64),
+    /// Which calls of the input fail.
+    ReadFails(&'a str),
+    /// Which calls of the output fail.
+    WriteFails(&'a str),
+    /// The exit status.
+    Status(u64),
+    /// How many bytes of the input are taken.
+    Taken(u64),
+}
+
+impl<'a> Line<'a> {
+    /// What this line says.
+    pub fn read(line: &'a str) -> Result<Line<'a>, CaseFault> {
+        if line.is_empty() || line.starts_with('#') {
+            return Ok(Line::Nothing);
+        }
+        if let Some(rest) = line.strip_prefix('<') {
+            return Ok(Line::Input(Pattern::read(rest)?));
+        }
+        if let Some(rest) = line.strip_prefix('>') {
+            return Ok(Line::Output(Pattern::read(rest)?));
+        }
+        let (word, rest) = line.split_once(' ').unwrap_or((line, ""));
+        Line::read_setting(word, rest)
+    }
+
+    // What a line with this first word and this rest says.
+    fn read_setting(word: &str, rest: &'a str) -> Result<Line<'a>, CaseFault> {
+        match word {
+            "case" => Ok(Line::Case(rest)),
+            "words" => Ok(Line::Words(rest)),
+            "more" => Ok(Line::More(number(rest)?)),
+            "read" => Ok(Line::Read(number(rest)?)),
+            "write" => Ok(Line::Write(number(rest)?)),
+            "read-fails" => Ok(Line::ReadFails(rest)),
+            "write-fails" => Ok(Line::WriteFails(rest)),
+            "status" => Ok(Line::Status(number(rest)?)),
+            "taken" => Ok(Line::Taken(number(rest)?)),
+            _ => Err(CaseFault::Word),
+        }
+    }
+}

@@ -1,0 +1,82 @@
+// The streams of a case: those in memory, with more bytes than are stored, and in pieces.
+ghost use Rattle.std.specs.Prelude.{◌≤◌, None};
+
+use crate::case::Piece;
+use hose_io::{Failed, MemSink, MemSource, Sink, Source};
+
+/// A source in memory, and after its bytes as many of `x` as are left.
+#[derive(Drop)]
+pub struct LongSource {
+    stored: MemSource,
+    piece: Piece,
+    more: u64,
+    given: u64,
+}
+
+impl LongSource {
+    /// The bytes of `stored`, and then so many more.
+    pub fn new(stored: MemSource, piece: Piece, more: u64) -> LongSource {
+        LongSource {
+            stored,
+            piece,
+            more,
+            given: 0,
+        }
+    }
+
+    /// How many bytes were taken.
+    pub fn taken(&self) -> u64 {
+        self.given
+    }
+}
+
+impl Source for LongSource {
+    ghost faults = { λ s. s.stored.faults };
+
+    ghost content = { λ _. None };
+
+    ghost number = { λ _. 0 };
+
+    fn take(&mut self, into: &mut [u8]) -> Result<usize, Failed> {
+        let mut count = self.stored.take(into)?;
+        if count == 0 {
+            count = (into.len() as u64).min(self.piece.bytes).min(self.more) as usize;
+            into[..count].fill(b'x');
+            self.more -= count as u64;
+        }
+        self.given = self.given.saturating_add(count as u64);
+        Ok(count)
+    }
+}
+
+/// A sink in memory that takes a piece in a call.
+#[derive(Drop)]
+pub struct NarrowSink {
+    stored: MemSink,
+    piece: Piece,
+}
+
+impl NarrowSink {
+    /// The sink, which takes so many bytes at most in a call.
+    pub fn new(stored: MemSink, piece: Piece) -> NarrowSink {
+        NarrowSink { stored, piece }
+    }
+
+    /// What was given.
+    pub fn bytes(&self) -> &[u8] {
+        self.stored.bytes()
+    }
+}
+
+impl Sink for NarrowSink {
+    ghost faults = { λ s. s.stored.faults };
+
+    ghost content = { λ _. None };
+
+    ghost number = { λ _. 0 };
+
+    fn put(&mut self, bytes: &[u8]) -> Result<usize, Failed> {
+        let count = (bytes.len() as u64).min(self.piece.bytes) as usize;
+        self.stored.put(&bytes[..count])
+    }
+}
