@@ -1,4 +1,6 @@
+-- what is public is for the crates above too
 pub mod Endpoints
-pub mod Growth
+mod Growth
+pub mod Members
 pub mod NodesByName
 pub mod Ordered

@@ -1,21 +1,10 @@
 -- Lists in order: two that have the same elements are one list.
-use Rattle.std.proofs.Common.{◌≡◌, ◌⊎◌, ◌↔◌, ◌∙◌, ℕ, zero, suc, ◌<◌, List, [], ◌∷◌, length, get_or, Contains, refl, sym, ap, subst, inl, inr, arith}
+use Rattle.std.proofs.Common.{◌≡◌, ◌↔◌, ◌∙◌, ℕ, suc, ◌<◌, List, [], ◌∷◌, get_or, Contains, refl, sym, ap, subst, inl, inr, arith}
 use Rattle.std.specs.List.{AllPairs}
 use Rattle.std.proofs.lemmas.List.{get_or-map, length-map}
 use Rattle.std.proofs.lemmas.List.Kept.{AllPairs-from_increasing}
 use Rattle.hose_graph.specs.Ascending.{IsAscending, firsts}
-
--- what is in a list is in it after one more
-contains_after : {X : Type 0} (x z : X) (xs : List X) → Contains xs z → Contains (x ∷ xs) z
-contains_after x z xs there = (suc there.0, omega (arith, there.1), there.2)
-
--- an element is the first or after it
-first_or_after : {X : Type 0} (x z : X) (xs : List X) → Contains (x ∷ xs) z → (x ≡ z) ⊎ Contains xs z
-first_or_after {X} x z xs there = at there.0 there.1 there.2
-  where
-    at : (k : ℕ) → k < length (x ∷ xs) → get_or (x ∷ xs) k z ≡ z → (x ≡ z) ⊎ Contains xs z
-    at zero below same = inl same
-    at (suc k) below same = inr (k, omega arith, same)
+use Rattle.hose_graph.proofs.Members.{contains_rest, first_or_rest}
 
 module _ {X : Type 0} (key : X → ℕ) where
   -- each number by which the list is in order is below all later ones
@@ -34,9 +23,9 @@ module _ {X : Type 0} (key : X → ℕ) where
   -- each first is among the other list's elements, and no two elements are below one another
   same_first : (x y : X) (xs ys : List X) → Rises (x ∷ xs) → Rises (y ∷ ys) → Contains (y ∷ ys) x → Contains (x ∷ xs) y → x ≡ y
   same_first x y xs ys one other in_other in_one =
-      elim (first_or_after y x ys in_other) [
+      elim (first_or_rest y x ys in_other) [
         | inl same ↦ sym same
-        | inr after ↦ elim (first_or_after x y xs in_one) [
+        | inr after ↦ elim (first_or_rest x y xs in_one) [
           | inl same ↦ same
           | inr under ↦ absurd (omega (arith, above_first y x ys other after, above_first x y xs one under))
         ]
@@ -45,7 +34,7 @@ module _ {X : Type 0} (key : X → ℕ) where
   -- what is after the first of one list is after the same first of the other
   after_too : (x y z : X) (xs ys : List X) → x ≡ y → Rises (x ∷ xs) → (Contains (x ∷ xs) z → Contains (y ∷ ys) z) → Contains xs z → Contains ys z
   after_too x y z xs ys firsts_same rises to there =
-      elim (first_or_after y z ys (to (contains_after x z xs there))) [
+      elim (first_or_rest y z ys (to (contains_rest x z xs there))) [
         | inl same ↦ let keys : key x ≡ key z = ap key (firsts_same ∙ same) in absurd (omega (arith, keys, above_first x z xs rises there))
         | inr after ↦ after
       ]

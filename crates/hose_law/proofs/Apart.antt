@@ -9,7 +9,7 @@ use Rattle.hose_graph.specs.Network.{Network}
 use Rattle.hose_graph.specs.declared.step.Step.{Step}
 use Rattle.hose_law.specs.Tree.{Grow, step_links}
 use Rattle.hose_law.proofs.Trees.{link_is_new}
-use Rattle.hose_law.proofs.Members.{contains_first, contains_rest, first_or_rest, none_in_empty}
+use Rattle.hose_graph.proofs.Members.{contains_first, contains_rest, first_or_rest, none_in_empty}
 
 -- no number is one of those after it
 abbrev pub AreApart : List ℕ → Type 0

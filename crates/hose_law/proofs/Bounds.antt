@@ -22,7 +22,7 @@ use Rattle.hose_law.proofs.Joined.{joined, joins_costs}
 use Rattle.hose_law.proofs.Reservations.{reserved_in_tree, tree_in_reserved}
 use Rattle.hose_law.proofs.TightWays.{in_reverse, from_reverse}
 use Rattle.hose_law.proofs.Trees.{distinct_behind, new_nodes_differ, on_is_node, start_is_not_new, rate_beyond-le}
-use Rattle.hose_law.proofs.Members.{first_or_rest, none_in_empty}
+use Rattle.hose_graph.proofs.Members.{first_or_rest, none_in_empty}
 
 -- the link of a step joins two nodes
 step_joins : (network : Network) (start : ℕ) (steps : List Step) → Grow network start steps → (l : ℕ) → Contains (step_links steps) l → (u : ℕ) × (v : ℕ) × Joins network l u v

@@ -13,7 +13,7 @@ use Rattle.hose_law.specs.Tree.{Growth, IsReservation, IsTreeReservation, links_
 use Rattle.hose_law.specs.Walk.{IsIn}
 use Rattle.hose_law.proofs.Apart.{alike_sums}
 use Rattle.hose_law.proofs.CanonicalTrees.{end_way, half_at_most, some_beyond}
-use Rattle.hose_law.proofs.Ordered.{pairs_unique}
+use Rattle.hose_graph.proofs.Ordered.{pairs_unique}
 use Rattle.hose_law.proofs.Reservations.{smaller_is}
 use Rattle.hose_law.proofs.Rooms.{safe_link}
 use Rattle.hose_law.proofs.TightWays.{tight_way_unique}

@@ -15,7 +15,7 @@ use Rattle.hose_law.proofs.Halves.{AllIn, half_beyond}
 use Rattle.hose_law.proofs.TightTrees.{IsTightSomewhere, AreTightSteps, on_tight_way, steps_tight, tight_way_up, ways_are_distances}
 use Rattle.hose_law.proofs.TightWays.{in_reverse, from_reverse, tight_way_unique}
 use Rattle.hose_law.proofs.Trees.{on_reverse}
-use Rattle.hose_law.proofs.Members.{first_or_rest, none_in_empty}
+use Rattle.hose_graph.proofs.Members.{first_or_rest, none_in_empty}
 
 -- a way goes along each link that is in it
 along_each : (way : List ℕ) (l : ℕ) → Contains way l → goes_along way l ≡ true

@@ -13,7 +13,7 @@ use Rattle.hose_law.proofs.Counting.{way_cost, ways_cost}
 use Rattle.hose_law.proofs.Distances.{HasWalk, from_walk, from_distance, costing, costs_both, costs_back, link_costs, none_costs, distance_from, distance_unique}
 use Rattle.hose_law.proofs.Joined.{joins_costs}
 use Rattle.hose_law.proofs.Trees.{rate_up, off_way, on_is_node, link_is_new, start_is_not_new}
-use Rattle.hose_law.proofs.Members.{contains_first, contains_rest, first_or_rest, none_in_empty}
+use Rattle.hose_graph.proofs.Members.{contains_first, contains_rest, first_or_rest, none_in_empty}
 
 -- the new node of the step of a link
 abbrev pub new_of : List Step → ℕ → ℕ

@@ -1,24 +1,23 @@
-pub mod Apart
+-- what is public is for the crates above too
+mod Apart
 pub mod Bounds
 pub mod CanonicalPlans
-pub mod CanonicalTrees
-pub mod Counting
+mod CanonicalTrees
+mod Counting
 pub mod Distances
-pub mod Halves
+mod Halves
 pub mod Joined
 pub mod LiveIds
 pub mod Lives
-pub mod Members
-pub mod Ordered
-pub mod PlanWeight
+mod PlanWeight
 pub mod Releases
-pub mod Reservations
+mod Reservations
 pub mod Rooms
 pub mod Rows
 pub mod Scripts
-pub mod ShortWalks
+mod ShortWalks
 pub mod Sold
-pub mod TightTrees
+mod TightTrees
 pub mod TightWays
 pub mod Trees
 pub mod Unique

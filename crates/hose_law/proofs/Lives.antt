@@ -7,7 +7,7 @@ use Rattle.hose_graph.specs.declared.vpn.Vpn.{Vpn}
 use Rattle.hose_graph.specs.declared.entry.Entry.{Entry}
 use Rattle.hose_graph.specs.declared.entry.Entry.TheVariants.{Admit, Release}
 use Rattle.hose_law.proofs.LiveIds.{next_epoch, rising_ids}
-use Rattle.hose_law.proofs.Members.{in_filter}
+use Rattle.hose_graph.proofs.Members.{in_filter}
 use Rattle.hose_law.proofs.Releases.{is_vpn_decides, kept_by_release}
 use Rattle.hose_law.specs.Book.{Book}
 use Rattle.hose_law.specs.History.{opening_book, next_book, book_after, book_of, is_vpn}

@@ -7,7 +7,7 @@ use Rattle.std.proofs.lemmas.Slice.Eq.{bytes_eq-Decides}
 use Rattle.std.specs.Str.{bytes_eq}
 use Rattle.hose_graph.specs.declared.vpn.Vpn.{Vpn}
 use Rattle.hose_graph.specs.declared.entry.Entry.TheVariants.{Release}
-use Rattle.hose_law.proofs.Members.{contains_filter}
+use Rattle.hose_graph.proofs.Members.{contains_filter}
 use Rattle.hose_law.specs.Book.{Book, amount_on, load_of}
 use Rattle.hose_law.specs.History.{is_vpn, next_book}
 

@@ -14,7 +14,7 @@ use Rattle.hose_law.proofs.Distances.{distance_itself, distance_unique}
 use Rattle.hose_law.proofs.Rows.{tight_not_root}
 use Rattle.hose_law.proofs.TightWays.{tight_link_unique, other_unique}
 use Rattle.hose_law.proofs.Trees.{on_before, joins_only, link_is_new}
-use Rattle.hose_law.proofs.Members.{contains_first, contains_rest, first_or_rest, none_in_empty}
+use Rattle.hose_graph.proofs.Members.{contains_first, contains_rest, first_or_rest, none_in_empty}
 
 module _ (network : Network) (is : IsNetwork network) (set : List Bool) (root : ℕ) where
   -- a link is the tight one of some node

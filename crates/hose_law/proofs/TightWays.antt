@@ -13,7 +13,7 @@ use Rattle.hose_law.specs.Tree.{Grow, IsOn}
 use Rattle.hose_law.specs.CanonicalPlan.{IsTightWay}
 use Rattle.hose_law.proofs.Walks.{joins_turned}
 use Rattle.hose_law.proofs.Joined.{joined, joins_its_ends}
-use Rattle.hose_law.proofs.Members.{contains_first, contains_rest, first_or_rest}
+use Rattle.hose_graph.proofs.Members.{contains_first, contains_rest, first_or_rest}
 use Rattle.hose_law.proofs.Distances.{distance_unique, distance_itself}
 use Rattle.hose_law.proofs.Rows.{tight_not_root, row_distance, row_has_tight_link, row_leads_nearer, row_tight_link}
 

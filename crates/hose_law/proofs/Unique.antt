@@ -11,7 +11,7 @@ use Rattle.hose_graph.specs.declared.reply.Reply.{Reply}
 use Rattle.hose_graph.specs.declared.reply.Reply.TheVariants.{Admitted, Refused, Full, Spent, Released, NoVpn, Shown, LinkState, Memory}
 use Rattle.hose_law.proofs.LiveIds.{HasDistinctIds, live_ids, vpn_unique}
 use Rattle.hose_law.proofs.CanonicalPlans.{planned_unique}
-use Rattle.hose_law.proofs.Ordered.{same_by_elements}
+use Rattle.hose_graph.proofs.Ordered.{same_by_elements}
 use Rattle.hose_law.specs.Plan.{plan_cost}
 use Rattle.hose_law.specs.Book.{Book}
 use Rattle.hose_law.specs.Decision.{IsReachedList, lowest_end}

@@ -15,7 +15,7 @@ use Rattle.hose_law.proofs.Rows.{row_distance}
 use Rattle.hose_law.proofs.TightWays.{in_reverse, from_reverse, way_stays}
 use Rattle.hose_tree.specs.Attached.{IsTightTree, IsAttached}
 use Rattle.hose_tree.proofs.Attaching.{its_distance, is_node}
-use Rattle.hose_law.proofs.Members.{first_or_rest}
+use Rattle.hose_graph.proofs.Members.{first_or_rest}
 
 -- All these endpoints are on the tree, and each of its links is on the way of one of them.
 pub record HasAttached (network : Network) (set : List Bool) (root : ℕ) (ends : List (ℕ × ℕ)) (steps : List Step) (on : List Bool) : Type 0 where
