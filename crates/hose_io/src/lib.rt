@@ -1,5 +1,5 @@
-//! Streams of bytes as the rest of `hosed` sees them: sources that are read, sinks that are written, and what their
-//! failures are counted by.
+//! Streams of bytes as the rest of `hosed` sees them: sources that are read, sinks that are
+//! written, and what their failures are counted by.
 #![tactic(auto)]
 
 mod failing;

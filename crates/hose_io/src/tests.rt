@@ -19,7 +19,8 @@ fn copy<S: Source, T: Sink>(mut source: S, mut sink: T) -> Result<(), Failed> {
     Ok(())
 }
 
-// Takes one byte in each of its calls, but for the second, which is interrupted, and the fourth, which takes none.
+// Takes one byte in each of its calls, but for the second, which is interrupted, and the fourth,
+// which takes none.
 #[derive(Drop)]
 struct Trickle {
     calls: u8,

@@ -14,7 +14,8 @@ use std::alloc::AllocError;
 pub enum Fault {
     /// The program's word of this number, counted from 1, is not one that it takes there.
     Words(u64),
-    /// The topology text was refused: this is the first word that is not allowed, by its line and its number in it.
+    /// The topology text was refused: this is the first word that is not allowed, by its line and
+    /// its number in it.
     Topology { line: u64, word: u64 },
     /// The input failed.
     Read,
