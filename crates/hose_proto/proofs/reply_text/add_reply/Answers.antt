@@ -12,7 +12,7 @@ returns-in-Quoted g c = rw c.in-Quoted.is c.add_priced-in-Quoted.ensures
 pub returns-in-Refused : goal.returns-in-Refused
 returns-in-Refused g c =
     rw c.in-Refused.is
-    (IsAdded-next (IsAdded-next c.add_number-in-Refused.ensures c.add.ensures.added) (rw c.nodes.ensures.value at c.add_side.ensures))
+    (IsAdded-next (IsAdded-next c.add_number-in-Refused.ensures c.add.ensures) (rw c.nodes.ensures.value at c.add_side.ensures))
 
 pub returns-in-Stale : goal.returns-in-Stale
 returns-in-Stale g c = rw c.in-Stale.is c.add_numbers.ensures
