@@ -46,7 +46,8 @@ pub record IsNextEnd (network : Network) (ends : List Endpoint) (end : Endpoint)
   pub room : length ends < MOST_ENDS
 
 -- an amount may come after others
-pub record IsNextPair (network : Network) (pairs : List ReservedLink) (pair : ReservedLink) : Type 0 where
+pub record IsNextPair (network : Network) (pairs : List ReservedLink) (pair : ReservedLink)
+    : Type 0 where
   pub link : IsLinkOf network (link_of pair)
   pub amount : Fits64 (amount_of pair)
   pub ascending : IsStrictlyIncreasing (firsts pairs ++ link_of pair ∷ [])
@@ -60,6 +61,7 @@ pub record IsNextNode (network : Network) (nodes : List ℕ) (node : ℕ) : Type
 pub record MissesEnd (network : Network) (ends : List Endpoint) (old : Position) (number : ℕ)
     : Type 0 where
   pub none : IsFirst
-      (λ word. (end : Endpoint) × (word ≡ end_word network end) × IsNextEnd network ends end) old.left → ⊥
+      (λ word. (end : Endpoint) × (word ≡ end_word network end) × IsNextEnd network ends end)
+      old.left → ⊥
   pub no_last : IsFirst (λ word. (word ≡ codes "links") × (LEAST_ENDS ≤ length ends)) old.left → ⊥
   pub at : number ≡ old.read + 1

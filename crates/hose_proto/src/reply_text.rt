@@ -1,5 +1,5 @@
 // The texts of replies on their way to a sink.
-ghost use Rattle.std.specs.Prelude.{◌≡◌, ◌<◌, ◌≤◌, ℕ, All, OnOk, ◌++◌, codes, decimal, length, Some};
+ghost use Rattle.std.specs.Prelude.{◌≡◌, ◌<◌, ◌≤◌, All, OnOk, ◌++◌, codes, decimal, length, Some};
 ghost use Rattle.std.specs.List.{flat_map};
 ghost use Rattle.hose_io.specs.Count.{one_more};
 ghost use Rattle.hose_io.specs.Gather.{IsAdded};
