@@ -4,6 +4,7 @@ ghost use Rattle.hose_words.specs.Cursor.{Took, IsWrong, MissesItem};
 ghost use Rattle.hose_words.specs.Form.{IsChoice};
 ghost use Rattle.hose_words.specs.Grammar.{IsFirst, IsFirstNotAllowed};
 ghost use Rattle.hose_words.specs.Words.{words_of};
+ghost use Rattle.hose_graph.specs.Hose.{Endpoint, node_of};
 ghost use Rattle.hose_graph.specs.Network.{IsNetwork, IsLinkOf};
 ghost use Rattle.hose_graph.specs.declared.command.Command.{Command};
 ghost use Rattle.hose_graph.specs.declared.command.Command.TheVariants.{Admit};
@@ -14,7 +15,7 @@ ghost use Rattle.hose_proto.specs.Reading.{AsksOf, IsFaultOf, IsNewEnd};
 use crate::fault::ReadFault;
 use crate::places::{endpoint, read_link_number};
 use crate::verb::Verb;
-use hose_graph::{Command, Hose, LEAST_ENDS, MOST_ENDS, MOST_EPOCH, Topology};
+use hose_graph::{Command, Endpoint, Hose, LEAST_ENDS, MOST_ENDS, MOST_EPOCH, Topology};
 use hose_words::{Cursor, WrongWord};
 use std::alloc::Global;
 
@@ -140,9 +141,9 @@ fn read_hose(alloc: Global, top: &Topology, words: &mut Cursor<'_>) -> Result<Ho
 // The endpoint that the next word spells, or none where the line ends.
 fn next_end(
     top: &Topology,
-    ends: &[(u32, u64)],
+    ends: &[Endpoint],
     words: &mut Cursor<'_>,
-) -> Result<Option<(u32, u64)>, WrongWord>
+) -> Result<Option<Endpoint>, WrongWord>
     requires { IsNetwork top.now }
     ensures next { IfOk result (λ next. IfSome next
         (λ end. Took words.old words.new (end_word top.now end) × IsNewEnd top.now ends.now end)) }
@@ -163,11 +164,11 @@ fn next_end(
 }
 
 // The endpoint that a word spells, where there is room for one more and its node has none yet.
-fn new_end(top: &Topology, ends: &[(u32, u64)], word: &[u8]) -> Option<(u32, u64)>
+fn new_end(top: &Topology, ends: &[Endpoint], word: &[u8]) -> Option<Endpoint>
     requires { IsNetwork top.now }
     ensures some { IfSome result
         (λ end. (word.now ≡ end_word top.now end) × IsNewEnd top.now ends.now end) }
-    ensures none { IfNone result ((end : ℕ × ℕ)
+    ensures none { IfNone result ((end : Endpoint)
         → word.now ≡ end_word top.now end → IsNewEnd top.now ends.now end → ⊥) }
 {
     let Some(end) = endpoint(top, word) else {
@@ -183,8 +184,8 @@ fn new_end(top: &Topology, ends: &[(u32, u64)], word: &[u8]) -> Option<(u32, u64
 }
 
 // Whether one of the endpoints is at the node.
-fn has_node(ends: &[(u32, u64)], node: u32) -> bool
-    ensures { IsTrue result ↔ Any (λ end. end.0 ≡ node) ends.now }
+fn has_node(ends: &[Endpoint], node: u32) -> bool
+    ensures { IsTrue result ↔ Any (λ end. node_of end ≡ node) ends.now }
 {
     ends.iter().any(|end| end.0 == node)
 }
