@@ -1,9 +1,10 @@
 -- Nodes are known by their names.
-use Rattle.std.proofs.Common.{◌≡◌, ◌≢◌, ◌∙◌, ℕ, ◌<◌, List, Some, None, Option, IfNone, IsSome, ◌↔◌, sym, ap, subst, arith, inl, inr}
+use Rattle.std.proofs.Common.{◌≡◌, ◌≢◌, ◌∙◌, ℕ, ◌<◌, List, [], Some, None, Option, IfNone, IsSome, ◌↔◌, sym, ap, subst, arith, inl, inr}
 use Rattle.std.specs.List.{All, AllPairs, Contains, slice_get}
 use Rattle.std.proofs.lemmas.Bool.{cases_lt, false≢true}
-use Rattle.std.proofs.lemmas.Option.{get_or_from_slice_get, slice_get_within}
+use Rattle.std.proofs.lemmas.Option.{get_or_from_slice_get, slice_get-get_or, slice_get_within}
 use Rattle.hose_graph.specs.Name.{IsName}
+use Rattle.hose_graph.specs.Network.{Network, IsNodeOf, name_of}
 
 -- no two nodes have one name
 pub same_node : (nodes : List (List ℕ)) (i j : ℕ) (name : List ℕ) → AllPairs ◌≢◌ nodes → slice_get nodes i ≡ Some name → slice_get nodes j ≡ Some name → i ≡ j
@@ -31,3 +32,9 @@ none_found nodes name word None is same = λ node there.
     let at : slice_get nodes node ≡ Some name = there ∙ ap Some (sym same) in
     false≢true (is.1 (node, slice_get_within nodes node name at, get_or_from_slice_get nodes node name name at))
 none_found nodes name word (Some found) is same = tt
+
+-- nodes of one name are one
+pub same_name : (network : Network) (one other : ℕ) → AllPairs ◌≢◌ network.nodes → IsNodeOf network one → IsNodeOf network other → name_of network one ≡ name_of network other → one ≡ other
+same_name network one other differ below below' same =
+    same_node network.nodes one other (name_of network one) differ (slice_get-get_or network.nodes one [] below)
+    (slice_get-get_or network.nodes other [] below' ∙ ap Some (sym same))

@@ -1,6 +1,6 @@
 -- Networks: named nodes, and the links that join two of them. This is what contracts see of a
 -- topology.
-use Rattle.std.specs.Prelude.{◌≢◌, ℕ, ◌<◌, ◌≤◌, List, length, All, AllPairs}
+use Rattle.std.specs.Prelude.{◌≢◌, ℕ, ◌<◌, ◌≤◌, List, [], length, All, AllPairs, slice_index_or}
 use Rattle.hose_graph.specs.Limit.{IsUpTo}
 use Rattle.hose_graph.specs.Name.{IsName}
 use Rattle.hose_graph.specs.declared.link.Link.{Link}
@@ -40,3 +40,14 @@ HasNodeRoom network = length network.nodes < MOST_NODES
 
 abbrev pub HasLinkRoom : Network → Type 0
 HasLinkRoom network = length network.links < MOST_LINKS
+
+-- a node of the network, and a link, by their numbers
+abbrev pub IsNodeOf : Network → ℕ → Type 0
+IsNodeOf network node = node < length network.nodes
+
+abbrev pub IsLinkOf : Network → ℕ → Type 0
+IsLinkOf network link = link < length network.links
+
+-- the name of a node
+abbrev pub name_of : Network → ℕ → List ℕ
+name_of network node = slice_index_or network.nodes node []

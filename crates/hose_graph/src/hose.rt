@@ -91,13 +91,21 @@ impl Hose {
         self.ends.iter().map(|end| end.1).sum()
     }
 
+    /// The hose of these endpoints, where they are known to be a hose's and in order.
+    pub fn from_sorted(alloc: Global, ends: &[(u32, u64)]) -> Result<Hose, AllocError>
+        requires { IsHose ends.now }
+        ensures { IfOk result (λ hose. hose ≡ ends.now) }
+    {
+        Ok(Hose {
+            ends: Vec::from_slice(alloc, ends)?,
+        })
+    }
+
     /// The same hose once more.
     pub fn copy(&self, alloc: Global) -> Result<Hose, AllocError>
         ensures { IfOk result (λ hose. hose ≡ self.now) }
     {
-        Ok(Hose {
-            ends: Vec::from_slice(alloc, &self.ends)?,
-        })
+        Hose::from_sorted(alloc, self.ends())
     }
 }
 

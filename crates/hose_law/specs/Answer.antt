@@ -1,5 +1,5 @@
 -- What the sequential book answers to a command, and the steps that this allows.
-use Rattle.std.specs.Prelude.{◌≡◌, ℕ, ◌+◌, ◌<◌, ◌≤◌, List, [], ◌∷◌, ◌++◌, length, None, Some, Option}
+use Rattle.std.specs.Prelude.{◌≡◌, ℕ, ◌+◌, ◌<◌, ◌≤◌, List, [], ◌∷◌, ◌++◌, length, None, Some, Option, ⊤}
 use Rattle.hose_graph.specs.declared.entry.Entry.{Entry}
 use Rattle.hose_graph.specs.declared.entry.Entry.TheVariants.{Admit as AdmitEntry, Release as ReleaseEntry}
 use Rattle.hose_graph.specs.declared.command.Command.{Command}
@@ -81,9 +81,18 @@ abbrev pub with_entry : List Entry → Option Entry → List Entry
 with_entry history None = history
 with_entry history (Some entry) = history ++ entry ∷ []
 
+-- Want of memory may be answered to an admission, to a release, and to a question after a VPN that is
+-- there. What is reserved on a link, and that there is no such VPN, is told in any case.
+abbrev pub MayWantMemory : Book → List ℕ → Command → Type 0
+MayWantMemory book customer (Admit hose) = ⊤
+MayWantMemory book customer (Release id) = ⊤
+MayWantMemory book customer (Show id) = HasVpn book customer id
+MayWantMemory book customer (Link link) = ⊥
+
 -- A step at a history: the answer, with its entry added; or want of memory, which changes nothing.
 abbrev pub IsStep : Network → ℕ → List Entry → List ℕ → Command → Reply → List Entry → Type 0
-IsStep network epoch history customer command Memory next = next ≡ history
+IsStep network epoch history customer command Memory next =
+    MayWantMemory (book_of epoch history) customer command × (next ≡ history)
 IsStep network epoch history customer command reply next =
     (entry : Option Entry) × IsAnswer network (book_of epoch history) customer command reply entry
     × (next ≡ with_entry history entry)

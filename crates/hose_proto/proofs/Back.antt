@@ -11,8 +11,8 @@ use Rattle.std.proofs.lemmas.List.{get_or_default}
 use Rattle.std.proofs.lemmas.List.Sums.{position_or_len_is}
 use Rattle.std.proofs.lemmas.Slice.Eq.{bytes_eq-Decides}
 use Rattle.hose_words.specs.Form.{Fits64}
-use Rattle.hose_graph.specs.Network.{Network, IsNetwork}
-use Rattle.hose_proto.specs.Places.{end_word, node_word}
+use Rattle.hose_graph.specs.Network.{Network, IsNetwork, name_of}
+use Rattle.hose_proto.specs.Places.{end_word}
 use Rattle.hose_proto.specs.Reading.{IsEndOf}
 use Rattle.hose_proto.specs.ReplyWords.{pair_word}
 use Rattle.hose_proto.proofs.Colons.{end_cut, no_colon, no_colon_decimal, pair_cut}
@@ -81,18 +81,18 @@ pair_back pair small small' =
 abbrev pub node_of : Network → List ℕ → ℕ
 node_of network word = position_or_len (λ name. bytes_eq name word) network.nodes
 
-pub node_back : (network : Network) (node : ℕ) → IsNetwork network → node < length network.nodes → node_of network (node_word network node) ≡ node
+pub node_back : (network : Network) (node : ℕ) → IsNetwork network → node < length network.nodes → node_of network (name_of network node) ≡ node
 node_back network node is below =
-    position_or_len_is (λ name. bytes_eq name (node_word network node)) network.nodes node [] (omega (arith, below))
-    (λ k before. unequal (get_or network.nodes k []) (node_word network node) (is.differ k node [] before below))
-    (λ _. (bytes_eq-Decides (node_word network node) (node_word network node)).1 refl)
+    position_or_len_is (λ name. bytes_eq name (name_of network node)) network.nodes node [] (omega (arith, below))
+    (λ k before. unequal (get_or network.nodes k []) (name_of network node) (is.differ k node [] before below))
+    (λ _. (bytes_eq-Decides (name_of network node) (name_of network node)).1 refl)
 
 abbrev pub end_of : Network → List ℕ → ℕ × ℕ
 end_of network word = (node_of network (front_of is_colon word), number_of (rest_of is_colon word))
 
 pub end_back : (network : Network) (end : ℕ × ℕ) → IsNetwork network → end.0 < length network.nodes → Fits64 end.1 → end_of network (end_word network end) ≡ end
 end_back network end is below small =
-    let name = node_word network end.0 in
+    let name = name_of network end.0 in
     let free = no_colon_passes name (no_colon name (is.names end.0 [] below)) in
     let node = ap (node_of network) (front_is is_colon name 58 (decimal end.1) free refl) ∙ node_back network end.0 is below in
     let rate = ap number_of (rest_is is_colon name 58 (decimal end.1) free refl) ∙ number_back end.1 small in

@@ -7,8 +7,8 @@ use Rattle.std.proofs.lemmas.List.{get_or_default}
 use Rattle.std.proofs.lemmas.List.Elements.{All-contains, Contains-append_right}
 use Rattle.std.proofs.lemmas.Str.Parse.{digit_at}
 use Rattle.hose_graph.specs.Name.{IsName, is_name_byte}
-use Rattle.hose_graph.specs.Network.{Network, IsNetwork}
-use Rattle.hose_proto.specs.Places.{IsNodeOf, end_word, node_word}
+use Rattle.hose_graph.specs.Network.{Network, IsNetwork, IsNodeOf, name_of}
+use Rattle.hose_proto.specs.Places.{end_word}
 use Rattle.hose_proto.specs.ReplyWords.{pair_word}
 
 -- a name has no colon
@@ -49,19 +49,19 @@ pair_told word link amount pair spelled is is' = spelled ∙ (λ i. is i ++ 58 �
 -- ---- endpoints
 
 -- what stands round the colon of an endpoint's word
-pub end_cut : (network : Network) (end : ℕ × ℕ) → end_word network end ≡ node_word network end.0 ++ 58 ∷ decimal end.1
-end_cut network end = append_assoc (node_word network end.0) (codes ":") (decimal end.1)
+pub end_cut : (network : Network) (end : ℕ × ℕ) → end_word network end ≡ name_of network end.0 ++ 58 ∷ decimal end.1
+end_cut network end = append_assoc (name_of network end.0) (codes ":") (decimal end.1)
 
 -- what stands round the first colon is the node's name and the rate
 pub end_parts : (network : Network) (word name rate : List ℕ) (end : ℕ × ℕ) → IsNetwork network → IsNodeOf network end.0 → word ≡ name ++ 58 ∷ rate → (¬ Contains name 58) → word ≡ end_word network end
-    → (name ≡ node_word network end.0) × (rate ≡ decimal end.1)
+    → (name ≡ name_of network end.0) × (rate ≡ decimal end.1)
 end_parts network word name rate end is below spelled free told =
-    same_parts name rate (node_word network end.0) (decimal end.1) free (no_colon (node_word network end.0) (is.names end.0 [] below)) (sym spelled ∙ told ∙ end_cut network end)
+    same_parts name rate (name_of network end.0) (decimal end.1) free (no_colon (name_of network end.0) (is.names end.0 [] below)) (sym spelled ∙ told ∙ end_cut network end)
 
-pub end_told : (network : Network) (word name rate : List ℕ) (end : ℕ × ℕ) → word ≡ name ++ 58 ∷ rate → name ≡ node_word network end.0 → rate ≡ decimal end.1 → word ≡ end_word network end
+pub end_told : (network : Network) (word name rate : List ℕ) (end : ℕ × ℕ) → word ≡ name ++ 58 ∷ rate → name ≡ name_of network end.0 → rate ≡ decimal end.1 → word ≡ end_word network end
 end_told network word name rate end spelled is is' = spelled ∙ (λ i. is i ++ 58 ∷ is' i) ∙ sym (end_cut network end)
 
 -- a word without a colon spells no endpoint
 pub no_end : (network : Network) (word : List ℕ) (end : ℕ × ℕ) → (¬ Contains word 58) → word ≡ end_word network end → ⊥
 no_end network word end free told =
-    free (subst (λ text. Contains text 58) (sym (told ∙ end_cut network end)) (Contains-append_right (node_word network end.0) (58 ∷ decimal end.1) 58 (0, omega arith, refl)))
+    free (subst (λ text. Contains text 58) (sym (told ∙ end_cut network end)) (Contains-append_right (name_of network end.0) (58 ∷ decimal end.1) 58 (0, omega arith, refl)))

@@ -8,9 +8,9 @@ use Rattle.hose_words.specs.Form.{Follows, IsWhole, TellsItems, grammar_of}
 use Rattle.hose_words.specs.Grammar.{IsFirst, IsFirstNotAllowed}
 use Rattle.hose_words.proofs.Listing.{Listing, listing_more, one_item_more, wrong_after}
 use Rattle.hose_words.proofs.Until.{HasNoLast, no_whole_list, until_more, until_only, wrong_past_last}
-use Rattle.hose_graph.specs.Network.{Network, IsNetwork}
+use Rattle.hose_graph.specs.Network.{Network, IsNetwork, name_of}
 use Rattle.hose_graph.specs.declared.limits.TheConstants.{LEAST_ENDS}
-use Rattle.hose_proto.specs.Places.{end_word, node_word}
+use Rattle.hose_proto.specs.Places.{end_word}
 use Rattle.hose_proto.specs.Reading.{IsEndOf, IsNextEnd, MissesEnd}
 use Rattle.hose_proto.specs.ReplyGrammar.{AreEnds, amounts_form, hose_form}
 use Rattle.hose_proto.proofs.Colons.{end_cut}
@@ -27,7 +27,7 @@ no_colon_links (suc (suc (suc (suc (suc k)))), below, at) = absurd (omega (arith
 -- an endpoint's word has a colon
 pub no_links : (network : Network) (end : ℕ × ℕ) → end_word network end ≢ codes "links"
 no_links network end same =
-    no_colon_links (subst (λ w. Contains w 58) (sym (end_cut network end) ∙ same) (Contains-append_right (node_word network end.0) (58 ∷ decimal end.1) 58 (0, omega arith, refl)))
+    no_colon_links (subst (λ w. Contains w 58) (sym (end_cut network end) ∙ same) (Contains-append_right (name_of network end.0) (58 ∷ decimal end.1) 58 (0, omega arith, refl)))
 
 pub ends_no_links : (network : Network) (ends : List (ℕ × ℕ)) → HasNoLast (codes "links") (map (end_word network) ends)
 ends_no_links network [] = All-nil (λ word. word ≢ codes "links")

@@ -10,11 +10,11 @@ use Rattle.std.proofs.lemmas.List.Sorted.{All-permutation, Contains-permutation,
 use Rattle.std.proofs.lemmas.Map.Keys.{IsDistinct-from_apart, IsDistinct-IsPermutation, apart_from_distinct}
 use Rattle.hose_graph.specs.Ascending.{IsAscending, firsts}
 use Rattle.hose_graph.specs.Hose.{HasDistinctNodes, IsEnd, IsHose, MakesHose}
-use Rattle.hose_graph.specs.Network.{Network}
+use Rattle.hose_graph.specs.Network.{Network, IsNodeOf}
 use Rattle.hose_graph.specs.declared.limits.TheConstants.{LEAST_ENDS}
 use Rattle.hose_graph.proofs.Ordered.{pairs_unique}
 use Rattle.hose_proto.specs.Command.{AreNewEnds}
-use Rattle.hose_proto.specs.Places.{IsHoseOf, IsNodeOf}
+use Rattle.hose_proto.specs.Places.{IsHoseOf}
 use Rattle.hose_proto.specs.ReplyGrammar.{AreEnds}
 
 -- endpoints in order are at distinct nodes

@@ -15,10 +15,10 @@ use Rattle.hose_words.proofs.Listing.{MakesList}
 use Rattle.hose_words.proofs.Passing.{All-front, IsClosed}
 use Rattle.hose_graph.specs.Ascending.{firsts}
 use Rattle.hose_graph.specs.Hose.{IsEnd}
-use Rattle.hose_graph.specs.Network.{Network, IsNetwork}
+use Rattle.hose_graph.specs.Network.{Network, IsNetwork, IsLinkOf, IsNodeOf, name_of}
 use Rattle.hose_graph.proofs.NodesByName.{same_node}
 use Rattle.hose_proto.specs.Command.{AreNewEnds}
-use Rattle.hose_proto.specs.Places.{IsLinkOf, IsNodeOf, node_word, end_word}
+use Rattle.hose_proto.specs.Places.{end_word}
 use Rattle.hose_proto.specs.Reading.{IsEndOf, IsNewEnd, IsNextEnd, IsNextNode, IsNextPair}
 use Rattle.hose_proto.specs.ReplyGrammar.{AreEnds}
 use Rattle.hose_proto.specs.ReplyWords.{AreAmounts, IsSide, pair_word}
@@ -93,10 +93,10 @@ amounts_closed network = record {
 
 -- ---- nodes
 
-pub nodes_spelled : (network : Network) → IsNetwork network → AreApart (IsNodeOf network) (node_word network)
+pub nodes_spelled : (network : Network) → IsNetwork network → AreApart (IsNodeOf network) (name_of network)
 nodes_spelled network is = record {
   apart = λ one other below below' same.
-      same_node network.nodes one other (node_word network one) is.differ (slice_get-get_or network.nodes one [] below)
+      same_node network.nodes one other (name_of network one) is.differ (slice_get-get_or network.nodes one [] below)
       (slice_get-get_or network.nodes other [] below' ∙ ap Some (sym same));
 }
 
@@ -111,7 +111,7 @@ nodes_more network nodes node are next = record { ascending = next.ascending; al
 pub side_of : (network : Network) (nodes : List ℕ) → AreNodes network nodes → 0 < length nodes → IsSide network nodes
 side_of network nodes are some = record { some = some; ascending = are.ascending; nodes = are.all }
 
-pub makes_side : (network : Network) (nodes : List ℕ) → IsNetwork network → AreNodes network nodes → MakesList (IsNodeOf network) (node_word network) (IsSide network) nodes (IsNextNode network nodes)
+pub makes_side : (network : Network) (nodes : List ℕ) → IsNetwork network → AreNodes network nodes → MakesList (IsNodeOf network) (name_of network) (IsSide network) nodes (IsNextNode network nodes)
 makes_side network nodes is are = record {
   apart = nodes_spelled network is;
   each = λ others side. side.nodes;
@@ -133,9 +133,9 @@ side_closed network = record {
 pub ends_spelled : (network : Network) → IsNetwork network → AreApart (IsEndOf network) (end_word network)
 ends_spelled network is = record {
   apart = λ one other fits fits' same.
-      let free = no_colon (node_word network one.0) (is.names one.0 [] fits.is_node) in
-      let free' = no_colon (node_word network other.0) (is.names other.0 [] fits'.is_node) in
-      let parts = same_parts (node_word network one.0) (decimal one.1) (node_word network other.0) (decimal other.1) free free' (sym (end_cut network one) ∙ same ∙ end_cut network other) in
+      let free = no_colon (name_of network one.0) (is.names one.0 [] fits.is_node) in
+      let free' = no_colon (name_of network other.0) (is.names other.0 [] fits'.is_node) in
+      let parts = same_parts (name_of network one.0) (decimal one.1) (name_of network other.0) (decimal other.1) free free' (sym (end_cut network one) ∙ same ∙ end_cut network other) in
       let node = (nodes_spelled network is).apart one.0 other.0 fits.is_node fits'.is_node parts.0 in
       let rate = decimal_injective one.1 other.1 (omega (arith, fits.is_end.rate)) (omega (arith, fits'.is_end.rate)) parts.1 in
       λ i. (node i, rate i);

@@ -6,13 +6,13 @@ use Rattle.std.proofs.lemmas.List.Folds.{flat_map-map}
 use Rattle.hose_words.specs.Form.{Fits64}
 use Rattle.hose_words.specs.Words.{words_of}
 use Rattle.hose_graph.specs.Name.{IsName, is_name_byte}
-use Rattle.hose_graph.specs.Network.{Network, IsNetwork, IsLink}
+use Rattle.hose_graph.specs.Network.{Network, IsNetwork, IsLink, name_of}
 use Rattle.hose_graph.specs.Hose.{IsEnd}
 use Rattle.hose_graph.specs.declared.link.Link.{Link}
 use Rattle.hose_graph.specs.declared.reply.Reply.{Reply}
 use Rattle.hose_graph.specs.declared.reply.Reply.TheVariants.{Welcome, Admitted, Quoted, Refused, Stale, Released, NoVpn, NoQuote, TooMany, Shown, LinkState, Full, Spent, Disk, Memory, Bad, Long, Bye}
 use Rattle.hose_proto.specs.ReplyText.{reply_text, pair_text, node_text, end_text, link_text, priced_text}
-use Rattle.hose_proto.specs.Places.{IsHoseOf, node_word, end_word}
+use Rattle.hose_proto.specs.Places.{IsHoseOf, end_word}
 use Rattle.hose_proto.specs.ReplyWords.{reply_words, pair_word, link_words, priced_words, IsOfKind, IsReply, AreAmounts}
 use Rattle.hose_words.proofs.Spaced.{spaced, words_of-line, AreWords, AreWords-map, AreWords-append, IsWord, IsWord-allowed, IsWord-known, IsWord-decimal, IsWord-colon}
 
@@ -21,8 +21,8 @@ use Rattle.hose_words.proofs.Spaced.{spaced, words_of-line, AreWords, AreWords-m
 spaced-pairs : (amounts : List (ℕ × ℕ)) → flat_map pair_text amounts ≡ spaced (map pair_word amounts)
 spaced-pairs amounts = sym (flat_map-map (λ (word : List ℕ). 32 ∷ word) pair_word amounts)
 
-spaced-nodes : (network : Network) (side : List ℕ) → flat_map (node_text network) side ≡ spaced (map (node_word network) side)
-spaced-nodes network side = sym (flat_map-map (λ (word : List ℕ). 32 ∷ word) (node_word network) side)
+spaced-nodes : (network : Network) (side : List ℕ) → flat_map (node_text network) side ≡ spaced (map (name_of network) side)
+spaced-nodes network side = sym (flat_map-map (λ (word : List ℕ). 32 ∷ word) (name_of network) side)
 
 spaced-ends : (network : Network) (hose : List (ℕ × ℕ)) → flat_map (end_text network) hose ≡ spaced (map (end_word network) hose)
 spaced-ends network hose = sym (flat_map-map (λ (word : List ℕ). 32 ∷ word) (end_word network) hose)
@@ -85,8 +85,8 @@ module _ (network : Network) (is : IsNetwork network) where
   IsWord-name : (name : List ℕ) → IsName name → IsWord name
   IsWord-name name named = IsWord-allowed is_name_byte name refl refl named.allowed (omega (arith, named.some))
 
-  IsWord-node : (node : ℕ) → node < length network.nodes → IsWord (node_word network node)
-  IsWord-node node below = IsWord-name (node_word network node) (is.names node [] below)
+  IsWord-node : (node : ℕ) → node < length network.nodes → IsWord (name_of network node)
+  IsWord-node node below = IsWord-name (name_of network node) (is.names node [] below)
 
   -- the number of a link
   pub few : {link : ℕ} → link < length network.links → Fits64 link
@@ -99,8 +99,8 @@ module _ (network : Network) (is : IsNetwork network) where
 
   IsWord-end : (end : ℕ × ℕ) → (end.0 < length network.nodes) × IsEnd end → IsWord (end_word network end)
   IsWord-end end within =
-      subst IsWord (sym (append_assoc (node_word network end.0) (codes ":") (decimal end.1)))
-      (IsWord-colon (node_word network end.0) (decimal end.1) (IsWord-node end.0 within.0) (IsWord-decimal end.1 (omega (arith, within.1.rate))))
+      subst IsWord (sym (append_assoc (name_of network end.0) (codes ":") (decimal end.1)))
+      (IsWord-colon (name_of network end.0) (decimal end.1) (IsWord-node end.0 within.0) (IsWord-decimal end.1 (omega (arith, within.1.rate))))
 
   -- `links` and amounts
   AreWords-links : (amounts : List (ℕ × ℕ)) → AreAmounts network amounts → AreWords (codes "links" ∷ map pair_word amounts)
@@ -127,7 +127,7 @@ module _ (network : Network) (is : IsNetwork network) where
   AreWords-reply (Quoted quote cost at amounts) kind =
       (IsWord-known (codes "quoted") refl (omega arith), (IsWord-decimal quote kind.0, AreWords-priced cost at amounts kind.1 kind.2 kind.3))
   AreWords-reply (Refused at side) kind =
-      (IsWord-known (codes "refused") refl (omega arith), (at_word, (IsWord-decimal at kind.0, (IsWord-known (codes "side") refl (omega arith), AreWords-map (node_word network) side IsWord-node (kind.1).nodes))))
+      (IsWord-known (codes "refused") refl (omega arith), (at_word, (IsWord-decimal at kind.0, (IsWord-known (codes "side") refl (omega arith), AreWords-map (name_of network) side IsWord-node (kind.1).nodes))))
   AreWords-reply (Stale seen now) kind =
       (IsWord-known (codes "stale") refl (omega arith), (IsWord-decimal seen kind.0, (IsWord-decimal now kind.1, tt)))
   AreWords-reply (Released id at) kind =

@@ -4,11 +4,11 @@ use Rattle.std.specs.List.{All}
 use Rattle.std.specs.Str.{bytes_eq}
 use Rattle.std.proofs.lemmas.Option.{slice_get-get_or}
 use Rattle.hose_words.specs.Form.{Fits64}
-use Rattle.hose_graph.specs.Network.{Network, IsNetwork}
+use Rattle.hose_graph.specs.Network.{Network, IsNetwork, name_of}
 use Rattle.hose_graph.specs.declared.link.Link.{Link}
 use Rattle.hose_graph.specs.declared.reply.Reply.{Reply}
 use Rattle.hose_graph.specs.declared.reply.Reply.TheVariants.{Welcome, Admitted, Quoted, Refused, Stale, Released, NoVpn, NoQuote, TooMany, Shown, LinkState, Full, Spent, Disk, Memory, Bad, Long, Bye}
-use Rattle.hose_proto.specs.Places.{IsHoseOf, node_word, end_word}
+use Rattle.hose_proto.specs.Places.{IsHoseOf, end_word}
 use Rattle.hose_proto.specs.ReplyWords.{AreAmounts, IsOfKind, IsReply, pair_word, reply_words}
 use Rattle.hose_proto.specs.declared.head.Head.{Head}
 use Rattle.hose_proto.specs.declared.head.Head.TheVariants as head
@@ -54,8 +54,8 @@ module _ (network : Network) (is : IsNetwork network) where
   amounts_back : (amounts : List (ℕ × ℕ)) → AreAmounts network amounts → map pair_of (map pair_word amounts) ≡ amounts
   amounts_back amounts are = map_back pair_word pair_of amounts (λ k d below. pair_back (get_or amounts k d) (few network is (are.links k d below)) (are.numbers k d below))
 
-  nodes_back : (side : List ℕ) → All (λ node. node < length network.nodes) side → map (node_of network) (map (node_word network) side) ≡ side
-  nodes_back side nodes = map_back (node_word network) (node_of network) side (λ k d below. node_back network (get_or side k d) is (nodes k d below))
+  nodes_back : (side : List ℕ) → All (λ node. node < length network.nodes) side → map (node_of network) (map (name_of network) side) ≡ side
+  nodes_back side nodes = map_back (name_of network) (node_of network) side (λ k d below. node_back network (get_or side k d) is (nodes k d below))
 
   hose_back : (hose : List (ℕ × ℕ)) → IsHoseOf network hose → map (end_of network) (map (end_word network) hose) ≡ hose
   hose_back hose are = ends_back network is hose (λ k d below. record { is_end = are.is_hose.within k d below; is_node = are.nodes k d below })

@@ -7,9 +7,8 @@ use Rattle.std.proofs.lemmas.Fmt.{decimal_injective}
 use Rattle.hose_words.specs.Form.{Each}
 use Rattle.hose_words.proofs.Forms.{AreApart, apart_by}
 use Rattle.hose_words.proofs.Keywords.{choice_of}
-use Rattle.hose_graph.specs.Network.{Network, IsNetwork}
+use Rattle.hose_graph.specs.Network.{Network, IsNetwork, IsLinkOf}
 use Rattle.hose_proto.specs.Command.{verb_word}
-use Rattle.hose_proto.specs.Places.{IsLinkOf}
 use Rattle.hose_proto.specs.ReplyGrammar.{head_word, missing_word}
 use Rattle.hose_proto.specs.declared.head.Head.{Head}
 use Rattle.hose_proto.specs.declared.head.Head.TheVariants as head

@@ -3,11 +3,11 @@ use Rattle.std.specs.Prelude.{◌≡◌, ℕ, ◌≤◌, List, [], ◌∷◌, Al
 use Rattle.hose_words.specs.Form.{Form, finish, place, branch, list, Each, TellsNumber, IsWithin, grammar_of}
 use Rattle.hose_words.specs.Grammar.{Grammar}
 use Rattle.hose_graph.specs.Hose.{IsEnd, HasDistinctNodes}
-use Rattle.hose_graph.specs.Network.{Network}
+use Rattle.hose_graph.specs.Network.{Network, IsLinkOf, IsNodeOf}
 use Rattle.hose_graph.specs.declared.command.Command.{Command}
 use Rattle.hose_graph.specs.declared.command.Command.TheVariants.{Admit, Release, Show, Link}
 use Rattle.hose_graph.specs.declared.limits.TheConstants.{LEAST_ENDS, MOST_ENDS, MOST_EPOCH}
-use Rattle.hose_proto.specs.Places.{IsHoseOf, IsLinkOf, IsNodeOf, end_word}
+use Rattle.hose_proto.specs.Places.{IsHoseOf, end_word}
 use Rattle.hose_proto.specs.declared.verb.Verb.{Verb}
 use Rattle.hose_proto.specs.declared.verb.Verb.TheVariants as verb
 
@@ -18,10 +18,12 @@ IsId id = IsWithin 0 MOST_EPOCH id
 -- The words ask for a command. The endpoints of an admission may stand in any order.
 abbrev pub IsCommand : Network → List (List ℕ) → Command → Type 0
 IsCommand network words (Admit hose) =
-    (ends : List (ℕ × ℕ)) × (words ≡ codes "admit" ∷ map (end_word network) ends) × IsPermutation ends hose × IsHoseOf network hose
+    (ends : List (ℕ × ℕ)) × (words ≡ codes "admit" ∷ map (end_word network) ends)
+    × IsPermutation ends hose × IsHoseOf network hose
 IsCommand network words (Release id) = (words ≡ codes "release" ∷ decimal id ∷ []) × IsId id
 IsCommand network words (Show id) = (words ≡ codes "show" ∷ decimal id ∷ []) × IsId id
-IsCommand network words (Link link) = (words ≡ codes "link" ∷ decimal link ∷ []) × IsLinkOf network link
+IsCommand network words (Link link) =
+    (words ≡ codes "link" ∷ decimal link ∷ []) × IsLinkOf network link
 
 -- ---- what is not allowed
 

@@ -6,11 +6,11 @@ use Rattle.hose_words.specs.Form.{Form, Fits64}
 use Rattle.hose_words.specs.Grammar.{IsFirst}
 use Rattle.hose_graph.specs.Ascending.{firsts}
 use Rattle.hose_graph.specs.Hose.{IsEnd}
-use Rattle.hose_graph.specs.Network.{Network}
+use Rattle.hose_graph.specs.Network.{Network, IsLinkOf, IsNodeOf}
 use Rattle.hose_graph.specs.declared.command.Command.{Command}
 use Rattle.hose_graph.specs.declared.command.Command.TheVariants.{Admit, Link}
 use Rattle.hose_graph.specs.declared.limits.TheConstants.{LEAST_ENDS, MOST_ENDS}
-use Rattle.hose_proto.specs.Places.{IsLinkOf, IsNodeOf, end_word}
+use Rattle.hose_proto.specs.Places.{end_word}
 use Rattle.hose_proto.specs.declared.fault.ReadFault.{ReadFault}
 use Rattle.hose_proto.specs.declared.fault.ReadFault.TheVariants.{Bad}
 
@@ -20,7 +20,8 @@ AsksOf network (Admit hose) = All (λ (end : ℕ × ℕ). IsNodeOf network end.0
 AsksOf network (Link link) = IsLinkOf network link
 AsksOf network _ = ⊤
 
--- A word that is told is the first of those to come that a form does not allow. Want of memory tells nothing of them.
+-- A word that is told is the first of those to come that a form does not allow. Want of memory
+-- tells nothing of them.
 pub record IsFaultOf (form : Form) (old : Position) (fault : ReadFault) : Type 0 where
   pub word : (number : ℕ) → fault ≡ Bad number → IsWrong form old number
 
@@ -55,7 +56,9 @@ pub record IsNextNode (network : Network) (nodes : List ℕ) (node : ℕ) : Type
   pub ascending : IsStrictlyIncreasing (nodes ++ node ∷ [])
 
 -- the next word is neither an endpoint that may come next nor the end of the list
-pub record MissesEnd (network : Network) (ends : List (ℕ × ℕ)) (old : Position) (number : ℕ) : Type 0 where
-  pub none : IsFirst (λ word. (end : ℕ × ℕ) × (word ≡ end_word network end) × IsNextEnd network ends end) old.left → ⊥
+pub record MissesEnd (network : Network) (ends : List (ℕ × ℕ)) (old : Position) (number : ℕ)
+    : Type 0 where
+  pub none : IsFirst
+      (λ word. (end : ℕ × ℕ) × (word ≡ end_word network end) × IsNextEnd network ends end) old.left → ⊥
   pub no_last : IsFirst (λ word. (word ≡ codes "links") × (LEAST_ENDS ≤ length ends)) old.left → ⊥
   pub at : number ≡ old.read + 1

@@ -1,12 +1,12 @@
 -- The grammar of replies, form by form.
-use Rattle.std.specs.Prelude.{ℕ, ◌≤◌, List, All, ⊤, codes, decimal, length, slice_get}
+use Rattle.std.specs.Prelude.{ℕ, ◌≤◌, List, [], ◌∷◌, All, ⊤, codes, decimal, length, slice_get}
 use Rattle.hose_words.specs.Form.{Form, finish, branch, list, until, Each, number, this, these, grammar_of}
 use Rattle.hose_words.specs.Grammar.{Grammar}
 use Rattle.hose_graph.specs.Ascending.{IsAscending}
 use Rattle.hose_graph.specs.Hose.{IsEnd}
-use Rattle.hose_graph.specs.Network.{Network}
+use Rattle.hose_graph.specs.Network.{Network, IsLinkOf, IsNodeOf, name_of}
 use Rattle.hose_graph.specs.declared.limits.TheConstants.{LEAST_ENDS, MOST_ENDS}
-use Rattle.hose_proto.specs.Places.{IsLinkOf, IsNodeOf, end_word, node_word}
+use Rattle.hose_proto.specs.Places.{end_word}
 use Rattle.hose_proto.specs.ReplyWords.{AreAmounts, IsSide, pair_word, link_words}
 use Rattle.hose_proto.specs.declared.head.Head.{Head}
 use Rattle.hose_proto.specs.declared.head.Head.TheVariants as head
@@ -37,7 +37,7 @@ priced_form network = cost_form (this (codes "links") (amounts_form network))
 
 -- nodes in ascending order
 abbrev pub names_form : Network → Form
-names_form network = list (node_word network) (IsSide network) 1
+names_form network = list (name_of network) (IsSide network) 1
 
 -- `at N side NAME ..`
 abbrev pub side_form : Network → Form
@@ -102,7 +102,7 @@ head_form network head.Refused = side_form network
 head_form network head.Stale = number (number finish)
 head_form network head.Released = id_form
 head_form network head.No = branch Each missing_word (λ _. id_form)
-head_form network head.Too = this (codes "many") (this (codes "quotes") at_form)
+head_form network head.Too = these (codes "many" ∷ codes "quotes" ∷ []) at_form
 head_form network head.Vpn = shown_form network
 head_form network head.Link = link_form network
 head_form network head.Full = at_form

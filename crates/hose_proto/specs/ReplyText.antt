@@ -1,7 +1,7 @@
 -- The texts of replies.
-use Rattle.std.specs.Prelude.{ℕ, ◌<◌, List, [], ◌∷◌, ◌++◌, ⊤, All, Option, None, Some, length, codes, decimal, slice_get, slice_index_or}
+use Rattle.std.specs.Prelude.{ℕ, List, [], ◌∷◌, ◌++◌, ⊤, All, Option, None, Some, codes, decimal, slice_get}
 use Rattle.std.specs.List.{flat_map}
-use Rattle.hose_graph.specs.Network.{Network}
+use Rattle.hose_graph.specs.Network.{Network, IsLinkOf, IsNodeOf, name_of}
 use Rattle.hose_graph.specs.declared.link.Link.{Link}
 use Rattle.hose_graph.specs.declared.reply.Reply.{Reply}
 use Rattle.hose_graph.specs.declared.reply.Reply.TheVariants.{Welcome, Admitted, Quoted, Refused, Stale, Released, NoVpn, NoQuote, TooMany, Shown, LinkState, Full, Spent, Disk, Memory, Bad, Long, Bye}
@@ -12,7 +12,7 @@ pair_text pair = codes " " ++ decimal pair.0 ++ codes ":" ++ decimal pair.1
 
 -- the name of a node
 abbrev pub node_text : Network → ℕ → List ℕ
-node_text network node = codes " " ++ slice_index_or network.nodes node []
+node_text network node = codes " " ++ name_of network node
 
 -- an endpoint: its node's name, and its rate
 abbrev pub end_text : Network → ℕ × ℕ → List ℕ
@@ -22,35 +22,45 @@ end_text network end = node_text network end.0 ++ codes ":" ++ decimal end.1
 abbrev pub link_text : Network → Option Link → List ℕ
 link_text network None = []
 link_text network (Some link) =
-    node_text network link.a ++ node_text network link.b ++ codes " capacity " ++ decimal link.capacity ++ codes " cost " ++ decimal link.cost
+    node_text network link.a ++ node_text network link.b
+    ++ codes " capacity " ++ decimal link.capacity ++ codes " cost " ++ decimal link.cost
 
 -- each node and each link that the reply names is one of the network
 abbrev pub NamesPlaces : Network → Reply → Type 0
-NamesPlaces network (Refused at side) = All (λ node. node < length network.nodes) side
-NamesPlaces network (Shown id cost at hose amounts) = All (λ (end : ℕ × ℕ). end.0 < length network.nodes) hose
-NamesPlaces network (LinkState link load at) = link < length network.links
+NamesPlaces network (Refused at side) = All (IsNodeOf network) side
+NamesPlaces network (Shown id cost at hose amounts) =
+    All (λ (end : ℕ × ℕ). IsNodeOf network end.0) hose
+NamesPlaces network (LinkState link load at) = IsLinkOf network link
 NamesPlaces network _ = ⊤
 
 -- a cost, an epoch, and links with their amounts
 abbrev pub priced_text : ℕ → ℕ → List (ℕ × ℕ) → List ℕ
-priced_text cost at amounts = codes " cost " ++ decimal cost ++ codes " at " ++ decimal at ++ codes " links" ++ flat_map pair_text amounts
+priced_text cost at amounts =
+    codes " cost " ++ decimal cost ++ codes " at " ++ decimal at
+    ++ codes " links" ++ flat_map pair_text amounts
 
 -- the text of a reply
 abbrev pub reply_text : Network → Reply → List ℕ
 reply_text network (Welcome at) = codes "welcome at " ++ decimal at
-reply_text network (Admitted id cost at amounts) = codes "admitted " ++ decimal id ++ priced_text cost at amounts
-reply_text network (Quoted quote cost at amounts) = codes "quoted " ++ decimal quote ++ priced_text cost at amounts
-reply_text network (Refused at side) = codes "refused at " ++ decimal at ++ codes " side" ++ flat_map (node_text network) side
+reply_text network (Admitted id cost at amounts) =
+    codes "admitted " ++ decimal id ++ priced_text cost at amounts
+reply_text network (Quoted quote cost at amounts) =
+    codes "quoted " ++ decimal quote ++ priced_text cost at amounts
+reply_text network (Refused at side) =
+    codes "refused at " ++ decimal at ++ codes " side" ++ flat_map (node_text network) side
 reply_text network (Stale seen now) = codes "stale " ++ decimal seen ++ codes " " ++ decimal now
 reply_text network (Released id at) = codes "released " ++ decimal id ++ codes " at " ++ decimal at
 reply_text network (NoVpn id at) = codes "no vpn " ++ decimal id ++ codes " at " ++ decimal at
-reply_text network (NoQuote quote at) = codes "no quote " ++ decimal quote ++ codes " at " ++ decimal at
+reply_text network (NoQuote quote at) =
+    codes "no quote " ++ decimal quote ++ codes " at " ++ decimal at
 reply_text network (TooMany at) = codes "too many quotes at " ++ decimal at
 reply_text network (Shown id cost at hose amounts) =
-    codes "vpn " ++ decimal id ++ codes " cost " ++ decimal cost ++ codes " at " ++ decimal at ++ codes " ends" ++ flat_map (end_text network) hose
+    codes "vpn " ++ decimal id ++ codes " cost " ++ decimal cost ++ codes " at " ++ decimal at
+    ++ codes " ends" ++ flat_map (end_text network) hose
     ++ codes " links" ++ flat_map pair_text amounts
 reply_text network (LinkState link load at) =
-    codes "link " ++ decimal link ++ link_text network (slice_get network.links link) ++ codes " load " ++ decimal load ++ codes " at " ++ decimal at
+    codes "link " ++ decimal link ++ link_text network (slice_get network.links link)
+    ++ codes " load " ++ decimal load ++ codes " at " ++ decimal at
 reply_text network (Full at) = codes "full at " ++ decimal at
 reply_text network (Spent at) = codes "spent at " ++ decimal at
 reply_text network (Disk at) = codes "disk at " ++ decimal at

@@ -1,13 +1,13 @@
 -- Replies as words. Words tell a reply exactly where they are those of its text.
-use Rattle.std.specs.Prelude.{◌≡◌, ℕ, ◌<◌, ◌≤◌, List, [], ◌∷◌, ◌++◌, ⊤, All, Option, None, Some, length, map, codes, decimal, slice_get}
+use Rattle.std.specs.Prelude.{◌≡◌, ℕ, ◌≤◌, List, [], ◌∷◌, ◌++◌, ⊤, All, Option, None, Some, length, map, codes, decimal, slice_get}
 use Rattle.std.specs.List.Sorted.{IsStrictlyIncreasing}
 use Rattle.hose_words.specs.Form.{Fits64}
 use Rattle.hose_graph.specs.Ascending.{IsAscending}
-use Rattle.hose_graph.specs.Network.{Network}
+use Rattle.hose_graph.specs.Network.{Network, name_of, IsLinkOf, IsNodeOf}
 use Rattle.hose_graph.specs.declared.link.Link.{Link}
 use Rattle.hose_graph.specs.declared.reply.Reply.{Reply}
 use Rattle.hose_graph.specs.declared.reply.Reply.TheVariants.{Welcome, Admitted, Quoted, Refused, Stale, Released, NoVpn, NoQuote, TooMany, Shown, LinkState, Full, Spent, Disk, Memory, Bad, Long, Bye}
-use Rattle.hose_proto.specs.Places.{IsHoseOf, end_word, node_word}
+use Rattle.hose_proto.specs.Places.{IsHoseOf, end_word}
 
 -- ---- the words
 
@@ -19,7 +19,7 @@ pair_word pair = decimal pair.0 ++ codes ":" ++ decimal pair.1
 abbrev pub link_words : Network → Option Link → List (List ℕ)
 link_words network None = []
 link_words network (Some link) =
-    node_word network link.a ∷ node_word network link.b
+    name_of network link.a ∷ name_of network link.b
     ∷ codes "capacity" ∷ decimal link.capacity ∷ codes "cost" ∷ decimal link.cost ∷ []
 
 -- a number, a cost and an epoch
@@ -39,7 +39,7 @@ reply_words network (Admitted id cost at amounts) =
 reply_words network (Quoted quote cost at amounts) =
     codes "quoted" ∷ decimal quote ∷ priced_words cost at amounts
 reply_words network (Refused at side) =
-    codes "refused" ∷ codes "at" ∷ decimal at ∷ codes "side" ∷ map (node_word network) side
+    codes "refused" ∷ codes "at" ∷ decimal at ∷ codes "side" ∷ map (name_of network) side
 reply_words network (Stale seen now) = codes "stale" ∷ decimal seen ∷ decimal now ∷ []
 reply_words network (Released id at) = codes "released" ∷ decimal id ∷ codes "at" ∷ decimal at ∷ []
 reply_words network (NoVpn id at) =
@@ -68,14 +68,14 @@ reply_words network Bye = codes "bye" ∷ []
 pub record AreAmounts (network : Network) (amounts : List (ℕ × ℕ)) : Type 0 where
   pub some : 1 ≤ length amounts
   pub ascending : IsAscending amounts
-  pub links : All (λ (pair : ℕ × ℕ). pair.0 < length network.links) amounts
+  pub links : All (λ (pair : ℕ × ℕ). IsLinkOf network pair.0) amounts
   pub numbers : All (λ (pair : ℕ × ℕ). Fits64 pair.1) amounts
 
 -- nodes of the network, one at least, in ascending order
 pub record IsSide (network : Network) (side : List ℕ) : Type 0 where
   pub some : 1 ≤ length side
   pub ascending : IsStrictlyIncreasing side
-  pub nodes : All (λ node. node < length network.nodes) side
+  pub nodes : All (IsNodeOf network) side
 
 -- the numbers of a reply fit 64 bits, and its places are those of the network
 abbrev pub IsOfKind : Network → Reply → Type 0
@@ -93,7 +93,7 @@ IsOfKind network (TooMany at) = Fits64 at
 IsOfKind network (Shown id cost at hose amounts) =
     Fits64 id × Fits64 cost × Fits64 at × IsHoseOf network hose × AreAmounts network amounts
 IsOfKind network (LinkState link load at) =
-    (link < length network.links) × Fits64 load × Fits64 at
+    IsLinkOf network link × Fits64 load × Fits64 at
 IsOfKind network (Full at) = Fits64 at
 IsOfKind network (Spent at) = Fits64 at
 IsOfKind network (Disk at) = Fits64 at

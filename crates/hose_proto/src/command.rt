@@ -4,11 +4,11 @@ ghost use Rattle.hose_words.specs.Cursor.{Took, IsWrong, MissesItem};
 ghost use Rattle.hose_words.specs.Form.{IsChoice};
 ghost use Rattle.hose_words.specs.Grammar.{IsFirst, IsFirstNotAllowed};
 ghost use Rattle.hose_words.specs.Words.{words_of};
-ghost use Rattle.hose_graph.specs.Network.{IsNetwork};
+ghost use Rattle.hose_graph.specs.Network.{IsNetwork, IsLinkOf};
 ghost use Rattle.hose_graph.specs.declared.command.Command.{Command};
 ghost use Rattle.hose_graph.specs.declared.command.Command.TheVariants.{Admit};
 ghost use Rattle.hose_proto.specs.Command.{IsId, IsCommand, TakesMemory, command_form, command_grammar, ends_form, verb_form, sole_link_form, verb_word, vpn_form};
-ghost use Rattle.hose_proto.specs.Places.{IsLinkOf, end_word};
+ghost use Rattle.hose_proto.specs.Places.{end_word};
 ghost use Rattle.hose_proto.specs.Reading.{AsksOf, IsFaultOf, IsNewEnd};
 
 use crate::fault::ReadFault;
@@ -20,7 +20,8 @@ use std::alloc::Global;
 
 /// The command that the words of a line after its first `from` ask for.
 ///
-/// The endpoints of an admission may stand in any order. A word that is not allowed is told by its number in the line.
+/// The endpoints of an admission may stand in any order. A word that is not allowed is told by its
+/// number in the line.
 pub fn read_command(
     alloc: Global,
     top: &Topology,
@@ -113,7 +114,8 @@ fn read_link(top: &Topology, words: &mut Cursor<'_>) -> Result<u32, WrongWord>
     requires { IsNetwork top.now }
     ensures ok { IfOk result (λ link. words.old.left ≡ decimal link ∷ []) }
     ensures is_link { IfOk result (IsLinkOf top.now) }
-    ensures wrong { IfErr result (λ wrong. IsWrong (sole_link_form top.now) words.old wrong.number) }
+    ensures wrong { IfErr result
+        (λ wrong. IsWrong (sole_link_form top.now) words.old wrong.number) }
 {
     let link = read_link_number(top, words)?;
     words.finish()?;
@@ -123,7 +125,8 @@ fn read_link(top: &Topology, words: &mut Cursor<'_>) -> Result<u32, WrongWord>
 // The hose of the endpoints that are left.
 fn read_hose(alloc: Global, top: &Topology, words: &mut Cursor<'_>) -> Result<Hose, ReadFault>
     requires { IsNetwork top.now }
-    ensures ok { IfOk result (λ hose. IsCommand top.now (codes "admit" ∷ words.old.left) (Admit hose)) }
+    ensures ok { IfOk result
+        (λ hose. IsCommand top.now (codes "admit" ∷ words.old.left) (Admit hose)) }
     ensures bad { IfErr result (IsFaultOf (ends_form top.now) words.old) }
 {
     let mut ends = Vec::new(alloc);
@@ -189,7 +192,7 @@ fn has_node(ends: &[(u32, u64)], node: u32) -> bool
 #[cfg(test)]
 mod tests {
     use super::*;
-    use hose_graph::Link;
+    use hose_graph::{Link, Name};
     use std::test::Fail;
 
     fn star(alloc: Global) -> Result<Topology, Fail> {

@@ -8,8 +8,8 @@ use std::alloc::{AllocError, AllocFailed};
 /// Why a line was not read.
 #[derive(Clone, Copy, Debug, PartialEq, Eq)]
 pub enum ReadFault {
-    /// The first word that is not allowed, by its number in the line, counted from 1. One more than the words where
-    /// the line ends too early.
+    /// The first word that is not allowed, by its number in the line, counted from 1. One more than
+    /// the words where the line ends too early.
     Bad { word: u64 },
     /// There was too little memory.
     Memory,

@@ -2,8 +2,8 @@
 ghost use Rattle.std.specs.Prelude.{◌≡◌, ◌++◌, ◌∷◌, ℕ, decimal, Contains, IfOk, IfErr, IfSome, IfNone};
 ghost use Rattle.hose_words.specs.Cursor.{Took, Misses};
 ghost use Rattle.hose_words.specs.Form.{IsChoice};
-ghost use Rattle.hose_graph.specs.Network.{IsNetwork};
-ghost use Rattle.hose_proto.specs.Places.{IsLinkOf, end_word};
+ghost use Rattle.hose_graph.specs.Network.{IsNetwork, IsLinkOf};
+ghost use Rattle.hose_proto.specs.Places.{end_word};
 ghost use Rattle.hose_proto.specs.Reading.{IsEndOf};
 
 use hose_graph::{MOST_RATE, Name, Topology};
@@ -30,7 +30,8 @@ pub(crate) fn read_link_number(top: &Topology, words: &mut Cursor<'_>) -> Result
 pub(crate) fn link_number(top: &Topology, word: &[u8]) -> Option<u32>
     ensures told { IfSome result (λ link. word.now ≡ decimal link) }
     ensures is_link { IfSome result (IsLinkOf top.now) }
-    ensures none { IfNone result ((link : ℕ) → word.now ≡ decimal link → IsLinkOf top.now link → ⊥) }
+    ensures none { IfNone result ((link : ℕ)
+        → word.now ≡ decimal link → IsLinkOf top.now link → ⊥) }
 {
     let links = u64::from(top.links());
     let Some(link) = number(word, u64::MAX) else {

@@ -3,8 +3,8 @@ ghost use Rattle.std.specs.Prelude.{◌≡◌, ◌↔◌, ℕ, ◌<◌, ◌≤�
 ghost use Rattle.std.specs.List.Sorted.{IsStrictlyIncreasing};
 ghost use Rattle.hose_words.specs.Cursor.{Took, IsWrong, MissesItem};
 ghost use Rattle.hose_graph.specs.Ascending.{IsAscending, firsts};
-ghost use Rattle.hose_graph.specs.Network.{IsNetwork};
-ghost use Rattle.hose_proto.specs.Places.{IsHoseOf, end_word, node_word};
+ghost use Rattle.hose_graph.specs.Network.{IsNetwork, name_of};
+ghost use Rattle.hose_proto.specs.Places.{IsHoseOf, end_word};
 ghost use Rattle.hose_proto.specs.Reading.{IsFaultOf, IsNextEnd, IsNextNode, IsNextPair, MissesEnd};
 ghost use Rattle.hose_proto.specs.ReplyGrammar.{amounts_form, names_form, hose_form};
 ghost use Rattle.hose_proto.specs.ReplyWords.{AreAmounts, IsSide, pair_word};
@@ -90,7 +90,7 @@ pub(crate) fn read_side(
     words: &mut Cursor<'_>,
 ) -> Result<NodeList, ReadFault>
     requires { IsNetwork top.now }
-    ensures told { IfOk result (λ side. words.old.left ≡ map (node_word top.now) side) }
+    ensures told { IfOk result (λ side. words.old.left ≡ map (name_of top.now) side) }
     ensures side { IfOk result (IsSide top.now) }
     ensures bad { IfErr result (IsFaultOf (names_form top.now) words.old) }
 {
@@ -111,11 +111,12 @@ fn next_node(
     requires ascending { IsStrictlyIncreasing nodes.now }
     requires network { IsNetwork top.now }
     ensures next { IfOk result (λ next. IfSome next
-        (λ node. Took words.old words.new (node_word top.now node) × IsNextNode top.now nodes.now node)) }
+        (λ node. Took words.old words.new (name_of top.now node)
+        × IsNextNode top.now nodes.now node)) }
     ensures last { IfOk result (λ next. IfNone next
         ((words.old.left ≡ []) × (0 < length nodes.now))) }
-    ensures wrong { IfErr result (λ wrong. MissesItem (node_word top.now) (IsNextNode top.now nodes.now)
-        1 nodes.now words.old wrong.number) }
+    ensures wrong { IfErr result (λ wrong. MissesItem (name_of top.now)
+        (IsNextNode top.now nodes.now) 1 nodes.now words.old wrong.number) }
 {
     let wrong = words.wrong();
     match words.next() {
@@ -133,9 +134,9 @@ fn node_after(top: &Topology, nodes: &[u32], word: &[u8]) -> Option<u32>
     requires ascending { IsStrictlyIncreasing nodes.now }
     requires network { IsNetwork top.now }
     ensures some { IfSome result
-        (λ node. (word.now ≡ node_word top.now node) × IsNextNode top.now nodes.now node) }
+        (λ node. (word.now ≡ name_of top.now node) × IsNextNode top.now nodes.now node) }
     ensures none { IfNone result ((node : ℕ)
-        → word.now ≡ node_word top.now node → IsNextNode top.now nodes.now node → ⊥) }
+        → word.now ≡ name_of top.now node → IsNextNode top.now nodes.now node → ⊥) }
 {
     let node = top.find(&Name::read(word)?)?;
     match nodes.last() {
@@ -155,7 +156,8 @@ pub(crate) fn read_hose(
         words.old.left ≡ map (end_word top.now) hose ++ codes "links" ∷ words.new.left) }
     ensures hose { IfOk result (IsHoseOf top.now) }
     ensures later { OnOk result ((place : ℕ)
-        → IsWrong (amounts_form top.now) words.new place → IsWrong (hose_form top.now) words.old place) }
+        → IsWrong (amounts_form top.now) words.new place
+        → IsWrong (hose_form top.now) words.old place) }
     ensures bad { IfErr result (IsFaultOf (hose_form top.now) words.old) }
 {
     let mut ends = Vec::new(alloc);
@@ -191,7 +193,8 @@ fn next_end(
     }
 }
 
-// The endpoint that a word tells, where its node comes after those of the others and there is room for one more.
+// The endpoint that a word tells, where its node comes after those of the others and there is room
+// for one more.
 fn end_after(top: &Topology, ends: &[(u32, u64)], word: &[u8]) -> Option<(u32, u64)>
     requires ascending { IsAscending ends.now }
     requires network { IsNetwork top.now }

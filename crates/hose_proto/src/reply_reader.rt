@@ -1,12 +1,11 @@
 // Replies read from words.
 ghost use Rattle.std.specs.Prelude.{◌≡◌, ◌⊎◌, ℕ, ◌<◌, ◌++◌, [], ◌∷◌, codes, decimal, length, slice_get, IfOk, OnOk, IfErr, Ok, Err};
 ghost use Rattle.hose_words.specs.Cursor.{Took, TookAll, Misses, IsWrong};
-ghost use Rattle.hose_words.specs.Form.{Fits64, IsChoice, Each, anything, branch, finish, number, this};
+ghost use Rattle.hose_words.specs.Form.{Fits64, IsChoice, Each, anything, branch, finish, number, these};
 ghost use Rattle.hose_words.specs.Grammar.{IsFirst, IsFirstNotAllowed};
 ghost use Rattle.hose_words.specs.Words.{words_of};
-ghost use Rattle.hose_graph.specs.Network.{Network, IsNetwork};
+ghost use Rattle.hose_graph.specs.Network.{Network, IsNetwork, name_of};
 ghost use Rattle.hose_graph.specs.declared.reply.Reply.{Reply};
-ghost use Rattle.hose_proto.specs.Places.{node_word};
 ghost use Rattle.hose_proto.specs.Reading.{IsFaultOf};
 ghost use Rattle.hose_proto.specs.ReplyGrammar.{HasLists, at_form, cost_form, id_form, priced_form, side_form, shown_form, load_form, link_form, head_word, missing_word, head_form, reply_form, reply_grammar};
 ghost use Rattle.hose_proto.specs.ReplyText.{NamesPlaces};
@@ -149,7 +148,8 @@ fn read_refused(alloc: Global, top: &Topology, words: &mut Cursor<'_>) -> Result
 fn read_stale(words: &mut Cursor<'_>) -> Result<Reply, WrongWord>
     ensures ok { IfOk result (λ reply. (network : Network)
         → IsReply network (codes "stale" ∷ words.old.left) reply) }
-    ensures wrong { IfErr result (λ wrong. IsWrong (number (number finish)) words.old wrong.number) }
+    ensures wrong { IfErr result
+        (λ wrong. IsWrong (number (number finish)) words.old wrong.number) }
 {
     let seen = words.number()?;
     let now = words.number()?;
@@ -187,7 +187,7 @@ fn read_too_many(words: &mut Cursor<'_>) -> Result<Reply, WrongWord>
     ensures ok { IfOk result (λ reply. (network : Network)
         → IsReply network (codes "too" ∷ words.old.left) reply) }
     ensures wrong { IfErr result
-        (λ wrong. IsWrong (this (codes "many") (this (codes "quotes") at_form)) words.old wrong.number) }
+        (λ wrong. IsWrong (these (codes "many" ∷ codes "quotes" ∷ []) at_form) words.old wrong.number) }
 {
     words.expect(b"many")?;
     words.expect(b"quotes")?;
@@ -237,7 +237,8 @@ fn read_load(top: &Topology, link: u32, words: &mut Cursor<'_>) -> Result<(u64, 
         ≡ link_words top.now (slice_get top.now.links link)
         ++ codes "load" ∷ decimal load.0 ∷ codes "at" ∷ decimal load.1 ∷ []) }
     ensures small { IfOk result (λ load. Fits64 load.0 × Fits64 load.1) }
-    ensures wrong { IfErr result (λ wrong. IsWrong (load_form top.now link) words.old wrong.number) }
+    ensures wrong { IfErr result
+        (λ wrong. IsWrong (load_form top.now link) words.old wrong.number) }
 {
     let link = top.link(link);
     read_node(top, link.a, words)?;
@@ -253,9 +254,9 @@ fn read_load(top: &Topology, link: u32, words: &mut Cursor<'_>) -> Result<(u64, 
 // Passes over the next word, which has to be the name of this node.
 fn read_node(top: &Topology, node: u32, words: &mut Cursor<'_>) -> Result<(), WrongWord>
     requires { node < length top.now.nodes }
-    ensures ok { OnOk result (Took words.old words.new (node_word top.now node)) }
+    ensures ok { OnOk result (Took words.old words.new (name_of top.now node)) }
     ensures wrong { IfErr result
-        (λ wrong. Misses (λ word. word ≡ node_word top.now node) words.old wrong.number) }
+        (λ wrong. Misses (λ word. word ≡ name_of top.now node) words.old wrong.number) }
 {
     words.expect(top.name(node).bytes())
 }

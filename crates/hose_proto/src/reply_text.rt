@@ -4,14 +4,17 @@ ghost use Rattle.std.specs.List.{flat_map};
 ghost use Rattle.hose_io.specs.Count.{one_more};
 ghost use Rattle.hose_io.specs.Gather.{IsAdded};
 ghost use Rattle.hose_io.specs.Writing.{IsPut};
+ghost use Rattle.hose_graph.specs.Network.{IsLinkOf, IsNodeOf};
+ghost use Rattle.hose_graph.specs.declared.reply.Reply.TheVariants.{LinkState};
 ghost use Rattle.hose_proto.specs.ReplyText.{NamesPlaces, line_of, reply_text, priced_text, pair_text, node_text, end_text, link_text};
 ghost use Rattle.hose_proto.specs.ReplyWords.{IsOfKind, IsReply};
 ghost use Rattle.hose_words.specs.Words.{words_of};
 
-use hose_graph::{Amounts, Link, Reply, Topology};
+use hose_graph::{Amounts, Hose, Link, Reply, Topology};
 use hose_io::{Failed, GATHER_LIMIT, Gather, Sink};
 
-/// Writes a reply as a line. A line of up to 4,096 bytes is given to the sink as one piece, and none takes memory.
+/// Writes a reply as a line. A line of up to 4,096 bytes is given to the sink as one piece, and
+/// none takes memory.
 pub fn put_reply<S: Sink>(sink: &mut S, top: &Topology, reply: &Reply) -> Result<(), Failed>
     requires { NamesPlaces top.now reply.now }
     ensures put { IsPut S.Sink sink.old sink.new (line_of (reply_text top.now reply.now)) result }
@@ -33,7 +36,8 @@ pub fn put_reply<S: Sink>(sink: &mut S, top: &Topology, reply: &Reply) -> Result
 // Adds the text of a reply.
 fn add_reply<S: Sink>(gather: &mut Gather, sink: &mut S, top: &Topology, reply: &Reply)
     requires { NamesPlaces top.now reply.now }
-    ensures { IsAdded S.Sink gather.old sink.old gather.new sink.new (reply_text top.now reply.now) }
+    ensures { IsAdded S.Sink gather.old sink.old gather.new sink.new
+        (reply_text top.now reply.now) }
 {
     match reply {
         Reply::Welcome { at } => add_number(gather, sink, b"welcome at ", *at),
@@ -42,39 +46,23 @@ fn add_reply<S: Sink>(gather: &mut Gather, sink: &mut S, top: &Topology, reply: 
             cost,
             at,
             amounts,
-        } => {
-            add_number(gather, sink, b"admitted ", *id);
-            add_priced(gather, sink, *cost, *at, amounts);
-        }
+        } => add_priced(gather, sink, b"admitted ", *id, *cost, *at, amounts),
         Reply::Quoted {
             quote,
             cost,
             at,
             amounts,
-        } => {
-            add_number(gather, sink, b"quoted ", *quote);
-            add_priced(gather, sink, *cost, *at, amounts);
-        }
+        } => add_priced(gather, sink, b"quoted ", *quote, *cost, *at, amounts),
         Reply::Refused { at, side } => {
             add_number(gather, sink, b"refused at ", *at);
             gather.add(sink, b" side");
             add_side(gather, sink, top, side.nodes());
         }
-        Reply::Stale { seen, now } => {
-            add_number(gather, sink, b"stale ", *seen);
-            add_number(gather, sink, b" ", *now);
-        }
-        Reply::Released { id, at } => {
-            add_number(gather, sink, b"released ", *id);
-            add_number(gather, sink, b" at ", *at);
-        }
-        Reply::NoVpn { id, at } => {
-            add_number(gather, sink, b"no vpn ", *id);
-            add_number(gather, sink, b" at ", *at);
-        }
+        Reply::Stale { seen, now } => add_numbers(gather, sink, b"stale ", *seen, b" ", *now),
+        Reply::Released { id, at } => add_numbers(gather, sink, b"released ", *id, b" at ", *at),
+        Reply::NoVpn { id, at } => add_numbers(gather, sink, b"no vpn ", *id, b" at ", *at),
         Reply::NoQuote { quote, at } => {
-            add_number(gather, sink, b"no quote ", *quote);
-            add_number(gather, sink, b" at ", *at);
+            add_numbers(gather, sink, b"no quote ", *quote, b" at ", *at);
         }
         Reply::TooMany { at } => add_number(gather, sink, b"too many quotes at ", *at),
         Reply::Shown {
@@ -84,22 +72,11 @@ fn add_reply<S: Sink>(gather: &mut Gather, sink: &mut S, top: &Topology, reply: 
             hose,
             amounts,
         } => {
-            add_number(gather, sink, b"vpn ", *id);
-            add_number(gather, sink, b" cost ", *cost);
+            add_numbers(gather, sink, b"vpn ", *id, b" cost ", *cost);
             add_number(gather, sink, b" at ", *at);
-            gather.add(sink, b" ends");
-            add_ends(gather, sink, top, hose.ends());
-            gather.add(sink, b" links");
-            add_links(gather, sink, amounts.pairs());
+            add_lists(gather, sink, top, hose, amounts);
         }
-        Reply::LinkState { link, load, at } => {
-            // The call tells the proof that each network has few links, so that their numbers fit.
-            let _links = top.links();
-            add_number(gather, sink, b"link ", *link);
-            add_link(gather, sink, top, &top.link(*link as u32));
-            add_number(gather, sink, b" load ", *load);
-            add_number(gather, sink, b" at ", *at);
-        }
+        Reply::LinkState { link, load, at } => add_state(gather, sink, top, *link, *load, *at),
         Reply::Full { at } => add_number(gather, sink, b"full at ", *at),
         Reply::Spent { at } => add_number(gather, sink, b"spent at ", *at),
         Reply::Disk { at } => add_number(gather, sink, b"disk at ", *at),
@@ -110,7 +87,7 @@ fn add_reply<S: Sink>(gather: &mut Gather, sink: &mut S, top: &Topology, reply: 
     }
 }
 
-// Adds some words and the number behind them.
+// Adds some words and the number after them.
 fn add_number<S: Sink>(gather: &mut Gather, sink: &mut S, words: &[u8], number: u64)
     ensures { IsAdded S.Sink gather.old sink.old gather.new sink.new (words.now ++ decimal number) }
 {
@@ -118,19 +95,84 @@ fn add_number<S: Sink>(gather: &mut Gather, sink: &mut S, words: &[u8], number: 
     gather.add_number(sink, number);
 }
 
-// Adds a cost, an epoch, and links with their amounts.
-fn add_priced<S: Sink>(gather: &mut Gather, sink: &mut S, cost: u64, at: u64, amounts: &Amounts)
-    ensures { IsAdded S.Sink gather.old sink.old gather.new sink.new (priced_text cost at amounts.now) }
+// Adds some words and the number after them, and once more.
+fn add_numbers<S: Sink>(
+    gather: &mut Gather,
+    sink: &mut S,
+    words: &[u8],
+    number: u64,
+    more: &[u8],
+    other: u64,
+)
+    ensures { IsAdded S.Sink gather.old sink.old gather.new sink.new
+        (words.now ++ decimal number ++ more.now ++ decimal other) }
 {
-    add_number(gather, sink, b" cost ", cost);
-    add_number(gather, sink, b" at ", at);
+    add_number(gather, sink, words, number);
+    add_number(gather, sink, more, other);
+}
+
+// Adds some words, a number, a cost, an epoch, and links with their amounts.
+fn add_priced<S: Sink>(
+    gather: &mut Gather,
+    sink: &mut S,
+    words: &[u8],
+    id: u64,
+    cost: u64,
+    at: u64,
+    amounts: &Amounts,
+)
+    ensures { IsAdded S.Sink gather.old sink.old gather.new sink.new
+        (words.now ++ decimal id ++ priced_text cost at amounts.now) }
+{
+    add_number(gather, sink, words, id);
+    add_numbers(gather, sink, b" cost ", cost, b" at ", at);
     gather.add(sink, b" links");
     add_links(gather, sink, amounts.pairs());
 }
 
+// Adds the endpoints of a hose, and links with their amounts.
+fn add_lists<S: Sink>(
+    gather: &mut Gather,
+    sink: &mut S,
+    top: &Topology,
+    hose: &Hose,
+    amounts: &Amounts,
+)
+    requires { All (λ (end : ℕ × ℕ). IsNodeOf top.now end.0) hose.now }
+    ensures { IsAdded S.Sink gather.old sink.old gather.new sink.new
+        (codes " ends" ++ flat_map (end_text top.now) hose.now
+        ++ codes " links" ++ flat_map pair_text amounts.now) }
+{
+    gather.add(sink, b" ends");
+    add_ends(gather, sink, top, hose.ends());
+    gather.add(sink, b" links");
+    add_links(gather, sink, amounts.pairs());
+}
+
+// Adds what there is to tell of a link.
+fn add_state<S: Sink>(
+    gather: &mut Gather,
+    sink: &mut S,
+    top: &Topology,
+    link: u64,
+    load: u64,
+    at: u64,
+)
+    requires { IsLinkOf top.now link }
+    ensures { IsAdded S.Sink gather.old sink.old gather.new sink.new
+        (reply_text top.now (LinkState link load at)) }
+{
+    // The call tells the proof that each network has few links, so that their numbers fit.
+    let _links = top.links();
+    add_number(gather, sink, b"link ", link);
+    add_link(gather, sink, top, &top.link(link as u32));
+    add_numbers(gather, sink, b" load ", load, b" at ", at);
+}
+
 // Adds links with their amounts.
 fn add_links<S: Sink>(gather: &mut Gather, sink: &mut S, pairs: &[(u32, u64)])
-    ensures { IsAdded S.Sink gather.old sink.old gather.new sink.new (flat_map pair_text pairs.now) }
+    ensures { IsAdded S.Sink gather.old sink.old gather.new sink.new
+        (flat_map pair_text pairs.now) }
 {
     for pair in pairs {
         add_pair(gather, sink, pair);
@@ -147,7 +189,7 @@ fn add_pair<S: Sink>(gather: &mut Gather, sink: &mut S, pair: &(u32, u64))
 
 // Adds the names of a side's nodes.
 fn add_side<S: Sink>(gather: &mut Gather, sink: &mut S, top: &Topology, nodes: &[u32])
-    requires { All (λ node. node < length top.now.nodes) nodes.now }
+    requires { All (IsNodeOf top.now) nodes.now }
     ensures { IsAdded S.Sink gather.old sink.old gather.new sink.new
         (flat_map (node_text top.now) nodes.now) }
 {
@@ -158,7 +200,7 @@ fn add_side<S: Sink>(gather: &mut Gather, sink: &mut S, top: &Topology, nodes: &
 
 // Adds endpoints with their rates.
 fn add_ends<S: Sink>(gather: &mut Gather, sink: &mut S, top: &Topology, ends: &[(u32, u64)])
-    requires { All (λ (end : ℕ × ℕ). end.0 < length top.now.nodes) ends.now }
+    requires { All (λ (end : ℕ × ℕ). IsNodeOf top.now end.0) ends.now }
     ensures { IsAdded S.Sink gather.old sink.old gather.new sink.new
         (flat_map (end_text top.now) ends.now) }
 {
@@ -169,7 +211,7 @@ fn add_ends<S: Sink>(gather: &mut Gather, sink: &mut S, top: &Topology, ends: &[
 
 // Adds one endpoint with its rate.
 fn add_end<S: Sink>(gather: &mut Gather, sink: &mut S, top: &Topology, end: &(u32, u64))
-    requires { end.now.0 < length top.now.nodes }
+    requires { IsNodeOf top.now end.now.0 }
     ensures { IsAdded S.Sink gather.old sink.old gather.new sink.new (end_text top.now end.now) }
 {
     add_node(gather, sink, top, end.0);
@@ -178,7 +220,7 @@ fn add_end<S: Sink>(gather: &mut Gather, sink: &mut S, top: &Topology, end: &(u3
 
 // Adds the name of one node.
 fn add_node<S: Sink>(gather: &mut Gather, sink: &mut S, top: &Topology, node: u32)
-    requires { node < length top.now.nodes }
+    requires { IsNodeOf top.now node }
     ensures { IsAdded S.Sink gather.old sink.old gather.new sink.new (node_text top.now node) }
 {
     gather.add(sink, b" ");
@@ -187,9 +229,10 @@ fn add_node<S: Sink>(gather: &mut Gather, sink: &mut S, top: &Topology, node: u3
 
 // Adds the nodes of a link, and what it can carry and costs.
 fn add_link<S: Sink>(gather: &mut Gather, sink: &mut S, top: &Topology, link: &Link)
-    requires a { link.now.a < length top.now.nodes }
-    requires b { link.now.b < length top.now.nodes }
-    ensures { IsAdded S.Sink gather.old sink.old gather.new sink.new (link_text top.now (Some link.now)) }
+    requires a { IsNodeOf top.now link.now.a }
+    requires b { IsNodeOf top.now link.now.b }
+    ensures { IsAdded S.Sink gather.old sink.old gather.new sink.new
+        (link_text top.now (Some link.now)) }
 {
     add_node(gather, sink, top, link.a);
     add_node(gather, sink, top, link.b);

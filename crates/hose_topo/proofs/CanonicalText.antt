@@ -1,39 +1,32 @@
 -- The canonical text of a topology is the text of that topology.
-use Rattle.std.proofs.Common.{◌≡◌, ◌∙◌, ℕ, ◌+◌, ◌<◌, ◌≤◌, List, [], ◌∷◌, ◌++◌, length, get_or, codes, decimal, refl, sym, ap, subst, inl, inr, true, arith, append_assoc, append-nil}
-use Rattle.std.specs.List.{list_all, flat_map, slice_index_or}
+use Rattle.std.proofs.Common.{◌≡◌, ◌∙◌, ℕ, ◌+◌, ◌<◌, ◌≤◌, List, [], ◌∷◌, ◌++◌, length, get_or, codes, decimal, refl, sym, ap, subst, inl, inr, arith, append_assoc, append-nil}
+use Rattle.std.specs.List.{flat_map}
+use Rattle.std.proofs.lemmas.Fmt.{length-decimal-le}
 use Rattle.std.proofs.lemmas.List.{length-append, get_or_append_left, get_or_at}
-use Rattle.std.proofs.lemmas.List.Sums.{AllPass-from_list_all}
-use Rattle.std.proofs.lemmas.Option.{slice_get-get_or}
+use Rattle.hose_words.proofs.Spaced.{AreWords, IsWord, IsWord-allowed, IsWord-decimal, IsWord-known, line_no_feed, spaced}
 use Rattle.hose_graph.specs.Name.{IsName, is_name_byte}
-use Rattle.hose_graph.specs.Network.{Network, IsNetwork, IsLink}
+use Rattle.hose_graph.specs.Network.{Network, IsNetwork, IsLink, name_of}
 use Rattle.hose_graph.specs.declared.link.Link.{Link}
 use Rattle.hose_topo.specs.Canonical.{node_line, link_line, canonical_text}
-use Rattle.hose_topo.specs.TopologyText.{AddsNode, AddsLink, AddsLine, AddLines, no_more, one_more, no_network, IsTopologyText}
-use Rattle.hose_topo.proofs.SpelledLine.{IsWord, IsSpelled, IsDecimal, spelled_word, spelled_more, has_line, after_feed, IsWord-name, decimal_reads}
+use Rattle.hose_topo.specs.TopologyText.{AddsNode, AddsLink, AddsLine, AddLines, no_more, one_more, no_network, IsTopologyText, link_words}
+use Rattle.hose_topo.proofs.FirstLineText.{after_feed, spelled_line}
 
 -- some number of lines add to a network, one after the other
 abbrev AddsAll : Network → List ℕ → Network → List ℕ → Type 0
 AddsAll first text last rest = (count : ℕ) × AddLines first text count last rest
 
 -- a line before others
-line_then : (network next last : Network) (line rest behind : List ℕ) (words : List (List ℕ)) → IsSpelled line words → length line ≤ 4096 → AddsLine network words next
-    → AddsAll next rest last behind → AddsAll network (line ++ 10 ∷ rest) last behind
-line_then network next last line rest behind words is short adds more =
-    (more.0 + 1, one_more words (has_line line rest is.no_feed words is.split short) adds (subst (λ text. AddLines next text more.0 last behind) (sym (after_feed line rest is.no_feed)) more.1))
+line_then : (network next last : Network) (line rest left_over : List ℕ) (words : List (List ℕ)) → 32 ∷ line ≡ spaced words → AreWords words → length line ≤ 4096 → AddsLine network words next
+    → AddsAll next rest last left_over → AddsAll network (line ++ 10 ∷ rest) last left_over
+line_then network next last line rest left_over words is are short adds more = (
+  more.0 + 1,
+  one_more words (spelled_line line rest words is are short) adds
+      (subst (λ text. AddLines next text more.0 last left_over) (sym (after_feed line rest (line_no_feed line words is are))) more.1),
+)
 
--- what has the bytes of a name is one word
-keyword : (word : List ℕ) → 1 ≤ length word → length word ≤ 16 → list_all is_name_byte word ≡ true → IsWord word
-keyword word some short allowed =
-    IsWord-name word (record { some = some; short = short; allowed = AllPass-from_list_all is_name_byte word allowed })
-
-node_word : IsWord (codes "node")
-node_word = keyword (codes "node") (omega arith) (omega arith) refl
-
-link_word : IsWord (codes "link")
-link_word = keyword (codes "link") (omega arith) (omega arith) refl
-
-end_word : IsWord (codes "end")
-end_word = keyword (codes "end") (omega arith) (omega arith) refl
+-- a name is one word
+IsWord-name : (name : List ℕ) → IsName name → IsWord name
+IsWord-name name is = IsWord-allowed is_name_byte name refl refl is.allowed (omega (arith, is.some))
 
 -- an element of a list stands at its place in the whole
 at_place : {X : Type 0} (before : List X) (x : X) (after whole : List X) (d : X) → before ++ x ∷ after ≡ whole → get_or whole (length before) d ≡ x
@@ -66,60 +59,55 @@ adds_node network before name after is whole =
       added = refl;
     }
 
-node_spelled : (name : List ℕ) → IsName name → IsSpelled (codes "node" ++ 32 ∷ name) (codes "node" ∷ name ∷ [])
-node_spelled name is = spelled_more (codes "node") name (name ∷ []) node_word (spelled_word name (IsWord-name name is))
+node_words : (name : List ℕ) → IsName name → AreWords (codes "node" ∷ name ∷ [])
+node_words name is = (IsWord-known (codes "node") refl (omega arith), (IsWord-name name is, tt))
 
--- the lines of nodes, behind those of the nodes before them
-add_nodes : (network last : Network) (behind text : List ℕ) (before after : List (List ℕ)) → IsNetwork network → before ++ after ≡ network.nodes
-    → AddsAll (record { nodes = network.nodes; links = [] }) text last behind → AddsAll (record { nodes = before; links = [] }) (flat_map node_line after ++ text) last behind
-add_nodes network last behind text before [] is whole more =
+-- the lines of nodes, left_over those of the nodes before them
+add_nodes : (network last : Network) (left_over text : List ℕ) (before after : List (List ℕ)) → IsNetwork network → before ++ after ≡ network.nodes
+    → AddsAll (record { nodes = network.nodes; links = [] }) text last left_over → AddsAll (record { nodes = before; links = [] }) (flat_map node_line after ++ text) last left_over
+add_nodes network last left_over text before [] is whole more =
     let all : before ≡ network.nodes = sym (append-nil before) ∙ whole in
-    subst (λ nodes. AddsAll (record { nodes = nodes; links = [] }) text last behind) (sym all) more
-add_nodes network last behind text before (name ∷ after) is whole more =
+    subst (λ nodes. AddsAll (record { nodes = nodes; links = [] }) text last left_over) (sym all) more
+add_nodes network last left_over text before (name ∷ after) is whole more =
     let named = node_name network before name after is whole in
-    let rest = add_nodes network last behind text (before ++ name ∷ []) after is (append_assoc before (name ∷ []) after ∙ whole) more in
+    let rest = add_nodes network last left_over text (before ++ name ∷ []) after is (append_assoc before (name ∷ []) after ∙ whole) more in
     let line : (codes "node" ++ 32 ∷ name) ++ 10 ∷ (flat_map node_line after ++ text) ≡ flat_map node_line (name ∷ after) ++ text = simp append_assoc in
-    subst (λ t. AddsAll (record { nodes = before; links = [] }) t last behind) line
-    (line_then _ _ last (codes "node" ++ 32 ∷ name) (flat_map node_line after ++ text) behind _ (node_spelled name named) (omega (arith, named.short)) (inr (inl (adds_node network before name after is whole))) rest)
+    subst (λ t. AddsAll (record { nodes = before; links = [] }) t last left_over) line
+    (line_then _ _ last (codes "node" ++ 32 ∷ name) (flat_map node_line after ++ text) left_over (codes "node" ∷ name ∷ []) (simp append-nil) (node_words name named) (omega (arith, named.short))
+    (inr (inl (adds_node network before name after is whole))) rest)
 
 -- ---- links
 
 -- a link's line, without its line feed
 abbrev link_body : Network → Link → List ℕ
 link_body network link =
-    codes "link" ++ 32 ∷ (slice_index_or network.nodes link.a [] ++ 32 ∷ (slice_index_or network.nodes link.b []
+    codes "link" ++ 32 ∷ (name_of network link.a ++ 32 ∷ (name_of network link.b
     ++ 32 ∷ (decimal link.capacity ++ 32 ∷ (decimal link.length ++ 32 ∷ decimal link.cost))))
 
 -- its words
-abbrev link_words : Network → Link → List (List ℕ)
-link_words network link =
-    codes "link" ∷ slice_index_or network.nodes link.a [] ∷ slice_index_or network.nodes link.b [] ∷ decimal link.capacity ∷ decimal link.length ∷ decimal link.cost ∷ []
+abbrev all_words : Network → Link → List (List ℕ)
+all_words network link = link_words network link ++ decimal link.cost ∷ []
 
--- a link's names and numbers are words
-record HasWords (network : Network) (link : Link) : Type 0 where
-  a : IsName (slice_index_or network.nodes link.a [])
-  b : IsName (slice_index_or network.nodes link.b [])
-  capacity : IsDecimal (decimal link.capacity) link.capacity
-  distance : IsDecimal (decimal link.length) link.length
-  cost : IsDecimal (decimal link.cost) link.cost
+are_words : (network : Network) (link : Link) → IsNetwork network → IsLink network link → AreWords (all_words network link)
+are_words network link is can = (
+  IsWord-known (codes "link") refl (omega arith),
+  (
+    IsWord-name _ (is.names link.a [] can.in_range.a),
+    (
+      IsWord-name _ (is.names link.b [] can.in_range.b),
+      (IsWord-decimal link.capacity (omega (arith, can.in_range.capacity)), (IsWord-decimal link.length (omega (arith, can.in_range.distance)), (IsWord-decimal link.cost (omega (arith, can.in_range.cost)), tt))),
+    ),
+  ),
+)
 
-has_words : (network : Network) (link : Link) → IsNetwork network → IsLink network link → HasWords network link
-has_words network link is can = record {
-  a = is.names link.a [] can.in_range.a;
-  b = is.names link.b [] can.in_range.b;
-  capacity = decimal_reads link.capacity can.in_range.capacity.0 can.in_range.capacity.1;
-  distance = decimal_reads link.length can.in_range.distance.0 (omega (arith, can.in_range.distance.1));
-  cost = decimal_reads link.cost can.in_range.cost.0 (omega (arith, can.in_range.cost.1));
-}
-
-link_spelled : (network : Network) (link : Link) → HasWords network link → IsSpelled (link_body network link) (link_words network link)
-link_spelled network link has =
-    spelled_more _ _ _ link_word (spelled_more _ _ _ (IsWord-name _ has.a) (spelled_more _ _ _ (IsWord-name _ has.b)
-    (spelled_more _ _ _ has.capacity.is_word (spelled_more _ _ _ has.distance.is_word (spelled_word _ has.cost.is_word)))))
-
-link_short : (network : Network) (link : Link) → HasWords network link → length (link_body network link) ≤ 4096
-link_short network link has =
-    simp length-append (omega (arith, has.a.short, has.b.short, has.capacity.short, has.distance.short, has.cost.short))
+link_short : (network : Network) (link : Link) → IsNetwork network → IsLink network link → length (link_body network link) ≤ 4096
+link_short network link is can =
+    let a = is.names link.a [] can.in_range.a in
+    let b = is.names link.b [] can.in_range.b in
+    let capacity : length (decimal link.capacity) ≤ 10 = length-decimal-le 10 link.capacity (omega arith) (omega (arith, can.in_range.capacity)) (omega (arith, can.in_range.capacity)) in
+    let distance : length (decimal link.length) ≤ 10 = length-decimal-le 10 link.length (omega arith) (omega (arith, can.in_range.distance)) (omega (arith, can.in_range.distance)) in
+    let cost : length (decimal link.cost) ≤ 10 = length-decimal-le 10 link.cost (omega arith) (omega (arith, can.in_range.cost)) (omega (arith, can.in_range.cost)) in
+    simp length-append (omega (arith, a.short, b.short, capacity, distance, cost))
 
 -- a link of a network is one that it can have
 link_at : (network : Network) (before : List Link) (link : Link) (after : List Link) → IsNetwork network → before ++ link ∷ after ≡ network.links → IsLink network link
@@ -128,26 +116,13 @@ link_at network before link after is whole =
 
 -- the line of a link adds that link
 adds_link : (network : Network) (before : List Link) (link : Link) (after : List Link) → IsNetwork network → before ++ link ∷ after ≡ network.links
-    → AddsLink (record { nodes = network.nodes; links = before }) (link_words network link) (record { nodes = network.nodes; links = before ++ link ∷ [] })
+    → AddsLink (record { nodes = network.nodes; links = before }) (all_words network link) (record { nodes = network.nodes; links = before ++ link ∷ [] })
 adds_link network before link after is whole =
     let within = place_within before link after network.links whole in
     let can = link_at network before link after is whole in
-    let has = has_words network link is can in
     record {
       link = link;
-      tells = record {
-        a = slice_index_or network.nodes link.a [];
-        b = slice_index_or network.nodes link.b [];
-        capacity = decimal link.capacity;
-        distance = decimal link.length;
-        cost = decimal link.cost ∷ [];
-        line = refl;
-        is_a = slice_get-get_or network.nodes link.a [] can.in_range.a;
-        is_b = slice_get-get_or network.nodes link.b [] can.in_range.b;
-        is_capacity = has.capacity.is_number;
-        is_length = has.distance.is_number;
-        is_cost = has.cost.is_number;
-      };
+      tells = inr refl;
       is_link = record {
         in_range = record { a = can.in_range.a; b = can.in_range.b; capacity = can.in_range.capacity; distance = can.in_range.distance; cost = can.in_range.cost };
         no_loop = can.no_loop;
@@ -156,36 +131,37 @@ adds_link network before link after is whole =
       added = refl;
     }
 
--- the lines of links, behind those of the links before them
-add_links : (network : Network) (behind : List ℕ) (before after : List Link) → IsNetwork network → before ++ after ≡ network.links
-    → AddsAll (record { nodes = network.nodes; links = before }) (flat_map (link_line network) after ++ behind) network behind
-add_links network behind before [] is whole =
+-- the lines of links, left_over those of the links before them
+add_links : (network : Network) (left_over : List ℕ) (before after : List Link) → IsNetwork network → before ++ after ≡ network.links
+    → AddsAll (record { nodes = network.nodes; links = before }) (flat_map (link_line network) after ++ left_over) network left_over
+add_links network left_over before [] is whole =
     let all : before ≡ network.links = sym (append-nil before) ∙ whole in
-    subst (λ links. AddsAll (record { nodes = network.nodes; links = links }) behind network behind) (sym all) (0, no_more)
-add_links network behind before (link ∷ after) is whole =
+    subst (λ links. AddsAll (record { nodes = network.nodes; links = links }) left_over network left_over) (sym all) (0, no_more)
+add_links network left_over before (link ∷ after) is whole =
     let adds = adds_link network before link after is whole in
-    let has = has_words network link is (link_at network before link after is whole) in
-    let rest = add_links network behind (before ++ link ∷ []) after is (append_assoc before (link ∷ []) after ∙ whole) in
-    let line : link_body network link ++ 10 ∷ (flat_map (link_line network) after ++ behind) ≡ flat_map (link_line network) (link ∷ after) ++ behind = simp append_assoc in
-    subst (λ t. AddsAll (record { nodes = network.nodes; links = before }) t network behind) line
-    (line_then _ _ network (link_body network link) (flat_map (link_line network) after ++ behind) behind _ (link_spelled network link has) (link_short network link has) (inr (inr adds)) rest)
+    let can = link_at network before link after is whole in
+    let rest = add_links network left_over (before ++ link ∷ []) after is (append_assoc before (link ∷ []) after ∙ whole) in
+    let line : link_body network link ++ 10 ∷ (flat_map (link_line network) after ++ left_over) ≡ flat_map (link_line network) (link ∷ after) ++ left_over = simp append_assoc in
+    subst (λ t. AddsAll (record { nodes = network.nodes; links = before }) t network left_over) line
+    (line_then _ _ network (link_body network link) (flat_map (link_line network) after ++ left_over) left_over (all_words network link) (simp (append_assoc, append-nil)) (are_words network link is can)
+    (link_short network link is can) (inr (inr adds)) rest)
 
 -- ---- the whole text
 
 -- the canonical text of a topology, whatever follows it, is the text of that topology, and what follows it is left
 pub canonical_reads : (network : Network) (rest : List ℕ) → IsNetwork network → 0 < length network.nodes → IsTopologyText (canonical_text network ++ rest) network rest
 canonical_reads network rest is some =
-    let behind : List ℕ = codes "end" ++ 10 ∷ rest in
-    let links = add_links network behind [] network.links is refl in
-    let all = add_nodes network network behind (flat_map (link_line network) network.links ++ behind) [] network.nodes is refl links in
-    let text : flat_map node_line network.nodes ++ (flat_map (link_line network) network.links ++ behind) ≡ canonical_text network ++ rest = simp append_assoc in
-    let end = spelled_word (codes "end") end_word in
+    let left_over : List ℕ = codes "end" ++ 10 ∷ rest in
+    let links = add_links network left_over [] network.links is refl in
+    let all = add_nodes network network left_over (flat_map (link_line network) network.links ++ left_over) [] network.nodes is refl links in
+    let text : flat_map node_line network.nodes ++ (flat_map (link_line network) network.links ++ left_over) ≡ canonical_text network ++ rest = simp append_assoc in
+    let end_words : AreWords (codes "end" ∷ []) = (IsWord-known (codes "end") refl (omega arith), tt) in
     record {
-      behind = behind;
+      end = left_over;
       count = all.0;
       words = codes "end" ∷ [];
-      lines = subst (λ t. AddLines no_network t all.0 network behind) text all.1;
-      line = has_line (codes "end") rest end.no_feed (codes "end" ∷ []) end.split (omega arith);
+      lines = subst (λ t. AddLines no_network t all.0 network left_over) text all.1;
+      line = spelled_line (codes "end") rest (codes "end" ∷ []) refl end_words (omega arith);
       is_end = (refl, some);
-      left = sym (after_feed (codes "end") rest end.no_feed);
+      left = sym (after_feed (codes "end") rest (line_no_feed (codes "end") (codes "end" ∷ []) refl end_words));
     }

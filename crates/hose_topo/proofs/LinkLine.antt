@@ -1,30 +1,44 @@
 -- A link line tells one link.
-use Rattle.std.proofs.Common.{◌≡◌, ◌≢◌, ◌∙◌, ℕ, List, [], ◌∷◌, Some, sym, ap, subst}
+use Rattle.std.proofs.Common.{◌≡◌, ◌≢◌, ◌∙◌, ℕ, ◌<◌, ◌^◌, List, [], ◌∷◌, ◌++◌, codes, decimal, inl, inr, refl, sym, ap, arith, length, length-append}
 use Rattle.std.specs.List.{AllPairs}
-use Rattle.std.specs.Str.Parse.{digits_value}
-use Rattle.hose_graph.specs.Network.{Network}
+use Rattle.std.proofs.lemmas.Fmt.{decimal_injective}
+use Rattle.hose_graph.specs.Network.{Network, IsLink, name_of}
 use Rattle.hose_graph.specs.declared.link.Link.{Link}
-use Rattle.hose_topo.specs.TopologyText.{TellsCost, TellsLink}
-use Rattle.hose_graph.proofs.NodesByName.{same_node}
+use Rattle.hose_graph.proofs.NodesByName.{same_name}
+use Rattle.hose_topo.specs.TopologyText.{TellsLink, link_words}
 
--- the words behind a link's length tell one cost, for one length
-same_cost : (words : List (List ℕ)) (one two : Link) → one.length ≡ two.length → TellsCost one words → TellsCost two words → one.cost ≡ two.cost
-same_cost [] one two lengths first second = first ∙ lengths ∙ sym second
-same_cost (cost ∷ []) one two lengths first second = sym first.value ∙ second.value
-same_cost (cost ∷ word ∷ words) one two lengths first second = absurd first
+-- the first word of a link line
+pub link_first : (network : Network) (words : List (List ℕ)) (link : Link) → TellsLink network words link → (rest : List (List ℕ)) × (words ≡ codes "link" ∷ rest)
+link_first network words link (inl tells) = (name_of network link.a ∷ name_of network link.b ∷ decimal link.capacity ∷ decimal link.length ∷ [], tells.0)
+link_first network words link (inr tells) = (name_of network link.a ∷ name_of network link.b ∷ decimal link.capacity ∷ decimal link.length ∷ decimal link.cost ∷ [], tells)
 
--- a link line tells one link
-pub same_link : (network : Network) (words : List (List ℕ)) (one two : Link) → AllPairs ◌≢◌ network.nodes → TellsLink network words one → TellsLink network words two → one ≡ two
-same_link network words one two differ first second =
-    let line = sym first.line ∙ second.line in
-    let a : first.a ≡ second.a = cc in
-    let b : first.b ≡ second.b = cc in
-    let capacity : first.capacity ≡ second.capacity = cc in
-    let distance : first.distance ≡ second.distance = cc in
-    let cost : first.cost ≡ second.cost = cc in
-    let node_a = same_node network.nodes one.a two.a second.a differ (first.is_a ∙ ap Some a) second.is_a in
-    let node_b = same_node network.nodes one.b two.b second.b differ (first.is_b ∙ ap Some b) second.is_b in
-    let capacities : one.capacity ≡ two.capacity = sym first.is_capacity.value ∙ ap (digits_value 10) capacity ∙ second.is_capacity.value in
-    let lengths : one.length ≡ two.length = sym first.is_length.value ∙ ap (digits_value 10) distance ∙ second.is_length.value in
-    let costs = same_cost second.cost one two lengths (subst (TellsCost one) cost first.is_cost) second.is_cost in
-    λ i. record { a = node_a i; b = node_b i; capacity = capacities i; length = lengths i; cost = costs i }
+module _ (network : Network) (differ : AllPairs ◌≢◌ network.nodes) (one two : Link) (is : IsLink network one) (is' : IsLink network two) where
+  -- what two links tell without their costs is the same
+  record AreAlike : Type 0 where
+    a : one.a ≡ two.a
+    b : one.b ≡ two.b
+    capacity : one.capacity ≡ two.capacity
+    distance : one.length ≡ two.length
+
+  alike : name_of network one.a ≡ name_of network two.a → name_of network one.b ≡ name_of network two.b → decimal one.capacity ≡ decimal two.capacity → decimal one.length ≡ decimal two.length → AreAlike
+  alike a b capacity distance = record {
+    a = same_name network one.a two.a differ is.in_range.a is'.in_range.a a;
+    b = same_name network one.b two.b differ is.in_range.b is'.in_range.b b;
+    capacity = decimal_injective one.capacity two.capacity (omega (arith, is.in_range.capacity)) (omega (arith, is'.in_range.capacity)) capacity;
+    distance = decimal_injective one.length two.length (omega (arith, is.in_range.distance)) (omega (arith, is'.in_range.distance)) distance;
+  }
+
+  same : AreAlike → one.cost ≡ two.cost → one ≡ two
+  same are cost = λ i. record { a = are.a i; b = are.b i; capacity = are.capacity i; length = are.distance i; cost = cost i }
+
+  pub same_link : (words : List (List ℕ)) → TellsLink network words one → TellsLink network words two → one ≡ two
+  same_link words (inl (first, cost)) (inl (second, cost')) =
+      let line : link_words network one ≡ link_words network two = sym first ∙ second in
+      let are = alike (cc line) (cc line) (cc line) (cc line) in
+      same are (cost ∙ are.distance ∙ sym cost')
+  same_link words (inl (first, cost)) (inr second) = absurd (omega (arith, ap length (sym first ∙ second)))
+  same_link words (inr first) (inl (second, cost)) = absurd (omega (arith, ap length (sym first ∙ second)))
+  same_link words (inr first) (inr second) =
+      let line : link_words network one ++ decimal one.cost ∷ [] ≡ link_words network two ++ decimal two.cost ∷ [] = sym first ∙ second in
+      same (alike (cc line) (cc line) (cc line) (cc line))
+      (decimal_injective one.cost two.cost (omega (arith, is.in_range.cost)) (omega (arith, is'.in_range.cost)) (cc line))

@@ -35,10 +35,10 @@ is_wrong None text rest was now word gives takes = inl (gives.0, takes.0)
 is_wrong (Some Long) text rest was now word gives takes = inr (inl (gives.1, takes.0))
 is_wrong (Some (Text shown)) text rest was now word gives takes = inr (inr (words_of shown.now, HasLine-shown shown text rest gives, takes.0, takes.1))
 
--- whatever was given, what stands behind the first line is left
-left_behind : (read : Option Line) (text rest : List ℕ) → GivesLine read text rest → rest ≡ after_first is_line_feed text
-left_behind None text rest gives = rw (gives.0, gives.1) refl
-left_behind (Some line) text rest gives = gives.2
+-- whatever was given, what stands after the first line is left
+left_after : (read : Option Line) (text rest : List ℕ) → GivesLine read text rest → rest ≡ after_first is_line_feed text
+left_after None text rest gives = rw (gives.0, gives.1) refl
+left_after (Some line) text rest gives = gives.2
 
 -- faults of reading are told apart by what they are called
 pub fault_of_is : (one other : LineFault) → fault_of one ≡ fault_of other → one ≡ other
@@ -99,7 +99,7 @@ module _ {S : Type 0} (source : Ghosts S) where
       → WhereTold (source.content old.source) (source.content new.source) (λ before after. IsTopologyText (old.pending ++ before) next (new.pending ++ after))
   ended old now new count was next has (Ok (Some (Text shown)), given, takes) =
       told_line old now new count was (Some (Text shown)) _ has given (λ before between after lines gives. record {
-        behind = now.pending ++ between;
+        end = now.pending ++ between;
         count = count;
         words = words_of shown.now;
         lines = rw takes.1 lines;
@@ -137,11 +137,11 @@ module _ {S : Type 0} (source : Ghosts S) where
       told_line old now new count was read _ has given (λ before between after lines gives. record {
         network = was;
         count = count;
-        behind = now.pending ++ between;
+        here = now.pending ++ between;
         lines = lines;
         is_line = refl;
         wrong = is_wrong read _ _ was next word gives takes;
-        left = left_behind read _ _ gives;
+        left = left_after read _ _ gives;
       })
   wrong old now new count word was next has (Err fault, given, takes) = absurd takes
 

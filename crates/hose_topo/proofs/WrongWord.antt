@@ -1,78 +1,78 @@
 -- A line that is wrong at a word neither adds to the network nor ends the text.
-use Rattle.std.proofs.Common.{◌≡◌, ◌≢◌, ◌∙◌, ℕ, List, [], ◌∷◌, codes, Some, inl, inr, refl, ap, subst, arith}
-use Rattle.std.specs.List.{slice_get}
-use Rattle.std.proofs.lemmas.Option.{get_or_from_slice_get, slice_get_within}
-use Rattle.hose_words.specs.Grammar.{Grammar, IsFirstNotAllowed}
-use Rattle.hose_words.proofs.Judging.{later}
-use Rattle.hose_graph.specs.Network.{Network, IsNetwork}
+use Rattle.std.proofs.Common.{◌≡◌, ℕ, List, [], ◌∷◌, codes, decimal, inl, inr, refl, sym, subst, arith}
+use Rattle.hose_words.specs.Form.{maybe, finish}
+use Rattle.hose_words.specs.Grammar.{IsFirstNotAllowed}
+use Rattle.hose_words.proofs.Forms.{AreApart, apart_by}
+use Rattle.hose_words.proofs.Keywords.{choice_of}
+use Rattle.hose_words.proofs.Passing.{Passes, pass_branch, pass_finish, pass_maybe, pass_nothing, pass_place}
+use Rattle.hose_graph.specs.Network.{Network, IsNetwork, IsNodeOf, name_of}
 use Rattle.hose_graph.specs.declared.link.Link.{Link}
-use Rattle.hose_topo.specs.TopologyText.{HasLine, AddsNode, AddsLink, AddsLine, IsEnd, IsPassedOver, IsWrongLine, IsNodeName, TellsCost, TellsLink, line_grammar}
-use Rattle.hose_graph.proofs.NodesByName.{same_node}
+use Rattle.hose_graph.specs.declared.limits.TheConstants.{MOST_COST}
+use Rattle.hose_graph.proofs.NodesByName.{same_name}
+use Rattle.hose_topo.specs.TopologyText.{AddsLine, AddsLink, AddsNode, EndsText, HasLine, IsOtherNode, IsPassedOver, IsWrongLine, MayCome, TellsLink, kind_word, line_form, line_grammar, number_form}
+use Rattle.hose_topo.specs.declared.kind.Kind.{Kind}
+use Rattle.hose_topo.specs.declared.kind.Kind.TheVariants as kind
 use Rattle.hose_topo.proofs.TopologyLines.{line_same}
 
--- a node that is found by its name has one
-named : (network : Network) (node : ℕ) (name : List ℕ) → slice_get network.nodes node ≡ Some name → IsNodeName network name
-named network node name there = (node, slice_get_within network.nodes node name there, get_or_from_slice_get network.nodes node name name there)
+-- ---- each choice has a word of its own
 
-wrong_end : (network : Network) (words : List (List ℕ)) (place : ℕ) → IsFirstNotAllowed (line_grammar network) [] words place → IsEnd network words → ⊥
-wrong_end network words place wrong end =
-    let g = line_grammar network in
-    let first = subst (λ w. IsFirstNotAllowed g [] w place) end.0 wrong in
-    (later g [] [] (codes "end") place first (inr (inr (refl, end.1)))).0 (inl (refl, refl))
+abbrev kind_of : List ℕ → Kind
+kind_of word = choice_of kind_word (kind.Node ∷ kind.Link ∷ kind.End ∷ []) kind.End word
 
-wrong_node : (network next : Network) (words : List (List ℕ)) (place : ℕ) → IsFirstNotAllowed (line_grammar network) [] words place → AddsNode network words next → ⊥
-wrong_node network next words place wrong adds =
-    let g = line_grammar network in
-    let first = subst (λ w. IsFirstNotAllowed g [] w place) adds.line wrong in
-    let second = later g [] (adds.name ∷ []) (codes "node") place first (inl (refl, adds.room)) in
-    let third = later g (codes "node" ∷ []) [] adds.name place second (inl (refl, adds.is_name, adds.is_new)) in
-    third.0 (inr (inl (refl, refl)))
+kind_back : (one : Kind) → kind_of (kind_word one) ≡ one
+kind_back kind.Node = refl
+kind_back kind.Link = refl
+kind_back kind.End = refl
 
-wrong_link : (network next : Network) (words : List (List ℕ)) (place : ℕ) → IsNetwork network → IsFirstNotAllowed (line_grammar network) [] words place → AddsLink network words next → ⊥
-wrong_link network next words place is wrong adds = at_cost t.cost t.is_cost at_end
-  where
-    g : Grammar
-    g = line_grammar network
+pub kinds_apart : (network : Network) → AreApart (MayCome network) kind_word
+kinds_apart network = apart_by kind_of (λ one _. kind_back one)
 
-    link : Link
-    link = adds.link
+pub nodes_apart : (network : Network) → IsNetwork network → AreApart (IsNodeOf network) (name_of network)
+nodes_apart network is = record { apart = λ one other below below'. same_name network one other is.differ below below' }
 
-    t : TellsLink network words link
-    t = adds.tells
+pub others_apart : (network : Network) (a : ℕ) → IsNetwork network → AreApart (IsOtherNode network a) (name_of network)
+others_apart network a is = record { apart = λ one other below below'. same_name network one other is.differ below.0 below'.0 }
 
-    before : List (List ℕ)
-    before = codes "link" ∷ t.a ∷ t.b ∷ t.capacity ∷ t.distance ∷ []
+-- ---- a line that does something is not wrong
 
-    others : t.b ≢ t.a
-    others same = adds.is_link.no_loop (same_node network.nodes link.a link.b t.a is.differ t.is_a (t.is_b ∙ ap Some same))
+pass_end : (network : Network) (words : List (List ℕ)) → EndsText network words → Passes (line_form network) words
+pass_end network words end = subst (Passes (line_form network)) (sym end.0) (pass_branch kind.End end.1 (kinds_apart network) pass_finish)
 
-    at_end : IsFirstNotAllowed g before t.cost place
-    at_end =
-        let first = subst (λ w. IsFirstNotAllowed g [] w place) t.line wrong in
-        let a = later g [] (t.a ∷ t.b ∷ t.capacity ∷ t.distance ∷ t.cost) (codes "link") place first (inr (inl (refl, adds.room))) in
-        let b = later g (codes "link" ∷ []) (t.b ∷ t.capacity ∷ t.distance ∷ t.cost) t.a place a (inr (refl, named network link.a t.a t.is_a)) in
-        let capacity = later g (codes "link" ∷ t.a ∷ []) (t.capacity ∷ t.distance ∷ t.cost) t.b place b (refl, named network link.b t.b t.is_b, others) in
-        let distance = later g (codes "link" ∷ t.a ∷ t.b ∷ []) (t.distance ∷ t.cost) t.capacity place capacity
-        (refl, (link.capacity, t.is_capacity, adds.is_link.in_range.capacity)) in
-        later g (codes "link" ∷ t.a ∷ t.b ∷ t.capacity ∷ []) t.cost t.distance place distance (refl, (link.length, t.is_length, adds.is_link.in_range.distance))
+pass_node : (network next : Network) (words : List (List ℕ)) → AddsNode network words next → Passes (line_form network) words
+pass_node network next words adds =
+    subst (Passes (line_form network)) (sym adds.line) (pass_branch kind.Node adds.room (kinds_apart network) (pass_place (adds.is_name, adds.is_new) pass_finish))
 
-    at_cost : (cost : List (List ℕ)) → TellsCost link cost → IsFirstNotAllowed g before cost place → ⊥
-    at_cost [] is_cost wrong = wrong.0 (inr (inr (refl, inl refl)))
-    at_cost (word ∷ []) is_cost wrong = (later g before [] word place wrong (refl, (link.cost, is_cost, adds.is_link.in_range.cost))).0 (inr (inr (refl, inr refl)))
-    at_cost (word ∷ more ∷ words) is_cost wrong = absurd is_cost
+module _ (network : Network) (is : IsNetwork network) (words : List (List ℕ)) (next : Network) (adds : AddsLink network words next) where
+  abbrev link : Link
+  link = adds.link
+
+  pass_numbers : (cost : List (List ℕ)) → Passes (maybe (number_form MOST_COST finish)) cost
+      → Passes (line_form network) (codes "link" ∷ name_of network link.a ∷ name_of network link.b ∷ decimal link.capacity ∷ decimal link.length ∷ cost)
+  pass_numbers cost pass =
+      pass_branch kind.Link adds.room (kinds_apart network) (pass_branch link.a adds.is_link.in_range.a (nodes_apart network is)
+      (pass_branch link.b (adds.is_link.in_range.b, λ same. adds.is_link.no_loop (sym same)) (others_apart network link.a is)
+      (pass_place (link.capacity, refl, adds.is_link.in_range.capacity) (pass_place (link.length, refl, adds.is_link.in_range.distance) pass))))
+
+  pass_told : TellsLink network words link → Passes (line_form network) words
+  pass_told (inl tells) = subst (Passes (line_form network)) (sym tells.0) (pass_numbers [] pass_nothing)
+  pass_told (inr tells) =
+      subst (Passes (line_form network)) (sym tells) (pass_numbers (decimal link.cost ∷ []) (pass_maybe (pass_place (link.cost, refl, adds.is_link.in_range.cost) pass_finish)))
+
+  pass_link : Passes (line_form network) words
+  pass_link = pass_told adds.tells
 
 -- where the first line is wrong, the text goes on with no line that adds or ends
 pub wrong_line : (network : Network) (text : List ℕ) (word : ℕ) → IsNetwork network → IsWrongLine network text word
-    → (words : List (List ℕ)) → HasLine text words → (IsEnd network words → ⊥) × ((next : Network) → AddsLine network words next → ⊥)
+    → (words : List (List ℕ)) → HasLine text words → (EndsText network words → ⊥) × ((next : Network) → AddsLine network words next → ⊥)
 wrong_line network text word is (inl (empty, _)) words line = absurd (line.some empty)
 wrong_line network text word is (inr (inl (long, _))) words line = absurd (omega (arith, long, line.short))
 wrong_line network text word is (inr (inr (mine, has, not_passed, wrong))) words line =
     let same : mine ≡ words = line_same text mine words has line in
     let here = subst (λ w. IsFirstNotAllowed (line_grammar network) [] w word) same wrong in
     let counts = subst (λ w. IsPassedOver w → ⊥) same not_passed in
-    (wrong_end network words word here, λ next adds. neither next adds counts here)
+    ((λ end. (pass_end network words end).none word here), λ next adds. neither next adds counts here)
   where
     neither : (next : Network) → AddsLine network words next → (IsPassedOver words → ⊥) → IsFirstNotAllowed (line_grammar network) [] words word → ⊥
     neither next (inl passed) counts here = counts passed.0
-    neither next (inr (inl node)) counts here = wrong_node network next words word here node
-    neither next (inr (inr link)) counts here = wrong_link network next words word is here link
+    neither next (inr (inl node)) counts here = (pass_node network next words node).none word here
+    neither next (inr (inr link)) counts here = (pass_link network is words next link).none word here

@@ -1,16 +1,18 @@
--- The text of a topology: node and link lines in any order in which a link's nodes come before it, and then `end`. Lines without a word are passed
--- over, and so are comments, which begin with `#`.
-use Rattle.std.specs.Prelude.{◌≡◌, ◌≢◌, ◌⊎◌, ℕ, ◌+◌, ◌<◌, ◌≤◌, List, [], ◌∷◌, ◌++◌, length, codes, Contains, Some, slice_get, ⊤}
+-- The text of a topology: node and link lines in any order in which a link's nodes come before it,
+-- and then `end`. Lines without a word are passed over, and so are comments, which begin with `#`.
+use Rattle.std.specs.Prelude.{◌≡◌, ◌≢◌, ◌⊎◌, ℕ, ◌+◌, ◌<◌, ◌≤◌, List, [], ◌∷◌, ◌++◌, length, codes, decimal, Contains, Some, slice_get, ⊤}
 use Rattle.std.specs.List.{before_first, after_first}
 use Rattle.hose_words.specs.Words.{words_of}
-use Rattle.hose_words.specs.Number.{IsNumber}
 use Rattle.hose_words.specs.Lines.{is_line_feed}
+use Rattle.hose_words.specs.Form.{Form, finish, place, branch, maybe, TellsNumber, grammar_of}
 use Rattle.hose_words.specs.Grammar.{Grammar, IsFirstNotAllowed}
 use Rattle.hose_graph.specs.Name.{IsName}
 use Rattle.hose_graph.specs.Limit.{IsUpTo}
-use Rattle.hose_graph.specs.Network.{Network, IsLink, HasNodeRoom, HasLinkRoom}
+use Rattle.hose_graph.specs.Network.{Network, IsLink, IsNodeOf, HasNodeRoom, HasLinkRoom, name_of}
 use Rattle.hose_graph.specs.declared.link.Link.{Link}
 use Rattle.hose_graph.specs.declared.limits.TheConstants.{MOST_CAPACITY, MOST_LENGTH, MOST_COST}
+use Rattle.hose_topo.specs.declared.kind.Kind.{Kind}
+use Rattle.hose_topo.specs.declared.kind.Kind.TheVariants as kind
 
 -- ---- what a line does
 
@@ -28,25 +30,17 @@ pub record AddsNode (network : Network) (words : List (List ℕ)) (next : Networ
   pub room : HasNodeRoom network
   pub added : next ≡ record network { nodes = network.nodes ++ name ∷ [] }
 
--- what a link costs: the number of the last word, or its length where there is no such word
-abbrev pub TellsCost : Link → List (List ℕ) → Type 0
-TellsCost link [] = link.cost ≡ link.length
-TellsCost link (cost ∷ []) = IsNumber cost link.cost
-TellsCost link (cost ∷ word ∷ words) = ⊥
+-- the words of a link without its cost
+abbrev pub link_words : Network → Link → List (List ℕ)
+link_words network link =
+    codes "link" ∷ name_of network link.a ∷ name_of network link.b
+    ∷ decimal link.capacity ∷ decimal link.length ∷ []
 
--- `link A B CAPACITY LENGTH` or `link A B CAPACITY LENGTH COST` tells this link, which joins the nodes of these names
-pub record TellsLink (network : Network) (words : List (List ℕ)) (link : Link) : Type 0 where
-  pub a : List ℕ
-  pub b : List ℕ
-  pub capacity : List ℕ
-  pub distance : List ℕ
-  pub cost : List (List ℕ)
-  pub line : words ≡ codes "link" ∷ a ∷ b ∷ capacity ∷ distance ∷ cost
-  pub is_a : slice_get network.nodes link.a ≡ Some a
-  pub is_b : slice_get network.nodes link.b ≡ Some b
-  pub is_capacity : IsNumber capacity link.capacity
-  pub is_length : IsNumber distance link.length
-  pub is_cost : TellsCost link cost
+-- `link A B CAPACITY LENGTH`, where it costs its length, or `link A B CAPACITY LENGTH COST`
+abbrev pub TellsLink : Network → List (List ℕ) → Link → Type 0
+TellsLink network words link =
+    ((words ≡ link_words network link) × (link.cost ≡ link.length))
+    ⊎ (words ≡ link_words network link ++ decimal link.cost ∷ [])
 
 -- a link line: the network has room for a link, and may have the one that is told
 pub record AddsLink (network : Network) (words : List (List ℕ)) (next : Network) : Type 0 where
@@ -58,11 +52,19 @@ pub record AddsLink (network : Network) (words : List (List ℕ)) (next : Networ
 
 -- a line before the end: it is passed over, or adds to the network
 abbrev pub AddsLine : Network → List (List ℕ) → Network → Type 0
-AddsLine network words next = (IsPassedOver words × (next ≡ network)) ⊎ (AddsNode network words next ⊎ AddsLink network words next)
+AddsLine network words next =
+    (IsPassedOver words × (next ≡ network))
+    ⊎ (AddsNode network words next ⊎ AddsLink network words next)
 
--- the line `end`, behind a node at least
-abbrev pub IsEnd : Network → List (List ℕ) → Type 0
-IsEnd network words = (words ≡ codes "end" ∷ []) × (0 < length network.nodes)
+-- the line `end`, after a node at least
+abbrev pub EndsText : Network → List (List ℕ) → Type 0
+EndsText network words = (words ≡ codes "end" ∷ []) × (0 < length network.nodes)
+
+-- what a line that is not passed over does, by its kind
+abbrev pub TellsLine : Network → Kind → List (List ℕ) → Network → Type 0
+TellsLine network kind.Node words next = AddsNode network words next
+TellsLine network kind.Link words next = AddsLink network words next
+TellsLine network kind.End words next = EndsText network words × (next ≡ network)
 
 -- ---- the text
 
@@ -72,72 +74,101 @@ pub record HasLine (text : List ℕ) (words : List (List ℕ)) : Type 0 where
   pub short : length (before_first is_line_feed text) ≤ 4096
   pub is_split : words ≡ words_of (before_first is_line_feed text)
 
--- This many lines at the front of a text add to a network, one after the other, and the rest of the text is left.
+-- This many lines at the front of a text add to a network, one after the other, and the rest of the
+-- text is left.
 pub data AddLines : Network → List ℕ → ℕ → Network → List ℕ → Type 0 where
   no_more : {network : Network} {text : List ℕ} → AddLines network text 0 network text
-  one_more : {network next last : Network} {text rest : List ℕ} {count : ℕ} (words : List (List ℕ)) → HasLine text words → AddsLine network words next
-      → AddLines next (after_first is_line_feed text) count last rest → AddLines network text (count + 1) last rest
+  one_more : {network next last : Network} {text rest : List ℕ} {count : ℕ} (words : List (List ℕ))
+      → HasLine text words → AddsLine network words next
+      → AddLines next (after_first is_line_feed text) count last rest
+      → AddLines network text (count + 1) last rest
 
 -- the network before the first line
 abbrev pub no_network : Network
 no_network = record { nodes = []; links = [] }
 
--- The text of a topology: lines that make its network from nothing, then `end`, and a rest that is not looked at.
+-- The text of a topology: lines that make its network from nothing, then `end`, and a rest that is
+-- not looked at.
 pub record IsTopologyText (text : List ℕ) (network : Network) (rest : List ℕ) : Type 0 where
-  pub behind : List ℕ
+  pub end : List ℕ
   pub count : ℕ
   pub words : List (List ℕ)
-  pub lines : AddLines no_network text count network behind
-  pub line : HasLine behind words
-  pub is_end : IsEnd network words
-  pub left : rest ≡ after_first is_line_feed behind
+  pub lines : AddLines no_network text count network end
+  pub line : HasLine end words
+  pub is_end : EndsText network words
+  pub left : rest ≡ after_first is_line_feed end
 
 -- ---- what is not allowed
 
--- the name of a node
-abbrev pub IsNodeName : Network → List ℕ → Type 0
-IsNodeName network word = Contains network.nodes word
+-- the words that lines begin with
+abbrev pub kind_word : Kind → List ℕ
+kind_word kind.Node = codes "node"
+kind_word kind.Link = codes "link"
+kind_word kind.End = codes "end"
+
+-- a line of this kind may come
+abbrev pub MayCome : Network → Kind → Type 0
+MayCome network kind.Node = HasNodeRoom network
+MayCome network kind.Link = HasLinkRoom network
+MayCome network kind.End = 0 < length network.nodes
+
+-- a name that no node has
+abbrev pub IsNewName : Network → List ℕ → Type 0
+IsNewName network word = IsName word × (Contains network.nodes word → ⊥)
+
+-- `NAME`
+abbrev pub node_form : Network → Form
+node_form network = place (IsNewName network) finish
 
 -- a number from 1 up to a limit
-abbrev pub IsNumberUpTo : ℕ → List ℕ → Type 0
-IsNumberUpTo most word = (number : ℕ) × IsNumber word number × IsUpTo most number
+abbrev pub number_form : ℕ → Form → Form
+number_form most form = place (TellsNumber (IsUpTo most)) form
 
--- which word may come behind others in a line that is not passed over
-abbrev pub MayFollow : Network → List (List ℕ) → List ℕ → Type 0
-MayFollow network [] word =
-    ((word ≡ codes "node") × HasNodeRoom network) ⊎ (((word ≡ codes "link") × HasLinkRoom network) ⊎ ((word ≡ codes "end") × (0 < length network.nodes)))
-MayFollow network (first ∷ []) word =
-    ((first ≡ codes "node") × IsName word × (Contains network.nodes word → ⊥)) ⊎ ((first ≡ codes "link") × IsNodeName network word)
-MayFollow network (first ∷ a ∷ []) word = (first ≡ codes "link") × IsNodeName network word × (word ≢ a)
-MayFollow network (first ∷ a ∷ b ∷ []) word = (first ≡ codes "link") × IsNumberUpTo MOST_CAPACITY word
-MayFollow network (first ∷ a ∷ b ∷ capacity ∷ []) word = (first ≡ codes "link") × IsNumberUpTo MOST_LENGTH word
-MayFollow network (first ∷ a ∷ b ∷ capacity ∷ distance ∷ []) word = (first ≡ codes "link") × IsNumberUpTo MOST_COST word
-MayFollow network words word = ⊥
+-- a node that is another one
+abbrev pub IsOtherNode : Network → ℕ → ℕ → Type 0
+IsOtherNode network a b = IsNodeOf network b × (b ≢ a)
 
--- where such words are a whole line, if each may follow those before it
-abbrev pub IsWholeLine : List (List ℕ) → Type 0
-IsWholeLine [] = ⊥
-IsWholeLine (first ∷ words) =
-    ((first ≡ codes "end") × (length words ≡ 0)) ⊎ (((first ≡ codes "node") × (length words ≡ 1)) ⊎ ((first ≡ codes "link") × ((length words ≡ 4) ⊎ (length words ≡ 5))))
+-- `CAPACITY LENGTH`, and `COST` where it is told
+abbrev pub numbers_form : Form
+numbers_form =
+    number_form MOST_CAPACITY (number_form MOST_LENGTH (maybe (number_form MOST_COST finish)))
+
+-- `A B CAPACITY LENGTH`, and `COST` where it is told
+abbrev pub link_form : Network → Form
+link_form network =
+    branch (IsNodeOf network) (name_of network)
+    (λ a. branch (IsOtherNode network a) (name_of network) (λ b. numbers_form))
+
+-- what may stand after the first word
+abbrev pub kind_form : Network → Kind → Form
+kind_form network kind.Node = node_form network
+kind_form network kind.Link = link_form network
+kind_form network kind.End = finish
+
+-- a line that is not passed over
+abbrev pub line_form : Network → Form
+line_form network = branch (MayCome network) kind_word (kind_form network)
 
 -- the grammar of the lines that are not passed over
 abbrev pub line_grammar : Network → Grammar
-line_grammar network = record { may_follow = MayFollow network; is_whole = IsWholeLine }
+line_grammar network = grammar_of (line_form network)
 
--- The first line of a text is wrong at a word. A line that is too long is wrong at word 0, and the end of the text at word 1.
+-- The first line of a text is wrong at a word. A line that is too long is wrong at word 0, and the
+-- end of the text at word 1.
 abbrev pub IsWrongLine : Network → List ℕ → ℕ → Type 0
 IsWrongLine network text word =
     ((text ≡ []) × (word ≡ 1))
     ⊎ (((4096 < length (before_first is_line_feed text)) × (word ≡ 0))
-    ⊎ ((words : List (List ℕ)) × HasLine text words × (IsPassedOver words → ⊥) × IsFirstNotAllowed (line_grammar network) [] words word))
+    ⊎ ((words : List (List ℕ)) × HasLine text words × (IsPassedOver words → ⊥)
+    × IsFirstNotAllowed (line_grammar network) [] words word))
 
--- The text of no topology: behind lines that add to a network, the line of this number, counted from 1, is wrong at this word. What stands
--- behind that line is left.
+-- Not the text of a topology: after lines that add to a network, the line of this number, counted
+-- from 1, is wrong at this word. What stands after that line is left.
 pub record IsWrongAt (text : List ℕ) (line word : ℕ) (rest : List ℕ) : Type 0 where
   pub network : Network
   pub count : ℕ
-  pub behind : List ℕ
-  pub lines : AddLines no_network text count network behind
+  pub here : List ℕ
+  pub lines : AddLines no_network text count network here
   pub is_line : line ≡ count + 1
-  pub wrong : IsWrongLine network behind word
-  pub left : rest ≡ after_first is_line_feed behind
+  pub wrong : IsWrongLine network here word
+  pub left : rest ≡ after_first is_line_feed here

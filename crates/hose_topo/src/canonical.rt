@@ -1,9 +1,9 @@
 // The canonical text of a topology and its digest.
-ghost use Rattle.std.specs.Prelude.{◌≡◌, ℕ, ◌<◌, List, ◌++◌, [], codes, length, slice_index_or};
+ghost use Rattle.std.specs.Prelude.{◌≡◌, ℕ, ◌<◌, List, ◌++◌, [], codes, length};
 ghost use Rattle.std.specs.List.{flat_map};
 ghost use Rattle.sha2.specs.Sha256.{sha256};
 ghost use Rattle.hose_io.specs.Writing.{IsPut};
-ghost use Rattle.hose_graph.specs.Network.{IsLink};
+ghost use Rattle.hose_graph.specs.Network.{IsLink, name_of};
 ghost use Rattle.hose_topo.specs.Canonical.{canonical_text, node_line, link_line};
 ghost use Rattle.hose_topo.specs.TopologyText.{IsTopologyText};
 
@@ -12,7 +12,8 @@ use hose_graph::{Link, Topology};
 use hose_io::{Failed, Gather, Sink};
 use sha2::{Digest, Sha256};
 
-/// Writes the canonical text of a topology: its nodes, then its links, in order, each link with its cost.
+/// Writes the canonical text of a topology: its nodes, then its links, in order, each link with its
+/// cost.
 ///
 /// It takes no memory, and goes out in pieces of up to 4,096 bytes.
 pub fn put_canonical<S: Sink>(sink: &mut S, top: &Topology) -> Result<(), Failed>
@@ -91,8 +92,8 @@ fn add_link<P: Pieces>(pieces: &mut P, top: &Topology, link: &Link)
 fn add_ends<P: Pieces>(pieces: &mut P, top: &Topology, link: &Link)
     requires { IsLink top.now link.now }
     ensures { P.adds pieces.old pieces.new
-        (codes "link " ++ slice_index_or top.now.nodes link.now.a []
-        ++ codes " " ++ slice_index_or top.now.nodes link.now.b []) }
+        (codes "link " ++ name_of top.now link.now.a
+        ++ codes " " ++ name_of top.now link.now.b) }
 {
     pieces.add(b"link ");
     pieces.add(top.name(link.a).bytes());

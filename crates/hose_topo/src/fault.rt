@@ -10,9 +10,10 @@ use thiserror::Error;
 /// Why no topology was read.
 #[derive(Clone, Copy, Debug, Error, PartialEq, Eq)]
 pub enum TopoFault {
-    /// The text is none of a topology. The first word that is not allowed is told by its line and its number in it, both counted from 1. The
-    /// word is 0 where the line has more than 4096 bytes, and one more than its words where it ends too early. Where the text ends before the line
-    /// `end`, it is word 1 of the line behind the last one.
+    /// The text is not that of a topology. The first word that is not allowed is told by its line
+    /// and its number in it, both counted from 1. The word is 0 where the line has more than 4096
+    /// bytes, and one more than its words where it ends too early. Where the text ends before the
+    /// line `end`, it is word 1 of the line after the last.
     #[error("line {line}: word {word} is not allowed")]
     At { line: u64, word: u64 },
     /// A call of the source failed.

@@ -1,4 +1,5 @@
-//! The text of a topology, both ways: reading one, writing the canonical one, and the digest of that.
+//! The text of a topology, both ways: reading one, writing the canonical one, and the digest of
+//! that.
 //!
 //! ```
 //! let mut lines = LineReader::new(source);
@@ -9,6 +10,7 @@
 
 mod canonical;
 mod fault;
+mod kind;
 mod line;
 mod pieces;
 mod reading;

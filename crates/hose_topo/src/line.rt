@@ -1,18 +1,18 @@
 // One line of a topology's text.
-ghost use Rattle.std.specs.Prelude.{◌≡◌, ◌≢◌, ◌⊎◌, ℕ, ◌<◌, List, [], ◌∷◌, codes, length, Contains, IfSome, IfNone, IsTrue, ◌↔◌, slice_get, Some};
+ghost use Rattle.std.specs.Prelude.{◌≡◌, ◌⊎◌, ◌∷◌, [], ◌↔◌, codes, decimal, IfOk, OnOk, IfErr, OnErr, IsTrue};
+ghost use Rattle.hose_words.specs.Cursor.{Took, IsWrong, Misses};
+ghost use Rattle.hose_words.specs.Form.{IsChoice, finish, maybe};
 ghost use Rattle.hose_words.specs.Words.{words_of};
-ghost use Rattle.hose_words.specs.Number.{IsNumber};
-ghost use Rattle.hose_words.specs.Grammar.{IsFirst};
 ghost use Rattle.hose_graph.specs.Limit.{IsUpTo};
-ghost use Rattle.hose_graph.specs.Name.{IsName};
-ghost use Rattle.hose_graph.specs.Network.{IsNetwork, HasNodeRoom, HasLinkRoom};
-ghost use Rattle.hose_topo.specs.TopologyText.{IsNodeName, IsNumberUpTo};
+ghost use Rattle.hose_graph.specs.Network.{IsLink, IsNetwork, IsNodeOf, HasLinkRoom, HasNodeRoom, name_of};
 ghost use Rattle.hose_topo.specs.Taken.{TakesWords};
+ghost use Rattle.hose_topo.specs.TopologyText.{AddsLink, AddsNode, EndsText, IsNewName, IsOtherNode, MayCome, TellsLink, TellsLine, kind_word, line_form, link_form, node_form, number_form};
 
+use crate::kind::Kind;
 use hose_graph::{
     Link, MOST_CAPACITY, MOST_COST, MOST_LENGTH, MOST_LINKS, MOST_NODES, Name, Topology,
 };
-use hose_words::{Words, number, split};
+use hose_words::{Cursor, WrongWord};
 
 /// What a line of the text did.
 pub enum Taken {
@@ -29,135 +29,173 @@ pub fn take_line(top: &mut Topology, line: &[u8]) -> Taken
     ensures takes { TakesWords result top.old (words_of line.now) top.new }
     ensures network { IsNetwork top.old }
 {
-    let nodes = top.nodes();
-    let links = top.links();
-    let mut words = split(line);
-    match words.next() {
-        None | Some([b'#', ..]) => Taken::Added,
-        Some(b"node") if nodes < MOST_NODES => add_node(top, words),
-        Some(b"link") if links < MOST_LINKS => add_link(top, words),
-        Some(b"end") if nodes > 0 => end(top, words),
-        Some(_) => Taken::Wrong(1),
+    // The call tells the proof what holds of each network: that no two nodes have one name.
+    let _nodes = top.nodes();
+    let mut words = Cursor::new(line);
+    if let None | Some([b'#', ..]) = words.peek() {
+        return Taken::Added;
+    }
+    match take_words(top, &mut words) {
+        Ok(Kind::End) => Taken::End,
+        Ok(_) => Taken::Added,
+        Err(wrong) => Taken::Wrong(wrong.number),
     }
 }
 
-// The words behind `node`.
-fn add_node(top: &mut Topology, mut words: Words<'_>) -> Taken
-    requires room { HasNodeRoom top.old }
-    ensures { TakesWords result top.old (codes "node" ∷ words.entry) top.new }
+// Takes the words of a line that is not passed over, and says of which kind it is.
+fn take_words(top: &mut Topology, words: &mut Cursor<'_>) -> Result<Kind, WrongWord>
+    requires { IsNetwork top.old }
+    ensures ok { IfOk result (λ kind. TellsLine top.old kind words.old.left top.new) }
+    ensures wrong { IfErr result (λ wrong. IsWrong (line_form top.old) words.old wrong.number) }
+    ensures stays { OnErr result (top.new ≡ top.old) }
 {
-    let Some(name) = next_new_name(top, &mut words) else {
-        return Taken::Wrong(2);
-    };
-    if words.next().is_some() {
-        return Taken::Wrong(3);
+    let kind = next_kind(top, words)?;
+    match kind {
+        Kind::Node => add_node(top, words)?,
+        Kind::Link => add_link(top, words)?,
+        Kind::End => words.finish()?,
     }
-    let _ = top.add_node(name);
-    Taken::Added
+    Ok(kind)
 }
 
-// The words behind `link`.
-fn add_link(top: &mut Topology, mut words: Words<'_>) -> Taken
+// The kind that the next word tells, where a line of it may come.
+fn next_kind(top: &Topology, words: &mut Cursor<'_>) -> Result<Kind, WrongWord>
+    ensures ok { IfOk result (λ kind. Took words.old words.new (kind_word kind)) }
+    ensures may { IfOk result (MayCome top.now) }
+    ensures wrong { IfErr result
+        (λ wrong. Misses (IsChoice (MayCome top.now) kind_word) words.old wrong.number) }
+{
+    let wrong = words.wrong();
+    let kind = words.keyword()?;
+    if may_come(top, kind) {
+        Ok(kind)
+    } else {
+        Err(wrong)
+    }
+}
+
+// Whether a line of this kind may come.
+fn may_come(top: &Topology, kind: Kind) -> bool
+    ensures { IsTrue result ↔ MayCome top.now kind }
+{
+    match kind {
+        Kind::Node => top.nodes() < MOST_NODES,
+        Kind::Link => top.links() < MOST_LINKS,
+        Kind::End => top.nodes() > 0,
+    }
+}
+
+// The words after `node`.
+fn add_node(top: &mut Topology, words: &mut Cursor<'_>) -> Result<(), WrongWord>
+    requires { HasNodeRoom top.old }
+    ensures ok { OnOk result (AddsNode top.old (codes "node" ∷ words.old.left) top.new) }
+    ensures wrong { IfErr result (λ wrong. IsWrong (node_form top.old) words.old wrong.number) }
+    ensures stays { OnErr result (top.new ≡ top.old) }
+{
+    let name = next_new_name(top, words)?;
+    words.finish()?;
+    top.push_node(name);
+    Ok(())
+}
+
+// The next word, where it is a name that no node has.
+fn next_new_name(top: &Topology, words: &mut Cursor<'_>) -> Result<Name, WrongWord>
+    ensures ok { IfOk result (λ name. Took words.old words.new name) }
+    ensures is_new { IfOk result (IsNewName top.now) }
+    ensures wrong { IfErr result (λ wrong. Misses (IsNewName top.now) words.old wrong.number) }
+{
+    let wrong = words.wrong();
+    let Some(word) = words.next() else {
+        return Err(wrong);
+    };
+    let Some(name) = Name::read(word) else {
+        return Err(wrong);
+    };
+    if top.find(&name).is_some() {
+        return Err(wrong);
+    }
+    Ok(name)
+}
+
+// The words after `link`.
+fn add_link(top: &mut Topology, words: &mut Cursor<'_>) -> Result<(), WrongWord>
     requires room { HasLinkRoom top.old }
     requires network { IsNetwork top.old }
-    ensures { TakesWords result top.old (codes "link" ∷ words.entry) top.new }
+    ensures ok { OnOk result (AddsLink top.old (codes "link" ∷ words.old.left) top.new) }
+    ensures wrong { IfErr result (λ wrong. IsWrong (link_form top.old) words.old wrong.number) }
+    ensures stays { OnErr result (top.new ≡ top.old) }
 {
-    let Some(a) = next_node(top, &mut words) else {
-        return Taken::Wrong(2);
-    };
-    let Some(b) = next_other_node(top, a, &mut words) else {
-        return Taken::Wrong(3);
-    };
-    let Some(capacity) = next_number(&mut words, MOST_CAPACITY) else {
-        return Taken::Wrong(4);
-    };
-    let Some(length) = next_number(&mut words, MOST_LENGTH) else {
-        return Taken::Wrong(5);
-    };
-    let Some(cost) = last_cost(&mut words, length) else {
-        return Taken::Wrong(6);
-    };
-    if words.next().is_some() {
-        return Taken::Wrong(7);
-    }
-    let _ = top.add_link(Link {
+    let link = read_link(top, words)?;
+    top.push_link(link);
+    Ok(())
+}
+
+// The link that the words after `link` tell.
+fn read_link(top: &Topology, words: &mut Cursor<'_>) -> Result<Link, WrongWord>
+    requires { IsNetwork top.now }
+    ensures ok { IfOk result (TellsLink top.now (codes "link" ∷ words.old.left)) }
+    ensures is_link { IfOk result (IsLink top.now) }
+    ensures wrong { IfErr result (λ wrong. IsWrong (link_form top.now) words.old wrong.number) }
+{
+    let a = next_node(top, words)?;
+    let b = next_other_node(top, a, words)?;
+    let capacity = words.number_within(1, MOST_CAPACITY)?;
+    let length = words.number_within(1, MOST_LENGTH)?;
+    let cost = last_cost(words, length)?;
+    Ok(Link {
         a,
         b,
         capacity,
         length,
         cost,
-    });
-    Taken::Added
-}
-
-// The words behind `end`.
-fn end(top: &Topology, mut words: Words<'_>) -> Taken
-    requires some { 0 < length top.now.nodes }
-    ensures { TakesWords result top.now (codes "end" ∷ words.entry) top.now }
-{
-    match words.next() {
-        None => Taken::End,
-        Some(_) => Taken::Wrong(2),
-    }
-}
-
-// The next word, where it is a name that no node has.
-fn next_new_name(top: &Topology, words: &mut Words<'_>) -> Option<Name>
-    ensures some { IfSome result (λ name. (words.old ≡ name ∷ words.new) × IsName name × (Contains top.now.nodes name → ⊥)) }
-    ensures none { IfNone result (IsFirst (λ word. IsName word × (Contains top.now.nodes word → ⊥)) words.old → ⊥) }
-{
-    let name = Name::read(words.next()?)?;
-    if top.find(&name).is_some() {
-        return None;
-    }
-    Some(name)
+    })
 }
 
 // The node that the next word names.
-fn next_node(top: &Topology, words: &mut Words<'_>) -> Option<u32>
+fn next_node(top: &Topology, words: &mut Cursor<'_>) -> Result<u32, WrongWord>
     requires { IsNetwork top.now }
-    ensures some { IfSome result (λ node. (name : List ℕ) × (words.old ≡ name ∷ words.new) × (slice_get top.now.nodes node ≡ Some name)) }
-    ensures none { IfNone result (IsFirst (IsNodeName top.now) words.old → ⊥) }
+    ensures ok { IfOk result (λ node. Took words.old words.new (name_of top.now node)) }
+    ensures is_node { IfOk result (IsNodeOf top.now) }
+    ensures wrong { IfErr result
+        (λ wrong. Misses (IsChoice (IsNodeOf top.now) (name_of top.now)) words.old wrong.number) }
 {
-    top.find(&Name::read(words.next()?)?)
+    let wrong = words.wrong();
+    let Some(word) = words.next() else {
+        return Err(wrong);
+    };
+    let Some(name) = Name::read(word) else {
+        return Err(wrong);
+    };
+    let Some(node) = top.find(&name) else {
+        return Err(wrong);
+    };
+    Ok(node)
 }
 
 // The node that the next word names, where it is another one.
-fn next_other_node(top: &Topology, node: u32, words: &mut Words<'_>) -> Option<u32>
+fn next_other_node(top: &Topology, a: u32, words: &mut Cursor<'_>) -> Result<u32, WrongWord>
     requires { IsNetwork top.now }
-    ensures some { IfSome result (λ other. (name : List ℕ) × (words.old ≡ name ∷ words.new) × (slice_get top.now.nodes other ≡ Some name)) }
-    ensures other { IfSome result (λ other. other ≢ node) }
-    ensures none { IfNone result (IsFirst (λ word. IsNodeName top.now word × (slice_get top.now.nodes node ≡ Some word → ⊥)) words.old → ⊥) }
+    ensures ok { IfOk result (λ b. Took words.old words.new (name_of top.now b)) }
+    ensures other { IfOk result (IsOtherNode top.now a) }
+    ensures wrong { IfErr result (λ wrong.
+        Misses (IsChoice (IsOtherNode top.now a) (name_of top.now)) words.old wrong.number) }
 {
-    let other = next_node(top, words)?;
-    (other != node).then_some(other)
-}
-
-// The number that the next word tells, where it is 1 or more and at most `most`.
-fn next_number(words: &mut Words<'_>, most: u64) -> Option<u64>
-    ensures some { IfSome result (λ value. (word : List ℕ) × (words.old ≡ word ∷ words.new) × IsNumber word value × IsUpTo most value) }
-    ensures none { IfNone result (IsFirst (IsNumberUpTo most) words.old → ⊥) }
-{
-    up_to(words.next()?, most)
+    let wrong = words.wrong();
+    let b = next_node(top, words)?;
+    if b == a { Err(wrong) } else { Ok(b) }
 }
 
 // The cost that the last word tells, where there is one more, or else the length.
-fn last_cost(words: &mut Words<'_>, length: u64) -> Option<u64>
-    ensures some { IfSome result (λ cost. ((words.old ≡ []) × (words.new ≡ []) × (cost ≡ length))
-        ⊎ ((word : List ℕ) × (words.old ≡ word ∷ words.new) × IsNumber word cost × IsUpTo MOST_COST cost)) }
-    ensures none { IfNone result (words.old ≢ [] × (IsFirst (IsNumberUpTo MOST_COST) words.old → ⊥)) }
+fn last_cost(words: &mut Cursor<'_>, length: u64) -> Result<u64, WrongWord>
+    ensures ok { IfOk result (λ cost. ((words.old.left ≡ []) × (cost ≡ length))
+        ⊎ ((words.old.left ≡ decimal cost ∷ []) × IsUpTo MOST_COST cost)) }
+    ensures wrong { IfErr result
+        (λ wrong. IsWrong (maybe (number_form MOST_COST finish)) words.old wrong.number) }
 {
-    match words.next() {
-        None => Some(length),
-        Some(word) => up_to(word, MOST_COST),
-    }
-}
-
-// The number that a word tells, where it is 1 or more and at most `most`.
-fn up_to(word: &[u8], most: u64) -> Option<u64>
-    ensures some { IfSome result (λ value. IsNumber word.now value × IsUpTo most value) }
-    ensures none { IfNone result (IsNumberUpTo most word.now → ⊥) }
-{
-    let value = number(word, most)?;
-    (value > 0).then_some(value)
+    let Some(_) = words.peek() else {
+        return Ok(length);
+    };
+    let cost = words.number_within(1, MOST_COST)?;
+    words.finish()?;
+    Ok(cost)
 }

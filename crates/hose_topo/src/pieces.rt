@@ -41,7 +41,8 @@ pub struct Outgoing<'a, S: Sink> {
 
 impl<'a, S: Sink> Pieces for Outgoing<'a, S> {
     // The sink stays the one that was lent.
-    ghost adds = { λ old new text. IsAdded S.Sink old.gather old.sink.now new.gather new.sink.now text
+    ghost adds = { λ old new text.
+        IsAdded S.Sink old.gather old.sink.now new.gather new.sink.now text
         × (new.sink.ghost_name ≡ old.sink.ghost_name) };
 
     ghost none = { λ out. (IsAdded-none S.Sink out.gather out.sink.now, refl) };

@@ -1,13 +1,12 @@
 // A topology's text, line by line.
 ghost use Rattle.std.specs.Prelude.{◌≡◌, ◌⊎◌, ◌↔◌, ℕ, ◌+◌, ◌^◌, ◌<◌, ◌≤◌, List, ◌++◌, length, Some, None, Ok, Err, IfOk};
 ghost use Rattle.hose_io.specs.Frame.{Rose};
-ghost use Rattle.hose_words.specs.Lines.{StopsBehindLines};
 ghost use Rattle.hose_words.specs.Reading.{ReadsOn, WhereTold};
 ghost use Rattle.hose_words.specs.declared.lines.LineFault.{LineFault};
 ghost use Rattle.hose_graph.specs.Network.{Network, IsNetwork};
-ghost use Rattle.hose_topo.specs.Reading.{fault_of, KeepsFault};
+ghost use Rattle.hose_topo.specs.Reading.{StopsInTopology, fault_of, KeepsFault};
 ghost use Rattle.hose_topo.specs.Taken.{TakesNext};
-ghost use Rattle.hose_topo.specs.TopologyText.{AddLines, IsTopologyText, IsWrongAt, no_network};
+ghost use Rattle.hose_topo.specs.TopologyText.{IsTopologyText, IsWrongAt};
 
 use crate::fault::TopoFault;
 use crate::line::{Taken, take_line};
@@ -16,23 +15,29 @@ use hose_io::Source;
 use hose_words::{Line, LineFault, LineReader};
 use std::alloc::Global;
 
-/// Reads a topology up to and with the line `end`, and no line behind it.
+/// Reads a topology up to and with the line `end`, and no line after it. A text that is refused is
+/// never told as want of memory: room for the greatest topology is taken before the first line.
 pub fn read<S: Source>(alloc: Global, lines: &mut LineReader<S>) -> Result<Topology, TopoFault>
-    // What was to come is the text of this topology and of no other, and what is to come now is what that leaves.
-    ensures topology { WhereTold (S.content lines.old.source) (S.content lines.new.source) (λ before after.
-        IfOk result (λ top. IsTopologyText (lines.old.pending ++ before) top (lines.new.pending ++ after))) }
+    // What was to come is the text of this topology and of no other, and what is to come now is
+    // what that leaves.
+    ensures topology { WhereTold (S.content lines.old.source) (S.content lines.new.source)
+        (λ before after. IfOk result (λ top.
+        IsTopologyText (lines.old.pending ++ before) top (lines.new.pending ++ after))) }
     ensures alone { WhereTold (S.content lines.old.source) (S.content lines.new.source) (λ before _.
-        IfOk result (λ top. (other : Network) (rest : List ℕ) → IsTopologyText (lines.old.pending ++ before) other rest → other ≡ top)) }
+        IfOk result (λ top. (other : Network) (rest : List ℕ)
+        → IsTopologyText (lines.old.pending ++ before) other rest → other ≡ top)) }
     ensures network { IfOk result IsNetwork }
     ensures some { IfOk result (λ top. 0 < length top.nodes) }
 
-    // What was to come is the text of no topology, and wrong first at this word. The lines up to the wrong one were taken.
+    // What was to come is not the text of a topology, and wrong first at this word. The lines up to
+    // the wrong one were taken.
     ensures wrong { (line word : ℕ) → result ≡ Err (TopoFault.At line word)
         → WhereTold (S.content lines.old.source) (S.content lines.new.source) (λ before after.
         IsWrongAt (lines.old.pending ++ before) line word (lines.new.pending ++ after)) }
     ensures no_text { (line word : ℕ) → result ≡ Err (TopoFault.At line word)
         → WhereTold (S.content lines.old.source) (S.content lines.new.source) (λ before _.
-        (network : Network) (rest : List ℕ) → IsTopologyText (lines.old.pending ++ before) network rest → ⊥) }
+        (network : Network) (rest : List ℕ)
+        → IsTopologyText (lines.old.pending ++ before) network rest → ⊥) }
 
     ensures read { result ≡ Err TopoFault.Read → (lines.old.fault ≡ Some LineFault.Read)
         ⊎ Rose (S.frame lines.old.source) (S.frame lines.new.source) }
@@ -41,9 +46,7 @@ pub fn read<S: Source>(alloc: Global, lines: &mut LineReader<S>) -> Result<Topol
     // Whole lines that add to a network were taken, and then bytes that end no line.
     ensures front { lines.old.fault ≡ None → (fault : LineFault) → result ≡ Err (fault_of fault)
         → WhereTold (S.content lines.old.source) (S.content lines.new.source) (λ before after.
-        (network : Network) × (count : ℕ) × (behind : List ℕ)
-        × AddLines no_network (lines.old.pending ++ before) count network behind
-        × StopsBehindLines fault (lines.old.pending ++ before) behind after) }
+        StopsInTopology fault (lines.old.pending ++ before) after) }
     ensures memory { result ≡ Err TopoFault.Memory → lines.new ≡ lines.old }
 
     ensures fault { KeepsFault lines.old.fault lines.new.fault result }
@@ -51,7 +54,8 @@ pub fn read<S: Source>(alloc: Global, lines: &mut LineReader<S>) -> Result<Topol
     ensures limit { lines.old.taken ≤ 2 ^ 30 + 1 → lines.new.taken ≤ 2 ^ 30 + 1 }
 {
     let mut top = Topology::new(alloc)?;
-    // The lines are counted in 64 bits, as each takes a byte at least of those pending and those to come.
+    // The lines are counted in 64 bits, as each takes a byte at least of those pending and those to
+    // come.
     let _pending = lines.pending();
     let mut line = 0;
     loop {
@@ -69,6 +73,7 @@ fn take_next<S: Source>(top: &mut Topology, lines: &mut LineReader<S>) -> Result
     ensures takes { TakesNext S.Source lines.old lines.new result top.old top.new }
     ensures network { IsNetwork top.old }
 {
+    // The call tells the proof what holds of each network.
     let _nodes = top.nodes();
     match lines.next()? {
         Some(Line::Text(line)) => Ok(take_line(top, line)),

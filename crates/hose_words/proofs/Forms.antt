@@ -168,6 +168,10 @@ pub IsFirst-weaker : (strong weak : List ℕ → Type 0) → ((word : List ℕ) 
 IsFirst-weaker strong weak more [] first = first
 IsFirst-weaker strong weak more (word ∷ words) first = more word first
 
+-- where the first word passes, there is one
+pub some_word : (passes : List ℕ → Type 0) (words : List (List ℕ)) → IsFirst passes words → words ≡ [] → ⊥
+some_word passes words first none = subst (IsFirst passes) none first
+
 -- where a weaker reason is missed, so is the stronger
 pub Misses-stronger : {strong weak : List ℕ → Type 0} {old : Position} {number : ℕ} → ((word : List ℕ) → strong word → weak word) → Misses weak old number → Misses strong old number
 Misses-stronger {strong} {weak} {old} {number} more misses = record {
@@ -182,3 +186,12 @@ misses_word {passes} {old} {new} {word} {number} took never at = record { none =
 -- no word is there
 pub misses_end : {passes : List ℕ → Type 0} {old : Position} {number : ℕ} → old.left ≡ [] → number ≡ old.read + 1 → Misses passes old number
 misses_end {passes} {old} {number} none at = record { none = λ first. subst (IsFirst passes) none first; at = at }
+
+-- ---- a line from its start
+
+-- the word that is told of a line is the first that is not allowed
+pub wrong_at_start : {form : Form} {start : Position} {number : ℕ} (words : List (List ℕ)) → start ≡ record { left = words; read = 0 } → IsWrong form start number → IsFirstNotAllowed (grammar_of form) [] words number
+wrong_at_start {form} {start} {number} words is wrong =
+    let place : wrong.place ≡ number = omega (arith, wrong.at, ap (λ (position : Position). position.read) is) in
+    subst (λ p. IsFirstNotAllowed (grammar_of form) [] words p) place
+    (subst (λ (position : Position). IsFirstNotAllowed (grammar_of form) [] position.left wrong.place) is wrong.wrong)

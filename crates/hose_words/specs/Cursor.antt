@@ -29,10 +29,10 @@ pub record IsWrong (form : Form) (old : Position) (number : ℕ) : Type 0 where
   pub at : number ≡ old.read + place
   pub wrong : IsFirstNotAllowed (grammar_of form) [] old.left place
 
--- The next word tells no item that may come next in a list of so many items at least; or the line ends before they are
--- there. This is the word's number.
-pub record MissesItem {A : Type 0} (word_of : A → List ℕ) (may : A → Type 0) (least : ℕ) (items : List A)
-    (old : Position) (number : ℕ) : Type 0 where
+-- The next word tells no item that may come next in a list of so many items at least; or the line
+-- ends before they are there. This is the word's number.
+pub record MissesItem {A : Type 0} (word_of : A → List ℕ) (may : A → Type 0) (least : ℕ)
+    (items : List A) (old : Position) (number : ℕ) : Type 0 where
   pub none : IsFirst (λ word. (item : A) × (word ≡ word_of item) × may item) old.left → ⊥
   pub few : old.left ≡ [] → length items < least
   pub at : number ≡ old.read + 1

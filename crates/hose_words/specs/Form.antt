@@ -1,4 +1,5 @@
--- Forms of lines of words: what may stand from some word of a line on, part by part, and the grammar of each form.
+-- Forms of lines of words: what may stand from some word of a line on, part by part, and the
+-- grammar of each form.
 use Rattle.std.specs.Prelude.{◌≡◌, ◌≢◌, ◌⊎◌, ℕ, ◌^◌, ◌<◌, ◌≤◌, List, [], ◌∷◌, ◌++◌, ⊤, map, decimal, length}
 use Rattle.hose_words.specs.Grammar.{Grammar}
 
@@ -16,7 +17,8 @@ pub data Form : Type 1 where
   maybe : Form → Form
   -- the words of a list of so many items at least, up to the end of the line
   list : {A : Type 0} → (A → List ℕ) → (List A → Type 0) → ℕ → Form
-  -- the words of a list of so many items at least, the word that ends it, and what may stand after that
+  -- the words of a list of so many items at least, the word that ends it, and what may stand after
+  -- that
   until : {A : Type 0} → (A → List ℕ) → (List A → Type 0) → ℕ → List ℕ → Form → Form
 
 -- a word is that of a choice that there is
@@ -31,7 +33,8 @@ Each choice = ⊤
 abbrev pub TellsItems : {A : Type 0} → (A → List ℕ) → (List A → Type 0) → List (List ℕ) → Type 0
 TellsItems {A} word_of fine words = (items : List A) × (words ≡ map word_of items) × fine items
 
--- the word may come after those of a list and after more words: they are of the list up to the one that ends it
+-- the word may come after those of a list and after more words: they are of the list up to the one
+-- that ends it
 abbrev pub FollowsUntil : (List (List ℕ) → Type 0) → ℕ → List ℕ → (List (List ℕ) → List ℕ → Type 0)
     → List (List ℕ) → List (List ℕ) → List ℕ → Type 0
 FollowsUntil tells least last follows listed [] word =

@@ -2,6 +2,7 @@
 ghost use Rattle.std.specs.Prelude.{◌≡◌, ◌≤◌, ℕ, ◌+◌, List, [], drop, length, IfOk, OnOk, IfErr, IfSome, IfNone, decimal};
 ghost use Rattle.hose_words.specs.Words.{words_of};
 ghost use Rattle.hose_words.specs.Cursor.{Took, Misses, IsWrong};
+ghost use Rattle.hose_words.specs.Grammar.{IsFirst};
 ghost use Rattle.hose_words.specs.Form.{finish, IsChoice, Each, TellsNumber, Fits64, IsWithin};
 
 use crate::decimal::number;
@@ -28,8 +29,9 @@ pub trait Keyword: Copy {
 
 /// The words of a line that are still to come, and how many came.
 ///
-/// Each call that wants a word of some kind tells the number of the word where it is missing or not of that kind, so
-/// that `?` hands on the first word of a line that is not allowed. The cursor is then after that word.
+/// Each call that wants a word of some kind tells the number of the word where it is missing or not
+/// of that kind, so that `?` hands on the first word of a line that is not allowed. The cursor is
+/// then after that word.
 ///
 /// ```
 /// let mut words = Cursor::new(line);
@@ -76,10 +78,19 @@ impl<'a> Cursor<'a> {
         Some(word)
     }
 
+    /// The next word, which stays to come.
+    pub fn peek(&self) -> Option<&'a [u8]>
+        ensures some { IfSome result (λ word. IsFirst (λ first. first ≡ word.now) self.now.left) }
+        ensures none { IfNone result (self.now.left ≡ []) }
+    {
+        self.words.peek()
+    }
+
     /// Passes over words.
     pub fn skip(&mut self, count: u64)
         requires { count ≤ length self.old.left }
-        ensures { self.new ≡ record { left = drop count self.old.left; read = self.old.read + count } }
+        ensures { self.new
+            ≡ record { left = drop count self.old.left; read = self.old.read + count } }
     {
         for _ in 0..count {
             self.next();

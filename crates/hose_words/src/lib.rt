@@ -1,6 +1,7 @@
 //! Lines, words and numbers of a stream of bytes, for the readers of the rest of `hosed`.
 //!
-//! A `LineReader` cuts a source into lines, and a `Cursor` reads the words of a line one after the other:
+//! A `LineReader` cuts a source into lines, and a `Cursor` reads the words of a line one after the
+//! other:
 //!
 //! ```
 //! let mut lines = LineReader::new(source);
@@ -12,7 +13,8 @@
 //! }
 //! ```
 //!
-//! Which words a line may have is said by a form (`specs/Form.antt`), part by part as the cursor reads them.
+//! Which words a line may have is said by a form (`specs/Form.antt`), part by part as the cursor
+//! reads them.
 #![tactic(auto)]
 
 mod buffer;

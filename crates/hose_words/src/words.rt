@@ -2,6 +2,7 @@
 ghost use Rattle.std.specs.Prelude.{◌≡◌, ◌==◌, ◌≤◌, [], ◌∷◌, length, IfSome, IfNone};
 ghost use Rattle.std.specs.Iterator.{YieldsFirstRef, item_count};
 ghost use Rattle.std.specs.List.{prefix_len, position_or_len};
+ghost use Rattle.hose_words.specs.Grammar.{IsFirst};
 ghost use Rattle.hose_words.specs.Words.{words_of};
 
 use std::marker::Model;
@@ -30,6 +31,19 @@ pub fn split(line: &[u8]) -> Words<'_>
     Words { rest: line }
 }
 
+impl<'a> Words<'a> {
+    // The next word, which stays to come.
+    pub(crate) fn peek(&self) -> Option<&'a [u8]>
+        ensures some { IfSome result (λ word. IsFirst (λ first. first ≡ word.now) self.now) }
+        ensures none { IfNone result (self.now ≡ []) }
+    {
+        let Some((word, _)) = first_word(self.rest) else {
+            return None;
+        };
+        Some(word)
+    }
+}
+
 impl<'a> Iterator for Words<'a> {
     type Item = &'a [u8];
 
@@ -46,7 +60,8 @@ impl<'a> Iterator for Words<'a> {
 
 // The first word and what follows it, where there is a word.
 fn first_word(bytes: &[u8]) -> Option<(&[u8], &[u8])>
-    ensures word { IfSome result (λ parts. words_of bytes.now ≡ parts.0.now ∷ words_of parts.1.now) }
+    ensures word { IfSome result
+        (λ parts. words_of bytes.now ≡ parts.0.now ∷ words_of parts.1.now) }
     ensures none { IfNone result (words_of bytes.now ≡ []) }
 {
     let from_word = &bytes[spaces_before(bytes)..];

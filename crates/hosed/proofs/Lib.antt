@@ -5,5 +5,4 @@ pub mod Outcomes
 pub mod Releasing
 pub mod Reserved
 pub mod Running
-pub mod Shifting
 pub mod Turns

@@ -4,16 +4,17 @@ use Rattle.std.specs.List.{All, before_first, after_first}
 use Rattle.hose_words.specs.Words.{words_of}
 use Rattle.hose_words.specs.Lines.{is_line_feed}
 use Rattle.hose_words.specs.Grammar.{IsFirstNotAllowed}
+use Rattle.hose_words.proofs.Forms.{after_place, front_wrong}
 use Rattle.hose_words.proofs.Judging.{place_unique}
+use Rattle.hose_graph.specs.Name.{IsName}
 use Rattle.hose_graph.specs.declared.command.Command.{Command}
 use Rattle.hose_graph.specs.Network.{Network, IsNetwork}
 use Rattle.hose_law.specs.Script.{ReadLine}
 use Rattle.hose_law.specs.Script.ReadLine.{Asks, IsBad, IsLong, Unread}
-use Rattle.hose_proto.specs.Command.{IsCommand}
+use Rattle.hose_proto.specs.Command.{IsCommand, command_form, command_grammar}
 use Rattle.hose_proto.proofs.OneCommand.{command_unique, command_not_wrong}
 use Rattle.hosed.specs.ScriptLine.{IsAsking, script_grammar}
 use Rattle.hosed.specs.Serving.{Says, IsRead, SayLines, no_line, one_more as one_line}
-use Rattle.hosed.proofs.Shifting.{unshifted}
 
 -- ---- one line
 
@@ -31,7 +32,9 @@ asking_not_wrong network line customer command word is asks wrong =
     at (subst (λ w. IsFirstNotAllowed (script_grammar network) [] w word) asks.spelled wrong)
   where
     at : IsFirstNotAllowed (script_grammar network) [] (customer ∷ asks.words) word → ⊥
-    at (inl behind) = let place = unshifted network customer [] asks.words word behind.1 in command_not_wrong network asks.words command place.0 is asks.asks place.1
+    at (inl after) =
+        let place = front_wrong (script_grammar network) (command_grammar network) (customer ∷ []) [] asks.words word (after_place IsName (command_form network) customer) after.1 in
+        command_not_wrong network asks.words command place.0 is asks.asks place.2
     at (inr wrong) = wrong.0 asks.is_name
 
 -- a line that is read says one thing

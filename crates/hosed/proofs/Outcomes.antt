@@ -16,8 +16,8 @@ use Rattle.hose_graph.specs.declared.reply.Reply.{Reply}
 use Rattle.hose_law.specs.Script.{ReadLine}
 use Rattle.hose_topo.specs.TopologyText.{IsTopologyText}
 use Rattle.hosed.specs.Ending.{IsOut, status_of_done}
-use Rattle.hosed.specs.Run.{HasRun, IsRefusedText, IsServable, StopsInTopology, TellsNoNetwork}
-use Rattle.hosed.specs.RunOutcome.{EndsRefused, IsBroken, RunLeaves, TakesWithinLimit}
+use Rattle.hosed.specs.Run.{HasRun, IsRefusedText, IsServable, TellsNoNetwork}
+use Rattle.hosed.specs.RunOutcome.{EndsRefused, InputStops, IsBroken, RunLeaves, TakesWithinLimit}
 use Rattle.hosed.specs.Serving.{IsAllTaken, IsEndOf}
 use Rattle.hosed.specs.declared.fault.Fault.{Fault}
 use Rattle.hosed.specs.declared.fault.Fault.TheVariants.{Words, Topology, Read, Write, Memory, TooLong}
@@ -66,7 +66,7 @@ no_network_read None new refused text = refused
 
 module _ {I O : Type 0} (source : SourceGhosts I) (sink : SinkGhosts O) (input input' : I) (output left output' : O) where
   stops_refused : (fault : LineFault) → IsRefusedText (source.content input) (source.content input') → IsBroken source sink input input' output left fault
-      → StopsInTopology fault (source.content input) (source.content input')
+      → InputStops source sink input input' output output' fault
   stops_refused fault refused (inl stops) = stops.0
   stops_refused fault refused (inr run) = absurd (no_run _ _ run.0.network run.0.lines run.0.replies (StopsBehindLines fault) refused run.0.run)
 

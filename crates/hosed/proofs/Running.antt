@@ -10,16 +10,16 @@ use Rattle.hose_words.proofs.OnReading.{IsBehindLines-then, WhereTold-both, Wher
 use Rattle.hose_graph.specs.Network.{Network, IsNetwork}
 use Rattle.hose_graph.specs.declared.reply.Reply.{Reply}
 use Rattle.hose_law.specs.Script.{ReadLine}
-use Rattle.hose_law.proofs.Lives.{stays_live}
+use Rattle.hose_law.proofs.Lives.{live_held, stays_live}
 use Rattle.hose_law.proofs.Sold.{sold}
 use Rattle.hose_io.specs.Frame.{Rose}
 use Rattle.hose_io.specs.declared.sink.Sink.{Ghosts as SinkGhosts}
 use Rattle.hosed.specs.RunOutcome.{RunLeaves}
 use Rattle.hosed.specs.Fault.{of_topology}
-use Rattle.hosed.specs.Run.{HasRun, IsCutOff, IsRun, IsRunUpTo, StopsInTopology, TellsNoNetwork}
+use Rattle.hosed.specs.Run.{HasRun, IsCutOff, IsRun, IsRunUpTo, TellsNoNetwork}
 use Rattle.hosed.specs.Serving.{CutsLast, IsAllTaken, IsEndOf, SayLines, Serves, ServesUntil, ServesUpTo, texts_of}
-use Rattle.hose_topo.specs.Reading.{fault_of, KeepsFault}
-use Rattle.hose_topo.specs.TopologyText.{AddLines, IsTopologyText, IsWrongAt, no_network}
+use Rattle.hose_topo.specs.Reading.{fault_of, KeepsFault, StopsInTopology}
+use Rattle.hose_topo.specs.TopologyText.{IsTopologyText, IsWrongAt}
 use Rattle.hosed.specs.declared.fault.Fault.{Fault}
 use Rattle.hosed.specs.declared.fault.Fault.TheVariants as fault
 use Rattle.hose_topo.specs.declared.fault.TopoFault.{TopoFault}
@@ -28,16 +28,10 @@ use Rattle.hosed.proofs.OneRun.{right_alone}
 
 -- reading stopped inside the topology
 pub stopped_told : {S : Type 0} (source : Ghosts S) (start last : Reader S) (fault : LineFault) → start.pending ≡ []
-    → WhereTold (source.content start.source) (source.content last.source) (λ input left. (network : Network) × (count : ℕ) × (behind : List ℕ) × AddLines no_network (start.pending ++ input) count network behind × StopsBehindLines fault (start.pending ++ input) behind left)
-    → StopsInTopology fault (source.content start.source) (source.content last.source)
+    → WhereTold (source.content start.source) (source.content last.source) (λ input left. StopsInTopology fault (start.pending ++ input) left)
+    → WhereTold (source.content start.source) (source.content last.source) (StopsInTopology fault)
 stopped_told source start last fault empty told = WhereTold-map (source.content start.source) (source.content last.source) _ _ told
-    (λ a b stopped. (
-      stopped.0,
-      stopped.1,
-      stopped.2,
-      subst (λ (p : List ℕ). AddLines no_network (p ++ a) stopped.1 stopped.0 stopped.2) empty stopped.3,
-      subst (λ (p : List ℕ). StopsBehindLines fault (p ++ a) stopped.2 b) empty stopped.4,
-    ))
+    (λ a b stopped. subst (λ (p : List ℕ). StopsInTopology fault (p ++ a) b) empty stopped)
 
 -- the topology is wrong
 pub wrong_told : {S : Type 0} (source : Ghosts S) (start last : Reader S) (line word : ℕ) → start.pending ≡ []
@@ -73,6 +67,7 @@ has_run source start middle last network stops puts empty text reads joins serve
   script = served.answered.script;
   decided = served.answered.decided;
   none_oversold = λ place l. sold network 0 served.answered.history place l served.answered.decided.sound;
+  held = live_held 0 served.answered.history;
   kept = stays_live 0 served.answered.history;
 }
 
@@ -114,7 +109,7 @@ not_read Memory old new none kept other read = cc (kept, none, read)
 -- where no topology was read
 pub leaves_topology : {S O : Type 0} (T : Type 0) (source : Ghosts S) (sink : SinkGhosts O) (start last : Reader S) (output : O) (topology : TopoFault)
     → ((line word : ℕ) → topology ≡ At line word → TellsNoNetwork line word (source.content start.source) (source.content last.source))
-    → ((fault : LineFault) → topology ≡ fault_of fault → StopsInTopology fault (source.content start.source) (source.content last.source))
+    → ((fault : LineFault) → topology ≡ fault_of fault → WhereTold (source.content start.source) (source.content last.source) (StopsInTopology fault))
     → (topology ≡ Read → Rose (source.frame start.source) (source.frame last.source)) → ((topology ≡ Read → ⊥) → source.frame last.source ≡ source.frame start.source)
     → (topology ≡ Memory → last ≡ start) → RunLeaves source sink start.source last.source output output {T = T} (Err (of_topology topology))
 leaves_topology T source sink start last output (At line word) wrong stopped read unfailed memory = (wrong line word refl, unfailed (λ is. absurd (cc is)), refl)

@@ -30,7 +30,7 @@ use Rattle.hose_law.specs.Answer.{IsAnswer, IsStep, with_entry}
 use Rattle.hose_law.proofs.Scripts.{book_after_push, decided_push, script_push}
 use Rattle.hose_law.specs.Script.{ReadLine, IsLineStep}
 use Rattle.hose_law.specs.Script.ReadLine.{Asks, IsBad, IsLong, Unread}
-use Rattle.hosed.specs.ScriptLine.{IsAsking, script_grammar}
+use Rattle.hosed.specs.ScriptLine.{IsAsking, WantsMemory, script_grammar}
 use Rattle.hose_words.specs.Reading.{WhereTold, ReadsOn}
 use Rattle.hose_proto.specs.ReplyText.{line_of, reply_text}
 use Rattle.hose_io.specs.Frame.{Rose}
@@ -44,7 +44,7 @@ says_shown network (line.Text text) bytes (Asks customer command) shows says = (
 says_shown network (line.Text text) bytes (IsBad word) shows says =
     (shows.0, subst (λ (b : List ℕ). IsFirstNotAllowed (script_grammar network) [] (words_of b) word) shows.1 says)
 says_shown network (line.Text text) bytes IsLong shows says = absurd says
-says_shown network (line.Text text) bytes Unread shows says = shows.0
+says_shown network (line.Text text) bytes Unread shows says = (shows.0, subst (λ (b : List ℕ). WantsMemory (words_of b)) shows.1 says)
 says_shown network line.Long bytes (Asks customer command) shows says = absurd says
 says_shown network line.Long bytes (IsBad word) shows says = absurd says
 says_shown network line.Long bytes IsLong shows says = shows
@@ -131,7 +131,7 @@ unchanged network history said reply book decided step is = record { next = hist
 
 stepped : (network : Network) (history : List Entry) (said : ReadLine) (reply : Reply) (book : Book) → IsDecided network 0 0 history → AnswersLine (record { network = network; book = book_of 0 history }) said reply book
     → Stepped network history said reply book
-stepped network history (Asks customer command) Memory book decided answers = unchanged network history (Asks customer command) Memory book decided refl answers
+stepped network history (Asks customer command) Memory book decided answers = unchanged network history (Asks customer command) Memory book decided (answers.0, refl) answers.1
 stepped network history (Asks customer command) (Welcome at) book decided answers = answered network history customer command (Welcome at) book answers.0 decided answers.1 answers.2 answers.3 (λ next step. step)
 stepped network history (Asks customer command) (Admitted id cost at amounts) book decided answers = answered network history customer command (Admitted id cost at amounts) book answers.0 decided answers.1 answers.2 answers.3 (λ next step. step)
 stepped network history (Asks customer command) (Quoted quote cost at amounts) book decided answers = answered network history customer command (Quoted quote cost at amounts) book answers.0 decided answers.1 answers.2 answers.3 (λ next step. step)

@@ -12,7 +12,7 @@ use Rattle.hose_law.specs.Walk.{capacity_of}
 use Rattle.hose_law.specs.Plan.{AreNodes}
 use Rattle.hose_law.specs.Book.{Book, load_of}
 use Rattle.hose_law.specs.History.{IsSoundWith, next_book}
-use Rattle.hose_law.specs.Answer.{IsAnswer}
+use Rattle.hose_law.specs.Answer.{IsAnswer, MayWantMemory}
 use Rattle.hose_tree.specs.Amounts.{AreOnLinks}
 
 -- a network, and the book of it
@@ -42,7 +42,7 @@ book_with book (Some entry) = next_book book entry
 -- The ledger answered a command: with the answer, whose entry is sound and in the book now; or with
 -- want of memory, which changes nothing.
 abbrev pub Answers : Ledger → List ℕ → Command → Reply → Book → Type 0
-Answers old customer command Memory new = new ≡ old.book
+Answers old customer command Memory new = MayWantMemory old.book customer command × (new ≡ old.book)
 Answers old customer command reply new =
     (entry : Option Entry) × IsAnswer old.network old.book customer command reply entry
     × IsSoundWith old.network old.book entry × (new ≡ book_with old.book entry)

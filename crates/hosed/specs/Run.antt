@@ -8,9 +8,9 @@ use Rattle.hose_graph.specs.declared.reply.Reply.{Reply}
 use Rattle.hose_graph.specs.Network.{Network}
 use Rattle.hose_law.specs.Book.{IsOversold}
 use Rattle.hose_law.specs.History.{book_of, IsDecided}
-use Rattle.hose_law.specs.Live.{StaysLive}
+use Rattle.hose_law.specs.Live.{AreLiveHeld, StaysLive}
 use Rattle.hose_law.specs.Script.{ReadLine, IsScript, WithoutMemory}
-use Rattle.hose_topo.specs.TopologyText.{AddLines, IsTopologyText, IsWrongAt, no_network}
+use Rattle.hose_topo.specs.TopologyText.{IsTopologyText, IsWrongAt}
 use Rattle.hose_words.specs.Reading.{WhereTold}
 use Rattle.hosed.specs.Ending.{GrowsShort}
 use Rattle.hose_proto.specs.ReplyText.{line_of, reply_text}
@@ -38,6 +38,7 @@ pub record HasRun (old new : Option Stream) (network : Network) (lines : List Re
   pub script : IsScript network 0 [] lines replies history
   pub decided : IsDecided network 0 0 history
   pub none_oversold : (place l : ℕ) → IsOversold network (book_of 0 (take place history)) l → ⊥
+  pub held : (place : ℕ) → place ≤ length history → AreLiveHeld 0 history place
   pub kept : (place : ℕ) → StaysLive 0 history place
 
 -- The input was read to its end, and the output has the replies to its lines. Without a reply for want of memory no other output is right for the input.
@@ -70,10 +71,6 @@ pub record IsCutOff (old new : Option Stream) (before after : Option (List ℕ))
 abbrev pub TellsNoNetwork : ℕ → ℕ → Option Stream → Option Stream → Type 0
 TellsNoNetwork line word old new =
     WhereTold old new (λ input _. ((rest : List ℕ) × IsWrongAt input line word rest) × ((network : Network) (rest : List ℕ) → IsTopologyText input network rest → ⊥))
-
--- Reading stopped at a fault before the topology was refused or ended: behind whole lines that add to a network no line was taken whole.
-abbrev pub StopsInTopology : LineFault → Option Stream → Option Stream → Type 0
-StopsInTopology fault old new = WhereTold old new (λ input left. (network : Network) × (count : ℕ) × (behind : List ℕ) × AddLines no_network input count network behind × StopsBehindLines fault input behind left)
 
 -- The input is told, and begins with the text of no network.
 abbrev pub IsRefusedText : Option Stream → Option Stream → Type 0

@@ -8,9 +8,10 @@ use Rattle.hose_words.specs.Reading.{WhereTold}
 use Rattle.hose_words.specs.declared.lines.LineFault.{LineFault}
 use Rattle.hose_words.specs.declared.lines.LineFault.TheVariants as line
 use Rattle.hose_graph.specs.Network.{Network}
+use Rattle.hose_topo.specs.Reading.{StopsInTopology}
 use Rattle.hose_topo.specs.TopologyText.{IsTopologyText}
 use Rattle.hosed.specs.Ending.{IsLastLine, status_of_done}
-use Rattle.hosed.specs.Run.{IsCutOff, IsRefusedText, IsRun, IsRunUpTo, IsServable, StopsInTopology, TellsNoNetwork}
+use Rattle.hosed.specs.Run.{IsCutOff, IsRefusedText, IsRun, IsRunUpTo, IsServable, TellsNoNetwork}
 use Rattle.hosed.specs.declared.fault.Fault.{Fault}
 use Rattle.hosed.specs.declared.fault.Fault.TheVariants.{Words, Topology, Read, Write, Memory, TooLong}
 
@@ -19,10 +20,14 @@ module _ {I O : Type 0} (source : SourceGhosts I) (sink : SinkGhosts O) (input i
   abbrev pub InputHeld : Type 0
   InputHeld = source.frame input' ≡ source.frame input
 
+  -- the input stopped at a fault before its topology ended or was refused
+  abbrev pub InputStops : LineFault → Type 0
+  InputStops fault = WhereTold (source.content input) (source.content input') (StopsInTopology fault)
+
   -- The input stopped inside the topology, and nothing is out; or after it, and the output has the replies of a script to all
   -- whole lines that were taken and to no part of one.
   abbrev pub IsBroken : LineFault → Type 0
-  IsBroken fault = (StopsInTopology fault (source.content input) (source.content input') × (output' ≡ output))
+  IsBroken fault = (InputStops fault × (output' ≡ output))
       ⊎ (IsRunUpTo fault (source.content input) (source.content input') (sink.content output) (sink.content output')
       × (sink.frame output' ≡ sink.frame output))
 
@@ -47,8 +52,8 @@ module _ {I O : Type 0} (source : SourceGhosts I) (sink : SinkGhosts O) (input i
   -- A topology that is refused gives 2, but for want of memory and an input that stopped inside it.
   abbrev pub EndsRefused : ℕ → Type 0
   EndsRefused status = (status ≡ 2) ⊎ (((status ≡ 7) × (input' ≡ input))
-      ⊎ (((status ≡ 3) × StopsInTopology line.Read (source.content input) (source.content input'))
-      ⊎ ((status ≡ 8) × StopsInTopology line.TooLong (source.content input) (source.content input'))))
+      ⊎ (((status ≡ 3) × InputStops line.Read)
+      ⊎ ((status ≡ 8) × InputStops line.TooLong)))
 
   -- at most 1 GiB and a byte is taken, and more than 1 GiB exactly where the status is 8
   abbrev pub TakesWithinLimit : ℕ → Type 0

@@ -21,7 +21,7 @@ use Rattle.hose_law.specs.Book.{Book}
 use Rattle.hose_law.specs.History.{book_of, IsDecided}
 use Rattle.hose_law.specs.Script.{ReadLine, IsScript}
 use Rattle.hose_law.specs.Script.ReadLine.{Asks, IsBad, IsLong, Unread}
-use Rattle.hosed.specs.ScriptLine.{IsAsking, script_grammar}
+use Rattle.hosed.specs.ScriptLine.{IsAsking, WantsMemory, script_grammar}
 use Rattle.hosed.specs.Ending.{GrowsShort}
 use Rattle.hose_proto.specs.ReplyText.{line_of, reply_text}
 use Rattle.hosed.specs.Ledger.{Ledger, Answers}
@@ -29,18 +29,18 @@ use Rattle.hose_words.specs.Reading.{WhereTold}
 use Rattle.hosed.specs.declared.fault.Fault.{Fault}
 use Rattle.hosed.specs.declared.fault.Fault.TheVariants as fault
 
--- What a line of bytes says: a customer's command, a first word that is not allowed, or too much; or it is left unread for want of memory.
+-- What a line of bytes says: a customer's command, a first word that is not allowed, or too much; or it is left unread for want of memory, which its command may take.
 abbrev pub Says : Network → List ℕ → ReadLine → Type 0
 Says network bytes (Asks customer command) = (length bytes ≤ 4096) × IsAsking network bytes customer command
 Says network bytes (IsBad word) = (length bytes ≤ 4096) × IsFirstNotAllowed (script_grammar network) [] (words_of bytes) word
 Says network bytes IsLong = 4096 < length bytes
-Says network bytes Unread = length bytes ≤ 4096
+Says network bytes Unread = (length bytes ≤ 4096) × WantsMemory (words_of bytes)
 
 -- the same of a line as a reader of lines gives it
 abbrev pub SaysRead : Network → Line → ReadLine → Type 0
 SaysRead network (line.Text bytes) (Asks customer command) = IsAsking network bytes.now customer command
 SaysRead network (line.Text bytes) (IsBad word) = IsFirstNotAllowed (script_grammar network) [] (words_of bytes.now) word
-SaysRead network (line.Text bytes) Unread = ⊤
+SaysRead network (line.Text bytes) Unread = WantsMemory (words_of bytes.now)
 SaysRead network line.Long IsLong = ⊤
 SaysRead network _ _ = ⊥
 

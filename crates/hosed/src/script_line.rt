@@ -1,28 +1,43 @@
 // The lines of a script.
-ghost use Rattle.std.specs.Prelude.{◌≡◌, ℕ, [], Err, IfOk};
+ghost use Rattle.std.specs.Prelude.{◌≡◌, ℕ, [], Err, IfOk, IfErr};
+ghost use Rattle.hose_words.specs.Cursor.{Misses, Took};
 ghost use Rattle.hose_words.specs.Grammar.{IsFirstNotAllowed};
 ghost use Rattle.hose_words.specs.Words.{words_of};
+ghost use Rattle.hose_graph.specs.Name.{IsName};
 ghost use Rattle.hose_proto.specs.Reading.{AsksOf};
-ghost use Rattle.hosed.specs.ScriptLine.{IsAsking, script_grammar};
+ghost use Rattle.hosed.specs.ScriptLine.{IsAsking, WantsMemory, script_grammar};
 
 use hose_graph::{Command, Name, Topology};
-use hose_proto::{ReadFault, read_command};
-use hose_words::split;
+use hose_proto::{ReadFault, read_command_at};
+use hose_words::{Cursor, WrongWord};
 use std::alloc::Global;
 
-/// The customer of a line, and what it asks for. A line that is none may be answered `Memory` where reading it wants memory before the fault is
-/// seen.
+/// The customer of a line, and what it asks for.
 pub fn read_line(alloc: Global, top: &Topology, line: &[u8]) -> Result<(Name, Command), ReadFault>
     ensures ok { IfOk result (λ asked. IsAsking top.now line.now asked.0 asked.1) }
     ensures names { IfOk result (λ asked. AsksOf top.now asked.1) }
     ensures bad { (word : ℕ) → result ≡ Err (ReadFault.Bad word)
         → IsFirstNotAllowed (script_grammar top.now) [] (words_of line.now) word }
+    ensures memory { result ≡ Err ReadFault.Memory → WantsMemory (words_of line.now) }
 {
-    let Some(customer) = split(line).next().and_then(Name::read) else {
-        return Err(ReadFault::Bad { word: 1 });
+    let mut words = Cursor::new(line);
+    let customer = read_name(&mut words)?;
+    let command = read_command_at(alloc, top, &mut words)?;
+    Ok((customer, command))
+}
+
+// The name that the next word is.
+fn read_name(words: &mut Cursor<'_>) -> Result<Name, WrongWord>
+    ensures ok { IfOk result (λ name. Took words.old words.new name) }
+    ensures is_name { IfOk result IsName }
+    ensures wrong { IfErr result (λ wrong. Misses IsName words.old wrong.number) }
+{
+    let wrong = words.wrong();
+    let Some(word) = words.next() else {
+        return Err(wrong);
     };
-    match read_command(alloc, top, line, 1) {
-        Ok(command) => Ok((customer, command)),
-        Err(fault) => Err(fault),
-    }
+    let Some(name) = Name::read(word) else {
+        return Err(wrong);
+    };
+    Ok(name)
 }

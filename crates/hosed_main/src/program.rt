@@ -1,11 +1,14 @@
 // What the program's words choose: a text about itself, or the server.
-ghost use Rattle.std.specs.Prelude.{◌≡◌, ◌≢◌, map};
+ghost use Rattle.std.specs.Prelude.{◌≡◌, map};
 ghost use Rattle.std.specs.String.{string_bytes};
+ghost use Rattle.hose_io.specs.Frame.{Stays};
 ghost use Rattle.hosed.specs.Ending.{IsOut};
 ghost use Rattle.hosed.specs.Fault.{last_line};
+ghost use Rattle.hosed.specs.ProgramWords.{AreRunWords, first_wrong};
+ghost use Rattle.hosed.specs.RunOutcome.{RunOutcome};
 ghost use Rattle.hosed.specs.declared.fault.Fault.TheVariants as fault;
 ghost use Rattle.hosed_main.specs.Asked.{asked_of};
-ghost use Rattle.hosed_main.specs.Program.{IsServed, IsTold};
+ghost use Rattle.hosed_main.specs.Told.{IsTold};
 
 use crate::texts::{HELP, VERSION};
 use hose_io::{Sink, Source, write_all};
@@ -28,19 +31,20 @@ pub fn program<I: Source, O: Sink>(
     output: &mut O,
 ) -> u8
     ensures help { asked_of (map string_bytes words.now) ≡ Asked.Help
-        → IsTold result (O.content output.old) (O.content output.new)
-        (O.faults output.old) (O.faults output.new) HELP.now }
+        → (input.new ≡ input.old) × IsTold O.Sink output.old output.new HELP.now result }
     ensures version { asked_of (map string_bytes words.now) ≡ Asked.Version
-        → IsTold result (O.content output.old) (O.content output.new)
-        (O.faults output.old) (O.faults output.new) VERSION.now }
-    ensures untouched { asked_of (map string_bytes words.now) ≢ Asked.Service
-        → input.new ≡ input.old }
+        → (input.new ≡ input.old) × IsTold O.Sink output.old output.new VERSION.now result }
 
     // All else is as the server's one call says.
-    ensures served { asked_of (map string_bytes words.now) ≡ Asked.Service
-        → IsServed (map string_bytes words.now) result
-        (I.content input.old) (I.content input.new) (I.faults input.old) (I.faults input.new)
-        (O.content output.old) (O.content output.new) (O.faults output.old) (O.faults output.new) }
+    ensures run { AreRunWords (map string_bytes words.now)
+        → RunOutcome I.Source O.Sink input.old input.new output.old output.new result }
+    ensures wrong_words { asked_of (map string_bytes words.now) ≡ Asked.Service
+        → (AreRunWords (map string_bytes words.now) → ⊥)
+        → (result ≡ 1) × (input.new ≡ input.old) × IsOut O.Sink output.old output.new
+        (last_line (fault.Words (first_wrong (map string_bytes words.now)))) }
+
+    ensures input { Stays (I.frame input.old) (I.frame input.new) }
+    ensures output { Stays (O.frame output.old) (O.frame output.new) }
 {
     match asked_by(words) {
         Asked::Help => tell(output, HELP),
@@ -62,8 +66,8 @@ fn asked_by(words: &[String]) -> Asked
 
 // Writes a text, and gives the status.
 fn tell<O: Sink>(output: &mut O, text: &str) -> u8
-    ensures { IsTold result (O.content output.old) (O.content output.new)
-        (O.faults output.old) (O.faults output.new) text.now }
+    ensures told { IsTold O.Sink output.old output.new text.now result }
+    ensures stays { Stays (O.frame output.old) (O.frame output.new) }
 {
     match write_all(output, text.as_bytes()) {
         Ok(()) => 0,
@@ -74,8 +78,7 @@ fn tell<O: Sink>(output: &mut O, text: &str) -> u8
 /// Tells that there is no memory for the words, and gives the status.
 pub fn no_memory<O: Sink>(output: &mut O) -> u8
     ensures status { result ≡ 7 }
-    ensures line { IsOut (O.content output.old) (O.content output.new)
-        (O.faults output.old) (O.faults output.new) (last_line fault.Memory) }
+    ensures line { IsOut O.Sink output.old output.new (last_line fault.Memory) }
 {
     // The status stays where the line cannot be written.
     let _ = write_all(output, b"no memory\n");

@@ -3,9 +3,9 @@ use Rattle.std.specs.Bool.{then_some}
 use Rattle.std.proofs.lemmas.Bool.{ltb-false, false≢true}
 use Rattle.std.proofs.lemmas.List.{get_or_default}
 use Rattle.std.proofs.lemmas.Option.{get_or_from_slice_get}
+use Rattle.hose_graph.specs.Network.{name_of}
 use Rattle.hose_graph.specs.Name.{IsName}
 use Rattle.hose_words.proofs.DecimalLemmas.{decimal_told, told_decimal}
-use Rattle.hose_proto.specs.Places.{node_word}
 use Rattle.hose_proto.proofs.Colons.{end_parts, end_told, no_end}
 use Rattle.hose_proto.proofs.places.endpoint.Goals as goal
 
@@ -41,7 +41,7 @@ pub returns-clause-spelled : goal.returns-clause-spelled
 returns-clause-spelled c =
     let network = c.args.top.now in
     let rate = c.in_ok-rate.rate in
-    let named : c.in_ok-name.name.now ≡ node_word network c.in_ok-node.node =
+    let named : c.in_ok-name.name.now ≡ name_of network c.in_ok-node.node =
     sym (get_or_from_slice_get network.nodes c.in_ok-node.node c.in_ok-name.name.now [] (rw (c.in_ok-read.ensures.same) at c.in_ok-node.ensures.named)) in
     let told = told_decimal c.in_ok-name.rate.now rate c.in_ok-rate.ensures.value.0 (omega (arith, c.in_ok-rate.ensures.value.1)) in
     rw c.then_some.ensures (at_some (ltb 0 rate) (c.in_ok-node.node, rate) _

@@ -1,22 +1,36 @@
-use Rattle.std.proofs.Common.{rules, ◌≡◌, ◌+◌, ℕ, List, [], ◌∷◌, inl, drop, sym, subst, arith}
-use Rattle.hose_words.specs.Grammar.{IsFirstNotAllowed}
+use Rattle.std.proofs.Common.{◌≡◌, ◌∙◌, [], ◌∷◌, List, ℕ, Err, drop, sym, ap, subst}
+use Rattle.std.proofs.lemmas.Result.{err_from_is_err_and}
+use Rattle.hose_words.specs.Cursor.{IsWrong, Position}
+use Rattle.hose_words.specs.Form.{IsChoice}
+use Rattle.hose_words.specs.Grammar.{IsFirst, IsFirstNotAllowed}
 use Rattle.hose_words.specs.Words.{words_of}
-use Rattle.hose_graph.specs.Name.{IsName}
-use Rattle.hose_proto.specs.Command.{command_grammar}
-use Rattle.hosed.specs.ScriptLine.{script_grammar}
-use Rattle.hosed.proofs.Shifting.{shifted}
+use Rattle.hose_words.proofs.Forms.{wrong_at_start, wrong_later, wrong_place}
+use Rattle.hose_proto.specs.Command.{TakesMemory, verb_word}
+use Rattle.hose_proto.specs.declared.fault.ReadFault.TheVariants.{Bad, Memory}
+use Rattle.hosed.specs.ScriptLine.{script_form, script_grammar}
 use Rattle.hosed.proofs.script_line.read_line.Goals as goal
 
-pub returns-in-Err-clause-bad : goal.returns-in-Err-clause-bad
-returns-in-Err-clause-bad c = λ word is.
+pub returns-in_err-customer-clause-bad : goal.returns-in_err-customer-clause-bad
+returns-in_err-customer-clause-bad c = λ word told.
     let network = c.args.top.now in
-    let customer = c.in-Some.customer in
-    let rest = c.next.new.self in
-    let cut : words_of c.args.line.now ≡ customer ∷ rest = search rules in
-    let named : IsName customer = search rules in
-    let told = c.read_command.ensures.bad word (cc (is, c.in-Err.is)) in
-    let behind : IsFirstNotAllowed (command_grammar network) [] rest told.0 =
-    subst (λ (words : List (List ℕ)). IsFirstNotAllowed (command_grammar network) [] (drop 1 words) told.0) cut told.2 in
-    let counted : told.0 + 1 ≡ word = omega (arith, told.1) in
-    subst (λ (words : List (List ℕ)). IsFirstNotAllowed (script_grammar network) [] words word) (sym cut)
-    (inl (named, subst (IsFirstNotAllowed (script_grammar network) (customer ∷ []) rest) counted (shifted network customer [] rest told.0 behind)))
+    let number : ℕ = c.in_err-customer.field-0.0.number in
+    let gave = err_from_is_err_and c.from_residual.result c.from_residual.ensures.1 in
+    let same : number ≡ word = cc (gave.1, gave.2, told) in
+    let wrong : IsWrong (script_form network) c.new-words.result number = wrong_place c.in_err-customer.ensures.wrong in
+    subst (λ n. IsFirstNotAllowed (script_grammar network) [] (words_of c.args.line.now) n) same (wrong_at_start (words_of c.args.line.now) c.new-words.ensures wrong)
+
+pub returns-in_err-command-clause-bad : goal.returns-in_err-command-clause-bad
+returns-in_err-command-clause-bad c = λ word told.
+    let network = c.args.top.now in
+    let gave = err_from_is_err_and c.from_residual-in_err-command.result c.from_residual-in_err-command.ensures.1 in
+    let same : c.in_err-command.field-0.0 ≡ Bad word = cc (gave.1, gave.2, told) in
+    let wrong : IsWrong (script_form network) c.new-words.result word = wrong_later c.in_ok-customer.ensures.ok c.in_ok-customer.ensures.is_name (c.in_err-command.ensures.bad.word word same) in
+    wrong_at_start (words_of c.args.line.now) c.new-words.ensures wrong
+
+pub returns-in_err-command-clause-memory : goal.returns-in_err-command-clause-memory
+returns-in_err-command-clause-memory c = λ told.
+    let gave = err_from_is_err_and c.from_residual-in_err-command.result c.from_residual-in_err-command.ensures.1 in
+    let same : c.in_err-command.field-0.0 ≡ Memory = cc (gave.1, gave.2, told) in
+    let cut : words_of c.args.line.now ≡ c.in_ok-customer.customer ∷ c.read_name.new.words.left =
+    sym (ap (λ (position : Position). position.left) c.new-words.ensures) ∙ c.in_ok-customer.ensures.ok.cut in
+    subst (λ (words : List (List ℕ)). IsFirst (IsChoice TakesMemory verb_word) (drop 1 words)) (sym cut) (c.in_err-command.ensures.memory (ap Err same))

@@ -1,0 +1,51 @@
+-- Endpoints and amounts with their number in front.
+use Rattle.std.proofs.Common.{◌≡◌, ◌∙◌, ℕ, ◌<◌, ◌≤◌, ◌^◌, List, ◌∷◌, ◌++◌, length, ap, sym, append_assoc, arith}
+use Rattle.byteorder.specs.Endian.{big_bytes}
+use Rattle.hose_graph.specs.Hose.{IsHose, IsEnd}
+use Rattle.hose_graph.specs.declared.limits.TheConstants.{LEAST_ENDS, MOST_ENDS, MOST_NODES, MOST_RATE, MOST_LINKS}
+use Rattle.hose_codec.specs.declared.limits.TheConstants.{MOST_AMOUNT, MOST_PAIRS}
+use Rattle.hose_codec.specs.Fields.{pairs_field, ends_field, amounts_field, IsAmount, AreFormatAmounts}
+use Rattle.hose_codec.specs.Reading.{Begins, BeginsNone, AreCountedPairs}
+use Rattle.hose_codec.proofs.Alone.{hose_pairs, amount_pairs}
+use Rattle.hose_codec.proofs.Numbers.{same_numbers}
+use Rattle.hose_codec.proofs.Pairs.{pairs_are}
+
+pub ends_read : (count : ℕ) (ends : List (ℕ × ℕ)) (old now new : List ℕ) → LEAST_ENDS ≤ count → count ≤ MOST_ENDS → old ≡ count ∷ now
+    → Begins pairs_field (AreCountedPairs MOST_NODES MOST_RATE count) ends now new → Begins ends_field IsHose ends old new
+ends_read count ends old now new enough few first begins =
+    let are = pairs_are IsEnd MOST_NODES MOST_RATE 0 ends (λ end within. record { node = within.0; rate = within.1 }) begins.may_be.ascending in
+    record {
+      may_be = record {
+        counted = record { enough = omega (arith, begins.may_be.counted); few = omega (arith, begins.may_be.counted) };
+        within = are.0;
+        ascending = are.1;
+      };
+      parts = first ∙ ap (λ (text : List ℕ). count ∷ text) begins.parts ∙ ap (λ (n : ℕ). n ∷ (pairs_field ends ++ new)) (sym begins.may_be.counted);
+    }
+
+pub no_ends_read : (count : ℕ) (old now : List ℕ) → old ≡ count ∷ now → BeginsNone pairs_field (AreCountedPairs MOST_NODES MOST_RATE count) now → BeginsNone ends_field IsHose old
+no_ends_read count old now first none ends rest begins =
+    let same : count ∷ now ≡ length ends ∷ (pairs_field ends ++ rest) = sym first ∙ begins.parts in
+    let counted : length ends ≡ count = cc in
+    let parts : now ≡ pairs_field ends ++ rest = cc in
+    none ends rest (record { may_be = record { counted = counted; ascending = hose_pairs ends begins.may_be }; parts = parts })
+
+pub amounts_read : (count : ℕ) (amounts : List (ℕ × ℕ)) (old now new : List ℕ) → 1 ≤ count → count ≤ MOST_PAIRS → old ≡ big_bytes 2 count ++ now
+    → Begins pairs_field (AreCountedPairs MOST_LINKS MOST_AMOUNT count) amounts now new → Begins amounts_field AreFormatAmounts amounts old new
+amounts_read count amounts old now new some few first begins =
+    let are = pairs_are IsAmount MOST_LINKS MOST_AMOUNT 0 amounts (λ pair within. record { link = within.0; amount = within.1 }) begins.may_be.ascending in
+    record {
+      may_be = record {
+        fit = record { some = omega (arith, begins.may_be.counted); few = omega (arith, begins.may_be.counted); within = are.0 };
+        ascending = are.1;
+      };
+      parts = first ∙ ap (λ (text : List ℕ). big_bytes 2 count ++ text) begins.parts
+          ∙ ap (λ (n : ℕ). big_bytes 2 n ++ (pairs_field amounts ++ new)) (sym begins.may_be.counted) ∙ sym (append_assoc (big_bytes 2 (length amounts)) (pairs_field amounts) new);
+    }
+
+pub no_amounts_read : (count : ℕ) (old now : List ℕ) → count < 2 ^ 16 → old ≡ big_bytes 2 count ++ now → BeginsNone pairs_field (AreCountedPairs MOST_LINKS MOST_AMOUNT count) now → BeginsNone amounts_field AreFormatAmounts old
+no_amounts_read count old now small first none amounts rest begins =
+    let parts : big_bytes 2 (length amounts) ++ (pairs_field amounts ++ rest) ≡ big_bytes 2 count ++ now =
+    sym (append_assoc (big_bytes 2 (length amounts)) (pairs_field amounts) rest) ∙ sym begins.parts ∙ first in
+    let same = same_numbers 2 (length amounts) count (pairs_field amounts ++ rest) now (omega (arith, begins.may_be.fit.few)) small parts in
+    none amounts rest (record { may_be = record { counted = same.0; ascending = amount_pairs amounts begins.may_be }; parts = sym same.1 })

@@ -1,0 +1,40 @@
+-- What a reader of a field answers, and what it leaves to be read.
+use Rattle.std.specs.Prelude.{◌≡◌, ℕ, ◌+◌, ◌<◌, ◌≤◌, List, [], ◌∷◌, ◌++◌, length, Result, Ok, Err, ⊤}
+use Rattle.hose_graph.specs.Limit.{IsUpTo}
+use Rattle.hose_codec.specs.declared.fault.CodecFault.{CodecFault}
+use Rattle.hose_codec.specs.declared.fault.CodecFault.TheVariants.{Bad}
+
+-- The bytes begin with the field of this value, which it may have, and the rest follows.
+pub record Begins {X : Type 0} (field : X → List ℕ) (MayBe : X → Type 0) (value : X)
+    (bytes rest : List ℕ) : Type 0 where
+  pub may_be : MayBe value
+  pub parts : bytes ≡ field value ++ rest
+
+-- the field of no value begins the bytes
+abbrev pub BeginsNone : {X : Type 0} → (X → List ℕ) → (X → Type 0) → List ℕ → Type 0
+BeginsNone {X} field MayBe bytes =
+    (value : X) (rest : List ℕ) → Begins field MayBe value bytes rest → ⊥
+
+-- What is read, as `view` sees it, is the value whose field begins the bytes `old`, and `new` is
+-- what follows; or the field of no value begins them.
+abbrev pub Reads : {V X : Type 0} → (X → List ℕ) → (X → Type 0) → (V → X) → List ℕ → List ℕ →
+    Result V CodecFault → Type 0
+Reads field MayBe view old new (Ok read) = Begins field MayBe (view read) old new
+Reads field MayBe view old new (Err fault) = (fault ≡ Bad) × BeginsNone field MayBe old
+
+-- a pair with its first number from `least` on and below `bound`, and its second from 1 to `most`
+pub record IsPairFrom (bound most least : ℕ) (pair : ℕ × ℕ) : Type 0 where
+  pub later : least ≤ pair.0
+  pub below : pair.0 < bound
+  pub amount : IsUpTo most pair.1
+
+-- such pairs, each with a greater first number than the one before it
+abbrev pub ArePairsFrom : ℕ → ℕ → ℕ → List (ℕ × ℕ) → Type 0
+ArePairsFrom bound most least [] = ⊤
+ArePairsFrom bound most least (pair ∷ pairs) =
+    IsPairFrom bound most least pair × ArePairsFrom bound most (pair.0 + 1) pairs
+
+-- so many such pairs
+pub record AreCountedPairs (bound most count : ℕ) (pairs : List (ℕ × ℕ)) : Type 0 where
+  pub counted : length pairs ≡ count
+  pub ascending : ArePairsFrom bound most 0 pairs

@@ -1,0 +1,44 @@
+-- The spelling of an entry: a byte for its kind, and its fields in order. Nothing follows the last
+-- of them.
+use Rattle.std.specs.Prelude.{◌≡◌, ℕ, ◌≤◌, List, ◌∷◌, ◌++◌, Result, Ok, Err}
+use Rattle.hose_graph.specs.Hose.{IsHose}
+use Rattle.hose_graph.specs.Name.{IsName}
+use Rattle.hose_graph.specs.declared.entry.Entry.{Entry}
+use Rattle.hose_graph.specs.declared.entry.Entry.TheVariants.{Admit, Release}
+use Rattle.hose_graph.specs.declared.limits.TheConstants.{MOST_EPOCH}
+use Rattle.hose_codec.specs.Fields.{name_field, ends_field, amounts_field, id_field, FitFormat, AreFormatAmounts}
+use Rattle.hose_codec.specs.declared.limits.TheConstants.{ADMIT, RELEASE}
+use Rattle.hose_codec.specs.declared.fault.CodecFault.{CodecFault}
+use Rattle.hose_codec.specs.declared.fault.CodecFault.TheVariants.{Bad, Memory}
+
+-- the bytes of an entry
+abbrev pub spelling : Entry → List ℕ
+spelling (Admit customer hose amounts) =
+    ADMIT ∷ (name_field customer ++ (ends_field hose ++ amounts_field amounts))
+spelling (Release customer id) = RELEASE ∷ (name_field customer ++ id_field id)
+
+-- The numbers of the entry are in the ranges of the format, as far as its type leaves that open.
+abbrev pub FitsFormat : Entry → Type 0
+FitsFormat (Admit customer hose amounts) = FitFormat amounts
+FitsFormat (Release customer id) = id ≤ MOST_EPOCH
+
+-- an entry that the format has
+abbrev pub IsEntry : Entry → Type 0
+IsEntry (Admit customer hose amounts) = IsName customer × IsHose hose × AreFormatAmounts amounts
+IsEntry (Release customer id) = IsName customer × (id ≤ MOST_EPOCH)
+
+-- These bytes are the spelling of this entry, which is one that the format has.
+pub record IsSpelling (entry : Entry) (bytes : List ℕ) : Type 0 where
+  pub is_entry : IsEntry entry
+  pub spelled : bytes ≡ spelling entry
+
+-- These bytes are the spelling of no entry.
+abbrev pub IsNoSpelling : List ℕ → Type 0
+IsNoSpelling bytes = (entry : Entry) → IsSpelling entry bytes → ⊥
+
+-- What is decoded is the entry that the bytes spell. Else there is no such entry, or memory was
+-- wanting for it.
+abbrev pub Decodes : List ℕ → Result Entry CodecFault → Type 0
+Decodes bytes (Ok entry) = IsSpelling entry bytes
+Decodes bytes (Err Bad) = IsNoSpelling bytes
+Decodes bytes (Err Memory) = (entry : Entry) × IsSpelling entry bytes

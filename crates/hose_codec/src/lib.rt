@@ -1,0 +1,19 @@
+//! Entries of a book as bytes, for a journal of them. Each entry of the format has one spelling,
+//! and no spelling begins another.
+//!
+//! ```
+//! let bytes = encode(alloc, &entry)?;
+//! let same = decode(alloc, &bytes)?;
+//! ```
+#![tactic(auto)]
+
+mod fault;
+mod fields;
+mod limits;
+mod reading;
+mod writing;
+
+pub use fault::CodecFault;
+pub use limits::{MOST_AMOUNT, MOST_PAIRS, MOST_SPELLING};
+pub use reading::decode;
+pub use writing::encode;

@@ -1,0 +1,95 @@
+// Writing an entry, field by field.
+ghost use Rattle.std.specs.Prelude.{◌≡◌, ◌<◌, ◌≤◌, ◌^◌, ◌++◌, All, OnOk, IfOk, vec_len};
+ghost use Rattle.hose_graph.specs.Name.{IsName};
+ghost use Rattle.hose_graph.specs.Hose.{IsHose};
+ghost use Rattle.hose_codec.specs.Fields.{name_field, pairs_field, ends_field, amounts_field, id_field, FitFormat, FitsPair};
+ghost use Rattle.hose_codec.specs.Spelling.{spelling, IsEntry, FitsFormat, IsSpelling};
+
+use crate::limits::{ADMIT, MOST_SPELLING, RELEASE};
+use byteorder::{BigEndian, ByteOrder};
+use hose_graph::{Entry, Name};
+use std::alloc::{AllocError, Global};
+
+/// The spelling of an entry whose numbers are in the ranges of the format.
+pub fn encode(alloc: Global, entry: &Entry) -> Result<Vec<u8>, AllocError>
+    requires { FitsFormat entry.now }
+    ensures spelling { IfOk result (λ bytes. IsSpelling entry.now bytes.items) }
+    ensures short { IfOk result (λ bytes. vec_len bytes ≤ MOST_SPELLING) }
+{
+    let mut out = Vec::new(alloc);
+    put_entry(&mut out, entry)?;
+    Ok(out)
+}
+
+fn put_entry(out: &mut Vec<u8>, entry: &Entry) -> Result<(), AllocError>
+    requires { FitsFormat entry.now }
+    ensures put { OnOk result (out.new.items ≡ out.old.items ++ spelling entry.now) }
+    ensures is_entry { OnOk result (IsEntry entry.now) }
+{
+    match entry {
+        Entry::Admit {
+            customer,
+            hose,
+            amounts,
+        } => {
+            out.push(ADMIT)?;
+            put_name(out, customer)?;
+            put_ends(out, hose.ends())?;
+            put_amounts(out, amounts.pairs())
+        }
+        Entry::Release { customer, id } => {
+            out.push(RELEASE)?;
+            put_name(out, customer)?;
+            put_id(out, *id)
+        }
+    }
+}
+
+fn put_name(out: &mut Vec<u8>, name: &Name) -> Result<(), AllocError>
+    ensures put { OnOk result (out.new.items ≡ out.old.items ++ name_field name.now) }
+    ensures is_name { OnOk result (IsName name.now) }
+{
+    let bytes = name.bytes();
+    out.push(bytes.len() as u8)?;
+    out.extend_from_slice(bytes)
+}
+
+fn put_ends(out: &mut Vec<u8>, ends: &[(u32, u64)]) -> Result<(), AllocError>
+    requires { IsHose ends.now }
+    ensures { OnOk result (out.new.items ≡ out.old.items ++ ends_field ends.now) }
+{
+    out.push(ends.len() as u8)?;
+    put_pairs(out, ends)
+}
+
+fn put_amounts(out: &mut Vec<u8>, amounts: &[(u32, u64)]) -> Result<(), AllocError>
+    requires { FitFormat amounts.now }
+    ensures { OnOk result (out.new.items ≡ out.old.items ++ amounts_field amounts.now) }
+{
+    let mut count = [0; 2];
+    BigEndian::write_u16(&mut count, amounts.len() as u16);
+    out.extend_from_slice(&count)?;
+    put_pairs(out, amounts)
+}
+
+fn put_id(out: &mut Vec<u8>, id: u64) -> Result<(), AllocError>
+    requires { id < 2 ^ 32 }
+    ensures { OnOk result (out.new.items ≡ out.old.items ++ id_field id) }
+{
+    let mut field = [0; 4];
+    BigEndian::write_u32(&mut field, id as u32);
+    out.extend_from_slice(&field)
+}
+
+fn put_pairs(out: &mut Vec<u8>, pairs: &[(u32, u64)]) -> Result<(), AllocError>
+    requires { All FitsPair pairs.now }
+    ensures { OnOk result (out.new.items ≡ out.old.items ++ pairs_field pairs.now) }
+{
+    for (first, second) in pairs {
+        let mut field = [0; 6];
+        BigEndian::write_u16(&mut field, *first as u16);
+        BigEndian::write_u32(&mut field[2..], *second as u32);
+        out.extend_from_slice(&field)?;
+    }
+    Ok(())
+}

@@ -1,0 +1,5 @@
+pub mod Disk
+pub mod Images
+pub mod MemState
+pub mod Picks
+pub mod Recording

@@ -1,0 +1,128 @@
+-- What contracts see of a disk in memory, and what each of its calls does to that.
+use Rattle.std.specs.Prelude.{◌≡◌, ◌⊎◌, ℕ, List, [], length, Bool, true, false, Option, Some, None, Result, Ok, Err, Contains, MatchOption, ⊤}
+use Rattle.std.proofs.Common.{subst}
+use Rattle.hose_io.specs.Count.{one_more}
+use Rattle.hose_io.specs.FailingCalls.{later_calls}
+use Rattle.hose_io.specs.declared.Failed.{Failed}
+use Rattle.hose_disk.specs.Disk.{DiskFrame}
+use Rattle.hose_disk.specs.Images.{Step, IsImage, LeftSince}
+use Rattle.hose_disk.specs.Recording.{CallRecord, after_call, reads}
+use Rattle.hose_disk.specs.declared.call.DiskCall.{DiskCall}
+use Rattle.hose_disk.specs.declared.call.DiskCall.TheVariants.{Len, Read, Write, Cut, Sync}
+
+-- the calls of each kind that are to fail, each by its number from now on
+pub record ToFail : Type 0 where
+  pub lens : List ℕ
+  pub reads : List ℕ
+  pub writes : List ℕ
+  pub cuts : List ℕ
+  pub syncs : List ℕ
+
+-- those of one kind
+abbrev pub of_kind : DiskCall → ToFail → List ℕ
+of_kind Len failing = failing.lens
+of_kind Read failing = failing.reads
+of_kind Write failing = failing.writes
+of_kind Cut failing = failing.cuts
+of_kind Sync failing = failing.syncs
+
+-- with these of one kind, and the others as they were
+abbrev pub with_kind : DiskCall → ToFail → List ℕ → ToFail
+with_kind Len failing calls = record failing { lens = calls }
+with_kind Read failing calls = record failing { reads = calls }
+with_kind Write failing calls = record failing { writes = calls }
+with_kind Cut failing calls = record failing { cuts = calls }
+with_kind Sync failing calls = record failing { syncs = calls }
+
+-- after a call of one kind
+abbrev pub after_kind : DiskCall → ToFail → ToFail
+after_kind kind failing = with_kind kind failing (later_calls (of_kind kind failing))
+
+-- none is to fail
+abbrev pub none_to_fail : ToFail
+none_to_fail = record { lens = []; reads = []; writes = []; cuts = []; syncs = [] }
+
+-- the record of its calls, those that are to fail, the moment of its opening, its faults, those of
+-- them that were want of memory, and whether its last call failed
+pub record MemState : Type 0 where
+  pub made : CallRecord
+  pub failing : ToFail
+  pub opened : ℕ
+  pub faults : ℕ
+  pub starved : ℕ
+  pub has_failed : Bool
+
+-- a disk of this content, on which no call was made
+abbrev pub fresh_disk : List ℕ → MemState
+fresh_disk bytes = record {
+  made = record { first = bytes; calls = [] };
+  failing = none_to_fail;
+  opened = 0;
+  faults = 0;
+  starved = 0;
+  has_failed = false;
+}
+
+-- ---- what it tells
+
+-- its frame
+abbrev pub frame_of : MemState → DiskFrame
+frame_of disk = record { faults = disk.faults; opened = disk.opened; has_failed = disk.has_failed }
+
+-- what a read gives
+abbrev pub content_of : MemState → Option (List ℕ)
+content_of disk = Some (reads disk.made)
+
+-- how many calls are recorded
+abbrev pub moment_of : MemState → ℕ
+moment_of disk = length disk.made.calls
+
+-- the images that a stop now may leave
+abbrev pub image_of : MemState → List ℕ → Type 0
+image_of disk = IsImage disk.made.first disk.made.calls
+
+-- the images that a stop at some moment from that one on might have left
+abbrev pub left_since_of : MemState → ℕ → List ℕ → Type 0
+left_since_of disk = LeftSince disk.made.first disk.made.calls
+
+-- it tells its content
+pub some_is_told : {bytes : List ℕ} → Some bytes ≡ None → ⊥
+some_is_told same = subst (λ (told : Option (List ℕ)). MatchOption told ⊥ (λ _. ⊤)) same tt
+
+-- ---- what its calls do
+
+-- after a call that was done
+abbrev pub after_done : DiskCall → MemState → Step → MemState
+after_done kind disk done = record disk {
+  made = after_call disk.made done;
+  failing = after_kind kind disk.failing;
+  has_failed = false;
+}
+
+-- after a call that was to fail, and was begun
+abbrev pub after_fault : DiskCall → MemState → Step → MemState
+after_fault kind disk begun = record disk {
+  made = after_call disk.made begun;
+  failing = after_kind kind disk.failing;
+  faults = one_more disk.faults;
+  has_failed = true;
+}
+
+-- after a call that found no memory for its record; it was not begun
+abbrev pub after_starving : DiskCall → MemState → MemState
+after_starving kind disk = record disk {
+  failing = after_kind kind disk.failing;
+  faults = one_more disk.faults;
+  starved = one_more disk.starved;
+  has_failed = true;
+}
+
+-- A call of this kind is done where it is not to fail, and is begun where it is; or it found no
+-- memory.
+abbrev pub IsMemCall : {T : Type 0} → DiskCall → Step → Step → MemState → MemState →
+    Result T Failed → Type 0
+IsMemCall kind done begun old new (Ok value) =
+    (Contains (of_kind kind old.failing) 1 → ⊥) × (new ≡ after_done kind old done)
+IsMemCall kind done begun old new (Err failed) =
+    (new ≡ after_starving kind old)
+    ⊎ (Contains (of_kind kind old.failing) 1 × (new ≡ after_fault kind old begun))

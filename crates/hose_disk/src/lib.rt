@@ -1,0 +1,23 @@
+//! Disks as a journal sees them: what a read gives, and which images a stop at any moment may leave.
+//! A disk in memory keeps a record of its calls, fails where it is told to, and can be stopped after
+//! any of them.
+//!
+//! ```
+//! let mut disk = MemDisk::new(alloc)?;
+//! disk.write_at(0, b"ab")?;
+//! disk.sync()?;
+//! let after_a_stop = disk.stop_image(alloc, 1, Pick::Lost)?;
+//! ```
+#![tactic(auto)]
+
+mod call;
+mod disk;
+mod mem_disk;
+mod pick;
+mod recording;
+
+pub use call::DiskCall;
+pub use disk::Disk;
+pub use hose_io::Failed;
+pub use mem_disk::MemDisk;
+pub use pick::Pick;

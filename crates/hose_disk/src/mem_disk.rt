@@ -1,0 +1,331 @@
+// A disk in memory, which keeps a record of its calls.
+ghost use Rattle.std.specs.Prelude.{◌≡◌, ◌+◌, ◌<◌, ◌≤◌, ◌^◌, ℕ, ◌∷◌, ◌++◌, [], true, false, IfOk, OnOk, OnErr, length, take};
+ghost use Rattle.hose_io.specs.Count.{one_more};
+ghost use Rattle.hose_io.specs.Frame.{Rose};
+ghost use Rattle.hose_disk.specs.Disk.{IsCalled, Holds, Torn, IsCut, IsTaken, Reads, Told, StepsTo, NoneNew, Only, Elapses, object_frame};
+ghost use Rattle.hose_disk.specs.Images.{IsImage, calls_at, idle, wrote, tried_write, cut_to, tried_cut, synced};
+ghost use Rattle.hose_disk.specs.MemState.{of_kind, with_kind, fresh_disk, frame_of, content_of, moment_of, image_of, left_since_of, IsMemCall};
+ghost use Rattle.hose_disk.specs.Picks.{picked};
+ghost use Rattle.hose_disk.specs.Recording.{reads};
+ghost use Rattle.hose_disk.specs.declared.call.DiskCall.TheVariants.{Len, Read, Write, Cut, Sync};
+
+use crate::call::{DiskCall, FailingByKind};
+use crate::disk::Disk;
+use crate::pick::Pick;
+use crate::recording::Recording;
+use hose_io::Failed;
+use std::alloc::{AllocError, Global};
+use std::marker::Model;
+
+/// A disk in memory. A call fails where it was told to, and where no memory is left for its record;
+/// such a call is not begun and not recorded.
+#[derive(Debug, Drop)]
+pub struct MemDisk {
+    made: Recording,
+    failing: FailingByKind,
+    opened: usize,
+    faults: u64,
+    starved: u64,
+    has_failed: bool,
+}
+
+impl Model for MemDisk {
+    ghost use Rattle.hose_disk.specs.MemState.{MemState};
+
+    ghost Value = { MemState };
+
+    ghost view = { λ disk. record {
+      made = disk.made;
+      failing = disk.failing;
+      opened = disk.opened;
+      faults = disk.faults;
+      starved = disk.starved;
+      has_failed = disk.has_failed;
+    } };
+}
+
+impl MemDisk {
+    /// An empty disk.
+    pub fn new(alloc: Global) -> Result<MemDisk, AllocError>
+        ensures { IfOk result (λ disk. disk ≡ fresh_disk []) }
+    {
+        MemDisk::of(alloc, &[])
+    }
+
+    /// The `nth` call of this kind from now on, counted from 1, is to fail.
+    pub fn fail(&mut self, _alloc: Global, kind: DiskCall, nth: u64) -> Result<(), AllocError>
+        ensures ok { OnOk result (self.new ≡ record self.old {
+          failing = with_kind kind self.old.failing (of_kind kind self.old.failing ++ nth ∷ []);
+        }) }
+        ensures err { OnErr result (self.new ≡ self.old) }
+    {
+        self.failing.add(kind, nth)
+    }
+
+    /// How many calls have failed.
+    pub fn faults(&self) -> u64
+        ensures { result ≡ self.now.faults }
+    {
+        self.faults
+    }
+
+    /// How many of the failed calls found no memory.
+    pub fn starved(&self) -> u64
+        ensures { result ≡ self.now.starved }
+    {
+        self.starved
+    }
+
+    /// How many calls were made and recorded.
+    pub fn calls(&self) -> u64
+        ensures { result ≡ length self.now.made.calls }
+    {
+        self.made.calls() as u64
+    }
+
+    /// A new disk, whose content is the picked image of a stop at the moment at which so many of the
+    /// recorded calls were done.
+    pub fn stop_image(&self, alloc: Global, calls: u64, pick: Pick) -> Result<MemDisk, AllocError>
+        requires { calls ≤ length self.now.made.calls }
+        ensures fresh { IfOk result (λ disk. disk
+            ≡ fresh_disk (picked pick self.now.made.first (calls_at self.now.made.calls calls))) }
+        // It is one of the images at that moment, and so one that was left since each earlier one.
+        ensures image { IfOk result (λ disk.
+            IsImage self.now.made.first (calls_at self.now.made.calls calls) (reads disk.made)) }
+        ensures left { IfOk result (λ disk. (t : ℕ) → t ≤ calls →
+            left_since_of self.now t (reads disk.made)) }
+    {
+        let image = self.made.image(alloc, calls as usize, pick)?;
+        let disk = MemDisk::of(alloc, &image)?;
+        Ok(disk)
+    }
+
+    // A disk of this content, without a call.
+    fn of(alloc: Global, bytes: &[u8]) -> Result<MemDisk, AllocError>
+        requires { length bytes.now < 2 ^ 62 }
+        ensures { IfOk result (λ disk. disk ≡ fresh_disk bytes.now) }
+    {
+        Ok(MemDisk {
+            made: Recording::new(alloc, bytes)?,
+            failing: FailingByKind::new(alloc),
+            opened: 0,
+            faults: 0,
+            starved: 0,
+            has_failed: false,
+        })
+    }
+
+    // Counts a call that was to fail.
+    fn fault(&mut self) -> Failed
+        ensures after { self.new ≡ record self.old {
+          faults = one_more self.old.faults;
+          has_failed = true;
+        } }
+        ensures rose { Rose (object_frame (frame_of self.old)) (object_frame (frame_of self.new)) }
+        ensures never_falls { self.old.faults ≤ self.new.faults }
+    {
+        self.faults = self.faults.saturating_add(1);
+        self.has_failed = true;
+        Failed
+    }
+
+    // Counts a call that found no memory.
+    fn starve(&mut self) -> Failed
+        ensures after { self.new ≡ record self.old {
+          faults = one_more self.old.faults;
+          starved = one_more self.old.starved;
+          has_failed = true;
+        } }
+        ensures rose { Rose (object_frame (frame_of self.old)) (object_frame (frame_of self.new)) }
+        ensures never_falls { self.old.faults ≤ self.new.faults }
+    {
+        self.starved = self.starved.saturating_add(1);
+        self.fault()
+    }
+
+    // A call that changes nothing.
+    fn make_idle(&mut self, kind: DiskCall) -> Result<(), Failed>
+        ensures exact { IsMemCall kind idle idle self.old self.new result }
+        ensures call { IsCalled (frame_of self.old) (frame_of self.new) result }
+    {
+        let fails = self.failing.next(kind);
+        if self.made.idle().is_err() {
+            return Err(self.starve());
+        }
+        if fails {
+            return Err(self.fault());
+        }
+        self.has_failed = false;
+        Ok(())
+    }
+
+    fn make_write(&mut self, at: u64, bytes: &[u8]) -> Result<(), Failed>
+        requires small { at + length bytes.now < 2 ^ 62 }
+        requires within { at ≤ length (reads self.old.made) }
+        ensures exact { IsMemCall Write (wrote at bytes.now) (tried_write at (length bytes.now))
+            self.old self.new result }
+        ensures call { IsCalled (frame_of self.old) (frame_of self.new) result }
+    {
+        if self.failing.next(DiskCall::Write) {
+            if self.made.try_write(at as usize, bytes.len()).is_err() {
+                return Err(self.starve());
+            }
+            return Err(self.fault());
+        }
+        if self.made.write(at as usize, bytes).is_err() {
+            return Err(self.starve());
+        }
+        self.has_failed = false;
+        Ok(())
+    }
+
+    fn make_cut(&mut self, len: u64) -> Result<(), Failed>
+        ensures exact { IsMemCall Cut (cut_to len) (tried_cut len) self.old self.new result }
+        ensures call { IsCalled (frame_of self.old) (frame_of self.new) result }
+    {
+        if self.failing.next(DiskCall::Cut) {
+            if self.made.try_cut(len as usize).is_err() {
+                return Err(self.starve());
+            }
+            return Err(self.fault());
+        }
+        if self.made.cut(len as usize).is_err() {
+            return Err(self.starve());
+        }
+        self.has_failed = false;
+        Ok(())
+    }
+
+    fn make_sync(&mut self) -> Result<(), Failed>
+        ensures exact { IsMemCall Sync synced idle self.old self.new result }
+        ensures call { IsCalled (frame_of self.old) (frame_of self.new) result }
+    {
+        if self.failing.next(DiskCall::Sync) {
+            if self.made.idle().is_err() {
+                return Err(self.starve());
+            }
+            return Err(self.fault());
+        }
+        if self.made.sync().is_err() {
+            return Err(self.starve());
+        }
+        self.has_failed = false;
+        Ok(())
+    }
+}
+
+impl Disk for MemDisk {
+    ghost use Rattle.std.specs.Prelude.{refl};
+    ghost use Rattle.std.proofs.Common.{inl};
+    ghost use Rattle.hose_disk.specs.Images.{only_now};
+    ghost use Rattle.hose_disk.specs.MemState.{frame_of, content_of, moment_of, image_of, left_since_of, some_is_told};
+
+    ghost frame = { frame_of };
+
+    ghost content = { content_of };
+
+    ghost may_leave = { image_of };
+
+    ghost moment = { moment_of };
+
+    ghost left_since = { left_since_of };
+
+    ghost counts_now = { λ disk t image within now. inl now };
+
+    ghost only_now = { λ disk image left. only_now disk.made.first disk.made.calls image left };
+
+    ghost reads_an_image = { λ disk. inl refl };
+
+    ghost untold = { λ disk t image none left. some_is_told none };
+
+    fn len(&mut self) -> Result<u64, Failed>
+        ensures small { IfOk result (λ len. len < 2 ^ 62) }
+        ensures length { IfOk result (λ len. len ≡ length (reads self.old.made)) }
+        ensures same { content_of self.new ≡ content_of self.old }
+        ensures images { NoneNew (image_of self.old) (image_of self.new) }
+        ensures time { Elapses (moment_of self.old) (moment_of self.new)
+            (left_since_of self.old) (left_since_of self.new) (image_of self.new) }
+        ensures call { IsCalled (frame_of self.old) (frame_of self.new) result }
+        ensures exact { IsMemCall Len idle idle self.old self.new result }
+    {
+        let len = self.made.bytes().len() as u64;
+        self.make_idle(DiskCall::Len)?;
+        Ok(len)
+    }
+
+    fn read_at(&mut self, at: u64, into: &mut [u8]) -> Result<usize, Failed>
+        requires { at + length into.old < 2 ^ 62 }
+        ensures room { IfOk result (λ count. count ≤ length into.new) }
+        ensures read { IfOk result
+            (λ count. Reads at (length into.old) (reads self.old.made) (take count into.new)) }
+        ensures same { content_of self.new ≡ content_of self.old }
+        ensures images { NoneNew (image_of self.old) (image_of self.new) }
+        ensures time { Elapses (moment_of self.old) (moment_of self.new)
+            (left_since_of self.old) (left_since_of self.new) (image_of self.new) }
+        ensures call { IsCalled (frame_of self.old) (frame_of self.new) result }
+        ensures exact { IsMemCall Read idle idle self.old self.new result }
+    {
+        let count = read(self.made.bytes(), at as usize, into);
+        self.make_idle(DiskCall::Read)?;
+        Ok(count)
+    }
+
+    fn write_at(&mut self, at: u64, bytes: &[u8]) -> Result<(), Failed>
+        requires small { at + length bytes.now < 2 ^ 62 }
+        requires within { at ≤ length (reads self.old.made) }
+        ensures written { OnOk result
+            (Told (Holds at bytes.now) (content_of self.old) (content_of self.new)) }
+        ensures begun { OnErr result
+            (Told (Torn at (length bytes.now)) (content_of self.old) (content_of self.new)) }
+        ensures images { StepsTo (Torn at (length bytes.now))
+            (image_of self.old) (image_of self.new) }
+        ensures time { Elapses (moment_of self.old) (moment_of self.new)
+            (left_since_of self.old) (left_since_of self.new) (image_of self.new) }
+        ensures call { IsCalled (frame_of self.old) (frame_of self.new) result }
+        ensures exact { IsMemCall Write (wrote at bytes.now) (tried_write at (length bytes.now))
+            self.old self.new result }
+    {
+        self.make_write(at, bytes)
+    }
+
+    fn cut(&mut self, len: u64) -> Result<(), Failed>
+        requires small { len < 2 ^ 62 }
+        requires within { len ≤ length (reads self.old.made) }
+        ensures cut { OnOk result (Told (IsTaken len) (content_of self.old) (content_of self.new)) }
+        ensures begun { OnErr result
+            (Told (IsCut len) (content_of self.old) (content_of self.new)) }
+        ensures images { StepsTo (IsCut len) (image_of self.old) (image_of self.new) }
+        ensures time { Elapses (moment_of self.old) (moment_of self.new)
+            (left_since_of self.old) (left_since_of self.new) (image_of self.new) }
+        ensures call { IsCalled (frame_of self.old) (frame_of self.new) result }
+        ensures exact { IsMemCall Cut (cut_to len) (tried_cut len) self.old self.new result }
+    {
+        self.make_cut(len)
+    }
+
+    fn sync(&mut self) -> Result<(), Failed>
+        ensures durable { OnOk result (Only (reads self.old.made) (image_of self.new)) }
+        ensures same { content_of self.new ≡ content_of self.old }
+        ensures images { NoneNew (image_of self.old) (image_of self.new) }
+        ensures time { Elapses (moment_of self.old) (moment_of self.new)
+            (left_since_of self.old) (left_since_of self.new) (image_of self.new) }
+        ensures call { IsCalled (frame_of self.old) (frame_of self.new) result }
+        ensures exact { IsMemCall Sync synced idle self.old self.new result }
+    {
+        self.make_sync()
+    }
+}
+
+// Reads from a place what there is room for.
+fn read(bytes: &[u8], at: usize, into: &mut [u8]) -> usize
+    ensures room { result ≤ length into.new }
+    ensures read { Reads at (length into.old) bytes.now (take result into.new) }
+{
+    if at >= bytes.len() {
+        return 0;
+    }
+    let rest = &bytes[at..];
+    let count = rest.len().min(into.len());
+    into[..count].copy_from_slice(&rest[..count]);
+    count
+}

@@ -1,0 +1,46 @@
+-- What a pass knows, as callers see it.
+use Rattle.std.specs.Prelude.{ℕ, List, [], ◌∷◌, ◌++◌, length}
+use mathlib.Core.List.{IsPrefix}
+use Rattle.atomic_table.specs.Seated.{TableId}
+use Rattle.hose_graph.specs.declared.entry.Entry.{Entry}
+use Rattle.hose_turn.specs.declared.view.Origin.{Origin}
+use Rattle.hose_turn.specs.declared.shares.TheConstants.{ALL_SHARES}
+use Rattle.hose_turn.specs.Places.{HasPlaces}
+
+-- the lock that the pass is of, what was fixed when it was made, the pass's share, the beginning of
+-- the history that it has seen, the places of its own entries, and its number of faults
+pub record Known : Type 0 where
+  pub turn : TableId
+  pub origin : Origin
+  pub share : ℕ
+  pub seen : List Entry
+  pub own : List ℕ
+  pub faults : ℕ
+
+-- what the first pass knows
+abbrev pub first_known : TableId → Origin → Known
+first_known turn origin = record {
+  turn = turn;
+  origin = origin;
+  share = ALL_SHARES;
+  seen = origin.since;
+  own = [];
+  faults = 0;
+}
+
+-- The same after the pass counted an entry: it has seen the entry, whose place is the number of
+-- entries before it.
+abbrev pub with_entry : Known → Entry → Known
+with_entry known entry = record known {
+  seen = known.seen ++ entry ∷ [];
+  own = known.own ++ length known.seen ∷ [];
+}
+
+-- The value stands for the history, which begins with the first list and with what the pass has
+-- seen. Each entry after the first list is the pass's own.
+pub record IsWhole {S : Type 0} (stands : Origin → List Entry → S → Type 0) (pass : Known)
+    (history : List Entry) (value : S) : Type 0 where
+  pub stood : stands pass.origin history value
+  pub since : IsPrefix pass.origin.since history
+  pub seen : IsPrefix pass.seen history
+  pub own : HasPlaces (length pass.origin.since) (length history) pass.own

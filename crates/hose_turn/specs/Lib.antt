@@ -1,0 +1,9 @@
+pub mod Places
+pub mod Faults
+pub mod Known
+pub mod Views
+pub mod Line
+pub mod History
+pub mod Rule
+pub mod Steps
+pub mod Held

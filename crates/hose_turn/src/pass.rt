@@ -1,0 +1,50 @@
+//! Passes that do not have the turn.
+ghost use Rattle.std.specs.Prelude.{◌≡◌, []};
+ghost use Rattle.hose_turn.specs.Views.{known_of, IsAtRest};
+
+use crate::rule::Place;
+use crate::view::View;
+use atomic_table::Badge;
+use std::marker::Model;
+
+/// The right to take part in the turns of one lock. It has no bytes, and may go to another thread.
+///
+/// A contract sees it as what it knows: the lock, what was fixed when that was made, its share, the
+/// beginning of the history that it has seen, the places of its own entries there, and its number
+/// of faults.
+#[derive(Drop)]
+pub struct Pass {
+    pub(crate) badge: Badge<View>,
+}
+
+impl Model for Pass {
+    ghost use Rattle.hose_turn.specs.Known.{Known};
+    ghost use Rattle.hose_turn.specs.Views.{known_of, view_of, IsResting};
+
+    ghost Value = { Known };
+
+    ghost view = { λ pass. known_of pass.badge.table_id (view_of pass.badge.views) };
+
+    ghost invariant = { λ pass. IsResting pass.badge.views };
+}
+
+impl Pass {
+    pub(crate) fn into_place<S>(self) -> Place<S>
+        ensures known { known_of result.table_id result.me.0 ≡ self }
+        ensures rests { IsAtRest result.me.0 }
+        ensures slots { result.me.1 ≡ [] }
+    {
+        let Pass { badge } = self;
+        badge.into_seat()
+    }
+
+    pub(crate) fn of<S>(place: Place<S>) -> Pass
+        requires rests { IsAtRest place.me.0 }
+        requires slots { place.me.1 ≡ [] }
+        ensures { result ≡ known_of place.table_id place.me.0 }
+    {
+        Pass {
+            badge: place.into_badge(),
+        }
+    }
+}

@@ -1,0 +1,78 @@
+//! What each step tells the pass that makes it.
+ghost use Rattle.hose_turn.specs.Views.{nobody, cut, branch, glued};
+ghost use Rattle.hose_turn.specs.Steps.{Begins, Draws, Looks, Settles, Counts, PassesOn};
+ghost use Rattle.hose_turn.specs.Faults.{rise, no_rise};
+
+use crate::stands::{Counted, Stands};
+use crate::view::View;
+use atomic_table::{Join, Play, Split};
+use std::marker::PhantomData;
+
+/// The first pass takes the turn at a table that has no value yet.
+pub(crate) struct Begin;
+
+impl<S: Stands> Play<Option<S>, View> for Begin {
+    ghost then = { Begins S.stands S.faults };
+}
+
+/// The first pass gives the value to the table.
+pub(crate) struct Open;
+
+impl<S: Stands> Play<Option<S>, View> for Open {
+    ghost then = { PassesOn S.faults no_rise };
+}
+
+/// A pass draws a ticket.
+pub(crate) struct Draw;
+
+impl<S> Play<Option<S>, View> for Draw {
+    ghost then = { Draws };
+}
+
+/// A pass looks whether its turn has come, and takes the value where it has.
+pub(crate) struct Look;
+
+impl<S: Stands> Play<Option<S>, View> for Look {
+    ghost then = { Looks S.stands S.faults };
+}
+
+/// The history gains an entry, which is the pass's own.
+pub(crate) struct Count<N> {
+    named: PhantomData<N>,
+}
+
+impl<S, N: Counted> Play<Option<S>, View> for Count<N> {
+    ghost then = { Counts N.entry };
+}
+
+/// A pass gives the value back, and the turn to the next ticket.
+pub(crate) struct PassOn;
+
+impl<S: Stands> Play<Option<S>, View> for PassOn {
+    ghost then = { PassesOn S.faults rise };
+}
+
+/// A share goes to a new pass.
+pub(crate) struct Cut;
+
+impl Split<View> for Cut {
+    ghost left = { cut };
+
+    ghost right = { branch };
+}
+
+/// A pass takes in another one.
+pub(crate) struct Glue;
+
+impl Join<View> for Glue {
+    ghost both = { glued };
+
+    ghost spent = { nobody };
+}
+
+/// After a join: of the two lists that were seen, the longer one is seen.
+pub(crate) struct Settle;
+
+impl<S> Play<Option<S>, View> for Settle {
+    ghost then = { Settles };
+}

@@ -1,0 +1,203 @@
+//! The lock and its calls.
+ghost use Rattle.std.specs.Prelude.{◌≡◌, ◌⊎◌, ℕ, ◌+◌, ◌-◌, ◌<◌, ◌≤◌, ◌∷◌, [], ◌++◌, List, length, IfOk};
+ghost use mathlib.Core.List.{IsPrefix};
+ghost use Rattle.hose_graph.specs.declared.entry.Entry.{Entry};
+ghost use Rattle.hose_turn.specs.declared.view.Origin.{Origin};
+ghost use Rattle.hose_turn.specs.Known.{first_known, with_entry, IsWhole};
+ghost use Rattle.hose_turn.specs.Faults.{rise, end_of_count};
+ghost use Rattle.hose_turn.specs.Views.{unborn, opener};
+ghost use Rattle.hose_turn.specs.Held.{holder, value_of, floor_of};
+
+use crate::held::Held;
+use crate::pass::Pass;
+use crate::plays::{Begin, Count, Cut, Draw, Glue, Look, Open, PassOn, Settle};
+use crate::rule::{Board, EPOCH, Place, SERVING, TICKET};
+use crate::shares::ALL_SHARES;
+use crate::stands::{Counted, Stands};
+use atomic_table::{Badge, Table};
+use hose_graph::Entry;
+use std::alloc::{AllocError, Global};
+use std::marker::{Brand, Model};
+use std::mem::replace;
+use std::sync::Wait;
+use std::thread;
+
+/// A lock round a value that stands for one history.
+///
+/// A contract sees it as which lock it is.
+#[derive(Drop)]
+pub struct Turn<S: Stands + Drop> {
+    board: Board<S>,
+}
+
+impl<S: Stands + Drop> Model for Turn<S> {
+    ghost use Rattle.atomic_table.specs.Seated.{TableId, table_id_coded};
+    ghost use Rattle.hose_turn.specs.Rule.{IsSized};
+
+    ghost Value = { TableId };
+
+    ghost coded = { table_id_coded };
+
+    ghost view = { λ turn. turn.board.shared.table_id };
+
+    ghost invariant = { λ turn. IsSized turn.board.shared.table_id };
+}
+
+impl<S: Stands + Drop> Turn<S> {
+    /// A lock round the value, and its first pass.
+    pub fn new(alloc: Global, value: S) -> Result<(Turn<S>, Pass), AllocError>
+        requires { (origin : Origin) × S.stands origin origin.since value }
+        ensures first { IfOk result (λ made. made.1 ≡ first_known made.0 made.1.origin) }
+        ensures stands { IfOk result (λ made. S.stands made.1.origin made.1.origin.since value) }
+    {
+        Turn::from_ticket(alloc, value, 0)
+    }
+
+    /// The same, with the number of the first ticket. Tickets are counted modulo 2^64, so it makes
+    /// no difference.
+    pub fn from_ticket(alloc: Global, value: S, ticket: u64) -> Result<(Turn<S>, Pass), AllocError>
+        requires { (origin : Origin) × S.stands origin origin.since value }
+        ensures first { IfOk result (λ made. made.1 ≡ first_known made.0 made.1.origin) }
+        ensures stands { IfOk result (λ made. S.stands made.1.origin made.1.origin.since value) }
+    {
+        let words = [0, ticket.wrapping_add(1), ticket];
+        let (board, mut place) = Table::vacant(alloc, &words, 1, &())?;
+        Turn::begin(&board, &mut place, value);
+        board.shared.fetch_add::<Open>(&mut place, SERVING, 1);
+        Ok((Turn { board }, Pass::of(place)))
+    }
+
+    /// The first pass has the turn at a table with no value, and has the value.
+    fn begin(board: &Board<S>, place: &mut Place<S>, value: S)
+        requires words { board.now.shared.table_id.words ≡ 3 }
+        requires table { place.old.table_id ≡ board.now.shared.table_id }
+        requires unborn { place.old.me ≡ (unborn, []) }
+        requires stands { (origin : Origin) × S.stands origin origin.since value }
+        ensures table { place.new.table_id ≡ place.old.table_id }
+        ensures begun { (origin : Origin) × (ticket : ℕ) × S.stands origin origin.since value
+            × (place.new.me ≡ (opener origin ticket (S.faults value), (0, Some value) ∷ [])) }
+    {
+        let epoch = value.epoch();
+        let value = Some(value);
+        board
+            .shared
+            .compare_exchange_with::<Begin>(place, EPOCH, 0, epoch, &value);
+        board.shared.exchange(place, 0, value);
+    }
+
+    /// One share of the pass goes to a new pass, which has seen as much.
+    pub fn split(&self, pass: &mut Pass) -> Pass
+        requires turn { pass.old.turn ≡ self.now }
+        requires share { 2 ≤ pass.old.share }
+        ensures kept { pass.new ≡ record pass.old { share = pass.old.share - 1 } }
+        ensures given { result ≡ record pass.old { share = 1; own = []; faults = 0 } }
+    {
+        let badge = replace(&mut pass.badge, Badge::blank());
+        let mut place: Place<S> = badge.into_seat();
+        let other = self.board.shared.split_seat::<Cut>(&mut place);
+        pass.badge = place.into_badge();
+        Pass::of(other)
+    }
+
+    /// The pass takes in the other one, and has seen the longer of the two lists.
+    pub fn join(&self, pass: &mut Pass, other: Pass)
+        requires turn { pass.old.turn ≡ self.now }
+        requires other { other.turn ≡ self.now }
+        ensures same { (pass.new.turn ≡ pass.old.turn) × (pass.new.origin ≡ pass.old.origin) }
+        ensures share { pass.new.share ≡ pass.old.share + other.share }
+        ensures own { pass.new.own ≡ pass.old.own ++ other.own }
+        ensures faults { pass.new.faults ≡ pass.old.faults + other.faults }
+        ensures one { (pass.new.seen ≡ pass.old.seen) ⊎ (pass.new.seen ≡ other.seen) }
+        ensures seen { IsPrefix pass.old.seen pass.new.seen }
+        ensures told { IsPrefix other.seen pass.new.seen }
+    {
+        let badge = replace(&mut pass.badge, Badge::blank());
+        let mut place: Place<S> = badge.into_seat();
+        self.board
+            .shared
+            .join_seat::<Glue>(&mut place, other.into_place());
+        self.board.shared.load::<Settle>(&mut place, EPOCH);
+        pass.badge = place.into_badge();
+    }
+
+    /// Waits for the pass's turn, and takes the value.
+    pub fn lock<W: Wait>(&self, rt: &W, pass: Pass) -> Held<S>
+        requires { pass.turn ≡ self.now }
+        ensures kept { holder result ≡ record pass { seen = (holder result).seen } }
+        ensures seen { IsPrefix pass.seen (holder result).seen }
+        ensures stands { S.stands (holder result).origin (holder result).seen (value_of result) }
+        ensures floor { floor_of result ≡ S.faults (value_of result) }
+    {
+        let mut place: Place<S> = pass.into_place();
+        let mine = self.board.shared.fetch_add::<Draw>(&mut place, TICKET, 1);
+        for _ in rt.forever() {
+            if self.board.shared.load::<Look>(&mut place, SERVING) == mine {
+                let value = self.board.shared.exchange(&mut place, 0, None).unwrap();
+                return Held { place, value };
+            }
+            thread::yield_now();
+        }
+        unreachable!()
+    }
+
+    fn count_named<N: Counted>(&self, held: &mut Held<S>, entry: &Entry)
+        requires turn { (holder held.old).turn ≡ self.now }
+        requires stands { let known = holder held.old in
+            S.stands known.origin (known.seen ++ N.entry ∷ []) (value_of held.old) }
+        ensures counted { holder held.new ≡ with_entry (holder held.old) N.entry }
+        ensures value { value_of held.new ≡ value_of held.old }
+        ensures floor { floor_of held.new ≡ floor_of held.old }
+    {
+        // The entry is for the clauses alone, and the epoch tells that its word does not wrap.
+        let _ = entry;
+        let _epoch = held.value.epoch();
+        self.board
+            .shared
+            .fetch_add::<Count<N>>(&mut held.place, EPOCH, 1);
+    }
+
+    /// The history has the entry, for which the value stands already. The entry is the pass's own.
+    pub fn count(&self, held: &mut Held<S>, entry: &Entry)
+        requires turn { (holder held.old).turn ≡ self.now }
+        requires stands { let known = holder held.old in
+            S.stands known.origin (known.seen ++ entry.now ∷ []) (value_of held.old) }
+        ensures counted { holder held.new ≡ with_entry (holder held.old) entry.now }
+        ensures value { value_of held.new ≡ value_of held.old }
+        ensures floor { floor_of held.new ≡ floor_of held.old }
+    {
+        self.count_named::<Brand>(held, entry);
+    }
+
+    /// Gives the value back, and the turn on. The pass has one fault more where the value's count
+    /// of faults rose.
+    pub fn unlock(&self, held: Held<S>) -> Pass
+        requires turn { (holder held).turn ≡ self.now }
+        requires stands { S.stands (holder held).origin (holder held).seen (value_of held) }
+        requires faults { floor_of held ≤ S.faults (value_of held) }
+        ensures { let known = holder held in
+            let more = rise (floor_of held) (S.faults (value_of held)) in
+            result ≡ record known { faults = known.faults + more } }
+    {
+        let Held { mut place, value } = held;
+        self.board.shared.exchange(&mut place, 0, Some(value));
+        self.board
+            .shared
+            .fetch_add::<PassOn>(&mut place, SERVING, 1);
+        Pass::of(place)
+    }
+
+    /// The value, once no other pass is left.
+    pub fn close(self, pass: Pass) -> S
+        requires turn { pass.turn ≡ self }
+        requires share { pass.share ≡ ALL_SHARES }
+        ensures history { (history : List Entry) × IsWhole S.stands pass history result }
+        ensures faults { (pass.faults ≤ S.faults result) ⊎ (end_of_count ≤ S.faults result) }
+    {
+        let Turn { board } = self;
+        let place: Place<S> = pass.into_place();
+        let mut closed = board.close_with(place);
+        let value = closed.take(0);
+        closed.free();
+        value.unwrap()
+    }
+}

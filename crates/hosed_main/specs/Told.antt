@@ -1,0 +1,15 @@
+-- What comes of a text that the program tells of itself.
+use Rattle.std.specs.Prelude.{◌≡◌, ◌⊎◌, ℕ, List}
+use Rattle.hose_io.specs.Frame.{Rose}
+use Rattle.hose_io.specs.Stream.{Grows}
+use Rattle.hose_io.specs.Writing.{GrowsInPart}
+use Rattle.hose_io.specs.declared.sink.Sink.{Ghosts}
+
+-- A text is out, the status is 0, and the sink has not failed; or it failed, a part is out, and the
+-- status is 4.
+abbrev pub IsTold : {S : Type 0} → Ghosts S → S → S → List ℕ → ℕ → Type 0
+IsTold sink was now text status =
+    ((status ≡ 0) × (sink.frame now ≡ sink.frame was)
+    × Grows (sink.content was) (sink.content now) text)
+    ⊎ ((status ≡ 4) × Rose (sink.frame was) (sink.frame now)
+    × GrowsInPart (sink.content was) (sink.content now) text)
