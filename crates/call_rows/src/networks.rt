@@ -66,21 +66,26 @@ fn what_is_no_hose_is_refused_in_order(rt: HostRuntime) {
     }
 }
 
+// What comes of a link from the first node to itself.
+fn add_loop(top: &mut Topology, capacity: u64) -> Result<u32, TopologyFault> {
+    top.add_link(Link {
+        a: 0,
+        b: 0,
+        capacity,
+        length: 1,
+        cost: 1,
+    })
+}
+
 #[test]
 fn a_network_refuses_in_order(rt: HostRuntime) -> Result<(), Fail> {
     let mut top = Topology::new(rt.alloc())?;
     let name = Name::read(b"a").ok_or("no name")?;
-    assert_eq!(rt; top.add_node(name), Ok(0));
-    assert_eq!(rt; top.add_node(name), Err(TopologyFault::Repeat));
+    for want in [Ok(0), Err(TopologyFault::Repeat)] {
+        assert_eq!(rt; top.add_node(name), want);
+    }
     for (capacity, fault) in [(1, TopologyFault::Loop), (0, TopologyFault::Range)] {
-        let link = Link {
-            a: 0,
-            b: 0,
-            capacity,
-            length: 1,
-            cost: 1,
-        };
-        assert_eq!(rt; top.add_link(link), Err(fault), "at {capacity}");
+        assert_eq!(rt; add_loop(&mut top, capacity), Err(fault), "at {capacity}");
     }
     Ok(())
 }

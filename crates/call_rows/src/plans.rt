@@ -1,10 +1,10 @@
 // Rows, roots, trees, sides and decisions on a star, worked out by hand.
 ghost use Rattle.std.specs.Prelude.{◌≡◌, ◌<◌, ◌≤◌, ◌↔◌, Bool, List, All, length};
 ghost use Rattle.std.specs.Prelude.{IfOk, IsSome, IsTrue, slice_index};
-ghost use Rattle.hose_graph.specs.Row.{distance_of};
+ghost use Rattle.hose_graph.specs.Hose.{node_of};
+ghost use Rattle.hose_graph.specs.Row.{HasBoundedDistances, distance_of};
 ghost use Rattle.hose_law.specs.Row.{IsRow};
 ghost use Rattle.hose_law.specs.Walk.{capacity_of};
-ghost use Rattle.hose_root.specs.Weight.{IsBounded};
 ghost use Rattle.hose_tree.specs.Amounts.{AreCarried};
 
 use crate::reading::{STAR, hose, network};
@@ -20,7 +20,8 @@ use std::test::Fail;
 // The row of a root over all links.
 fn row_from(alloc: Global, top: &Topology, root: u32) -> Result<Row, AllocError>
     requires { root < length top.now.nodes }
-    ensures { IfOk result (λ row. (set : List Bool) × IsRow top.now set row.root row) }
+    ensures row { IfOk result (λ row. (set : List Bool) × IsRow top.now set row.root row) }
+    ensures bounded { IfOk result HasBoundedDistances }
 {
     let mut links = LinkSet::new(alloc, top.links())?;
     links.fill_where(|_| true);
@@ -29,7 +30,7 @@ fn row_from(alloc: Global, top: &Topology, root: u32) -> Result<Row, AllocError>
 
 // Whether each endpoint has a distance.
 fn reaches(row: &Row, hose: &Hose) -> bool
-    ensures { IsTrue result → All (λ end. IsSome (distance_of row.now end.0)) hose.now }
+    ensures { IsTrue result → All (λ end. IsSome (distance_of row.now (node_of end))) hose.now }
 {
     hose.ends().iter().all(|end| has_distance(row, end.0))
 }
@@ -56,18 +57,9 @@ fn a_row_from_the_middle_of_a_star(rt: HostRuntime) -> Result<(), Fail> {
     Ok(())
 }
 
-// Whether no distance is above the greatest.
-fn are_bounded(row: &Row) -> bool
-    ensures { IsTrue result → IsBounded row.now }
-{
-    row.dist
-        .iter()
-        .all(|distance| distance.is_none_or(|d| d <= 511_000_000))
-}
-
 // Whether each endpoint has a place in the row.
 fn has_places(row: &Row, hose: &Hose) -> bool
-    ensures { IsTrue result → All (λ end. end.0 < length row.now.dist) hose.now }
+    ensures { IsTrue result → All (λ end. node_of end < length row.now.dist) hose.now }
 {
     let nodes = row.dist.len();
     hose.ends().iter().all(|end| (end.0 as usize) < nodes)
@@ -78,7 +70,7 @@ fn weighed(alloc: Global, top: &Topology, root: u32, hose: &Hose) -> Result<Opti
     requires { root < length top.now.nodes }
 {
     let row = row_from(alloc, top, root)?;
-    if !are_bounded(&row) || !has_places(&row, hose) {
+    if !has_places(&row, hose) {
         return Err(Fail::from("no row"));
     }
     Ok(weight(&row, hose))

@@ -2,8 +2,9 @@
 use Rattle.std.proofs.Common.{◌≡◌, ℕ, List, [], ◌++◌, Result, Ok, Err}
 use Rattle.std.specs.Prelude.{IfOk}
 use Rattle.hose_graph.specs.declared.entry.Entry.{Entry}
+use Rattle.hose_graph.specs.declared.entry.Entry.TheVariants.{Admit, Release}
 use Rattle.hose_codec.specs.declared.fault.CodecFault.{CodecFault}
-use Rattle.hose_codec.specs.Spelling.{spelling, IsEntry, IsSpelling, Decodes}
+use Rattle.hose_codec.specs.Spelling.{spelling, IsEntry, FitsFormat, IsSpelling, Decodes}
 use Rattle.hose_codec.proofs.Entries.{only_entry, same_entry}
 
 pub again : (bytes : List ℕ) (result : Result Entry CodecFault) → Decodes bytes result → (entry : Entry) → IsSpelling entry bytes → IfOk result (λ read. read ≡ entry)
@@ -14,3 +15,8 @@ pub alone : (bytes : List ℕ) (result : Result Entry CodecFault) → Decodes by
     → IfOk result (λ entry. (other : Entry) (rest : List ℕ) → IsEntry other → bytes ≡ spelling other ++ rest → (other ≡ entry) × (rest ≡ []))
 alone bytes (Ok entry) decodes = λ other rest is begins. only_entry entry other bytes rest decodes is begins
 alone bytes (Err fault) decodes = tt
+
+pub fits : (bytes : List ℕ) (result : Result Entry CodecFault) → Decodes bytes result → IfOk result FitsFormat
+fits bytes (Ok (Admit customer hose amounts)) decodes = decodes.is_entry.2.fit
+fits bytes (Ok (Release customer id)) decodes = decodes.is_entry.1
+fits bytes (Err fault) decodes = tt

@@ -1,7 +1,7 @@
 // Reading an entry. No memory is taken before the bytes are known to be the spelling of one.
 ghost use Rattle.std.specs.Prelude.{◌≡◌, ◌↔◌, ◌∷◌, ◌++◌, [], List, ℕ, IfOk, IsErrOf};
 ghost use Rattle.hose_graph.specs.declared.entry.Entry.{Entry};
-ghost use Rattle.hose_codec.specs.Spelling.{IsEntry, IsSpelling, IsNoSpelling, Decodes, spelling};
+ghost use Rattle.hose_codec.specs.Spelling.{IsEntry, FitsFormat, IsSpelling, IsNoSpelling, Decodes, spelling};
 
 use crate::fault::CodecFault;
 use crate::fields::Fields;
@@ -15,6 +15,8 @@ pub fn decode(alloc: Global, bytes: &[u8]) -> Result<Entry, CodecFault>
     // What was encoded is decoded again, but for want of memory.
     ensures again { (entry : Entry) → IsSpelling entry bytes.now →
         IfOk result (λ read. read ≡ entry) }
+    // What was decoded can be encoded.
+    ensures fits { IfOk result FitsFormat }
     // No other spelling begins the bytes.
     ensures alone { IfOk result (λ entry. (other : Entry) (rest : List ℕ) → IsEntry other →
         bytes.now ≡ spelling other ++ rest → (other ≡ entry) × (rest ≡ [])) }

@@ -19,7 +19,8 @@ pub record Stays (before after : Frame) : Type 0 where
   pub number : after.number ≡ before.number
   pub loan : after.loan ≡ before.loan
 
--- what a call leaves of the frame: a call that fails raised the count, and a call that succeeds left it
+-- what a call leaves of the frame: a call that fails raised the count, and a call that succeeds
+-- left it
 pub record Met {T : Type 0} (before after : Frame) (result : Result T Failed) : Type 0 where
   pub stays : Stays before after
   pub failed : IsErr result → Rose before after

@@ -24,18 +24,23 @@ pub record IsCutShort {S : Type 0} (sink : Ghosts S) (was now : S) (text : List 
   pub part : GrowsInPart (sink.content was) (sink.content now) text
   pub rose : Rose (sink.frame was) (sink.frame now)
 
--- A text was added to what was held. Where the sink fails the gatherer is broken, and nothing goes out any more.
-pub record IsAdded {S : Type 0} (sink : Ghosts S) (old : Gathered) (was : S) (new : Gathered) (now : S) (text : List ℕ) : Type 0 where
+-- A text was added to what was held. Where the sink fails the gatherer is broken, and nothing goes
+-- out any more.
+pub record IsAdded {S : Type 0} (sink : Ghosts S) (old : Gathered) (was : S) (new : Gathered)
+    (now : S) (text : List ℕ) : Type 0 where
   pub idle : IsTrue old.broke → (new ≡ old) × (now ≡ was)
-  pub whole : IsFalse new.broke → GoesOut (sink.content was) (sink.content now) (old.held ++ text) new.held
+  pub whole : IsFalse new.broke
+      → GoesOut (sink.content was) (sink.content now) (old.held ++ text) new.held
   pub cut : IsFalse old.broke → IsTrue new.broke → IsCutShort sink was now (old.held ++ text)
   pub stays : Stays (sink.frame was) (sink.frame now)
   pub unbroken : IsFalse new.broke → sink.frame now ≡ sink.frame was
   -- what fits is held, and the sink is not called
-  pub fits : length (old.held ++ text) ≤ GATHER_LIMIT → (now ≡ was) × (IsFalse old.broke → new ≡ record old { held = old.held ++ text })
+  pub fits : length (old.held ++ text) ≤ GATHER_LIMIT
+      → (now ≡ was) × (IsFalse old.broke → new ≡ record old { held = old.held ++ text })
 
 -- All that was held went out, as one piece; or the sink failed, now or before.
-pub record IsFinished {S T : Type 0} (sink : Ghosts S) (old : Gathered) (was now : S) (result : Result T Failed) : Type 0 where
+pub record IsFinished {S T : Type 0} (sink : Ghosts S) (old : Gathered) (was now : S)
+    (result : Result T Failed) : Type 0 where
   pub idle : IsTrue old.broke → IsErr result × (now ≡ was)
   pub whole : OnOk result (Grows (sink.content was) (sink.content now) old.held)
   pub cut : IsFalse old.broke → OnErr result (IsCutShort sink was now old.held)

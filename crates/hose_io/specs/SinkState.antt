@@ -4,7 +4,8 @@ use Rattle.hose_io.specs.Count.{one_more}
 use Rattle.hose_io.specs.Frame.{Frame}
 use Rattle.hose_io.specs.FailingCalls.{later_calls}
 
--- its bytes, its faults, those of them that were want of memory, the pieces that it was given, its calls that are to fail, and its number
+-- its bytes, its faults, those of them that were want of memory, the pieces that it was given, its
+-- calls that are to fail, and its number
 pub record SinkState : Type 0 where
   pub given : List ℕ
   pub faults : ℕ

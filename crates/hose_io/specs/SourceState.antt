@@ -5,7 +5,8 @@ use Rattle.hose_io.specs.Frame.{Frame}
 use Rattle.hose_io.specs.FailingCalls.{later_calls}
 use Rattle.hose_io.specs.Stream.{Stream}
 
--- its bytes, how many it gives at most in one call, its faults, its calls that are to fail, and its number
+-- its bytes, how many it gives at most in one call, its faults, its calls that are to fail, and its
+-- number
 pub record SourceState : Type 0 where
   pub content : Stream
   pub piece : ℕ

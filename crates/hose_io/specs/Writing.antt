@@ -10,7 +10,8 @@ abbrev pub GrowsInPart : Option (List ℕ) → Option (List ℕ) → List ℕ �
 GrowsInPart old new bytes = (count : ℕ) × (count < length bytes) × Grows old new (take count bytes)
 
 -- All of a text was put; or the sink failed, and was given a part of it that is not the whole.
-pub record IsPut {S T : Type 0} (sink : Ghosts S) (was now : S) (text : List ℕ) (result : Result T Failed) : Type 0 where
+pub record IsPut {S T : Type 0} (sink : Ghosts S) (was now : S) (text : List ℕ)
+    (result : Result T Failed) : Type 0 where
   pub ok : OnOk result (Grows (sink.content was) (sink.content now) text)
   pub err : OnErr result (GrowsInPart (sink.content was) (sink.content now) text)
   pub met : Met (sink.frame was) (sink.frame now) result

@@ -5,8 +5,8 @@ ghost use Rattle.hose_io.specs.FailingCalls.{later_calls};
 use std::alloc::{AllocError, Global};
 use std::marker::Model;
 
-/// The calls to come that are to fail, each by its number, counted from 1. A form in memory keeps one, so that a test
-/// can try each fault.
+/// The calls to come that are to fail, each by its number, counted from 1. A form in memory keeps
+/// one, so that a test can try each fault.
 #[derive(Debug, Drop)]
 pub struct FailingCalls {
     calls: Vec<u64>,

@@ -12,10 +12,11 @@ use std::marker::Model;
 /// How many bytes a gatherer holds at most.
 pub const GATHER_LIMIT: usize = 4_096;
 
-/// A text on its way to a sink, gathered so that it goes out in few pieces. It takes no heap memory.
+/// A text on its way to a sink, gathered so that it goes out in few pieces. It takes no heap
+/// memory.
 ///
-/// Where the sink fails it is broken: what it held is lost, what is added from then on is dropped, and `finish` answers
-/// `Failed`. What it holds goes out with `finish`, and is lost without.
+/// Where the sink fails it is broken: what it held is lost, what is added from then on is dropped,
+/// and `finish` answers `Failed`. What it holds goes out with `finish`, and is lost without.
 #[derive(Drop)]
 pub struct Gather {
     buffer: [u8; GATHER_LIMIT],
@@ -103,7 +104,8 @@ impl Gather {
     // Gives all that it holds to the sink. It then holds nothing, also where the sink failed.
     fn flush<S: Sink>(&mut self, sink: &mut S) -> Result<(), Failed>
         ensures put { IsPut S.Sink sink.old sink.new self.old.held result }
-        ensures one_piece { self.old.held ≢ [] → OnOk result (S.pieces sink.new ≡ one_more (S.pieces sink.old)) }
+        ensures one_piece { self.old.held ≢ []
+            → OnOk result (S.pieces sink.new ≡ one_more (S.pieces sink.old)) }
         ensures emptied { self.new ≡ record self.old { held = [] } }
     {
         let held = self.len;

@@ -1,5 +1,5 @@
-//! Streams of bytes as the rest of `hosed` sees them: sources that are read, sinks that are written, and what their
-//! failures are counted by.
+//! Streams of bytes as the rest of `hosed` sees them: sources that are read, sinks that are
+//! written, and what their failures are counted by.
 #![tactic(auto)]
 
 mod failing;
@@ -23,6 +23,3 @@ pub use writing::write_all;
 /// A call of a source or a sink failed. The object's count of faults rose in that call.
 #[derive(Clone, Copy, Debug, PartialEq, Eq)]
 pub struct Failed;
-
-#[cfg(test)]
-mod tests;

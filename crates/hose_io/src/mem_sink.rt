@@ -1,6 +1,6 @@
 // Bytes in memory that are written.
-ghost use Rattle.std.specs.Prelude.{◌≡◌, ◌<◌, ◌≤◌, ◌==◌, ℕ, Option, Some, List, [], ◌∷◌, ◌++◌, IfOk, IsErr, OnOk, OnErr, MatchResult, Contains, length, take, if◌then◌else◌};
-ghost use Rattle.hose_io.specs.Count.{one_more};
+ghost use Rattle.std.specs.Prelude.{◌≡◌, ◌<◌, ◌≤◌, ℕ, Option, Some, List, [], ◌∷◌, ◌++◌, IfOk, IsErr, OnOk, OnErr, MatchResult, Contains, length, take};
+ghost use Rattle.hose_io.specs.Count.{pieces_after};
 ghost use Rattle.hose_io.specs.Frame.{Frame, Met};
 ghost use Rattle.hose_io.specs.SinkState.{SinkState, frame_of, after_putting, after_fault, after_starving};
 ghost use Rattle.hose_io.specs.Stream.{Grows};
@@ -9,7 +9,8 @@ use crate::{Failed, FailingCalls, Sink};
 use std::alloc::{AllocError, Global};
 use std::marker::Model;
 
-/// Bytes in memory that are written. A call fails where it was told to, and where no memory is left to grow.
+/// Bytes in memory that are written. A call fails where it was told to, and where no memory is left
+/// to grow.
 #[derive(Debug, Drop)]
 pub struct MemSink {
     bytes: Vec<u8>,
@@ -106,7 +107,7 @@ impl Sink for MemSink {
             (λ k. Grows (Some self.old.given) (Some self.new.given) (take k bytes.now))
             (λ _. Some self.new.given ≡ Some self.old.given) }
         ensures pieces { MatchResult result
-            (λ k. self.new.pieces ≡ (if k == length bytes.now then one_more self.old.pieces else self.old.pieces))
+            (λ k. self.new.pieces ≡ pieces_after self.old.pieces k (length bytes.now))
             (λ _. self.new.pieces ≡ self.old.pieces) }
         ensures met { Met (frame_of self.old) (frame_of self.new) result }
 

@@ -1,7 +1,7 @@
 // What is written: its contract, and the same through a borrow.
-ghost use Rattle.std.specs.Prelude.{◌≡◌, ◌<◌, ◌≤◌, ◌==◌, ℕ, Option, None, Some, List, ◌∷◌, IfOk, MatchResult, length, take, if◌then◌else◌};
+ghost use Rattle.std.specs.Prelude.{◌≡◌, ◌<◌, ◌≤◌, ℕ, Option, None, Some, List, ◌∷◌, IfOk, MatchResult, length, take};
 ghost use Rattle.std.specs.Borrow.{GName};
-ghost use Rattle.hose_io.specs.Count.{one_more};
+ghost use Rattle.hose_io.specs.Count.{pieces_after};
 ghost use Rattle.hose_io.specs.Frame.{Frame, Met};
 ghost use Rattle.hose_io.specs.Stream.{Grows};
 
@@ -9,15 +9,16 @@ use crate::Failed;
 
 /// A stream of bytes that is written: standard output, a connection, a text in memory.
 pub trait Sink: Drop {
-    /// How often it has failed, its number, and the borrows that lead to it. The source and the sink of one connection
-    /// have the same number.
+    /// How often it has failed, its number, and the borrows that lead to it. The source and the
+    /// sink of one connection have the same number.
     ghost frame: { Self → Frame };
 
     /// The bytes that it was given, where it tells.
     ghost content: { Self → Option (List ℕ) };
 
-    /// How many calls took all that they were given. So a text that is put by calls of which each but the last took a
-    /// part, and the next was given the rest, counts once: it went out as one piece.
+    /// How many calls took all that they were given. So a text that is put by calls of which each
+    /// but the last took a part, and the next was given the rest, counts once: it went out as one
+    /// piece.
     ghost pieces: { Self → ℕ };
 
     /// Appends bytes from the front of `bytes`, one at least, and says how many.
@@ -32,7 +33,7 @@ pub trait Sink: Drop {
             (λ _. content self.new ≡ content self.old) }
 
         ensures pieces { MatchResult result
-            (λ k. pieces self.new ≡ (if k == length bytes.now then one_more (pieces self.old) else pieces self.old))
+            (λ k. pieces self.new ≡ pieces_after (pieces self.old) k (length bytes.now))
             (λ _. pieces self.new ≡ pieces self.old) }
         ensures met { Met (frame self.old) (frame self.new) result };
 }

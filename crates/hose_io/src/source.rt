@@ -7,14 +7,15 @@ use crate::Failed;
 
 /// A stream of bytes that is read: standard input, a connection, a text in memory.
 pub trait Source: Drop {
-    /// How often it has failed, its number, and the borrows that lead to it. The source and the sink of one connection
-    /// have the same number.
+    /// How often it has failed, its number, and the borrows that lead to it. The source and the
+    /// sink of one connection have the same number.
     ghost frame: { Self → Frame };
 
     /// The bytes that it has given and those that it has left, where it tells.
     ghost content: { Self → Option Stream };
 
-    /// Puts the next bytes at the front of `into`, and says how many. What stands after them is left open.
+    /// Puts the next bytes at the front of `into`, and says how many. What stands after them is
+    /// left open.
     fn take(&mut self, into: &mut [u8]) -> Result<usize, Failed>
         requires { 0 < length into.old }
         ensures room { IfOk result (λ k. k ≤ length into.new) }

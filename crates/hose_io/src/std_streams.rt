@@ -1,8 +1,8 @@
-// Sources and sinks over std's readers and writers. They tell nothing of content, but what the reader or the writer
-// tells of itself is passed on.
-ghost use Rattle.std.specs.Prelude.{◌≡◌, ◌<◌, ◌≤◌, ◌==◌, Ok, IfOk, MatchResult, length, take, if◌then◌else◌};
+// Sources and sinks over std's readers and writers. They tell nothing of content, but what the
+// reader or the writer tells of itself is passed on.
+ghost use Rattle.std.specs.Prelude.{◌≡◌, ◌<◌, ◌≤◌, Ok, IfOk, MatchResult, length, take};
 ghost use Rattle.std.specs.Io.KnownBytes.{ReadConsumes, WriteAppends};
-ghost use Rattle.hose_io.specs.Count.{one_more};
+ghost use Rattle.hose_io.specs.Count.{pieces_after};
 ghost use Rattle.hose_io.specs.Frame.{Met};
 ghost use Rattle.hose_io.specs.Stream.{Gives, Grows, IsAtEnd};
 ghost use Rattle.hose_io.specs.StdState.{source_frame, sink_frame, untold_stream, untold_text};
@@ -46,13 +46,16 @@ impl<R: Read + Drop> Source for StdSource<R> {
     fn take(&mut self, into: &mut [u8]) -> Result<usize, Failed>
         requires { 0 < length into.old }
         ensures room { IfOk result (λ k. k ≤ length into.new) }
-        ensures taken { MatchResult result (λ k. Gives untold_stream untold_stream (take k into.new))
+        ensures taken { MatchResult result
+            (λ k. Gives untold_stream untold_stream (take k into.new))
             (λ _. untold_stream ≡ untold_stream) }
         ensures none_only_at_end { result ≡ Ok 0 → IsAtEnd untold_stream }
         ensures met { Met (source_frame self.old) (source_frame self.new) result }
 
-        // Where the reader tells its bytes, these were read: none only at its end, and none where it failed.
-        ensures reads { ReadConsumes (R.remaining self.old.reader) (R.remaining self.new.reader) result into.new }
+        // Where the reader tells its bytes, these were read: none only at its end, and none where
+        // it failed.
+        ensures reads { ReadConsumes
+            (R.remaining self.old.reader) (R.remaining self.new.reader) result into.new }
     {
         for _ in 0..u64::MAX {
             match self.reader.read(into) {
@@ -109,21 +112,23 @@ impl<W: Write + Drop> Sink for StdSink<W> {
         requires { 0 < length bytes.now }
         ensures some { IfOk result (λ k. 0 < k) }
         ensures room { IfOk result (λ k. k ≤ length bytes.now) }
-        ensures appended { MatchResult result (λ k. Grows untold_text untold_text (take k bytes.now))
+        ensures appended { MatchResult result
+            (λ k. Grows untold_text untold_text (take k bytes.now))
             (λ _. untold_text ≡ untold_text) }
         ensures pieces { MatchResult result
-            (λ k. self.new.pieces ≡ (if k == length bytes.now then one_more self.old.pieces else self.old.pieces))
+            (λ k. self.new.pieces ≡ pieces_after self.old.pieces k (length bytes.now))
             (λ _. self.new.pieces ≡ self.old.pieces) }
         ensures met { Met (sink_frame self.old) (sink_frame self.new) result }
 
         // Where the writer tells its bytes, these were written, and none where it failed.
-        ensures writes { WriteAppends (W.contents self.old.writer) (W.contents self.new.writer) result bytes.now }
+        ensures writes { WriteAppends
+            (W.contents self.old.writer) (W.contents self.new.writer) result bytes.now }
     {
         for _ in 0..u64::MAX {
             match self.writer.write(bytes) {
                 Ok(0) => break,
                 Ok(count) => {
-                    self.count_piece(count == bytes.len());
+                    self.count_piece(count, bytes.len());
                     return Ok(count);
                 }
                 Err(error) if error.kind() == ErrorKind::Interrupted => {}
@@ -136,10 +141,12 @@ impl<W: Write + Drop> Sink for StdSink<W> {
 }
 
 impl<W> StdSink<W> {
-    fn count_piece(&mut self, is_whole: bool)
-        ensures { self.new ≡ record self.old { pieces = if is_whole then one_more self.old.pieces else self.old.pieces } }
+    fn count_piece(&mut self, took: usize, given: usize)
+        ensures { self.new ≡ record self.old {
+          pieces = pieces_after self.old.pieces took given;
+        } }
     {
-        if is_whole {
+        if took == given {
             self.pieces = self.pieces.saturating_add(1);
         }
     }

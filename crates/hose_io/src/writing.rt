@@ -8,7 +8,8 @@ use crate::{Failed, Sink};
 /// Appends all of `bytes`, as one piece: each call of the sink is given all that is left.
 pub fn write_all<S: Sink>(sink: &mut S, bytes: &[u8]) -> Result<(), Failed>
     ensures put { IsPut S.Sink sink.old sink.new bytes.now result }
-    ensures one_piece { bytes.now ≢ [] → OnOk result (S.pieces sink.new ≡ one_more (S.pieces sink.old)) }
+    ensures one_piece { bytes.now ≢ []
+        → OnOk result (S.pieces sink.new ≡ one_more (S.pieces sink.old)) }
     ensures calls_none { bytes.now ≡ [] → sink.new ≡ sink.old }
 {
     let mut written = 0;

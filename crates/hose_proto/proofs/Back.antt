@@ -62,41 +62,41 @@ is_colon byte = eqb byte 58
 no_colon_passes : (bytes : List ℕ) → (¬ Contains bytes 58) → All (λ byte. is_colon byte ≡ false) bytes
 no_colon_passes bytes none = λ k d below. ne_eqb (get_or bytes k d) 58 (λ same. none (k, below, get_or_default bytes k 58 d below ∙ same))
 
-abbrev pub number_of : List ℕ → ℕ
-number_of word = digits_value 10 word
+abbrev pub number_spelled : List ℕ → ℕ
+number_spelled word = digits_value 10 word
 
-pub number_back : (n : ℕ) → Fits64 n → number_of (decimal n) ≡ n
+pub number_back : (n : ℕ) → Fits64 n → number_spelled (decimal n) ≡ n
 number_back n small = (decimal_is_IsNumeral n small).1
 
-abbrev pub pair_of : List ℕ → ℕ × ℕ
-pair_of word = (number_of (front_of is_colon word), number_of (rest_of is_colon word))
+abbrev pub pair_spelled : List ℕ → ℕ × ℕ
+pair_spelled word = (number_spelled (front_of is_colon word), number_spelled (rest_of is_colon word))
 
-pub pair_back : (pair : ℕ × ℕ) → Fits64 pair.0 → Fits64 pair.1 → pair_of (pair_word pair) ≡ pair
+pub pair_back : (pair : ℕ × ℕ) → Fits64 pair.0 → Fits64 pair.1 → pair_spelled (pair_word pair) ≡ pair
 pair_back pair small small' =
     let free = no_colon_passes (decimal pair.0) (no_colon_decimal pair.0 small) in
-    let link = ap number_of (front_is is_colon (decimal pair.0) 58 (decimal pair.1) free refl) ∙ number_back pair.0 small in
-    let amount = ap number_of (rest_is is_colon (decimal pair.0) 58 (decimal pair.1) free refl) ∙ number_back pair.1 small' in
-    ap pair_of (pair_cut pair) ∙ (λ i. (link i, amount i))
+    let link = ap number_spelled (front_is is_colon (decimal pair.0) 58 (decimal pair.1) free refl) ∙ number_back pair.0 small in
+    let amount = ap number_spelled (rest_is is_colon (decimal pair.0) 58 (decimal pair.1) free refl) ∙ number_back pair.1 small' in
+    ap pair_spelled (pair_cut pair) ∙ (λ i. (link i, amount i))
 
-abbrev pub node_of : Network → List ℕ → ℕ
-node_of network word = position_or_len (λ name. bytes_eq name word) network.nodes
+abbrev pub node_named : Network → List ℕ → ℕ
+node_named network word = position_or_len (λ name. bytes_eq name word) network.nodes
 
-pub node_back : (network : Network) (node : ℕ) → IsNetwork network → node < length network.nodes → node_of network (name_of network node) ≡ node
+pub node_back : (network : Network) (node : ℕ) → IsNetwork network → node < length network.nodes → node_named network (name_of network node) ≡ node
 node_back network node is below =
     position_or_len_is (λ name. bytes_eq name (name_of network node)) network.nodes node [] (omega (arith, below))
     (λ k before. unequal (get_or network.nodes k []) (name_of network node) (is.differ k node [] before below))
     (λ _. (bytes_eq-Decides (name_of network node) (name_of network node)).1 refl)
 
-abbrev pub end_of : Network → List ℕ → ℕ × ℕ
-end_of network word = (node_of network (front_of is_colon word), number_of (rest_of is_colon word))
+abbrev pub end_spelled : Network → List ℕ → ℕ × ℕ
+end_spelled network word = (node_named network (front_of is_colon word), number_spelled (rest_of is_colon word))
 
-pub end_back : (network : Network) (end : ℕ × ℕ) → IsNetwork network → end.0 < length network.nodes → Fits64 end.1 → end_of network (end_word network end) ≡ end
+pub end_back : (network : Network) (end : ℕ × ℕ) → IsNetwork network → end.0 < length network.nodes → Fits64 end.1 → end_spelled network (end_word network end) ≡ end
 end_back network end is below small =
     let name = name_of network end.0 in
     let free = no_colon_passes name (no_colon name (is.names end.0 [] below)) in
-    let node = ap (node_of network) (front_is is_colon name 58 (decimal end.1) free refl) ∙ node_back network end.0 is below in
-    let rate = ap number_of (rest_is is_colon name 58 (decimal end.1) free refl) ∙ number_back end.1 small in
-    ap (end_of network) (end_cut network end) ∙ (λ i. (node i, rate i))
+    let node = ap (node_named network) (front_is is_colon name 58 (decimal end.1) free refl) ∙ node_back network end.0 is below in
+    let rate = ap number_spelled (rest_is is_colon name 58 (decimal end.1) free refl) ∙ number_back end.1 small in
+    ap (end_spelled network) (end_cut network end) ∙ (λ i. (node i, rate i))
 
 pub map_back : {X : Type 0} (word_of : X → List ℕ) (back : List ℕ → X) (xs : List X) → All (λ x. back (word_of x) ≡ x) xs → map back (map word_of xs) ≡ xs
 map_back word_of back [] all = refl
@@ -107,10 +107,10 @@ map_back word_of back (x ∷ xs) all =
 
 -- the number that a word of this place tells
 abbrev pub told : List (List ℕ) → ℕ → ℕ
-told words place = number_of (get_or words place [])
+told words place = number_spelled (get_or words place [])
 
 -- endpoints of a network
-pub ends_back : (network : Network) → IsNetwork network → (ends : List (ℕ × ℕ)) → All (IsEndOf network) ends → map (end_of network) (map (end_word network) ends) ≡ ends
+pub ends_back : (network : Network) → IsNetwork network → (ends : List (ℕ × ℕ)) → All (IsEndOf network) ends → map (end_spelled network) (map (end_word network) ends) ≡ ends
 ends_back network is ends all =
-    map_back (end_word network) (end_of network) ends
+    map_back (end_word network) (end_spelled network) ends
     (λ k d below. let fits = all k d below in end_back network (get_or ends k d) is fits.is_node (omega (arith, fits.is_end.rate)))

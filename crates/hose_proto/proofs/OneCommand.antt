@@ -14,7 +14,7 @@ use Rattle.hose_proto.specs.declared.fault.ReadFault.{ReadFault}
 use Rattle.hose_proto.specs.declared.fault.ReadFault.TheVariants as fault
 use Rattle.hose_proto.specs.declared.verb.Verb.{Verb}
 use Rattle.hose_proto.specs.declared.verb.Verb.TheVariants as verb
-use Rattle.hose_proto.proofs.Back.{end_of, ends_back, number_back, told}
+use Rattle.hose_proto.proofs.Back.{end_spelled, ends_back, number_back, told}
 use Rattle.hose_proto.proofs.Hoses.{ends_of_hose, one_hose}
 use Rattle.hose_proto.proofs.Items.{new_ends_closed}
 use Rattle.hose_proto.proofs.Words.{links_apart, verb_of, verbs_apart}
@@ -23,7 +23,7 @@ use Rattle.hose_proto.proofs.Words.{links_apart, verb_of, verbs_apart}
 
 -- the command by its first word, with its endpoints in the order of the words
 abbrev command_by : Network → Verb → List (List ℕ) → Command
-command_by network verb.Admit words = Admit (map (end_of network) (drop 1 words))
+command_by network verb.Admit words = Admit (map (end_spelled network) (drop 1 words))
 command_by network verb.Release words = Release (told words 1)
 command_by network verb.Show words = Show (told words 1)
 command_by network verb.Link words = Link (told words 1)

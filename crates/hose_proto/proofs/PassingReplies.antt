@@ -1,10 +1,11 @@
 -- The words of a reply pass its form, so none of them is wrong.
-use Rattle.std.proofs.Common.{◌≡◌, ◌⊎◌, ℕ, List, [], ◌∷◌, ◌++◌, Result, Ok, Err, IfOk, IfErr, map, codes, decimal, inl, inr, refl, ap, subst, arith}
+use Rattle.std.proofs.Common.{◌≡◌, ◌⊎◌, ℕ, List, [], ◌∷◌, ◌++◌, Result, Ok, Err, IfOk, IfErr, map, codes, decimal, inl, inr, refl, ap, subst}
 use Rattle.std.specs.List.{slice_get}
 use Rattle.std.proofs.lemmas.Result.{IfErr-at_err}
 use Rattle.hose_words.specs.Cursor.{Position}
 use Rattle.hose_words.specs.Form.{Fits64}
 use Rattle.hose_words.specs.Grammar.{IsFirstNotAllowed}
+use Rattle.hose_words.proofs.Forms.{wrong_at_start}
 use Rattle.hose_words.proofs.Passing.{Passes, pass_branch, pass_finish, pass_list, pass_place, pass_these, pass_until}
 use Rattle.hose_graph.specs.Network.{Network, IsNetwork}
 use Rattle.hose_graph.specs.declared.limits.TheConstants.{LEAST_ENDS}
@@ -110,7 +111,4 @@ read_places network words (Err error) told = tt
 pub told_at_start : (network : Network) (start : Position) (result : Result Reply ReadFault) (words : List (List ℕ)) → start ≡ record { left = words; read = 0 } → IfErr result (IsFaultOf (reply_form network) start)
     → (n : ℕ) → result ≡ Err (fault.Bad n) → IsFirstNotAllowed (reply_grammar network) [] words n
 told_at_start network start result words is bad n told =
-    let wrong = (IfErr-at_err (IsFaultOf (reply_form network) start) told bad).word n refl in
-    let place : wrong.place ≡ n = omega (arith, wrong.at, ap (λ (position : Position). position.read) is) in
-    subst (λ p. IsFirstNotAllowed (reply_grammar network) [] words p) place
-    (subst (λ (position : Position). IsFirstNotAllowed (reply_grammar network) [] position.left wrong.place) is wrong.wrong)
+    wrong_at_start words is ((IfErr-at_err (IsFaultOf (reply_form network) start) told bad).word n refl)

@@ -12,7 +12,7 @@ use Rattle.hose_proto.specs.Places.{IsHoseOf, end_word}
 use Rattle.hose_proto.specs.ReplyWords.{AreAmounts, IsOfKind, IsReply, pair_word, reply_words}
 use Rattle.hose_proto.specs.declared.head.Head.{Head}
 use Rattle.hose_proto.specs.declared.head.Head.TheVariants as head
-use Rattle.hose_proto.proofs.Back.{end_of, ends_back, front_is, front_of, map_back, node_back, node_of, number_back, number_of, pair_back, pair_of, rest_is, rest_of, told, unequal}
+use Rattle.hose_proto.proofs.Back.{end_spelled, ends_back, front_is, front_of, map_back, node_back, node_named, number_back, number_spelled, pair_back, pair_spelled, rest_is, rest_of, told, unequal}
 use Rattle.hose_proto.proofs.EndsUntil.{ends_no_links}
 use Rattle.hose_proto.proofs.ReadAgain.{few}
 use Rattle.hose_proto.proofs.Words.{head_of}
@@ -24,20 +24,20 @@ abbrev is_links : List ℕ → Bool
 is_links word = bytes_eq word (codes "links")
 
 abbrev amounts_after : ℕ → List (List ℕ) → List (ℕ × ℕ)
-amounts_after place words = map pair_of (drop place words)
+amounts_after place words = map pair_spelled (drop place words)
 
 -- the reply by its first word
 abbrev reply_by : Network → Head → List (List ℕ) → Reply
 reply_by network head.Welcome words = Welcome (told words 2)
 reply_by network head.Admitted words = Admitted (told words 1) (told words 3) (told words 5) (amounts_after 7 words)
 reply_by network head.Quoted words = Quoted (told words 1) (told words 3) (told words 5) (amounts_after 7 words)
-reply_by network head.Refused words = Refused (told words 2) (map (node_of network) (drop 4 words))
+reply_by network head.Refused words = Refused (told words 2) (map (node_named network) (drop 4 words))
 reply_by network head.Stale words = Stale (told words 1) (told words 2)
 reply_by network head.Released words = Released (told words 1) (told words 3)
 reply_by network head.No words = cond (bytes_eq (get_or words 1 []) (codes "vpn")) (NoVpn (told words 2) (told words 4)) (NoQuote (told words 2) (told words 4))
 reply_by network head.Too words = TooMany (told words 4)
 reply_by network head.Vpn words =
-    Shown (told words 1) (told words 3) (told words 5) (map (end_of network) (front_of is_links (drop 7 words))) (map pair_of (rest_of is_links (drop 7 words)))
+    Shown (told words 1) (told words 3) (told words 5) (map (end_spelled network) (front_of is_links (drop 7 words))) (map pair_spelled (rest_of is_links (drop 7 words)))
 reply_by network head.Link words = LinkState (told words 1) (told words 9) (told words 11)
 reply_by network head.Full words = Full (told words 2)
 reply_by network head.Spent words = Spent (told words 2)
@@ -51,13 +51,13 @@ abbrev reply_of : Network → List (List ℕ) → Reply
 reply_of network words = reply_by network (head_of (get_or words 0 [])) words
 
 module _ (network : Network) (is : IsNetwork network) where
-  amounts_back : (amounts : List (ℕ × ℕ)) → AreAmounts network amounts → map pair_of (map pair_word amounts) ≡ amounts
-  amounts_back amounts are = map_back pair_word pair_of amounts (λ k d below. pair_back (get_or amounts k d) (few network is (are.links k d below)) (are.numbers k d below))
+  amounts_back : (amounts : List (ℕ × ℕ)) → AreAmounts network amounts → map pair_spelled (map pair_word amounts) ≡ amounts
+  amounts_back amounts are = map_back pair_word pair_spelled amounts (λ k d below. pair_back (get_or amounts k d) (few network is (are.links k d below)) (are.numbers k d below))
 
-  nodes_back : (side : List ℕ) → All (λ node. node < length network.nodes) side → map (node_of network) (map (name_of network) side) ≡ side
-  nodes_back side nodes = map_back (name_of network) (node_of network) side (λ k d below. node_back network (get_or side k d) is (nodes k d below))
+  nodes_back : (side : List ℕ) → All (λ node. node < length network.nodes) side → map (node_named network) (map (name_of network) side) ≡ side
+  nodes_back side nodes = map_back (name_of network) (node_named network) side (λ k d below. node_back network (get_or side k d) is (nodes k d below))
 
-  hose_back : (hose : List (ℕ × ℕ)) → IsHoseOf network hose → map (end_of network) (map (end_word network) hose) ≡ hose
+  hose_back : (hose : List (ℕ × ℕ)) → IsHoseOf network hose → map (end_spelled network) (map (end_word network) hose) ≡ hose
   hose_back hose are = ends_back network is hose (λ k d below. record { is_end = are.is_hose.within k d below; is_node = are.nodes k d below })
 
   -- no endpoint's word ends the endpoints, and `links` does
@@ -65,10 +65,10 @@ module _ (network : Network) (is : IsNetwork network) where
   no_links_pass hose = λ k d below. unequal (get_or (map (end_word network) hose) k d) (codes "links") (ends_no_links network hose k d below)
 
   priced_back : (make : ℕ → ℕ → ℕ → List (ℕ × ℕ) → Reply) (id cost at : ℕ) (amounts : List (ℕ × ℕ)) → Fits64 id → Fits64 cost → Fits64 at → AreAmounts network amounts
-      → make (number_of (decimal id)) (number_of (decimal cost)) (number_of (decimal at)) (map pair_of (map pair_word amounts)) ≡ make id cost at amounts
+      → make (number_spelled (decimal id)) (number_spelled (decimal cost)) (number_spelled (decimal at)) (map pair_spelled (map pair_word amounts)) ≡ make id cost at amounts
   priced_back make id cost at amounts a b c are = λ i. make (number_back id a i) (number_back cost b i) (number_back at c i) (amounts_back amounts are i)
 
-  two_back : (make : ℕ → ℕ → Reply) (one two : ℕ) → Fits64 one → Fits64 two → make (number_of (decimal one)) (number_of (decimal two)) ≡ make one two
+  two_back : (make : ℕ → ℕ → Reply) (one two : ℕ) → Fits64 one → Fits64 two → make (number_spelled (decimal one)) (number_spelled (decimal two)) ≡ make one two
   two_back make one two a b = λ i. make (number_back one a i) (number_back two b i)
 
   link_back : (link load at : ℕ) → IsOfKind network (LinkState link load at) → reply_of network (reply_words network (LinkState link load at)) ≡ LinkState link load at
@@ -87,8 +87,8 @@ module _ (network : Network) (is : IsNetwork network) where
   reply_back (TooMany at) kind = ap TooMany (number_back at kind)
   reply_back (Shown id cost at hose amounts) kind =
       let links = codes "links" in
-      let front = ap (map (end_of network)) (front_is is_links (map (end_word network) hose) links (map pair_word amounts) (no_links_pass hose) refl) ∙ hose_back hose kind.3 in
-      let rest = ap (map pair_of) (rest_is is_links (map (end_word network) hose) links (map pair_word amounts) (no_links_pass hose) refl) ∙ amounts_back amounts kind.4 in
+      let front = ap (map (end_spelled network)) (front_is is_links (map (end_word network) hose) links (map pair_word amounts) (no_links_pass hose) refl) ∙ hose_back hose kind.3 in
+      let rest = ap (map pair_spelled) (rest_is is_links (map (end_word network) hose) links (map pair_word amounts) (no_links_pass hose) refl) ∙ amounts_back amounts kind.4 in
       λ i. Shown (number_back id kind.0 i) (number_back cost kind.1 i) (number_back at kind.2 i) (front i) (rest i)
   reply_back (LinkState link load at) kind = link_back link load at kind
   reply_back (Full at) kind = ap Full (number_back at kind)

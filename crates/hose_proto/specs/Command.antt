@@ -2,7 +2,7 @@
 use Rattle.std.specs.Prelude.{◌≡◌, ℕ, ◌≤◌, List, [], ◌∷◌, All, ⊤, map, codes, decimal, length, IsPermutation}
 use Rattle.hose_words.specs.Form.{Form, finish, place, branch, list, Each, TellsNumber, IsWithin, grammar_of}
 use Rattle.hose_words.specs.Grammar.{Grammar}
-use Rattle.hose_graph.specs.Hose.{IsEnd, HasDistinctNodes}
+use Rattle.hose_graph.specs.Hose.{IsEnd, HasDistinctNodes, Endpoint, node_of}
 use Rattle.hose_graph.specs.Network.{Network, IsLinkOf, IsNodeOf}
 use Rattle.hose_graph.specs.declared.command.Command.{Command}
 use Rattle.hose_graph.specs.declared.command.Command.TheVariants.{Admit, Release, Show, Link}
@@ -18,7 +18,7 @@ IsId id = IsWithin 0 MOST_EPOCH id
 -- The words ask for a command. The endpoints of an admission may stand in any order.
 abbrev pub IsCommand : Network → List (List ℕ) → Command → Type 0
 IsCommand network words (Admit hose) =
-    (ends : List (ℕ × ℕ)) × (words ≡ codes "admit" ∷ map (end_word network) ends)
+    (ends : List Endpoint) × (words ≡ codes "admit" ∷ map (end_word network) ends)
     × IsPermutation ends hose × IsHoseOf network hose
 IsCommand network words (Release id) = (words ≡ codes "release" ∷ decimal id ∷ []) × IsId id
 IsCommand network words (Show id) = (words ≡ codes "show" ∷ decimal id ∷ []) × IsId id
@@ -28,11 +28,11 @@ IsCommand network words (Link link) =
 -- ---- what is not allowed
 
 -- endpoints of a hose that may have more of them, in any order
-pub record AreNewEnds (network : Network) (ends : List (ℕ × ℕ)) : Type 0 where
+pub record AreNewEnds (network : Network) (ends : List Endpoint) : Type 0 where
   pub few : length ends ≤ MOST_ENDS
   pub within : All IsEnd ends
   pub distinct : HasDistinctNodes ends
-  pub nodes : All (λ (end : ℕ × ℕ). IsNodeOf network end.0) ends
+  pub nodes : All (λ end. IsNodeOf network (node_of end)) ends
 
 -- `NAME:RATE ..`, two endpoints at least, each at a node that no earlier word names
 abbrev pub ends_form : Network → Form

@@ -4,8 +4,9 @@ use Rattle.std.specs.List.Sorted.{IsStrictlyIncreasing}
 use Rattle.hose_words.specs.Cursor.{Position, IsWrong}
 use Rattle.hose_words.specs.Form.{Form, Fits64}
 use Rattle.hose_words.specs.Grammar.{IsFirst}
+use Rattle.hose_graph.specs.Amounts.{ReservedLink, amount_of, link_of}
 use Rattle.hose_graph.specs.Ascending.{firsts}
-use Rattle.hose_graph.specs.Hose.{IsEnd}
+use Rattle.hose_graph.specs.Hose.{IsEnd, Endpoint, node_of}
 use Rattle.hose_graph.specs.Network.{Network, IsLinkOf, IsNodeOf}
 use Rattle.hose_graph.specs.declared.command.Command.{Command}
 use Rattle.hose_graph.specs.declared.command.Command.TheVariants.{Admit, Link}
@@ -16,7 +17,7 @@ use Rattle.hose_proto.specs.declared.fault.ReadFault.TheVariants.{Bad}
 
 -- each node and each link that the command names is one of the network
 abbrev pub AsksOf : Network → Command → Type 0
-AsksOf network (Admit hose) = All (λ (end : ℕ × ℕ). IsNodeOf network end.0) hose
+AsksOf network (Admit hose) = All (λ end. IsNodeOf network (node_of end)) hose
 AsksOf network (Link link) = IsLinkOf network link
 AsksOf network _ = ⊤
 
@@ -26,29 +27,30 @@ pub record IsFaultOf (form : Form) (old : Position) (fault : ReadFault) : Type 0
   pub word : (number : ℕ) → fault ≡ Bad number → IsWrong form old number
 
 -- an endpoint at a node of the network
-pub record IsEndOf (network : Network) (end : ℕ × ℕ) : Type 0 where
+pub record IsEndOf (network : Network) (end : Endpoint) : Type 0 where
   pub is_end : IsEnd end
-  pub is_node : IsNodeOf network end.0
+  pub is_node : IsNodeOf network (node_of end)
 
 -- ---- lists
 
 -- an endpoint may come after others, which stand in any order
-pub record IsNewEnd (network : Network) (ends : List (ℕ × ℕ)) (end : ℕ × ℕ) : Type 0 where
+pub record IsNewEnd (network : Network) (ends : List Endpoint) (end : Endpoint) : Type 0 where
   pub is_end : IsEndOf network end
-  pub is_new : Any (λ (earlier : ℕ × ℕ). earlier.0 ≡ end.0) ends → ⊥
+  pub is_new : Any (λ earlier. node_of earlier ≡ node_of end) ends → ⊥
   pub room : length ends < MOST_ENDS
 
 -- an endpoint may come after others, in order
-pub record IsNextEnd (network : Network) (ends : List (ℕ × ℕ)) (end : ℕ × ℕ) : Type 0 where
+pub record IsNextEnd (network : Network) (ends : List Endpoint) (end : Endpoint) : Type 0 where
   pub is_end : IsEndOf network end
-  pub ascending : IsStrictlyIncreasing (firsts ends ++ end.0 ∷ [])
+  pub ascending : IsStrictlyIncreasing (firsts ends ++ node_of end ∷ [])
   pub room : length ends < MOST_ENDS
 
 -- an amount may come after others
-pub record IsNextPair (network : Network) (pairs : List (ℕ × ℕ)) (pair : ℕ × ℕ) : Type 0 where
-  pub link : IsLinkOf network pair.0
-  pub amount : Fits64 pair.1
-  pub ascending : IsStrictlyIncreasing (firsts pairs ++ pair.0 ∷ [])
+pub record IsNextPair (network : Network) (pairs : List ReservedLink) (pair : ReservedLink)
+    : Type 0 where
+  pub link : IsLinkOf network (link_of pair)
+  pub amount : Fits64 (amount_of pair)
+  pub ascending : IsStrictlyIncreasing (firsts pairs ++ link_of pair ∷ [])
 
 -- a node may come after others
 pub record IsNextNode (network : Network) (nodes : List ℕ) (node : ℕ) : Type 0 where
@@ -56,9 +58,10 @@ pub record IsNextNode (network : Network) (nodes : List ℕ) (node : ℕ) : Type
   pub ascending : IsStrictlyIncreasing (nodes ++ node ∷ [])
 
 -- the next word is neither an endpoint that may come next nor the end of the list
-pub record MissesEnd (network : Network) (ends : List (ℕ × ℕ)) (old : Position) (number : ℕ)
+pub record MissesEnd (network : Network) (ends : List Endpoint) (old : Position) (number : ℕ)
     : Type 0 where
   pub none : IsFirst
-      (λ word. (end : ℕ × ℕ) × (word ≡ end_word network end) × IsNextEnd network ends end) old.left → ⊥
+      (λ word. (end : Endpoint) × (word ≡ end_word network end) × IsNextEnd network ends end)
+      old.left → ⊥
   pub no_last : IsFirst (λ word. (word ≡ codes "links") × (LEAST_ENDS ≤ length ends)) old.left → ⊥
   pub at : number ≡ old.read + 1

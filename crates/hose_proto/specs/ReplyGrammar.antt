@@ -3,7 +3,7 @@ use Rattle.std.specs.Prelude.{ℕ, ◌≤◌, List, [], ◌∷◌, All, ⊤, cod
 use Rattle.hose_words.specs.Form.{Form, finish, branch, list, until, Each, number, this, these, grammar_of}
 use Rattle.hose_words.specs.Grammar.{Grammar}
 use Rattle.hose_graph.specs.Ascending.{IsAscending}
-use Rattle.hose_graph.specs.Hose.{IsEnd}
+use Rattle.hose_graph.specs.Hose.{IsEnd, Endpoint, node_of}
 use Rattle.hose_graph.specs.Network.{Network, IsLinkOf, IsNodeOf, name_of}
 use Rattle.hose_graph.specs.declared.limits.TheConstants.{LEAST_ENDS, MOST_ENDS}
 use Rattle.hose_proto.specs.Places.{end_word}
@@ -44,11 +44,11 @@ abbrev pub side_form : Network → Form
 side_form network = this (codes "at") (number (this (codes "side") (names_form network)))
 
 -- endpoints of a hose that may have more of them: nodes in ascending order
-pub record AreEnds (network : Network) (ends : List (ℕ × ℕ)) : Type 0 where
+pub record AreEnds (network : Network) (ends : List Endpoint) : Type 0 where
   pub few : length ends ≤ MOST_ENDS
   pub within : All IsEnd ends
   pub ascending : IsAscending ends
-  pub nodes : All (λ (end : ℕ × ℕ). IsNodeOf network end.0) ends
+  pub nodes : All (λ end. IsNodeOf network (node_of end)) ends
 
 -- `NAME:RATE .. links L:R ..`, two endpoints at least
 abbrev pub hose_form : Network → Form

@@ -1,22 +1,24 @@
 -- The texts of replies.
 use Rattle.std.specs.Prelude.{ℕ, List, [], ◌∷◌, ◌++◌, ⊤, All, Option, None, Some, codes, decimal, slice_get}
 use Rattle.std.specs.List.{flat_map}
+use Rattle.hose_graph.specs.Amounts.{ReservedLink, amount_of, link_of}
+use Rattle.hose_graph.specs.Hose.{Endpoint, node_of, rate_of}
 use Rattle.hose_graph.specs.Network.{Network, IsLinkOf, IsNodeOf, name_of}
 use Rattle.hose_graph.specs.declared.link.Link.{Link}
 use Rattle.hose_graph.specs.declared.reply.Reply.{Reply}
 use Rattle.hose_graph.specs.declared.reply.Reply.TheVariants.{Welcome, Admitted, Quoted, Refused, Stale, Released, NoVpn, NoQuote, TooMany, Shown, LinkState, Full, Spent, Disk, Memory, Bad, Long, Bye}
 
 -- a link and its amount
-abbrev pub pair_text : ℕ × ℕ → List ℕ
-pair_text pair = codes " " ++ decimal pair.0 ++ codes ":" ++ decimal pair.1
+abbrev pub pair_text : ReservedLink → List ℕ
+pair_text pair = codes " " ++ decimal (link_of pair) ++ codes ":" ++ decimal (amount_of pair)
 
 -- the name of a node
 abbrev pub node_text : Network → ℕ → List ℕ
 node_text network node = codes " " ++ name_of network node
 
 -- an endpoint: its node's name, and its rate
-abbrev pub end_text : Network → ℕ × ℕ → List ℕ
-end_text network end = node_text network end.0 ++ codes ":" ++ decimal end.1
+abbrev pub end_text : Network → Endpoint → List ℕ
+end_text network end = node_text network (node_of end) ++ codes ":" ++ decimal (rate_of end)
 
 -- a link's nodes, and what it can carry and costs
 abbrev pub link_text : Network → Option Link → List ℕ
@@ -29,12 +31,12 @@ link_text network (Some link) =
 abbrev pub NamesPlaces : Network → Reply → Type 0
 NamesPlaces network (Refused at side) = All (IsNodeOf network) side
 NamesPlaces network (Shown id cost at hose amounts) =
-    All (λ (end : ℕ × ℕ). IsNodeOf network end.0) hose
+    All (λ end. IsNodeOf network (node_of end)) hose
 NamesPlaces network (LinkState link load at) = IsLinkOf network link
 NamesPlaces network _ = ⊤
 
 -- a cost, an epoch, and links with their amounts
-abbrev pub priced_text : ℕ → ℕ → List (ℕ × ℕ) → List ℕ
+abbrev pub priced_text : ℕ → ℕ → List ReservedLink → List ℕ
 priced_text cost at amounts =
     codes " cost " ++ decimal cost ++ codes " at " ++ decimal at
     ++ codes " links" ++ flat_map pair_text amounts

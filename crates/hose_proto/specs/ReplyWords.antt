@@ -2,6 +2,7 @@
 use Rattle.std.specs.Prelude.{◌≡◌, ℕ, ◌≤◌, List, [], ◌∷◌, ◌++◌, ⊤, All, Option, None, Some, length, map, codes, decimal, slice_get}
 use Rattle.std.specs.List.Sorted.{IsStrictlyIncreasing}
 use Rattle.hose_words.specs.Form.{Fits64}
+use Rattle.hose_graph.specs.Amounts.{ReservedLink, amount_of, link_of}
 use Rattle.hose_graph.specs.Ascending.{IsAscending}
 use Rattle.hose_graph.specs.Network.{Network, name_of, IsLinkOf, IsNodeOf}
 use Rattle.hose_graph.specs.declared.link.Link.{Link}
@@ -12,8 +13,8 @@ use Rattle.hose_proto.specs.Places.{IsHoseOf, end_word}
 -- ---- the words
 
 -- a link and its amount: `LINK:AMOUNT`
-abbrev pub pair_word : ℕ × ℕ → List ℕ
-pair_word pair = decimal pair.0 ++ codes ":" ++ decimal pair.1
+abbrev pub pair_word : ReservedLink → List ℕ
+pair_word pair = decimal (link_of pair) ++ codes ":" ++ decimal (amount_of pair)
 
 -- what a network tells of a link: its nodes, its capacity and its cost
 abbrev pub link_words : Network → Option Link → List (List ℕ)
@@ -27,7 +28,7 @@ abbrev pub cost_words : ℕ → ℕ → ℕ → List (List ℕ)
 cost_words id cost at = decimal id ∷ codes "cost" ∷ decimal cost ∷ codes "at" ∷ decimal at ∷ []
 
 -- a cost, an epoch, and links with their amounts
-abbrev pub priced_words : ℕ → ℕ → List (ℕ × ℕ) → List (List ℕ)
+abbrev pub priced_words : ℕ → ℕ → List ReservedLink → List (List ℕ)
 priced_words cost at amounts =
     codes "cost" ∷ decimal cost ∷ codes "at" ∷ decimal at ∷ codes "links" ∷ map pair_word amounts
 
@@ -65,11 +66,11 @@ reply_words network Bye = codes "bye" ∷ []
 -- ---- the replies that can be read
 
 -- amounts on links of the network, one at least, in ascending order of links
-pub record AreAmounts (network : Network) (amounts : List (ℕ × ℕ)) : Type 0 where
+pub record AreAmounts (network : Network) (amounts : List ReservedLink) : Type 0 where
   pub some : 1 ≤ length amounts
   pub ascending : IsAscending amounts
-  pub links : All (λ (pair : ℕ × ℕ). IsLinkOf network pair.0) amounts
-  pub numbers : All (λ (pair : ℕ × ℕ). Fits64 pair.1) amounts
+  pub links : All (λ pair. IsLinkOf network (link_of pair)) amounts
+  pub numbers : All (λ pair. Fits64 (amount_of pair)) amounts
 
 -- nodes of the network, one at least, in ascending order
 pub record IsSide (network : Network) (side : List ℕ) : Type 0 where

@@ -4,6 +4,7 @@ ghost use Rattle.hose_words.specs.Cursor.{Took, IsWrong, MissesItem};
 ghost use Rattle.hose_words.specs.Form.{IsChoice};
 ghost use Rattle.hose_words.specs.Grammar.{IsFirst, IsFirstNotAllowed};
 ghost use Rattle.hose_words.specs.Words.{words_of};
+ghost use Rattle.hose_graph.specs.Hose.{Endpoint, node_of};
 ghost use Rattle.hose_graph.specs.Network.{IsNetwork, IsLinkOf};
 ghost use Rattle.hose_graph.specs.declared.command.Command.{Command};
 ghost use Rattle.hose_graph.specs.declared.command.Command.TheVariants.{Admit};
@@ -14,7 +15,7 @@ ghost use Rattle.hose_proto.specs.Reading.{AsksOf, IsFaultOf, IsNewEnd};
 use crate::fault::ReadFault;
 use crate::places::{endpoint, read_link_number};
 use crate::verb::Verb;
-use hose_graph::{Command, Hose, LEAST_ENDS, MOST_ENDS, MOST_EPOCH, Topology};
+use hose_graph::{Command, Endpoint, Hose, LEAST_ENDS, MOST_ENDS, MOST_EPOCH, Topology};
 use hose_words::{Cursor, WrongWord};
 use std::alloc::Global;
 
@@ -140,9 +141,9 @@ fn read_hose(alloc: Global, top: &Topology, words: &mut Cursor<'_>) -> Result<Ho
 // The endpoint that the next word spells, or none where the line ends.
 fn next_end(
     top: &Topology,
-    ends: &[(u32, u64)],
+    ends: &[Endpoint],
     words: &mut Cursor<'_>,
-) -> Result<Option<(u32, u64)>, WrongWord>
+) -> Result<Option<Endpoint>, WrongWord>
     requires { IsNetwork top.now }
     ensures next { IfOk result (λ next. IfSome next
         (λ end. Took words.old words.new (end_word top.now end) × IsNewEnd top.now ends.now end)) }
@@ -163,11 +164,11 @@ fn next_end(
 }
 
 // The endpoint that a word spells, where there is room for one more and its node has none yet.
-fn new_end(top: &Topology, ends: &[(u32, u64)], word: &[u8]) -> Option<(u32, u64)>
+fn new_end(top: &Topology, ends: &[Endpoint], word: &[u8]) -> Option<Endpoint>
     requires { IsNetwork top.now }
     ensures some { IfSome result
         (λ end. (word.now ≡ end_word top.now end) × IsNewEnd top.now ends.now end) }
-    ensures none { IfNone result ((end : ℕ × ℕ)
+    ensures none { IfNone result ((end : Endpoint)
         → word.now ≡ end_word top.now end → IsNewEnd top.now ends.now end → ⊥) }
 {
     let Some(end) = endpoint(top, word) else {
@@ -183,99 +184,8 @@ fn new_end(top: &Topology, ends: &[(u32, u64)], word: &[u8]) -> Option<(u32, u64
 }
 
 // Whether one of the endpoints is at the node.
-fn has_node(ends: &[(u32, u64)], node: u32) -> bool
-    ensures { IsTrue result ↔ Any (λ end. end.0 ≡ node) ends.now }
+fn has_node(ends: &[Endpoint], node: u32) -> bool
+    ensures { IsTrue result ↔ Any (λ end. node_of end ≡ node) ends.now }
 {
     ends.iter().any(|end| end.0 == node)
-}
-
-#[cfg(test)]
-mod tests {
-    use super::*;
-    use hose_graph::{Link, Name};
-    use std::test::Fail;
-
-    fn star(alloc: Global) -> Result<Topology, Fail> {
-        let names: [&[u8]; 4] = [b"a", b"b", b"c", b"h"];
-        let mut star = Topology::new(alloc)?;
-        for name in names {
-            star.add_node(Name::read(name).ok_or("no name")?)?;
-        }
-        for spoke in 0..3 {
-            let link = Link {
-                a: spoke,
-                b: 3,
-                capacity: 10,
-                length: 1,
-                cost: 1,
-            };
-            star.add_link(link)?;
-        }
-        Ok(star)
-    }
-
-    #[test]
-    fn reads_commands(rt: HostRuntime) -> Result<(), Fail> {
-        let star = star(rt.alloc())?;
-        let table: [(&[u8], u64, &str); 5] = [
-            (
-                b"admit b:4 a:3",
-                0,
-                "Admit(Hose { ends: [(0, 3), (1, 4)] })",
-            ),
-            (
-                b"  acme  admit h:1   a:1000000 ",
-                1,
-                "Admit(Hose { ends: [(0, 1000000), (3, 1)] })",
-            ),
-            (b"acme release 4000000000", 1, "Release(4000000000)"),
-            (b"show 0", 0, "Show(0)"),
-            (b"x acme link 2", 2, "Link(2)"),
-        ];
-        for (line, from, want) in table {
-            let command = read_command(rt.alloc(), &star, line, from)?;
-            assert_eq!(rt; format!(in rt.alloc(); "{command:?}")?.as_str(), want);
-        }
-        Ok(())
-    }
-
-    #[test]
-    fn tells_the_first_word_that_is_not_allowed(rt: HostRuntime) -> Result<(), Fail> {
-        let star = star(rt.alloc())?;
-        let table: [(&[u8], u64, u64); 14] = [
-            (b"", 0, 1),
-            (b"fly", 0, 1),
-            (b"release", 0, 2),
-            (b"acme bye", 1, 2),
-            (b"acme release 01", 1, 3),
-            (b"acme release 4000000001", 1, 3),
-            (b"acme release 1 2", 1, 4),
-            (b"show 01", 0, 2),
-            (b"acme link 3", 1, 3),
-            (b"acme admit a:1", 1, 4),
-            (b"acme admit a:1 a:2", 1, 4),
-            (b"acme admit a:03 b:1", 1, 3),
-            (b"acme admit a:3 b:4 c:", 1, 5),
-            (b"acme admit a:3 z:4 c:", 1, 4),
-        ];
-        for (line, from, word) in table {
-            let fault = read_command(rt.alloc(), &star, line, from).err();
-            assert_eq!(rt; fault, Some(ReadFault::Bad { word }), "at {line:?}");
-        }
-        Ok(())
-    }
-
-    #[test]
-    fn takes_no_more_than_64_endpoints(rt: HostRuntime) -> Result<(), Fail> {
-        let mut topology = Topology::new(rt.alloc())?;
-        let mut line = String::from_str(rt.alloc(), "admit")?;
-        for number in 0..65 {
-            let name = format!(in rt.alloc(); "n{number}")?;
-            topology.add_node(Name::read(name.as_bytes()).ok_or("no name")?)?;
-            line.push_str(format!(in rt.alloc(); " {name}:1")?.as_str())?;
-        }
-        let fault = read_command(rt.alloc(), &topology, line.as_bytes(), 0).err();
-        assert_eq!(rt; fault, Some(ReadFault::Bad { word: 66 }));
-        Ok(())
-    }
 }

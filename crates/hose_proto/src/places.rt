@@ -2,11 +2,12 @@
 ghost use Rattle.std.specs.Prelude.{◌≡◌, ◌++◌, ◌∷◌, ℕ, decimal, Contains, IfOk, IfErr, IfSome, IfNone};
 ghost use Rattle.hose_words.specs.Cursor.{Took, Misses};
 ghost use Rattle.hose_words.specs.Form.{IsChoice};
+ghost use Rattle.hose_graph.specs.Hose.{Endpoint};
 ghost use Rattle.hose_graph.specs.Network.{IsNetwork, IsLinkOf};
 ghost use Rattle.hose_proto.specs.Places.{end_word};
 ghost use Rattle.hose_proto.specs.Reading.{IsEndOf};
 
-use hose_graph::{MOST_RATE, Name, Topology};
+use hose_graph::{Endpoint, MOST_RATE, Name, Topology};
 use hose_words::{Cursor, WrongWord, number};
 
 // The link whose number the next word tells.
@@ -45,11 +46,11 @@ pub(crate) fn link_number(top: &Topology, word: &[u8]) -> Option<u32>
 }
 
 // The endpoint that a word spells.
-pub(crate) fn endpoint(top: &Topology, word: &[u8]) -> Option<(u32, u64)>
+pub(crate) fn endpoint(top: &Topology, word: &[u8]) -> Option<Endpoint>
     requires { IsNetwork top.now }
     ensures spelled { IfSome result (λ end. word.now ≡ end_word top.now end) }
     ensures is_end { IfSome result (IsEndOf top.now) }
-    ensures none { IfNone result ((end : ℕ × ℕ)
+    ensures none { IfNone result ((end : Endpoint)
         → word.now ≡ end_word top.now end → IsEndOf top.now end → ⊥) }
 {
     let (name, rate) = parts(word)?;

@@ -2,6 +2,8 @@
 ghost use Rattle.std.specs.Prelude.{◌≡◌, ◌↔◌, ℕ, ◌<◌, ◌≤◌, ◌++◌, [], ◌∷◌, codes, length, map, IfOk, OnOk, IfErr, IfSome, IfNone, IsTrue};
 ghost use Rattle.std.specs.List.Sorted.{IsStrictlyIncreasing};
 ghost use Rattle.hose_words.specs.Cursor.{Took, IsWrong, MissesItem};
+ghost use Rattle.hose_graph.specs.Amounts.{ReservedLink};
+ghost use Rattle.hose_graph.specs.Hose.{Endpoint};
 ghost use Rattle.hose_graph.specs.Ascending.{IsAscending, firsts};
 ghost use Rattle.hose_graph.specs.Network.{IsNetwork, name_of};
 ghost use Rattle.hose_proto.specs.Places.{IsHoseOf, end_word};
@@ -11,7 +13,9 @@ ghost use Rattle.hose_proto.specs.ReplyWords.{AreAmounts, IsSide, pair_word};
 
 use crate::fault::ReadFault;
 use crate::places::{endpoint, link_number, parts};
-use hose_graph::{Amounts, Hose, LEAST_ENDS, MOST_ENDS, Name, NodeList, Topology};
+use hose_graph::{
+    Amounts, Endpoint, Hose, LEAST_ENDS, MOST_ENDS, Name, NodeList, ReservedLink, Topology,
+};
 use hose_words::{Cursor, WrongWord, number};
 use std::alloc::Global;
 
@@ -37,9 +41,9 @@ pub(crate) fn read_amounts(
 // The amount that the next word tells, or none where the line ends.
 fn next_pair(
     top: &Topology,
-    pairs: &[(u32, u64)],
+    pairs: &[ReservedLink],
     words: &mut Cursor<'_>,
-) -> Result<Option<(u32, u64)>, WrongWord>
+) -> Result<Option<ReservedLink>, WrongWord>
     requires ascending { IsAscending pairs.now }
     requires network { IsNetwork top.now }
     ensures next { IfOk result (λ next. IfSome next
@@ -61,12 +65,12 @@ fn next_pair(
 }
 
 // The amount that a word tells, where its link comes after those of the others.
-fn pair_after(top: &Topology, pairs: &[(u32, u64)], word: &[u8]) -> Option<(u32, u64)>
+fn pair_after(top: &Topology, pairs: &[ReservedLink], word: &[u8]) -> Option<ReservedLink>
     requires ascending { IsAscending pairs.now }
     requires network { IsNetwork top.now }
     ensures some { IfSome result
         (λ pair. (word.now ≡ pair_word pair) × IsNextPair top.now pairs.now pair) }
-    ensures none { IfNone result ((pair : ℕ × ℕ)
+    ensures none { IfNone result ((pair : ReservedLink)
         → word.now ≡ pair_word pair → IsNextPair top.now pairs.now pair → ⊥) }
 {
     let (link, amount) = parts(word)?;
@@ -171,9 +175,9 @@ pub(crate) fn read_hose(
 // The endpoint that the next word tells, or none where that is `links`.
 fn next_end(
     top: &Topology,
-    ends: &[(u32, u64)],
+    ends: &[Endpoint],
     words: &mut Cursor<'_>,
-) -> Result<Option<(u32, u64)>, WrongWord>
+) -> Result<Option<Endpoint>, WrongWord>
     requires ascending { IsAscending ends.now }
     requires network { IsNetwork top.now }
     ensures next { IfOk result (λ next. IfSome next
@@ -195,12 +199,12 @@ fn next_end(
 
 // The endpoint that a word tells, where its node comes after those of the others and there is room
 // for one more.
-fn end_after(top: &Topology, ends: &[(u32, u64)], word: &[u8]) -> Option<(u32, u64)>
+fn end_after(top: &Topology, ends: &[Endpoint], word: &[u8]) -> Option<Endpoint>
     requires ascending { IsAscending ends.now }
     requires network { IsNetwork top.now }
     ensures some { IfSome result
         (λ end. (word.now ≡ end_word top.now end) × IsNextEnd top.now ends.now end) }
-    ensures none { IfNone result ((end : ℕ × ℕ)
+    ensures none { IfNone result ((end : Endpoint)
         → word.now ≡ end_word top.now end → IsNextEnd top.now ends.now end → ⊥) }
 {
     let Some(end) = endpoint(top, word) else {

@@ -186,8 +186,8 @@ fn read_none(words: &mut Cursor<'_>) -> Result<Reply, WrongWord>
 fn read_too_many(words: &mut Cursor<'_>) -> Result<Reply, WrongWord>
     ensures ok { IfOk result (λ reply. (network : Network)
         → IsReply network (codes "too" ∷ words.old.left) reply) }
-    ensures wrong { IfErr result
-        (λ wrong. IsWrong (these (codes "many" ∷ codes "quotes" ∷ []) at_form) words.old wrong.number) }
+    ensures wrong { IfErr result (λ wrong.
+        IsWrong (these (codes "many" ∷ codes "quotes" ∷ []) at_form) words.old wrong.number) }
 {
     words.expect(b"many")?;
     words.expect(b"quotes")?;
@@ -340,6 +340,3 @@ fn read_id(words: &mut Cursor<'_>) -> Result<(u64, u64), WrongWord>
     let at = read_at(words)?;
     Ok((id, at))
 }
-
-#[cfg(test)]
-mod tests;

@@ -1,16 +1,17 @@
 // The texts of replies on their way to a sink.
-ghost use Rattle.std.specs.Prelude.{◌≡◌, ◌<◌, ◌≤◌, ℕ, All, OnOk, ◌++◌, codes, decimal, length, Some};
+ghost use Rattle.std.specs.Prelude.{◌≡◌, ◌<◌, ◌≤◌, All, OnOk, ◌++◌, codes, decimal, length, Some};
 ghost use Rattle.std.specs.List.{flat_map};
 ghost use Rattle.hose_io.specs.Count.{one_more};
 ghost use Rattle.hose_io.specs.Gather.{IsAdded};
 ghost use Rattle.hose_io.specs.Writing.{IsPut};
+ghost use Rattle.hose_graph.specs.Hose.{node_of};
 ghost use Rattle.hose_graph.specs.Network.{IsLinkOf, IsNodeOf};
 ghost use Rattle.hose_graph.specs.declared.reply.Reply.TheVariants.{LinkState};
 ghost use Rattle.hose_proto.specs.ReplyText.{NamesPlaces, line_of, reply_text, priced_text, pair_text, node_text, end_text, link_text};
 ghost use Rattle.hose_proto.specs.ReplyWords.{IsOfKind, IsReply};
 ghost use Rattle.hose_words.specs.Words.{words_of};
 
-use hose_graph::{Amounts, Hose, Link, Reply, Topology};
+use hose_graph::{Amounts, Endpoint, Hose, Link, Reply, ReservedLink, Topology};
 use hose_io::{Failed, GATHER_LIMIT, Gather, Sink};
 
 /// Writes a reply as a line. A line of up to 4,096 bytes is given to the sink as one piece, and
@@ -138,7 +139,7 @@ fn add_lists<S: Sink>(
     hose: &Hose,
     amounts: &Amounts,
 )
-    requires { All (λ (end : ℕ × ℕ). IsNodeOf top.now end.0) hose.now }
+    requires { All (λ end. IsNodeOf top.now (node_of end)) hose.now }
     ensures { IsAdded S.Sink gather.old sink.old gather.new sink.new
         (codes " ends" ++ flat_map (end_text top.now) hose.now
         ++ codes " links" ++ flat_map pair_text amounts.now) }
@@ -170,7 +171,7 @@ fn add_state<S: Sink>(
 }
 
 // Adds links with their amounts.
-fn add_links<S: Sink>(gather: &mut Gather, sink: &mut S, pairs: &[(u32, u64)])
+fn add_links<S: Sink>(gather: &mut Gather, sink: &mut S, pairs: &[ReservedLink])
     ensures { IsAdded S.Sink gather.old sink.old gather.new sink.new
         (flat_map pair_text pairs.now) }
 {
@@ -180,7 +181,7 @@ fn add_links<S: Sink>(gather: &mut Gather, sink: &mut S, pairs: &[(u32, u64)])
 }
 
 // Adds one link with its amount.
-fn add_pair<S: Sink>(gather: &mut Gather, sink: &mut S, pair: &(u32, u64))
+fn add_pair<S: Sink>(gather: &mut Gather, sink: &mut S, pair: &ReservedLink)
     ensures { IsAdded S.Sink gather.old sink.old gather.new sink.new (pair_text pair.now) }
 {
     add_number(gather, sink, b" ", u64::from(pair.0));
@@ -199,8 +200,8 @@ fn add_side<S: Sink>(gather: &mut Gather, sink: &mut S, top: &Topology, nodes: &
 }
 
 // Adds endpoints with their rates.
-fn add_ends<S: Sink>(gather: &mut Gather, sink: &mut S, top: &Topology, ends: &[(u32, u64)])
-    requires { All (λ (end : ℕ × ℕ). IsNodeOf top.now end.0) ends.now }
+fn add_ends<S: Sink>(gather: &mut Gather, sink: &mut S, top: &Topology, ends: &[Endpoint])
+    requires { All (λ end. IsNodeOf top.now (node_of end)) ends.now }
     ensures { IsAdded S.Sink gather.old sink.old gather.new sink.new
         (flat_map (end_text top.now) ends.now) }
 {
@@ -210,8 +211,8 @@ fn add_ends<S: Sink>(gather: &mut Gather, sink: &mut S, top: &Topology, ends: &[
 }
 
 // Adds one endpoint with its rate.
-fn add_end<S: Sink>(gather: &mut Gather, sink: &mut S, top: &Topology, end: &(u32, u64))
-    requires { IsNodeOf top.now end.now.0 }
+fn add_end<S: Sink>(gather: &mut Gather, sink: &mut S, top: &Topology, end: &Endpoint)
+    requires { IsNodeOf top.now (node_of end.now) }
     ensures { IsAdded S.Sink gather.old sink.old gather.new sink.new (end_text top.now end.now) }
 {
     add_node(gather, sink, top, end.0);
@@ -239,6 +240,3 @@ fn add_link<S: Sink>(gather: &mut Gather, sink: &mut S, top: &Topology, link: &L
     add_number(gather, sink, b" capacity ", link.capacity);
     add_number(gather, sink, b" cost ", link.cost);
 }
-
-#[cfg(test)]
-pub(crate) mod tests;

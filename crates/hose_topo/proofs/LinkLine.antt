@@ -1,5 +1,5 @@
 -- A link line tells one link.
-use Rattle.std.proofs.Common.{◌≡◌, ◌≢◌, ◌∙◌, ℕ, ◌<◌, ◌^◌, List, [], ◌∷◌, ◌++◌, codes, decimal, inl, inr, refl, sym, ap, arith, length, length-append}
+use Rattle.std.proofs.Common.{◌≡◌, ◌≢◌, ◌∙◌, ℕ, List, [], ◌∷◌, ◌++◌, codes, decimal, inl, inr, sym, ap, arith, length}
 use Rattle.std.specs.List.{AllPairs}
 use Rattle.std.proofs.lemmas.Fmt.{decimal_injective}
 use Rattle.hose_graph.specs.Network.{Network, IsLink, name_of}

@@ -3,7 +3,7 @@ use Rattle.std.proofs.Common.{◌≡◌, ◌∙◌, ℕ, ◌+◌, ◌^◌, ◌�
 use Rattle.std.specs.List.{after_first}
 use Rattle.hose_io.specs.declared.source.Source.{Ghosts}
 use Rattle.hose_words.specs.Words.{words_of}
-use Rattle.hose_words.specs.Lines.{Reader, GivesLine, IsNext, StopsAt, StopsBehindLines, is_line_feed}
+use Rattle.hose_words.specs.Lines.{Reader, GivesLine, IsNext, StopsAt, StopsAfterLines, is_line_feed}
 use Rattle.hose_words.specs.Reading.{ReadsOn, WhereTold}
 use Rattle.hose_words.specs.declared.lines.Line.{Line}
 use Rattle.hose_words.specs.declared.lines.Line.TheVariants.{Text, Long}
@@ -120,7 +120,7 @@ module _ {S : Type 0} (source : Ghosts S) where
   -- the reader met a fault after lines that add to a network
   pub stopped : (old now new : Reader S) (count : ℕ) (was next : Network) (fault : LineFault) → HasRead old now count was → TakesNext source now new (Err fault) was next → old.fault ≡ None
       → WhereTold (source.content old.source) (source.content new.source) (λ before after. (network : Network) × (lines : ℕ) × (rest : List ℕ)
-      × AddLines no_network (old.pending ++ before) lines network rest × StopsBehindLines fault (old.pending ++ before) rest after)
+      × AddLines no_network (old.pending ++ before) lines network rest × StopsAfterLines fault (old.pending ++ before) rest after)
   stopped old now new count was next fault has (Err same, given, takes) none =
       let before_end = given.before_end (has.fault ∙ none) refl in
       WhereTold-then (source.content old.source) (source.content now.source) (source.content new.source) has.on.takes.0 _ _ _ has.on.takes.1

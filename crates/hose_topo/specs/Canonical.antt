@@ -1,6 +1,6 @@
 -- The canonical text of a topology: all nodes in order, then all links in order, each with its
 -- cost, then `end`.
-use Rattle.std.specs.Prelude.{ℕ, List, [], ◌++◌, codes, decimal}
+use Rattle.std.specs.Prelude.{ℕ, List, ◌++◌, codes, decimal}
 use Rattle.std.specs.List.{flat_map}
 use Rattle.hose_graph.specs.Network.{Network, name_of}
 use Rattle.hose_graph.specs.declared.link.Link.{Link}

@@ -1,7 +1,7 @@
 -- Why no topology was read, and what a fault leaves.
 use Rattle.std.specs.Prelude.{◌≡◌, ℕ, List, Option, None, Some, Result, Ok, Err}
 use Rattle.hose_graph.specs.Network.{Network}
-use Rattle.hose_words.specs.Lines.{StopsBehindLines}
+use Rattle.hose_words.specs.Lines.{StopsAfterLines}
 use Rattle.hose_words.specs.declared.lines.LineFault.{LineFault}
 use Rattle.hose_words.specs.declared.lines.LineFault.TheVariants as line
 use Rattle.hose_topo.specs.TopologyText.{AddLines, no_network}
@@ -18,7 +18,7 @@ fault_of line.TooLong = TooLong
 abbrev pub StopsInTopology : LineFault → List ℕ → List ℕ → Type 0
 StopsInTopology fault text left =
     (network : Network) × (count : ℕ) × (rest : List ℕ)
-    × AddLines no_network text count network rest × StopsBehindLines fault text rest left
+    × AddLines no_network text count network rest × StopsAfterLines fault text rest left
 
 -- A fault of reading is kept. Without one the reader has none, and want of memory leaves it as it
 -- was.

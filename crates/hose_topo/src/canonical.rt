@@ -1,5 +1,5 @@
 // The canonical text of a topology and its digest.
-ghost use Rattle.std.specs.Prelude.{◌≡◌, ℕ, ◌<◌, List, ◌++◌, [], codes, length};
+ghost use Rattle.std.specs.Prelude.{◌≡◌, ℕ, ◌<◌, List, ◌++◌, codes, length};
 ghost use Rattle.std.specs.List.{flat_map};
 ghost use Rattle.sha2.specs.Sha256.{sha256};
 ghost use Rattle.hose_io.specs.Writing.{IsPut};
@@ -99,60 +99,4 @@ fn add_ends<P: Pieces>(pieces: &mut P, top: &Topology, link: &Link)
     pieces.add(top.name(link.a).bytes());
     pieces.add(b" ");
     pieces.add(top.name(link.b).bytes());
-}
-
-#[cfg(test)]
-mod tests {
-    use super::*;
-    use hose_graph::Name;
-    use hose_io::MemSink;
-    use std::alloc::Global;
-    use std::test::Fail;
-
-    // The nodes a, b and c, each with a link of capacity 10 to h.
-    fn star(alloc: Global) -> Result<Topology, Fail> {
-        let mut top = Topology::new(alloc)?;
-        for name in ["a", "b", "c", "h"] {
-            top.add_node(Name::read(name.as_bytes()).ok_or("no name")?)?;
-        }
-        for (a, length) in [(0, 1), (1, 2), (2, 3)] {
-            top.add_link(Link {
-                a,
-                b: 3,
-                capacity: 10,
-                length,
-                cost: length,
-            })?;
-        }
-        Ok(top)
-    }
-
-    #[test]
-    fn a_star_is_written(rt: HostRuntime) -> Result<(), Fail> {
-        let top = star(rt.alloc())?;
-        if top.nodes() == 0 {
-            return Err(Fail::from("no node"));
-        }
-        let mut sink = MemSink::new(rt.alloc())?;
-        assert_eq!(rt; put_canonical(&mut sink, &top), Ok(()));
-        let text = "node a\nnode b\nnode c\nnode h\n\
-            link a h 10 1 1\n\
-            link b h 10 2 2\n\
-            link c h 10 3 3\n\
-            end\n";
-        assert_eq!(rt; sink.bytes(), text.as_bytes());
-        Ok(())
-    }
-
-    // What `sha256sum` gives for these 80 bytes.
-    #[test]
-    fn a_star_has_a_digest(rt: HostRuntime) -> Result<(), Fail> {
-        let want: [u8; 32] = [
-            0x24, 0xfc, 0xb7, 0x58, 0x77, 0xab, 0xb3, 0xe7, 0x84, 0x4a, 0x79, 0x3b, 0xdf, 0x78,
-            0x4d, 0x86, 0x2d, 0xa4, 0x70, 0x0e, 0x66, 0xd9, 0xe0, 0xec, 0x6f, 0xbc, 0xf8, 0xc5,
-            0x02, 0x49, 0xed, 0xa4,
-        ];
-        assert_eq!(rt; digest(&star(rt.alloc())?), want);
-        Ok(())
-    }
 }

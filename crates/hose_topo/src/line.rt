@@ -6,7 +6,7 @@ ghost use Rattle.hose_words.specs.Words.{words_of};
 ghost use Rattle.hose_graph.specs.Limit.{IsUpTo};
 ghost use Rattle.hose_graph.specs.Network.{IsLink, IsNetwork, IsNodeOf, HasLinkRoom, HasNodeRoom, name_of};
 ghost use Rattle.hose_topo.specs.Taken.{TakesWords};
-ghost use Rattle.hose_topo.specs.TopologyText.{AddsLink, AddsNode, EndsText, IsNewName, IsOtherNode, MayCome, TellsLink, TellsLine, kind_word, line_form, link_form, node_form, number_form};
+ghost use Rattle.hose_topo.specs.TopologyText.{AddsLink, AddsNode, IsNewName, IsOtherNode, MayCome, TellsLink, TellsLine, kind_word, line_form, link_form, node_form, number_form};
 
 use crate::kind::Kind;
 use hose_graph::{

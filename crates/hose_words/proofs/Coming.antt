@@ -10,7 +10,7 @@ use Rattle.hose_io.specs.Stream.{Stream, Gives, IsAtEnd}
 use Rattle.hose_io.specs.declared.source.Source.{Ghosts}
 use Rattle.hose_words.specs.Buffer.{CutsLine}
 use Rattle.hose_words.specs.Intake.{found_of, last_of, ShowsFound, TakesBytes, IsTurn}
-use Rattle.hose_words.specs.Lines.{Reader, is_line_feed, GivesLine, IsBehindLines, IsDropped, StopsAt, IsNext}
+use Rattle.hose_words.specs.Lines.{Reader, is_line_feed, GivesLine, IsAfterLines, IsDropped, StopsAt, IsNext}
 use Rattle.hose_words.specs.declared.intake.Found.TheVariants as found
 use Rattle.hose_words.specs.declared.lines.Line.{Line}
 use Rattle.hose_words.specs.declared.lines.LineFault.{LineFault}
@@ -212,7 +212,7 @@ module _ {S : Type 0} (source : Ghosts S) where
       record {
         after_fault = rw h.was tt;
         answer = λ _. told (source.content old.source) (source.content now.source) h.bytes (λ before after. GivesLine shown (old.pending ++ before) (now.pending ++ after)) gives text;
-        whole = λ _. told (source.content old.source) (source.content now.source) h.bytes (λ before after. IsBehindLines (old.pending ++ before) (now.pending ++ after)) gives (λ rest.
+        whole = λ _. told (source.content old.source) (source.content now.source) h.bytes (λ before after. IsAfterLines (old.pending ++ before) (now.pending ++ after)) gives (λ rest.
             inr (h.dropped ++ line, behind_found old r now is_long line h cut rest));
         ended = λ false'. sym h.ended ∙ (sym ended ∙ false');
         before_end = λ _ err. absurd (cc err);

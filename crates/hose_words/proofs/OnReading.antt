@@ -3,7 +3,7 @@ use Rattle.std.proofs.Common.{◌∙◌, ℕ, List, [], ◌∷◌, ◌++◌, Opt
 use Rattle.hose_io.specs.Stream.{Stream, Gives}
 use Rattle.hose_io.proofs.Frames.{Stays-none, Stays-next}
 use Rattle.hose_io.specs.declared.source.Source.{Ghosts}
-use Rattle.hose_words.specs.Lines.{Reader, IsBehindLines, IsNext}
+use Rattle.hose_words.specs.Lines.{Reader, IsAfterLines, IsNext}
 use Rattle.hose_words.specs.Reading.{ReadsOn, WhereTold}
 use Rattle.hose_words.specs.declared.lines.Line.{Line}
 use Rattle.hose_words.specs.declared.lines.LineFault.{LineFault}
@@ -37,10 +37,10 @@ WhereTold-then (Some old) (Some mid) None given P Q R gives p q both = tt
 WhereTold-then (Some old) (Some mid) (Some new) given P Q R gives p q both = both old.left mid.left new.left p q
 
 -- whole lines behind whole lines
-pub IsBehindLines-then : (text middle rest : List ℕ) → IsBehindLines text middle → IsBehindLines middle rest → IsBehindLines text rest
-IsBehindLines-then text middle rest (inl same) behind = subst (λ t. IsBehindLines t rest) (sym same) behind
-IsBehindLines-then text middle rest (inr lines) (inl same) = inr (lines.0, lines.1 ∙ ap (λ t. lines.0 ++ 10 ∷ t) same)
-IsBehindLines-then text middle rest (inr lines) (inr more) =
+pub IsAfterLines-then : (text middle rest : List ℕ) → IsAfterLines text middle → IsAfterLines middle rest → IsAfterLines text rest
+IsAfterLines-then text middle rest (inl same) behind = subst (λ t. IsAfterLines t rest) (sym same) behind
+IsAfterLines-then text middle rest (inr lines) (inl same) = inr (lines.0, lines.1 ∙ ap (λ t. lines.0 ++ 10 ∷ t) same)
+IsAfterLines-then text middle rest (inr lines) (inr more) =
     inr (lines.0 ++ 10 ∷ more.0, lines.1 ∙ (ap (λ t. lines.0 ++ 10 ∷ t) more.1 ∙ sym (append_assoc lines.0 (10 ∷ more.0) (10 ∷ rest))))
 
 -- ---- how far a reader has come
@@ -66,7 +66,7 @@ module _ {S : Type 0} (source : Ghosts S) where
     );
     whole = λ none before. WhereTold-then (source.content old.source) (source.content mid.source) (source.content new.source) first.takes.0 _ _ _ first.takes.1
         (first.whole (second.fault none) (second.ended before)) (second.whole none before)
-        (λ a b c here there. IsBehindLines-then (old.pending ++ a) (mid.pending ++ b) (new.pending ++ c) here there);
+        (λ a b c here there. IsAfterLines-then (old.pending ++ a) (mid.pending ++ b) (new.pending ++ c) here there);
     fault = λ none. first.fault (second.fault none);
     read = λ read. second.read (first.read read);
     ended = λ before. first.ended (second.ended before);

@@ -4,7 +4,7 @@ use Rattle.std.specs.List.{position_or_len, before_first, after_first}
 use Rattle.hose_io.specs.Stream.{Stream, Gives}
 use Rattle.hose_words.specs.Lines.{is_line_feed}
 
--- the line that was cut off last, the bytes that are pending, and how many more fit behind them
+-- the line that was cut off last, the bytes that are pending, and how many more fit after them
 pub record Held : Type 0 where
   pub line : List ℕ
   pub pending : List ℕ
@@ -12,9 +12,12 @@ pub record Held : Type 0 where
 
 -- The first line was cut off, where it was pending whole. Otherwise all is still pending.
 abbrev pub CutsLine : Bool → List ℕ → List ℕ → List ℕ → Type 0
-CutsLine true pending line rest = (position_or_len is_line_feed pending < length pending) × (line ≡ before_first is_line_feed pending) × (rest ≡ after_first is_line_feed pending)
-CutsLine false pending line rest = (position_or_len is_line_feed pending ≡ length pending) × (rest ≡ pending)
+CutsLine true pending line rest = (position_or_len is_line_feed pending < length pending)
+    × (line ≡ before_first is_line_feed pending) × (rest ≡ after_first is_line_feed pending)
+CutsLine false pending line rest =
+    (position_or_len is_line_feed pending ≡ length pending) × (rest ≡ pending)
 
--- this many bytes that a source gave stand behind those that were pending
+-- this many bytes that a source gave come after those that were pending
 abbrev pub Appends : Option Stream → Option Stream → List ℕ → List ℕ → ℕ → Type 0
-Appends before after old new count = (bytes : List ℕ) × Gives before after bytes × (new ≡ old ++ bytes) × (length bytes ≡ count)
+Appends before after old new count = (bytes : List ℕ)
+    × Gives before after bytes × (new ≡ old ++ bytes) × (length bytes ≡ count)

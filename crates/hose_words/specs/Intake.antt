@@ -6,6 +6,7 @@ use Rattle.hose_io.specs.Stream.{Gives, IsAtEnd}
 use Rattle.hose_io.specs.declared.source.Source.{Ghosts}
 use Rattle.hose_words.specs.declared.intake.Found.{Found}
 use Rattle.hose_words.specs.declared.intake.Found.TheVariants as found
+use Rattle.hose_words.specs.declared.limits.TheConstants.{INPUT_LIMIT, LINE_LIMIT}
 use Rattle.hose_words.specs.declared.lines.Line.{Line}
 use Rattle.hose_words.specs.declared.lines.Line.TheVariants.{Text, Long}
 use Rattle.hose_words.specs.declared.lines.LineFault.{LineFault}
@@ -15,15 +16,23 @@ use Rattle.hose_words.specs.Kept.{Kept}
 
 -- a reader, by its source and what it keeps beside it
 abbrev pub reader_of : {S : Type 0} → S → Kept → Reader S
-reader_of source kept = record { source = source; pending = kept.pending; taken = kept.taken; fault = kept.fault; ended = kept.ended }
+reader_of source kept = record {
+  source = source;
+  pending = kept.pending;
+  taken = kept.taken;
+  fault = kept.fault;
+  ended = kept.ended;
+}
 
 -- how a line is found, where its front was dropped already or not
 abbrev pub found_of : Bool → List ℕ → Found
-found_of is_long line = if is_long || nat_lt 4096 (length line) then found.Long else found.Text
+found_of is_long line =
+    if is_long || nat_lt LINE_LIMIT (length line) then found.Long else found.Text
 
 -- the same at the end of the text, where no bytes are no line
 abbrev pub last_of : Bool → List ℕ → Found
-last_of is_long line = if not is_long && (length line == 0) then found.End else found_of is_long line
+last_of is_long line =
+    if not is_long && (length line == 0) then found.End else found_of is_long line
 
 -- what is shown of the line that was cut off last
 abbrev pub ShowsFound : Found → List ℕ → Option Line → Type 0
@@ -37,13 +46,16 @@ ShowsFound found.Text line (Some Long) = ⊥
 ShowsFound found.Text line (Some (Text bytes)) = bytes.now ≡ line
 
 -- whatever shows what was found answers a call of `next`
-abbrev pub FindsNext : {S : Type 0} → Ghosts S → Reader S → Reader S → List ℕ → Result Found LineFault → Type 0
-FindsNext source old new line (Ok found) = (shown : Option Line) → ShowsFound found line shown → IsNext source old new (Ok shown)
+abbrev pub FindsNext : {S : Type 0} → Ghosts S → Reader S → Reader S → List ℕ
+    → Result Found LineFault → Type 0
+FindsNext source old new line (Ok found) =
+    (shown : Option Line) → ShowsFound found line shown → IsNext source old new (Ok shown)
 FindsNext source old new line (Err fault) = IsNext source old new (Err fault)
 
 -- what is pending was dropped, where it is more than a line shows
 abbrev pub DropsLong : Bool → Bool → List ℕ → List ℕ → Type 0
-DropsLong was is_long old new = MatchBool (nat_lt 4096 (length old)) ((is_long ≡ true) × (new ≡ [])) ((is_long ≡ was) × (new ≡ old))
+DropsLong was is_long old new = MatchBool (nat_lt LINE_LIMIT (length old))
+    ((is_long ≡ true) × (new ≡ [])) ((is_long ≡ was) × (new ≡ old))
 
 module _ {S : Type 0} (source : Ghosts S) (old new : Reader S) where
   -- the source has not met its end
@@ -57,7 +69,7 @@ module _ {S : Type 0} (source : Ghosts S) (old new : Reader S) where
     pub gives : Gives (source.content old.source) (source.content new.source) bytes
     pub pending : new.pending ≡ old.pending ++ bytes
     pub taken : new.taken ≡ old.taken + length bytes
-    pub limit : new.taken ≤ 2 ^ 30
+    pub limit : new.taken ≤ INPUT_LIMIT
     pub fault : new.fault ≡ None
     pub before_end : IsBeforeEnd
     pub frame : source.frame new.source ≡ source.frame old.source
@@ -75,12 +87,15 @@ module _ {S : Type 0} (source : Ghosts S) (old new : Reader S) where
 
   -- a call failed, or the byte past the limit was taken
   abbrev pub MeetsFault : LineFault → Type 0
-  MeetsFault Read = (source.content new.source ≡ source.content old.source) × (new.taken ≡ old.taken)
-      × (new.fault ≡ Some Read) × (new.pending ≡ old.pending) × Stays (source.frame old.source) (source.frame new.source)
+  MeetsFault Read = (source.content new.source ≡ source.content old.source)
+      × (new.taken ≡ old.taken) × (new.fault ≡ Some Read) × (new.pending ≡ old.pending)
+      × Stays (source.frame old.source) (source.frame new.source)
       × Rose (source.frame old.source) (source.frame new.source) × IsBeforeEnd
-  MeetsFault TooLong = ((byte : ℕ) × Gives (source.content old.source) (source.content new.source) (byte ∷ []))
-      × (old.taken ≡ 2 ^ 30) × (new.taken ≡ 2 ^ 30 + 1) × (new.fault ≡ Some TooLong) × (new.pending ≡ old.pending)
-      × (source.frame new.source ≡ source.frame old.source) × IsBeforeEnd
+  MeetsFault TooLong =
+      ((byte : ℕ) × Gives (source.content old.source) (source.content new.source) (byte ∷ []))
+      × (old.taken ≡ INPUT_LIMIT) × (new.taken ≡ INPUT_LIMIT + 1) × (new.fault ≡ Some TooLong)
+      × (new.pending ≡ old.pending) × (source.frame new.source ≡ source.frame old.source)
+      × IsBeforeEnd
 
   -- a turn takes at least one byte, meets the end, or meets a fault
   abbrev pub IsTurn : Result Bool LineFault → Type 0

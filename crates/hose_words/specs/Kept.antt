@@ -2,7 +2,8 @@
 use Rattle.std.specs.Prelude.{ℕ, Bool, List, Option}
 use Rattle.hose_words.specs.declared.lines.LineFault.{LineFault}
 
--- the line that was cut off last, the bytes that are pending, how many were taken, the fault, and whether the source met its end
+-- the line that was cut off last, the bytes that are pending, how many were taken, the fault, and
+-- whether the source met its end
 pub record Kept : Type 0 where
   pub line : List ℕ
   pub pending : List ℕ

@@ -4,13 +4,14 @@ use Rattle.std.specs.List.{before_first, after_first}
 use Rattle.hose_io.specs.Frame.{Rose, Stays}
 use Rattle.hose_io.specs.Stream.{Gives}
 use Rattle.hose_io.specs.declared.source.Source.{Ghosts}
+use Rattle.hose_words.specs.declared.limits.TheConstants.{INPUT_LIMIT, LINE_LIMIT}
 use Rattle.hose_words.specs.declared.lines.Line.{Line}
 use Rattle.hose_words.specs.declared.lines.Line.TheVariants.{Text, Long}
 use Rattle.hose_words.specs.declared.lines.LineFault.{LineFault}
 use Rattle.hose_words.specs.declared.lines.LineFault.TheVariants.{Read, TooLong}
 
--- a reader of lines: its source, the bytes that it took and has not given in a line, how many it took, the fault that it met, and whether it
--- met the end of its source
+-- a reader of lines: its source, the bytes that it took and has not given in a line, how many it
+-- took, the fault that it met, and whether it met the end of its source
 pub record Reader (S : Type 0) : Type 0 where
   pub source : S
   pub pending : List ℕ
@@ -21,71 +22,86 @@ pub record Reader (S : Type 0) : Type 0 where
 abbrev pub is_line_feed : ℕ → Bool
 is_line_feed byte = byte == 10
 
--- a line is shown by its bytes, where they are at most 4096
+-- a line is shown by its bytes, where it is not too long for that
 abbrev pub Shows : Line → List ℕ → Type 0
-Shows (Text shown) line = (length line ≤ 4096) × (shown.now ≡ line)
-Shows Long line = 4096 < length line
+Shows (Text shown) line = (length line ≤ LINE_LIMIT) × (shown.now ≡ line)
+Shows Long line = LINE_LIMIT < length line
 
 -- the next line of a text, and the text that is left; none comes exactly at the end
 abbrev pub GivesLine : Option Line → List ℕ → List ℕ → Type 0
 GivesLine None text rest = (text ≡ []) × (rest ≡ [])
-GivesLine (Some line) text rest = (text ≢ []) × Shows line (before_first is_line_feed text) × (rest ≡ after_first is_line_feed text)
+GivesLine (Some line) text rest = (text ≢ [])
+    × Shows line (before_first is_line_feed text) × (rest ≡ after_first is_line_feed text)
 
 -- what stands before the rest of a text is whole lines: it is empty, or ends with a line feed
-abbrev pub IsBehindLines : List ℕ → List ℕ → Type 0
-IsBehindLines text rest = (text ≡ rest) ⊎ ((front : List ℕ) × (text ≡ front ++ 10 ∷ rest))
+abbrev pub IsAfterLines : List ℕ → List ℕ → Type 0
+IsAfterLines text rest = (text ≡ rest) ⊎ ((front : List ℕ) × (text ≡ front ++ 10 ∷ rest))
 
 -- bytes were passed over that do not end a line
 abbrev pub PassesOver : List ℕ → List ℕ → Type 0
 PassesOver text rest = (seen : List ℕ) × (text ≡ seen ++ rest) × All (λ byte. byte ≢ 10) seen
 
--- how far a text was taken at a fault: no whole line was lost, and the byte past the limit belongs to no line
+-- how far a text was taken at a fault: no whole line was lost, and the byte past the limit belongs
+-- to no line
 abbrev pub StopsAt : LineFault → List ℕ → List ℕ → Type 0
 StopsAt Read text rest = PassesOver text rest
 StopsAt TooLong text rest = (byte : ℕ) × PassesOver text (byte ∷ rest)
 
--- the same behind lines of a text that were given: each of them ended with a line feed, so none of them was cut off by the fault
-abbrev pub StopsBehindLines : LineFault → List ℕ → List ℕ → List ℕ → Type 0
-StopsBehindLines fault text behind rest = IsBehindLines text behind × StopsAt fault behind rest
+-- the same after lines of a text that were given: each of them ended with a line feed, so none of
+-- them was cut off by the fault
+abbrev pub StopsAfterLines : LineFault → List ℕ → List ℕ → List ℕ → Type 0
+StopsAfterLines fault text partial rest = IsAfterLines text partial × StopsAt fault partial rest
 
 -- a front of a line that was dropped, since the line is too long to be shown; or nothing
 abbrev pub IsDropped : List ℕ → Type 0
-IsDropped front = (front ≡ []) ⊎ (4096 < length front)
+IsDropped front = (front ≡ []) ⊎ (LINE_LIMIT < length front)
 
--- What is pending after a fault is the line that was being read, but for a front that was dropped. The byte past the limit
--- is not pending.
+-- What is pending after a fault is the line that was being read, but for a front that was dropped.
+-- The byte past the limit is not pending.
 abbrev pub KeepsLine : LineFault → List ℕ → List ℕ → Type 0
 KeepsLine Read line pending = (front : List ℕ) × IsDropped front × (line ≡ front ++ pending)
-KeepsLine TooLong line pending = (front : List ℕ) × (byte : ℕ) × IsDropped front × (line ≡ front ++ (pending ++ byte ∷ []))
+KeepsLine TooLong line pending =
+    (front : List ℕ) × (byte : ℕ) × IsDropped front × (line ≡ front ++ (pending ++ byte ∷ []))
 
 -- what a call of `next` does to a reader, and what it answers
-pub record IsNext {S : Type 0} (source : Ghosts S) (old new : Reader S) (result : Result (Option Line) LineFault) : Type 0 where
+pub record IsNext {S : Type 0} (source : Ghosts S) (old new : Reader S)
+    (result : Result (Option Line) LineFault) : Type 0 where
   -- after a fault the reader stays as it is and answers the same
   pub after_fault : IfSome old.fault (λ fault. (result ≡ Err fault) × (new ≡ old))
-  -- where the source tells, the text that is to come is what is pending and what the source has left
-  pub answer : old.fault ≡ None → IfSome (source.content old.source) (λ before. IfSome (source.content new.source) (λ after.
-      MatchResult result (λ line. GivesLine line (old.pending ++ before.left) (new.pending ++ after.left)) (λ fault. StopsAt fault (old.pending ++ before.left) after.left)))
+  -- where the source tells, the text that is to come is what is pending and what the source has
+  -- left
+  pub answer : old.fault ≡ None
+      → IfSome (source.content old.source) (λ before. IfSome (source.content new.source) (λ after.
+      MatchResult result
+      (λ line. GivesLine line (old.pending ++ before.left) (new.pending ++ after.left))
+      (λ fault. StopsAt fault (old.pending ++ before.left) after.left)))
   -- until the source has met its end, each line that is given ended with a line feed
-  pub whole : IfOk result (λ _. IsFalse new.ended → IfSome (source.content old.source) (λ before. IfSome (source.content new.source) (λ after.
-      IsBehindLines (old.pending ++ before.left) (new.pending ++ after.left))))
+  pub whole : IfOk result (λ _. IsFalse new.ended
+      → IfSome (source.content old.source) (λ before. IfSome (source.content new.source) (λ after.
+      IsAfterLines (old.pending ++ before.left) (new.pending ++ after.left))))
   -- from then on no fault is met
   pub ended : IsFalse new.ended → IsFalse old.ended
   pub before_end : old.fault ≡ None → IsErr result → IsFalse old.ended
   -- the source gave these bytes in this call
-  pub takes : (bytes : List ℕ) × Gives (source.content old.source) (source.content new.source) bytes × (new.taken ≡ old.taken + length bytes)
-      × (old.fault ≡ None → MatchResult result (λ _. ⊤) (λ fault. KeepsLine fault (old.pending ++ bytes) new.pending))
+  pub takes : (bytes : List ℕ) × Gives (source.content old.source) (source.content new.source) bytes
+      × (new.taken ≡ old.taken + length bytes)
+      × (old.fault ≡ None → MatchResult result (λ _. ⊤)
+      (λ fault. KeepsLine fault (old.pending ++ bytes) new.pending))
   -- a source is asked only where no whole line is pending, and not again after its end
   pub whole_pending : Contains old.pending 10 → new.source ≡ old.source
   pub after_end : IsTrue old.ended → new.source ≡ old.source
-  pub limit : new.taken ≤ 2 ^ 30 + 1
+  pub limit : new.taken ≤ INPUT_LIMIT + 1
   -- exactly where the source gave more than 1 GiB
-  pub too_long : (result ≡ Err TooLong) ↔ (2 ^ 30 < new.taken)
+  pub too_long : (result ≡ Err TooLong) ↔ (INPUT_LIMIT < new.taken)
   -- only where a call failed, now or before
-  pub read : result ≡ Err Read → (old.fault ≡ Some Read) ⊎ Rose (source.frame old.source) (source.frame new.source)
+  pub read : result ≡ Err Read
+      → (old.fault ≡ Some Read) ⊎ Rose (source.frame old.source) (source.frame new.source)
   -- a fault is kept
-  pub fault : MatchResult result (λ _. (old.fault ≡ None) × (new.fault ≡ None)) (λ fault. new.fault ≡ Some fault)
+  pub fault : MatchResult result (λ _. (old.fault ≡ None) × (new.fault ≡ None))
+      (λ fault. new.fault ≡ Some fault)
   -- each line uses up at least one byte
-  pub progress : IfOk result (λ line. OnSome line (length new.pending + old.taken < length old.pending + new.taken))
+  pub progress : IfOk result
+      (λ line. OnSome line (length new.pending + old.taken < length old.pending + new.taken))
   pub stays : Stays (source.frame old.source) (source.frame new.source)
   -- only a call of the source that fails raises its count
   pub unfailed : result ≢ Err Read → source.frame new.source ≡ source.frame old.source

@@ -3,7 +3,7 @@ use Rattle.std.specs.Prelude.{◌≡◌, ◌≢◌, ℕ, ◌+◌, IsFalse, List,
 use Rattle.hose_io.specs.Frame.{Stays}
 use Rattle.hose_io.specs.Stream.{Stream, Gives}
 use Rattle.hose_io.specs.declared.source.Source.{Ghosts}
-use Rattle.hose_words.specs.Lines.{Reader, IsBehindLines}
+use Rattle.hose_words.specs.Lines.{Reader, IsAfterLines}
 use Rattle.hose_words.specs.declared.lines.LineFault.TheVariants.{Read}
 
 -- what holds of the bytes that a source had left and those that it has left, where it tells them
@@ -12,10 +12,12 @@ WhereTold old new P = IfSome old (λ before. IfSome new (λ after. P before.left
 
 -- bytes were taken, each counted, and the source is the one that it was
 pub record ReadsOn {S : Type 0} (source : Ghosts S) (old new : Reader S) : Type 0 where
-  pub takes : (bytes : List ℕ) × Gives (source.content old.source) (source.content new.source) bytes × (new.taken ≡ old.taken + length bytes)
+  pub takes : (bytes : List ℕ) × Gives (source.content old.source) (source.content new.source) bytes
+      × (new.taken ≡ old.taken + length bytes)
   -- where neither a fault nor the end of the source was met, whole lines were given
-  pub whole : new.fault ≡ None → IsFalse new.ended → WhereTold (source.content old.source) (source.content new.source) (λ before after.
-      IsBehindLines (old.pending ++ before) (new.pending ++ after))
+  pub whole : new.fault ≡ None → IsFalse new.ended
+      → WhereTold (source.content old.source) (source.content new.source) (λ before after.
+      IsAfterLines (old.pending ++ before) (new.pending ++ after))
   -- a fault is kept, and so is the end
   pub fault : new.fault ≡ None → old.fault ≡ None
   pub read : old.fault ≡ Some Read → new.fault ≡ Some Read

@@ -7,19 +7,17 @@ ghost use Rattle.hose_io.specs.Stream.{Gives, IsAtEnd};
 ghost use Rattle.hose_words.specs.Lines.{is_line_feed};
 ghost use Rattle.hose_words.specs.Buffer.{CutsLine, Appends};
 
+use crate::limits::PENDING_LIMIT;
 use hose_io::{Failed, Source};
 use std::marker::Model;
 
 const LINE_FEED: u8 = b'\n';
 
-// Room for two of the longest lines that are shown, so that bytes are moved seldom.
-const ROOM: usize = 8192;
-
 // `bytes[start..end]` is pending, of which the first `searched` bytes are no line feeds, and
 // `bytes[line_start..line_end]` is the line that was cut off last.
 #[derive(Drop)]
 pub(crate) struct Buffer {
-    bytes: [u8; ROOM],
+    bytes: [u8; PENDING_LIMIT],
     line_start: usize,
     line_end: usize,
     start: usize,
@@ -30,12 +28,17 @@ pub(crate) struct Buffer {
 impl Model for Buffer {
     ghost use Rattle.std.specs.Prelude.{◌-◌, slice_range};
     ghost use Rattle.hose_words.specs.Buffer.{Held};
+    ghost use Rattle.hose_words.specs.declared.limits.TheConstants.{PENDING_LIMIT};
 
     ghost Value = { Held };
 
     ghost use Rattle.hose_words.specs.BufferInside.{IsInOrder};
 
-    ghost view = { λ buffer. record { line = slice_range buffer.bytes buffer.line_start buffer.line_end; pending = slice_range buffer.bytes buffer.start buffer.end; room = 8192 - buffer.end } };
+    ghost view = { λ buffer. record {
+      line = slice_range buffer.bytes buffer.line_start buffer.line_end;
+      pending = slice_range buffer.bytes buffer.start buffer.end;
+      room = PENDING_LIMIT - buffer.end;
+    } };
 
     ghost invariant = { IsInOrder };
 }
@@ -45,7 +48,7 @@ impl Buffer {
         ensures { result.pending ≡ [] }
     {
         Buffer {
-            bytes: [0; ROOM],
+            bytes: [0; PENDING_LIMIT],
             line_start: 0,
             line_end: 0,
             start: 0,
@@ -63,7 +66,7 @@ impl Buffer {
     // How many bytes are pending.
     pub(crate) fn len(&self) -> usize
         ensures count { result ≡ length self.now.pending }
-        ensures limit { result ≤ 8192 }
+        ensures limit { result ≤ PENDING_LIMIT }
     {
         self.end - self.start
     }
@@ -96,13 +99,13 @@ impl Buffer {
         self.searched = 0;
     }
 
-    // Moves what is pending to the front, where no room is left behind it.
+    // Moves what is pending to the front, where no room is left after it.
     pub(crate) fn make_room(&mut self)
-        requires { length self.old.pending < 8192 }
+        requires { length self.old.pending < PENDING_LIMIT }
         ensures pending { self.new.pending ≡ self.old.pending }
         ensures room { 0 < self.new.room }
     {
-        if self.end < ROOM {
+        if self.end < PENDING_LIMIT {
             return;
         }
         self.bytes.copy_within(self.start..self.end, 0);
@@ -112,7 +115,7 @@ impl Buffer {
         self.start = 0;
     }
 
-    // Takes at most `most` bytes of the source, behind those that are pending.
+    // Takes at most `most` bytes of the source, after those that are pending.
     pub(crate) fn fill<S: Source>(&mut self, source: &mut S, most: usize) -> Result<usize, Failed>
         requires some { 0 < most }
         requires room { 0 < self.old.room }
@@ -125,8 +128,8 @@ impl Buffer {
         ensures none_only_at_end { result ≡ Ok 0 → IsAtEnd (S.content source.old) }
         ensures met { Met (S.frame source.old) (S.frame source.new) result }
     {
-        let most = most.min(ROOM - self.end);
-        let taken = take_behind(source, &mut self.bytes, self.end, most);
+        let most = most.min(PENDING_LIMIT - self.end);
+        let taken = take_after(source, &mut self.bytes, self.end, most);
         self.end += taken.unwrap_or(0);
         taken
     }
@@ -141,8 +144,8 @@ fn before_line_feed(bytes: &[u8]) -> usize
     bytes.iter().take_while(|byte| **byte != LINE_FEED).count()
 }
 
-// Takes at most `most` bytes of the source, behind the first `end` bytes.
-fn take_behind<S: Source>(
+// Takes at most `most` bytes of the source, after the first `end` bytes.
+fn take_after<S: Source>(
     source: &mut S,
     bytes: &mut [u8],
     end: usize,
@@ -153,7 +156,8 @@ fn take_behind<S: Source>(
     ensures most { IfOk result (λ count. count ≤ most) }
     ensures before { take end bytes.new ≡ take end bytes.old }
     ensures taken { MatchResult result
-        (λ count. Gives (S.content source.old) (S.content source.new) (take count (drop end bytes.new)))
+        (λ count. Gives (S.content source.old) (S.content source.new)
+        (take count (drop end bytes.new)))
         (λ _. S.content source.new ≡ S.content source.old) }
     ensures none_only_at_end { result ≡ Ok 0 → IsAtEnd (S.content source.old) }
     ensures met { Met (S.frame source.old) (S.frame source.new) result }

@@ -6,15 +6,10 @@ ghost use Rattle.hose_words.specs.Buffer.{CutsLine};
 ghost use Rattle.hose_words.specs.Intake.{reader_of, found_of, last_of, ShowsFound, FindsNext, DropsLong, IsTurn};
 
 use crate::buffer::Buffer;
+use crate::limits::{INPUT_LIMIT, LINE_LIMIT, PENDING_LIMIT};
 use crate::lines::{Line, LineFault};
 use hose_io::{Failed, Source};
 use std::marker::Model;
-
-// How many bytes a reader takes before one more is too many: 1 GiB.
-const LIMIT: u64 = 1 << 30;
-
-// How many bytes a line that is shown has at most.
-const LONGEST: usize = 4096;
 
 // What a search for the next line came to. The bytes of a text are those that were cut off last.
 #[derive(Clone, Copy, Debug)]
@@ -36,12 +31,20 @@ impl Model for Intake {
     ghost use Rattle.std.specs.Prelude.{◌≡◌, ◌+◌, ◌^◌, ◌<◌, ◌≤◌, ◌↔◌, Some};
     ghost use Rattle.hose_words.specs.declared.lines.LineFault.TheVariants.{TooLong};
     ghost use Rattle.hose_words.specs.Kept.{Kept};
+    ghost use Rattle.hose_words.specs.declared.limits.TheConstants.{INPUT_LIMIT};
 
     ghost Value = { Kept };
 
-    ghost view = { λ intake. record { line = intake.buffer.line; pending = intake.buffer.pending; taken = intake.taken; fault = intake.fault; ended = intake.is_ended } };
+    ghost view = { λ intake. record {
+      line = intake.buffer.line;
+      pending = intake.buffer.pending;
+      taken = intake.taken;
+      fault = intake.fault;
+      ended = intake.is_ended;
+    } };
 
-    ghost invariant = { λ intake. (intake.taken ≤ 2 ^ 30 + 1) × ((intake.fault ≡ Some TooLong) ↔ (2 ^ 30 < intake.taken)) };
+    ghost invariant = { λ intake. (intake.taken ≤ INPUT_LIMIT + 1)
+        × ((intake.fault ≡ Some TooLong) ↔ (INPUT_LIMIT < intake.taken)) };
 }
 
 impl Intake {
@@ -62,7 +65,8 @@ impl Intake {
     // Finds the next line, and takes what it needs for that.
     pub(crate) fn advance<S: Source>(&mut self, source: &mut S) -> Result<Found, LineFault>
         requires at_end { OnTrue self.old.ended (IsAtEnd (S.content source.old)) }
-        ensures next { FindsNext S.Source (reader_of source.old self.old) (reader_of source.new self.new) self.new.line result }
+        ensures next { FindsNext S.Source (reader_of source.old self.old)
+            (reader_of source.new self.new) self.new.line result }
         ensures at_end { OnTrue self.new.ended (IsAtEnd (S.content source.new)) }
     {
         if let Some(fault) = self.fault {
@@ -94,7 +98,7 @@ impl Intake {
     // How many bytes are pending.
     pub(crate) fn pending(&self) -> usize
         ensures count { result ≡ length self.now.pending }
-        ensures limit { result ≤ 8192 }
+        ensures limit { result ≤ PENDING_LIMIT }
     {
         self.buffer.len()
     }
@@ -109,7 +113,7 @@ impl Intake {
     }
 
     fn cut_rest(&mut self)
-        ensures { self.new ≡ record { line = self.old.pending; pending = []; taken = self.old.taken; fault = self.old.fault; ended = self.old.ended } }
+        ensures { self.new ≡ record self.old { line = self.old.pending; pending = [] } }
     {
         self.buffer.cut_rest();
     }
@@ -121,7 +125,7 @@ impl Intake {
         ensures fault { self.new.fault ≡ self.old.fault }
         ensures ended { self.new.ended ≡ self.old.ended }
     {
-        if self.buffer.len() <= LONGEST {
+        if self.buffer.len() <= LINE_LIMIT {
             return is_long;
         }
         self.buffer.cut_rest();
@@ -131,7 +135,7 @@ impl Intake {
     fn found(&self, is_long: bool) -> Found
         ensures { result ≡ found_of is_long self.now.line }
     {
-        if is_long || self.buffer.line().len() > LONGEST {
+        if is_long || self.buffer.line().len() > LINE_LIMIT {
             Found::Long
         } else {
             Found::Text
@@ -148,21 +152,26 @@ impl Intake {
         }
     }
 
-    // Takes more of the source. `false` says that it met its end, now or before: it is not asked again.
+    // Takes more of the source. `false` says that it met its end, now or before: it is not asked
+    // again.
     fn take_more<S: Source>(&mut self, source: &mut S) -> Result<bool, LineFault>
-        requires room { length self.old.pending ≤ 4096 }
+        requires room { length self.old.pending ≤ LINE_LIMIT }
         requires fault { self.old.fault ≡ None }
         requires at_end { OnTrue self.old.ended (IsAtEnd (S.content source.old)) }
-        ensures { IsTurn S.Source (reader_of source.old self.old) (reader_of source.new self.new) result }
+        ensures { IsTurn S.Source (reader_of source.old self.old)
+            (reader_of source.new self.new) result }
     {
         if self.is_ended {
             return Ok(false);
         }
-        if self.taken >= LIMIT {
+        if self.taken >= INPUT_LIMIT {
             return self.take_past_limit(source);
         }
         self.buffer.make_room();
-        match self.buffer.fill(source, (LIMIT - self.taken) as usize) {
+        match self
+            .buffer
+            .fill(source, (INPUT_LIMIT - self.taken) as usize)
+        {
             Ok(0) => {
                 self.is_ended = true;
                 Ok(false)
@@ -180,10 +189,11 @@ impl Intake {
 
     // Where a reader took all that it may, one byte more is too many.
     fn take_past_limit<S: Source>(&mut self, source: &mut S) -> Result<bool, LineFault>
-        requires limit { self.old.taken ≡ 2 ^ 30 }
+        requires limit { self.old.taken ≡ INPUT_LIMIT }
         requires fault { self.old.fault ≡ None }
         requires before_end { IsFalse self.old.ended }
-        ensures { IsTurn S.Source (reader_of source.old self.old) (reader_of source.new self.new) result }
+        ensures { IsTurn S.Source (reader_of source.old self.old)
+            (reader_of source.new self.new) result }
     {
         let mut byte = [0];
         match source.take(&mut byte) {

@@ -4,13 +4,14 @@ ghost use Rattle.std.specs.Borrow.{sem};
 ghost use Rattle.std.specs.Io.BufRead.{Rests};
 
 use crate::intake::Intake;
+use crate::limits::PENDING_LIMIT;
 use hose_io::Source;
 use std::marker::Model;
 
 /// A line, without its line feed.
 #[derive(Clone, Copy, Debug, PartialEq, Eq)]
 pub enum Line<'a> {
-    /// A line of at most 4096 bytes.
+    /// A line of at most 4,096 bytes.
     Text(&'a [u8]),
     /// A longer line. It was passed over, to its end.
     Long,
@@ -25,10 +26,11 @@ pub enum LineFault {
     TooLong,
 }
 
-/// Reads a source line by line. A line ends at a line feed, and the last one may end with the input.
+/// Reads a source line by line. A line ends at a line feed, and the last one may end with the
+/// input.
 ///
-/// It takes no memory beside its own. It takes bytes only where no whole line is pending, and asks a source that has met
-/// its end no more.
+/// It takes no memory beside its own. It takes bytes only where no whole line is pending, and asks
+/// a source that has met its end no more.
 #[derive(Drop)]
 pub struct LineReader<S: Source> {
     source: S,
@@ -54,7 +56,13 @@ impl<S: Source> LineReader<S> {
 
     /// A reader that has taken nothing.
     pub fn new(source: S) -> LineReader<S>
-        ensures { result ≡ record { source = source; pending = []; taken = 0; fault = None; ended = false } }
+        ensures { result ≡ record {
+          source = source;
+          pending = [];
+          taken = 0;
+          fault = None;
+          ended = false;
+        } }
     {
         LineReader {
             source,
@@ -71,15 +79,16 @@ impl<S: Source> LineReader<S> {
         Ok(self.intake.shown(found))
     }
 
-    /// How many bytes were taken and belong to no line yet that was given. They are never more than the buffer holds.
+    /// How many bytes were taken and belong to no line yet that was given, but for the front of a
+    /// long line, which was dropped.
     pub fn pending(&self) -> usize
         ensures count { result ≡ length self.now.pending }
-        ensures limit { result ≤ 8192 }
+        ensures limit { result ≤ PENDING_LIMIT }
     {
         self.intake.pending()
     }
 
-    /// The source, from behind the bytes that were taken.
+    /// The source. It goes on after the bytes that were taken.
     pub fn into_source(self) -> S
         ensures { result ≡ self.source }
     {

@@ -7,7 +7,7 @@ use Rattle.hose_io.specs.declared.Failed.{Failed}
 use Rattle.hose_io.specs.declared.source.Source.{Ghosts as SourceGhosts}
 use Rattle.hose_io.specs.declared.sink.Sink.{Ghosts as SinkGhosts}
 use Rattle.hose_io.proofs.Frames.{Rose-before}
-use Rattle.hose_words.specs.Lines.{StopsBehindLines}
+use Rattle.hose_words.specs.Lines.{StopsAfterLines}
 use Rattle.hose_words.specs.Reading.{WhereTold}
 use Rattle.hose_words.specs.declared.lines.LineFault.{LineFault}
 use Rattle.hose_words.specs.declared.lines.LineFault.TheVariants as line
@@ -18,7 +18,7 @@ use Rattle.hose_topo.specs.TopologyText.{IsTopologyText}
 use Rattle.hosed.specs.Ending.{IsOut, status_of_done}
 use Rattle.hosed.specs.Run.{HasRun, IsRefusedText, IsServable, TellsNoNetwork}
 use Rattle.hosed.specs.RunOutcome.{EndsRefused, InputStops, IsBroken, RunLeaves, TakesWithinLimit}
-use Rattle.hosed.specs.Serving.{IsAllTaken, IsEndOf}
+use Rattle.hosed.specs.Serving.{IsAllTaken, IsLeftOver}
 use Rattle.hosed.specs.declared.fault.Fault.{Fault}
 use Rattle.hosed.specs.declared.fault.Fault.TheVariants.{Words, Topology, Read, Write, Memory, TooLong}
 
@@ -68,7 +68,7 @@ module _ {I O : Type 0} (source : SourceGhosts I) (sink : SinkGhosts O) (input i
   stops_refused : (fault : LineFault) → IsRefusedText (source.content input) (source.content input') → IsBroken source sink input input' output left fault
       → InputStops source sink input input' output output' fault
   stops_refused fault refused (inl stops) = stops.0
-  stops_refused fault refused (inr run) = absurd (no_run _ _ run.0.network run.0.lines run.0.replies (StopsBehindLines fault) refused run.0.run)
+  stops_refused fault refused (inr run) = absurd (no_run _ _ run.0.network run.0.lines run.0.replies (StopsAfterLines fault) refused run.0.run)
 
   pub refused_ends : {T : Type 0} (done : Result T Fault) → RunLeaves source sink input input' output left done → IsRefusedText (source.content input) (source.content input')
       → EndsRefused source sink input input' output output' (status_of_done done)
@@ -77,7 +77,7 @@ module _ {I O : Type 0} (source : SourceGhosts I) (sink : SinkGhosts O) (input i
   refused_ends (Err (Topology line word)) leaves refused = inl refl
   refused_ends (Err Memory) (inl none, held, same) refused = inr (inl (refl, none))
   refused_ends (Err Memory) (inr text, held, same) refused = absurd (no_network_read _ _ refused text)
-  refused_ends (Err Write) leaves refused = absurd (no_run _ _ leaves.0.network leaves.0.lines (leaves.0.replies ++ leaves.0.reply ∷ []) IsEndOf refused leaves.0.run)
+  refused_ends (Err Write) leaves refused = absurd (no_run _ _ leaves.0.network leaves.0.lines (leaves.0.replies ++ leaves.0.reply ∷ []) IsLeftOver refused leaves.0.run)
   refused_ends (Err Read) leaves refused = inr (inr (inl (refl, stops_refused line.Read refused leaves.0)))
   refused_ends (Err TooLong) leaves refused = inr (inr (inr (refl, stops_refused line.TooLong refused leaves.0)))
 

@@ -2,11 +2,11 @@
 use Rattle.std.proofs.Common.{◌≡◌, ◌≢◌, ◌∙◌, ℕ, List, [], ◌++◌, Option, Some, None, Result, Ok, Err, inl, inr, refl, ap, subst}
 use Rattle.hose_io.specs.Stream.{Stream, Grows}
 use Rattle.hose_io.specs.declared.source.Source.{Ghosts}
-use Rattle.hose_words.specs.Lines.{Reader, StopsBehindLines}
+use Rattle.hose_words.specs.Lines.{Reader, StopsAfterLines}
 use Rattle.hose_words.specs.Reading.{WhereTold, ReadsOn}
 use Rattle.hose_words.specs.declared.lines.LineFault.{LineFault}
 use Rattle.hose_words.specs.declared.lines.LineFault.TheVariants as line
-use Rattle.hose_words.proofs.OnReading.{IsBehindLines-then, WhereTold-both, WhereTold-map, WhereTold-then}
+use Rattle.hose_words.proofs.OnReading.{IsAfterLines-then, WhereTold-both, WhereTold-map, WhereTold-then}
 use Rattle.hose_graph.specs.Network.{Network, IsNetwork}
 use Rattle.hose_graph.specs.declared.reply.Reply.{Reply}
 use Rattle.hose_law.specs.Script.{ReadLine}
@@ -17,7 +17,7 @@ use Rattle.hose_io.specs.declared.sink.Sink.{Ghosts as SinkGhosts}
 use Rattle.hosed.specs.RunOutcome.{RunLeaves}
 use Rattle.hosed.specs.Fault.{of_topology}
 use Rattle.hosed.specs.Run.{HasRun, IsCutOff, IsRun, IsRunUpTo, TellsNoNetwork}
-use Rattle.hosed.specs.Serving.{CutsLast, IsAllTaken, IsEndOf, SayLines, Serves, ServesUntil, ServesUpTo, texts_of}
+use Rattle.hosed.specs.Serving.{CutsLast, IsAllTaken, IsLeftOver, SayLines, Serves, ServesUntil, ServesUpTo, texts_of}
 use Rattle.hose_topo.specs.Reading.{fault_of, KeepsFault, StopsInTopology}
 use Rattle.hose_topo.specs.TopologyText.{IsTopologyText, IsWrongAt}
 use Rattle.hosed.specs.declared.fault.Fault.{Fault}
@@ -87,13 +87,13 @@ run_of old new network lines replies before after is run out = record {
 
 -- up to a reply that was cut off
 pub cut_of : (old new : Option Stream) (network : Network) (lines : List ReadLine) (replies : List Reply) (before after : Option (List ℕ))
-    → HasRun old new network lines replies IsEndOf → CutsLast network before after replies → IsCutOff old new before after
+    → HasRun old new network lines replies IsLeftOver → CutsLast network before after replies → IsCutOff old new before after
 cut_of old new network lines replies before after run cuts = record {
   network = network;
   lines = lines;
   replies = cuts.0;
   reply = cuts.1;
-  run = subst (λ (r : List Reply). HasRun old new network lines r IsEndOf) cuts.2 run;
+  run = subst (λ (r : List Reply). HasRun old new network lines r IsLeftOver) cuts.2 run;
   out = cuts.3;
 }
 
@@ -136,14 +136,14 @@ module _ {S O : Type 0} (source : Ghosts S) (sink : SinkGhosts O) (start middle 
       → IsRunUpTo fault (source.content start.source) (source.content last.source) (sink.content output) (sink.content output')
   run_until fault served =
       let joins = WhereTold-map (source.content start.source) (source.content middle.source) _
-      (λ input left. (behind rest : List ℕ) → StopsBehindLines fault (middle.pending ++ left) behind rest → StopsBehindLines fault (start.pending ++ input) behind rest)
+      (λ input left. (behind rest : List ℕ) → StopsAfterLines fault (middle.pending ++ left) behind rest → StopsAfterLines fault (start.pending ++ input) behind rest)
       (reads.whole none served.before_end)
-      (λ input left lines behind rest stops. (IsBehindLines-then (start.pending ++ input) (middle.pending ++ left) behind lines stops.0, stops.1)) in
+      (λ input left lines behind rest stops. (IsAfterLines-then (start.pending ++ input) (middle.pending ++ left) behind lines stops.0, stops.1)) in
       record {
         network = network;
         lines = served.serves.lines;
         replies = served.serves.replies;
-        run = has_run source start middle last network (StopsBehindLines fault) _ empty text reads joins served.serves;
+        run = has_run source start middle last network (StopsAfterLines fault) _ empty text reads joins served.serves;
         out = served.serves.out;
       }
 
@@ -161,7 +161,7 @@ module _ {S O : Type 0} (source : Ghosts S) (sink : SinkGhosts O) (start middle 
   leaves_served (Err fault.TooLong) served = (inr (run_until line.TooLong served, served.held), held_over (λ read. absurd (cc (served.kept, read))))
   leaves_served (Err fault.Write) served = (
     cut_of (source.content start.source) (source.content last.source) network served.0.lines served.0.replies (sink.content output) (sink.content output')
-        (has_run source start middle last network IsEndOf _ empty text reads (whatever_before (IsEndOf [])) served.0) served.0.out,
+        (has_run source start middle last network IsLeftOver _ empty text reads (whatever_before (IsLeftOver [])) served.0) served.0.out,
     held_over (λ read. absurd (cc (served.1, read))),
     served.2,
   )

@@ -15,7 +15,7 @@ use Rattle.hosed.specs.declared.fault.Fault.{Fault}
 use Rattle.hosed.specs.declared.fault.Fault.TheVariants as fault
 use Rattle.hose_words.specs.Grammar.{IsFirstNotAllowed}
 use Rattle.hose_words.specs.Words.{words_of}
-use Rattle.hose_words.specs.Lines.{is_line_feed, Shows, Reader, IsNext, GivesLine, IsBehindLines, StopsBehindLines}
+use Rattle.hose_words.specs.Lines.{is_line_feed, Shows, Reader, IsNext, GivesLine, IsAfterLines, StopsAfterLines}
 use Rattle.hose_words.specs.declared.lines.LineFault.{LineFault}
 use Rattle.hose_words.specs.declared.lines.Line.{Line}
 use Rattle.hose_words.specs.declared.lines.Line.TheVariants as line
@@ -36,7 +36,7 @@ use Rattle.hose_proto.specs.ReplyText.{line_of, reply_text}
 use Rattle.hose_io.specs.Frame.{Rose}
 use Rattle.hosed.specs.Fault.{of_line}
 use Rattle.hosed.specs.Ledger.{Ledger, book_with}
-use Rattle.hosed.specs.Serving.{Says, SaysRead, SayLines, no_line, one_more, AnswersLine, AreAnswered, CutsLast, HasServed, IsAllTaken, IsEndOf, IsOver, MeetsFault, Serves, ServesLine, ServesUntil, ServesUpTo, TakesTurn, texts_of}
+use Rattle.hosed.specs.Serving.{Says, SaysRead, SayLines, no_line, one_more, AnswersLine, AreAnswered, CutsLast, HasServed, IsAllTaken, IsLeftOver, IsOver, StopsReading, Serves, ServesLine, ServesUntil, ServesUpTo, TakesTurn, texts_of}
 
 -- what a reader shows of a line says what the line says
 pub says_shown : (network : Network) (shown : Line) (bytes : List ℕ) (said : ReadLine) → Shows shown bytes → SaysRead network shown said → Says network bytes said
@@ -83,7 +83,7 @@ pub rose_now : {S : Type 0} (source : Ghosts S) (old new : Reader S) → old.fau
 rose_now source old new none (inl read) = absurd (cc (none, read))
 rose_now source old new none (inr rose) = rose
 
-met_fault : {S : Type 0} (source : Ghosts S) (old new : Reader S) (met : LineFault) → old.fault ≡ None → IsNext source old new (Err met) → MeetsFault source old new met
+met_fault : {S : Type 0} (source : Ghosts S) (old new : Reader S) (met : LineFault) → old.fault ≡ None → IsNext source old new (Err met) → StopsReading source old new met
 met_fault source old new met none next = record { stops = next.answer none; before_end = next.before_end none refl; kept = next.fault }
 
 -- the same line in other words
@@ -209,7 +209,7 @@ module _ {S : Type 0} (source : Ghosts S) (start now new : Reader S) (network : 
 
   -- a turn more is taken, and its reply is cut off
   pub served_cut : HasServed source start now network book first middle → ReadsOn source start now
-      → TakesTurn source now new (record { network = network; book = book }) next (GrowsInPart middle last) → ServesUpTo source start new network IsEndOf (CutsLast network first last)
+      → TakesTurn source now new (record { network = network; book = book }) next (GrowsInPart middle last) → ServesUpTo source start new network IsLeftOver (CutsLast network first last)
   served_cut served reads turn = record {
     lines = served.lines ++ turn.said ∷ [];
     replies = served.replies ++ turn.reply ∷ [];
@@ -253,9 +253,9 @@ module _ {S : Type 0} (source : Ghosts S) (start now new : Reader S) (network : 
       (WhereTold-map (source.content now.source) (source.content new.source) _ _ over.ended (λ was left ended text _. (ended.0, behind_nothing new.pending left ended.1)))
 
   -- reading met a fault: the lines before all ended with line feeds, as a source is asked no more after one that did not
-  served_broke : (fault : LineFault) → HasServed source start now network book first middle → ReadsOn source start now → now.fault ≡ None → MeetsFault source now new fault → last ≡ middle
-      → ServesUpTo source start new network (StopsBehindLines fault) (λ replies. Grows first last (texts_of network replies))
-  served_broke fault served reads none met = served_up_to IsBehindLines (StopsBehindLines fault) served reads (reads.whole none met.before_end)
+  served_broke : (fault : LineFault) → HasServed source start now network book first middle → ReadsOn source start now → now.fault ≡ None → StopsReading source now new fault → last ≡ middle
+      → ServesUpTo source start new network (StopsAfterLines fault) (λ replies. Grows first last (texts_of network replies))
+  served_broke fault served reads none met = served_up_to IsAfterLines (StopsAfterLines fault) served reads (reads.whole none met.before_end)
       (WhereTold-map (source.content now.source) (source.content new.source) _ _ met.stops (λ was left stops text lines. (lines, stops)))
 
 -- ---- what answering lines comes to
@@ -267,7 +267,7 @@ module _ {S O : Type 0} (source : Ghosts S) (sink : SinkGhosts O) (start now new
   source_held = reads.unfailed (λ read. absurd (cc (none, read)))
 
   -- the output is as it was
-  until : (fault : LineFault) → MeetsFault source now new fault → last ≡ middle → ServesUntil source sink start new first last network fault
+  until : (fault : LineFault) → StopsReading source now new fault → last ≡ middle → ServesUntil source sink start new first last network fault
   until fault met same = record {
     serves = served_broke source start now new network book next (sink.content first) (sink.content middle) (sink.content last) fault served reads none met (ap sink.content same);
     before_end = reads.ended met.before_end;

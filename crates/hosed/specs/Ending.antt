@@ -14,8 +14,10 @@ status_of_done (Err fault) = status_of fault
 
 -- A text is all that was put out, and whole; or the sink failed, and a part of it is out.
 abbrev pub IsOut : {O : Type 0} → Ghosts O → O → O → List ℕ → Type 0
-IsOut sink was now text = (Grows (sink.content was) (sink.content now) text × (sink.frame now ≡ sink.frame was))
-    ⊎ (Rose (sink.frame was) (sink.frame now) × GrowsInPart (sink.content was) (sink.content now) text)
+IsOut sink was now text =
+    (Grows (sink.content was) (sink.content now) text × (sink.frame now ≡ sink.frame was))
+    ⊎ (Rose (sink.frame was) (sink.frame now)
+    × GrowsInPart (sink.content was) (sink.content now) text)
 
 -- the last line tells the fault of what was done; there is none where all is well
 abbrev pub IsLastLine : {T O : Type 0} → Ghosts O → O → O → Result T Fault → Type 0
@@ -24,4 +26,5 @@ IsLastLine sink was now (Err fault) = IsOut sink was now (last_line fault)
 
 -- A text is out, and of a further one a part that is not all of it.
 abbrev pub GrowsShort : Option (List ℕ) → Option (List ℕ) → List ℕ → List ℕ → Type 0
-GrowsShort before after text more = (count : ℕ) × (count < length more) × Grows before after (text ++ take count more)
+GrowsShort before after text more =
+    (count : ℕ) × (count < length more) × Grows before after (text ++ take count more)

@@ -20,7 +20,8 @@ status_of TooLong = 8
 -- the last line, with its line feed; none where the output failed
 abbrev pub last_line : Fault → List ℕ
 last_line (Words word) = line_of (codes "words " ++ decimal word)
-last_line (Topology line word) = line_of (codes "topology " ++ decimal line ++ codes " " ++ decimal word)
+last_line (Topology line word) =
+    line_of (codes "topology " ++ decimal line ++ codes " " ++ decimal word)
 last_line Read = line_of (codes "read")
 last_line Write = []
 last_line Memory = line_of (codes "no memory")

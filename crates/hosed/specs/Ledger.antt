@@ -26,8 +26,8 @@ pub record AreKeptLoads (network : Network) (book : Book) (loads : List ℕ) : T
   pub each : (l : ℕ) → l < length network.links → slice_index loads l ≡ load_of book l
   pub none_oversold : (l : ℕ) → load_of book l ≤ capacity_of network l
 
--- what is kept of each live VPN: its endpoints are nodes, and its amounts are on links, few and small
--- enough to be summed up
+-- what is kept of each live VPN: its endpoints are nodes, and its amounts are on links, few and
+-- small enough to be summed up
 pub record IsKept (network : Network) (vpn : Vpn) : Type 0 where
   pub nodes : AreNodes network vpn.hose
   pub links : AreOnLinks network vpn.amounts

@@ -1,4 +1,4 @@
--- What the lines behind a topology say, and what is answered to them.
+-- What the lines after a topology say, and what is answered to them.
 use Rattle.std.specs.Prelude.{◌≡◌, ◌≢◌, ℕ, ◌+◌, ◌<◌, ◌≤◌, Bool, true, false, IsFalse, List, [], ◌∷◌, ◌++◌, length, Option, None, Some, Result, Ok, Err, ⊤}
 use Rattle.std.specs.List.{before_first, after_first, flat_map}
 use Rattle.hose_io.specs.Frame.{Rose}
@@ -8,7 +8,8 @@ use Rattle.hose_io.specs.declared.sink.Sink.{Ghosts as SinkGhosts}
 use Rattle.hose_io.specs.declared.source.Source.{Ghosts}
 use Rattle.hose_words.specs.Grammar.{IsFirstNotAllowed}
 use Rattle.hose_words.specs.Words.{words_of}
-use Rattle.hose_words.specs.Lines.{Reader, StopsAt, StopsBehindLines, is_line_feed}
+use Rattle.hose_words.specs.Lines.{Reader, StopsAt, StopsAfterLines, is_line_feed}
+use Rattle.hose_words.specs.declared.limits.TheConstants.{LINE_LIMIT}
 use Rattle.hose_words.specs.declared.lines.LineFault.{LineFault}
 use Rattle.hose_words.specs.declared.lines.LineFault.TheVariants as line_fault
 use Rattle.hose_words.specs.declared.lines.Line.{Line}
@@ -29,17 +30,22 @@ use Rattle.hose_words.specs.Reading.{WhereTold}
 use Rattle.hosed.specs.declared.fault.Fault.{Fault}
 use Rattle.hosed.specs.declared.fault.Fault.TheVariants as fault
 
--- What a line of bytes says: a customer's command, a first word that is not allowed, or too much; or it is left unread for want of memory, which its command may take.
+-- What a line of bytes says: a customer's command, a first word that is not allowed, or too much;
+-- or it is left unread for want of memory, which its command may take.
 abbrev pub Says : Network → List ℕ → ReadLine → Type 0
-Says network bytes (Asks customer command) = (length bytes ≤ 4096) × IsAsking network bytes customer command
-Says network bytes (IsBad word) = (length bytes ≤ 4096) × IsFirstNotAllowed (script_grammar network) [] (words_of bytes) word
-Says network bytes IsLong = 4096 < length bytes
-Says network bytes Unread = (length bytes ≤ 4096) × WantsMemory (words_of bytes)
+Says network bytes (Asks customer command) =
+    (length bytes ≤ LINE_LIMIT) × IsAsking network bytes customer command
+Says network bytes (IsBad word) = (length bytes ≤ LINE_LIMIT)
+    × IsFirstNotAllowed (script_grammar network) [] (words_of bytes) word
+Says network bytes IsLong = LINE_LIMIT < length bytes
+Says network bytes Unread = (length bytes ≤ LINE_LIMIT) × WantsMemory (words_of bytes)
 
 -- the same of a line as a reader of lines gives it
 abbrev pub SaysRead : Network → Line → ReadLine → Type 0
-SaysRead network (line.Text bytes) (Asks customer command) = IsAsking network bytes.now customer command
-SaysRead network (line.Text bytes) (IsBad word) = IsFirstNotAllowed (script_grammar network) [] (words_of bytes.now) word
+SaysRead network (line.Text bytes) (Asks customer command) =
+    IsAsking network bytes.now customer command
+SaysRead network (line.Text bytes) (IsBad word) =
+    IsFirstNotAllowed (script_grammar network) [] (words_of bytes.now) word
 SaysRead network (line.Text bytes) Unread = WantsMemory (words_of bytes.now)
 SaysRead network line.Long IsLong = ⊤
 SaysRead network _ _ = ⊥
@@ -52,10 +58,13 @@ IsRead _ = ⊤
 -- the lines at the front of a text say this, one after the other, and the rest of the text is left
 pub data SayLines (network : Network) : List ℕ → List ReadLine → List ℕ → Type 0 where
   no_line : {text : List ℕ} → SayLines network text [] text
-  one_more : {text rest : List ℕ} {lines : List ReadLine} (line : ReadLine) → SayLines network text lines rest → rest ≢ []
-      → Says network (before_first is_line_feed rest) line → SayLines network text (lines ++ line ∷ []) (after_first is_line_feed rest)
+  one_more : {text rest : List ℕ} {lines : List ReadLine} (line : ReadLine)
+      → SayLines network text lines rest → rest ≢ []
+      → Says network (before_first is_line_feed rest) line
+      → SayLines network text (lines ++ line ∷ []) (after_first is_line_feed rest)
 
--- The book answered a line: a command with its answer, and any other line with the reply that stands for it, which changes nothing.
+-- The ledger answered a line: a command with its answer, and any other line with the reply that
+-- stands for it, which changes nothing.
 abbrev pub AnswersLine : Ledger → ReadLine → Reply → Book → Type 0
 AnswersLine old (Asks customer command) reply new = Answers old customer command reply new
 AnswersLine old (IsBad word) reply new = (reply ≡ Bad word) × (new ≡ old.book)
@@ -66,94 +75,127 @@ AnswersLine old Unread reply new = (reply ≡ Memory) × (new ≡ old.book)
 abbrev pub texts_of : Network → List Reply → List ℕ
 texts_of network replies = flat_map (λ reply. line_of (reply_text network reply)) replies
 
--- Lines that were answered from the empty history on: the replies are those of a script, whose history is decided and led to this book.
-pub record AreAnswered (network : Network) (lines : List ReadLine) (replies : List Reply) (book : Book) : Type 0 where
+-- Lines that were answered from the empty history on: the replies are those of a script, whose
+-- history is decided and led to this book.
+pub record AreAnswered (network : Network) (lines : List ReadLine) (replies : List Reply)
+    (book : Book) : Type 0 where
   pub history : List Entry
   pub script : IsScript network 0 [] lines replies history
   pub decided : IsDecided network 0 0 history
   pub is_book : book ≡ book_of 0 history
 
--- A turn: the first line that was to come was read and answered. `puts` says how much is out of the line of its reply.
-pub record TakesTurn {S : Type 0} (source : Ghosts S) (old new : Reader S) (ledger : Ledger) (book : Book) (puts : List ℕ → Type 0) : Type 0 where
+-- A turn: the first line that was to come was read and answered. `puts` says how much is out of the
+-- line of its reply.
+pub record TakesTurn {S : Type 0} (source : Ghosts S) (old new : Reader S) (ledger : Ledger)
+    (book : Book) (puts : List ℕ → Type 0) : Type 0 where
   pub said : ReadLine
   pub reply : Reply
   pub line : WhereTold (source.content old.source) (source.content new.source) (λ was now.
-      (old.pending ++ was ≢ []) × Says ledger.network (before_first is_line_feed (old.pending ++ was)) said
+      (old.pending ++ was ≢ [])
+      × Says ledger.network (before_first is_line_feed (old.pending ++ was)) said
       × (new.pending ++ now ≡ after_first is_line_feed (old.pending ++ was)))
   pub answers : AnswersLine ledger said reply book
   pub out : puts (line_of (reply_text ledger.network reply))
   pub progress : length new.pending + old.taken < length old.pending + new.taken
 
 -- No line was to come, so nothing was done.
-pub record IsOver {S : Type 0} (source : Ghosts S) (old new : Reader S) (ledger : Ledger) (book : Book) : Type 0 where
-  pub ended : WhereTold (source.content old.source) (source.content new.source) (λ was now. (old.pending ++ was ≡ []) × (new.pending ++ now ≡ []))
+pub record IsOver {S : Type 0} (source : Ghosts S) (old new : Reader S) (ledger : Ledger)
+    (book : Book) : Type 0 where
+  pub ended : WhereTold (source.content old.source) (source.content new.source) (λ was now.
+      (old.pending ++ was ≡ []) × (new.pending ++ now ≡ []))
   pub same_book : book ≡ ledger.book
 
 -- Reading met a fault before the next line ended and before the source did.
-pub record MeetsFault {S : Type 0} (source : Ghosts S) (old new : Reader S) (fault : LineFault) : Type 0 where
-  pub stops : WhereTold (source.content old.source) (source.content new.source) (λ was left. StopsAt fault (old.pending ++ was) left)
+pub record StopsReading {S : Type 0} (source : Ghosts S) (old new : Reader S)
+    (fault : LineFault) : Type 0 where
+  pub stops : WhereTold (source.content old.source) (source.content new.source) (λ was left.
+      StopsAt fault (old.pending ++ was) left)
   pub before_end : IsFalse old.ended
   pub kept : new.fault ≡ Some fault
 
--- What the next line comes to: it has its reply; or there is none; or reading met a fault, and nothing is out; or the output failed in the reply.
-abbrev pub ServesLine : {S O : Type 0} → Ghosts S → SinkGhosts O → Reader S → Reader S → O → O → Ledger → Book → Result Bool Fault → Type 0
+-- What the next line comes to: it has its reply; or there is none; or reading met a fault, and
+-- nothing is out; or the output failed in the reply.
+abbrev pub ServesLine : {S O : Type 0} → Ghosts S → SinkGhosts O → Reader S → Reader S → O → O
+    → Ledger → Book → Result Bool Fault → Type 0
 ServesLine source sink old new output output' ledger book (Ok true) =
-    TakesTurn source old new ledger book (Grows (sink.content output) (sink.content output')) × (new.fault ≡ None) × (sink.frame output' ≡ sink.frame output)
-ServesLine source sink old new output output' ledger book (Ok false) = IsOver source old new ledger book × (new.fault ≡ None) × (output' ≡ output)
+    TakesTurn source old new ledger book (Grows (sink.content output) (sink.content output'))
+    × (new.fault ≡ None) × (sink.frame output' ≡ sink.frame output)
+ServesLine source sink old new output output' ledger book (Ok false) =
+    IsOver source old new ledger book × (new.fault ≡ None) × (output' ≡ output)
 ServesLine source sink old new output output' ledger book (Err fault.Read) =
-    MeetsFault source old new line_fault.Read × Rose (source.frame old.source) (source.frame new.source) × (output' ≡ output)
-ServesLine source sink old new output output' ledger book (Err fault.TooLong) = MeetsFault source old new line_fault.TooLong × (output' ≡ output)
+    StopsReading source old new line_fault.Read
+    × Rose (source.frame old.source) (source.frame new.source) × (output' ≡ output)
+ServesLine source sink old new output output' ledger book (Err fault.TooLong) =
+    StopsReading source old new line_fault.TooLong × (output' ≡ output)
 ServesLine source sink old new output output' ledger book (Err fault.Write) =
-    TakesTurn source old new ledger book (GrowsInPart (sink.content output) (sink.content output')) × (new.fault ≡ None) × Rose (sink.frame output) (sink.frame output')
+    TakesTurn source old new ledger book (GrowsInPart (sink.content output) (sink.content output'))
+    × (new.fault ≡ None) × Rose (sink.frame output) (sink.frame output')
 ServesLine source sink old new output output' ledger book (Err _) = ⊥
 
--- Turns from the empty history on: lines that were to come were read and answered, each by a reply that is out.
-pub record HasServed {S : Type 0} (source : Ghosts S) (start now : Reader S) (network : Network) (book : Book) (before after : Option (List ℕ)) : Type 0 where
+-- Turns from the empty history on: lines that were to come were read and answered, each by a reply
+-- that is out.
+pub record HasServed {S : Type 0} (source : Ghosts S) (start now : Reader S) (network : Network)
+    (book : Book) (before after : Option (List ℕ)) : Type 0 where
   pub lines : List ReadLine
   pub replies : List Reply
-  pub said : WhereTold (source.content start.source) (source.content now.source) (λ was left. SayLines network (start.pending ++ was) lines (now.pending ++ left))
+  pub said : WhereTold (source.content start.source) (source.content now.source) (λ was left.
+      SayLines network (start.pending ++ was) lines (now.pending ++ left))
   pub answered : AreAnswered network lines replies book
   pub out : Grows before after (texts_of network replies)
 
--- nothing stands behind the lines of a text, and nothing is left
+-- nothing comes after the lines of a text, and nothing is left
 abbrev pub IsAllTaken : List ℕ → List ℕ → List ℕ → Type 0
-IsAllTaken text behind left = (behind ≡ []) × (left ≡ [])
+IsAllTaken text rest left = (rest ≡ []) × (left ≡ [])
 
--- what is left is the end of what stands behind the lines of a text
-abbrev pub IsEndOf : List ℕ → List ℕ → List ℕ → Type 0
-IsEndOf text behind left = (seen : List ℕ) × (behind ≡ seen ++ left)
+-- what is left is the end of what comes after the lines of a text
+abbrev pub IsLeftOver : List ℕ → List ℕ → List ℕ → Type 0
+IsLeftOver text rest left = (seen : List ℕ) × (rest ≡ seen ++ left)
 
 -- the replies are out, but for a part of the last
 abbrev pub CutsLast : Network → Option (List ℕ) → Option (List ℕ) → List Reply → Type 0
-CutsLast network before after replies = (whole : List Reply) × (reply : Reply) × (replies ≡ whole ++ reply ∷ [])
+CutsLast network before after replies =
+    (whole : List Reply) × (reply : Reply) × (replies ≡ whole ++ reply ∷ [])
     × GrowsShort before after (texts_of network whole) (line_of (reply_text network reply))
 
--- Lines that were to come were answered from the empty history on. `stops` says how the text that was to come stands to what stands behind them
--- and to what the source has left, and `puts` how much is out of the replies.
-pub record ServesUpTo {S : Type 0} (source : Ghosts S) (start now : Reader S) (network : Network) (stops : List ℕ → List ℕ → List ℕ → Type 0) (puts : List Reply → Type 0) : Type 0 where
+-- Lines that were to come were answered from the empty history on. `stops` says how the text that
+-- was to come stands to what comes after them and to what the source has left, and `puts` how much
+-- is out of the replies.
+pub record ServesUpTo {S : Type 0} (source : Ghosts S) (start now : Reader S) (network : Network)
+    (stops : List ℕ → List ℕ → List ℕ → Type 0) (puts : List Reply → Type 0) : Type 0 where
   pub lines : List ReadLine
   pub replies : List Reply
   pub book : Book
-  pub said : WhereTold (source.content start.source) (source.content now.source)
-      (λ was left. (behind : List ℕ) × SayLines network (start.pending ++ was) lines behind × stops (start.pending ++ was) behind left)
+  pub said : WhereTold (source.content start.source) (source.content now.source) (λ was left.
+      (rest : List ℕ) × SayLines network (start.pending ++ was) lines rest
+      × stops (start.pending ++ was) rest left)
   pub answered : AreAnswered network lines replies book
   pub out : puts replies
 
 -- Lines that were to come were answered, until reading met a fault.
-pub record ServesUntil {S O : Type 0} (source : Ghosts S) (sink : SinkGhosts O) (start last : Reader S) (output output' : O) (network : Network) (fault : LineFault) : Type 0 where
-  pub serves : ServesUpTo source start last network (StopsBehindLines fault) (λ replies. Grows (sink.content output) (sink.content output') (texts_of network replies))
+pub record ServesUntil {S O : Type 0} (source : Ghosts S) (sink : SinkGhosts O)
+    (start last : Reader S) (output output' : O) (network : Network)
+    (fault : LineFault) : Type 0 where
+  pub serves : ServesUpTo source start last network (StopsAfterLines fault)
+      (λ replies. Grows (sink.content output) (sink.content output') (texts_of network replies))
   pub before_end : IsFalse start.ended
   pub kept : last.fault ≡ Some fault
   pub held : sink.frame output' ≡ sink.frame output
 
--- What answering all lines comes to: each has its reply, and no more is to come; or reading met a fault, or the output failed in a reply.
-abbrev pub Serves : {S O T : Type 0} → Ghosts S → SinkGhosts O → Reader S → Reader S → O → O → Network → Result T Fault → Type 0
+-- What answering all lines comes to: each has its reply, and no more is to come; or reading met a
+-- fault, or the output failed in a reply.
+abbrev pub Serves : {S O T : Type 0} → Ghosts S → SinkGhosts O → Reader S → Reader S → O → O
+    → Network → Result T Fault → Type 0
 Serves source sink start last output output' network (Ok _) =
-    ServesUpTo source start last network IsAllTaken (λ replies. Grows (sink.content output) (sink.content output') (texts_of network replies))
+    ServesUpTo source start last network IsAllTaken
+    (λ replies. Grows (sink.content output) (sink.content output') (texts_of network replies))
     × (last.fault ≡ None) × (sink.frame output' ≡ sink.frame output)
-Serves source sink start last output output' network (Err fault.Read) = ServesUntil source sink start last output output' network line_fault.Read
+Serves source sink start last output output' network (Err fault.Read) =
+    ServesUntil source sink start last output output' network line_fault.Read
     × Rose (source.frame start.source) (source.frame last.source)
-Serves source sink start last output output' network (Err fault.TooLong) = ServesUntil source sink start last output output' network line_fault.TooLong
-Serves source sink start last output output' network (Err fault.Write) = ServesUpTo source start last network IsEndOf (CutsLast network (sink.content output) (sink.content output'))
+Serves source sink start last output output' network (Err fault.TooLong) =
+    ServesUntil source sink start last output output' network line_fault.TooLong
+Serves source sink start last output output' network (Err fault.Write) =
+    ServesUpTo source start last network IsLeftOver
+    (CutsLast network (sink.content output) (sink.content output'))
     × (last.fault ≡ None) × Rose (sink.frame output) (sink.frame output')
 Serves source sink start last output output' network (Err _) = ⊥

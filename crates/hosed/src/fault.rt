@@ -14,7 +14,8 @@ use std::alloc::AllocError;
 pub enum Fault {
     /// The program's word of this number, counted from 1, is not one that it takes there.
     Words(u64),
-    /// The topology text was refused: this is the first word that is not allowed, by its line and its number in it.
+    /// The topology text was refused: this is the first word that is not allowed, by its line and
+    /// its number in it.
     Topology { line: u64, word: u64 },
     /// The input failed.
     Read,
@@ -119,29 +120,4 @@ fn put_place<O: Sink>(output: &mut O, line: u64, word: u64) -> Result<(), Failed
     gather.add_number(output, word);
     gather.add(output, b"\n");
     gather.finish(output)
-}
-
-#[cfg(test)]
-mod tests {
-    use super::*;
-    use hose_io::MemSink;
-    use std::test::Fail;
-
-    #[test]
-    fn faults_are_told(rt: HostRuntime) -> Result<(), Fail> {
-        for (fault, status, line) in [
-            (Fault::Words(2), 1, "words 2\n"),
-            (Fault::Topology { line: 3, word: 0 }, 2, "topology 3 0\n"),
-            (Fault::Read, 3, "read\n"),
-            (Fault::from(Failed), 4, ""),
-            (Fault::from(AllocError), 7, "no memory\n"),
-            (Fault::TooLong, 8, "too long\n"),
-        ] {
-            assert_eq!(rt; fault.status(), status, "at {fault:?}");
-            let mut output = MemSink::new(rt.alloc())?;
-            assert_eq!(rt; fault.put(&mut output), Ok(()), "at {fault:?}");
-            assert_eq!(rt; output.bytes(), line.as_bytes());
-        }
-        Ok(())
-    }
 }

@@ -1,7 +1,12 @@
 //! The provisioning server as one call: what it answers on an output to what it reads on an input.
 //!
-//! `hosed(alloc, words, input, output)` does what the program's words say and gives the exit status. With the word `run` it reads a
-//! topology text and then lines `CUSTOMER COMMAND`, and writes one reply line for each.
+//! `hosed(alloc, words, input, output)` does what the program's words say and gives the exit
+//! status. With the word `run` it reads a topology text and then lines `CUSTOMER COMMAND`, and
+//! writes one reply line for each:
+//!
+//! ```
+//! let status = hosed(alloc, &words, &mut StdSource::new(stdin), &mut StdSink::new(stdout));
+//! ```
 #![tactic(auto)]
 
 ghost use Rattle.std.specs.Prelude.{◌≡◌, ◌↔◌, map};
@@ -22,12 +27,13 @@ use fault::Fault;
 use hose_io::{Sink, Source};
 use std::alloc::Global;
 
-/// Does what the words say, and gives the exit status. The words are those behind the program's name.
+/// Does what the words say, and gives the exit status. The words are those after the program's
+/// name.
 ///
-/// The status is 0 where all was read to its end. Else it tells the first fault, and the last line of the output tells it too:
-/// 1 `words K`, the number of the first word that is not allowed; 2 `topology LINE WORD`, the first word of the topology that is not
-/// allowed; 3 `read`; 4 a failed output, which has no last line; 7 `no memory`; 8 `too long`, an input of more
-/// than 1 GiB.
+/// The status is 0 where all was read to its end. Else it tells the first fault, and the last line
+/// of the output tells it too: 1 `words K`, the number of the first word that is not allowed; 2
+/// `topology LINE WORD`, the first word of the topology that is not allowed; 3 `read`; 4 a failed
+/// output, which has no last line; 7 `no memory`; 8 `too long`, an input of more than 1 GiB.
 pub fn hosed<I: Source, O: Sink>(
     alloc: Global,
     words: &[String],
@@ -37,7 +43,8 @@ pub fn hosed<I: Source, O: Sink>(
     // Wrong words take nothing of the input, and the last line tells the first of them.
     ensures words { (result ≡ 1) ↔ (AreRunWords (map string_bytes words.now) → ⊥) }
     ensures wrong_words { result ≡ 1 → (input.new ≡ input.old)
-        × IsOut O.Sink output.old output.new (last_line (Fault.Words (first_wrong (map string_bytes words.now)))) }
+        × IsOut O.Sink output.old output.new
+        (last_line (Fault.Words (first_wrong (map string_bytes words.now)))) }
 
     ensures run { AreRunWords (map string_bytes words.now)
         → RunOutcome I.Source O.Sink input.old input.new output.old output.new result }

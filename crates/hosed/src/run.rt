@@ -9,21 +9,22 @@ ghost use Rattle.hose_proto.specs.ReplyText.{NamesPlaces};
 ghost use Rattle.hosed.specs.RunOutcome.{RunLeaves};
 ghost use Rattle.hosed.specs.Serving.{SaysRead, AnswersLine, Serves, ServesLine};
 
-use crate::ledger::Ledger;
 use crate::fault::Fault;
+use crate::ledger::Ledger;
 use crate::script_line::read_line;
 use hose_graph::Reply;
 use hose_io::{Sink, Source};
 use hose_proto::{ReadFault, put_reply};
 use hose_topo::read;
-use hose_words::{Line, LineReader};
+use hose_words::{INPUT_LIMIT, Line, LineReader};
 use std::alloc::Global;
 
 /// Reads a topology and then lines, and writes a reply for each line.
 pub fn run<I: Source, O: Sink>(alloc: Global, input: &mut I, output: &mut O) -> Result<(), Fault>
     ensures leaves { RunLeaves I.Source O.Sink input.old input.new output.old output.new result }
     ensures takes { (bytes : List ℕ) × Gives (I.content input.old) (I.content input.new) bytes
-        × (length bytes ≤ 2 ^ 30 + 1) × ((result ≡ Err Fault.TooLong) ↔ (2 ^ 30 < length bytes)) }
+        × (length bytes ≤ INPUT_LIMIT + 1)
+        × ((result ≡ Err Fault.TooLong) ↔ (INPUT_LIMIT < length bytes)) }
     ensures input { Stays (I.frame input.old) (I.frame input.new) }
     ensures output { Stays (O.frame output.old) (O.frame output.new) }
 {
@@ -43,73 +44,75 @@ fn run_lines<S: Source, O: Sink>(
     requires pending { lines.old.pending ≡ [] }
     requires taken { lines.old.taken ≡ 0 }
     requires fault { lines.old.fault ≡ None }
-    ensures leaves { RunLeaves S.Source O.Sink lines.old.source lines.new.source output.old output.new result }
-    ensures too_long { (result ≡ Err Fault.TooLong) ↔ (2 ^ 30 < lines.new.taken) }
+    ensures leaves { RunLeaves S.Source O.Sink lines.old.source lines.new.source
+        output.old output.new result }
+    ensures too_long { (result ≡ Err Fault.TooLong) ↔ (INPUT_LIMIT < lines.new.taken) }
     ensures reads_on { ReadsOn S.Source lines.old lines.new }
-    ensures limit { lines.new.taken ≤ 2 ^ 30 + 1 }
+    ensures limit { lines.new.taken ≤ INPUT_LIMIT + 1 }
     ensures output { Stays (O.frame output.old) (O.frame output.new) }
 {
     let topology = read(alloc, lines)?;
-    let mut book = Ledger::new(alloc, topology)?;
-    serve(alloc, &mut book, lines, output)
+    let mut ledger = Ledger::new(alloc, topology)?;
+    serve(alloc, &mut ledger, lines, output)
 }
 
 // Answers all lines that are to come.
 fn serve<S: Source, O: Sink>(
     alloc: Global,
-    book: &mut Ledger,
+    ledger: &mut Ledger,
     lines: &mut LineReader<S>,
     output: &mut O,
 ) -> Result<(), Fault>
-    requires opening { book.old.book ≡ opening_book 0 }
-    requires limit { lines.old.taken ≤ 2 ^ 30 + 1 }
+    requires opening { ledger.old.book ≡ opening_book 0 }
+    requires limit { lines.old.taken ≤ INPUT_LIMIT + 1 }
     requires no_fault { lines.old.fault ≡ None }
-    ensures serves { Serves S.Source O.Sink lines.old lines.new output.old output.new book.old.network result }
-    ensures too_long { (result ≡ Err Fault.TooLong) ↔ (2 ^ 30 < lines.new.taken) }
+    ensures serves { Serves S.Source O.Sink lines.old lines.new output.old output.new
+        ledger.old.network result }
+    ensures too_long { (result ≡ Err Fault.TooLong) ↔ (INPUT_LIMIT < lines.new.taken) }
     ensures reads_on { ReadsOn S.Source lines.old lines.new }
-    ensures limit { lines.new.taken ≤ 2 ^ 30 + 1 }
+    ensures limit { lines.new.taken ≤ INPUT_LIMIT + 1 }
     ensures output { Stays (O.frame output.old) (O.frame output.new) }
 {
-    while serve_line(alloc, book, lines, output)? {}
+    while serve_line(alloc, ledger, lines, output)? {}
     Ok(())
 }
 
 // Answers the next line, and says whether there was one.
 fn serve_line<S: Source, O: Sink>(
     alloc: Global,
-    book: &mut Ledger,
+    ledger: &mut Ledger,
     lines: &mut LineReader<S>,
     output: &mut O,
 ) -> Result<bool, Fault>
     requires no_fault { lines.old.fault ≡ None }
-    ensures network { book.new.network ≡ book.old.network }
+    ensures network { ledger.new.network ≡ ledger.old.network }
     ensures serves { ServesLine S.Source O.Sink lines.old lines.new output.old output.new
-        book.old book.new.book result }
-    ensures too_long { (result ≡ Err Fault.TooLong) ↔ (2 ^ 30 < lines.new.taken) }
+        ledger.old ledger.new.book result }
+    ensures too_long { (result ≡ Err Fault.TooLong) ↔ (INPUT_LIMIT < lines.new.taken) }
     ensures reads_on { ReadsOn S.Source lines.old lines.new }
-    ensures limit { lines.new.taken ≤ 2 ^ 30 + 1 }
+    ensures limit { lines.new.taken ≤ INPUT_LIMIT + 1 }
     ensures output { Stays (O.frame output.old) (O.frame output.new) }
 {
     let Some(line) = lines.next()? else {
         return Ok(false);
     };
-    let reply = answer(alloc, book, line);
-    put_reply(output, book.topology(), &reply)?;
+    let reply = answer(alloc, ledger, line);
+    put_reply(output, ledger.topology(), &reply)?;
     Ok(true)
 }
 
 // The reply to a line.
-fn answer(alloc: Global, book: &mut Ledger, line: Line<'_>) -> Reply
-    ensures network { book.new.network ≡ book.old.network }
-    ensures names { NamesPlaces book.old.network result }
-    ensures answers { (said : ReadLine) × SaysRead book.old.network line.entry said
-        × AnswersLine book.old said result book.new.book }
+fn answer(alloc: Global, ledger: &mut Ledger, line: Line<'_>) -> Reply
+    ensures network { ledger.new.network ≡ ledger.old.network }
+    ensures names { NamesPlaces ledger.old.network result }
+    ensures answers { (said : ReadLine) × SaysRead ledger.old.network line.entry said
+        × AnswersLine ledger.old said result ledger.new.book }
 {
     let Line::Text(text) = line else {
         return Reply::Long;
     };
-    match read_line(alloc, book.topology(), text) {
-        Ok(asked) => book.answer(alloc, asked.0, asked.1),
+    match read_line(alloc, ledger.topology(), text) {
+        Ok(asked) => ledger.answer(alloc, asked.0, asked.1),
         Err(ReadFault::Bad { word }) => Reply::Bad { word },
         Err(ReadFault::Memory) => Reply::Memory,
     }

@@ -3,8 +3,8 @@ ghost use Rattle.std.specs.Prelude.{◌≡◌, ◌↔◌, map, IsNone, IfSome};
 ghost use Rattle.std.specs.String.{string_bytes};
 ghost use Rattle.hosed.specs.ProgramWords.{AreRunWords, first_wrong};
 
-/// The first word that is not allowed, counted from 1, or none where all is well. A word that is missing counts as one
-/// that is not allowed.
+/// The first word that is not allowed, counted from 1, or none where all is well. A word that is
+/// missing counts as one that is not allowed.
 pub fn first_not_allowed(words: &[String]) -> Option<u64>
     ensures none { IsNone result ↔ AreRunWords (map string_bytes words.now) }
     ensures first { IfSome result (λ word. word ≡ first_wrong (map string_bytes words.now)) }
@@ -12,30 +12,5 @@ pub fn first_not_allowed(words: &[String]) -> Option<u64>
     match words {
         [first, ..] if first.as_str() == "run" => (words.len() > 1).then_some(2),
         _ => Some(1),
-    }
-}
-
-#[cfg(test)]
-mod tests {
-    use super::*;
-    use std::test::Fail;
-
-    #[test]
-    fn allows_run_alone(rt: HostRuntime) -> Result<(), Fail> {
-        let table: [(&[&str], Option<u64>); 5] = [
-            (&[], Some(1)),
-            (&["run"], None),
-            (&["fly"], Some(1)),
-            (&["run", "x"], Some(2)),
-            (&["fly", "run"], Some(1)),
-        ];
-        for (texts, want) in table {
-            let mut words = Vec::new(rt.alloc());
-            for text in texts {
-                words.push(String::from_str(rt.alloc(), text)?)?;
-            }
-            assert_eq!(rt; first_not_allowed(&words), want, "at {texts:?}");
-        }
-        Ok(())
     }
 }

@@ -31,11 +31,11 @@ impl LongSource {
 }
 
 impl Source for LongSource {
-    ghost faults = { λ s. s.stored.faults };
+    ghost use Rattle.hose_io.specs.SourceState.{frame_of};
+
+    ghost frame = { λ s. frame_of s.stored };
 
     ghost content = { λ _. None };
-
-    ghost number = { λ _. 0 };
 
     fn take(&mut self, into: &mut [u8]) -> Result<usize, Failed> {
         let mut count = self.stored.take(into)?;
@@ -54,12 +54,18 @@ impl Source for LongSource {
 pub struct NarrowSink {
     stored: MemSink,
     piece: Piece,
+    // How many calls took all that they were given.
+    pieces: u64,
 }
 
 impl NarrowSink {
     /// The sink, which takes so many bytes at most in a call.
     pub fn new(stored: MemSink, piece: Piece) -> NarrowSink {
-        NarrowSink { stored, piece }
+        NarrowSink {
+            stored,
+            piece,
+            pieces: 0,
+        }
     }
 
     /// What was given.
@@ -69,14 +75,20 @@ impl NarrowSink {
 }
 
 impl Sink for NarrowSink {
-    ghost faults = { λ s. s.stored.faults };
+    ghost use Rattle.hose_io.specs.SinkState.{frame_of};
+
+    ghost frame = { λ s. frame_of s.stored };
 
     ghost content = { λ _. None };
 
-    ghost number = { λ _. 0 };
+    ghost pieces = { λ s. s.pieces };
 
     fn put(&mut self, bytes: &[u8]) -> Result<usize, Failed> {
-        let count = (bytes.len() as u64).min(self.piece.bytes) as usize;
-        self.stored.put(&bytes[..count])
+        let most = (bytes.len() as u64).min(self.piece.bytes) as usize;
+        let count = self.stored.put(&bytes[..most])?;
+        if count == bytes.len() {
+            self.pieces = self.pieces.saturating_add(1);
+        }
+        Ok(count)
     }
 }

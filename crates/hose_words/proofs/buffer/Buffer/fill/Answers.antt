@@ -6,8 +6,8 @@ use Rattle.hose_words.proofs.buffer.Buffer.fill.Goals as goal
 pub invariant_of-self : goal.invariant_of-self
 invariant_of-self g c =
     let b = c.self.inside in
-    let count = unwrap_or_zero-le c.take_behind-taken.result c.min-most.result c.take_behind-taken.ensures.most in
-    let kept = position_or_len-le-more is_line_feed b.bytes c.take_behind-taken.new.bytes b.start b.end c.unwrap_or.result c.take_behind-taken.ensures.before (omega arith) (omega arith) in
+    let count = unwrap_or_zero-le c.take_after-taken.result c.min-most.result c.take_after-taken.ensures.most in
+    let kept = position_or_len-le-more is_line_feed b.bytes c.take_after-taken.new.bytes b.start b.end c.unwrap_or.result c.take_after-taken.ensures.before (omega arith) (omega arith) in
     record {
       line = c.self.invariant.line;
       line_inside = c.self.invariant.line_inside;
@@ -20,6 +20,6 @@ invariant_of-self g c =
 pub returns-clause-taken : goal.returns-clause-taken
 returns-clause-taken g c =
     let b = c.self.inside in
-    let count = unwrap_or_zero-le c.take_behind-taken.result c.min-most.result c.take_behind-taken.ensures.most in
+    let count = unwrap_or_zero-le c.take_after-taken.result c.min-most.result c.take_after-taken.ensures.most in
     rw (← c.self.view_is, c.unwrap_or.ensures)
-    (appended c.take_behind-taken.result _ _ b.bytes c.take_behind-taken.new.bytes b.start b.end c.take_behind-taken.ensures.before (omega arith) (omega (arith, count)) c.take_behind-taken.ensures.taken)
+    (appended c.take_after-taken.result _ _ b.bytes c.take_after-taken.new.bytes b.start b.end c.take_after-taken.ensures.before (omega arith) (omega (arith, count)) c.take_after-taken.ensures.taken)
