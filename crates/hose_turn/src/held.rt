@@ -3,7 +3,7 @@ ghost use Rattle.std.specs.Prelude.{◌≡◌, ◌<◌, true, [], ◌∷◌, Non
 
 use crate::rule::Place;
 
-/// A pass that has the turn, with the value.
+/// A pass that has the turn, with the value. It is not `Drop`: a turn ends by `unlock`.
 pub struct Held<S> {
     pub(crate) place: Place<S>,
     pub(crate) value: S,

@@ -44,7 +44,10 @@ impl<S: Stands + Drop> Model for Turn<S> {
 }
 
 impl<S: Stands + Drop> Turn<S> {
-    /// A lock round the value, and its first pass.
+    /// A lock round the value, and its first pass, which has all shares.
+    ///
+    /// The value has to stand for some list, since that list itself. Nothing names that list here:
+    /// the first pass has an origin, and so a list, for which the value stands.
     pub fn new(alloc: Global, value: S) -> Result<(Turn<S>, Pass), AllocError>
         requires { (origin : Origin) × S.stands origin origin.since value }
         ensures first { IfOk result (λ made. made.1 ≡ first_known made.0 made.1.origin) }
@@ -85,7 +88,7 @@ impl<S: Stands + Drop> Turn<S> {
         board.shared.exchange(place, 0, value);
     }
 
-    /// One share of the pass goes to a new pass, which has seen as much.
+    /// One share of the pass goes to a new pass, which has seen as much. Both have one at least.
     pub fn split(&self, pass: &mut Pass) -> Pass
         requires turn { pass.old.turn ≡ self.now }
         requires share { 2 ≤ pass.old.share }
@@ -120,7 +123,7 @@ impl<S: Stands + Drop> Turn<S> {
         pass.badge = place.into_badge();
     }
 
-    /// Waits for the pass's turn, and takes the value.
+    /// Waits until the pass's turn has come, yielding to other threads, and takes the value.
     pub fn lock<W: Wait>(&self, rt: &W, pass: Pass) -> Held<S>
         requires { pass.turn ≡ self.now }
         ensures kept { holder result ≡ record pass { seen = (holder result).seen } }
@@ -140,6 +143,7 @@ impl<S: Stands + Drop> Turn<S> {
         unreachable!()
     }
 
+    /// The same as `count`, where a type names the entry.
     fn count_named<N: Counted>(&self, held: &mut Held<S>, entry: &Entry)
         requires turn { (holder held.old).turn ≡ self.now }
         requires stands { let known = holder held.old in
@@ -156,7 +160,8 @@ impl<S: Stands + Drop> Turn<S> {
             .fetch_add::<Count<N>>(&mut held.place, EPOCH, 1);
     }
 
-    /// The history has the entry, for which the value stands already. The entry is the pass's own.
+    /// Says that the history has one entry more, with which the value stands for it already. The
+    /// entry is the pass's own.
     pub fn count(&self, held: &mut Held<S>, entry: &Entry)
         requires turn { (holder held.old).turn ≡ self.now }
         requires stands { let known = holder held.old in
@@ -186,7 +191,7 @@ impl<S: Stands + Drop> Turn<S> {
         Pass::of(place)
     }
 
-    /// The value, once no other pass is left.
+    /// The value, where no other pass is left.
     pub fn close(self, pass: Pass) -> S
         requires turn { pass.turn ≡ self }
         requires share { pass.share ≡ ALL_SHARES }
