@@ -53,20 +53,3 @@ impl Amounts {
         Amounts::build(alloc, self.pairs())
     }
 }
-
-#[cfg(test)]
-mod tests {
-    use super::*;
-    use std::test::Fail;
-
-    #[test]
-    fn keeps_and_copies_pairs(rt: HostRuntime) -> Result<(), Fail> {
-        let amounts = Amounts::build(rt.alloc(), &[(0, 3), (2, 5)])?;
-        assert_eq!(rt; amounts.pairs(), [(0, 3), (2, 5)].as_slice());
-        assert_eq!(rt;
-            amounts.copy(rt.alloc())?.pairs(),
-            [(0, 3), (2, 5)].as_slice()
-        );
-        Ok(())
-    }
-}

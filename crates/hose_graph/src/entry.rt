@@ -44,31 +44,3 @@ impl Entry {
         }
     }
 }
-
-#[cfg(test)]
-mod tests {
-    use super::*;
-    use std::test::Fail;
-
-    #[test]
-    fn copies_an_admission(rt: HostRuntime) -> Result<(), Fail> {
-        let pairs = [(0, 3), (1, 4), (2, 5)];
-        let entry = Entry::Admit {
-            customer: Name::read(b"acme").ok_or("no name")?,
-            hose: Hose::build(rt.alloc(), &pairs)?,
-            amounts: Amounts::build(rt.alloc(), &pairs)?,
-        };
-        let Entry::Admit {
-            customer,
-            hose,
-            amounts,
-        } = entry.copy(rt.alloc())?
-        else {
-            return Err("no admission".into());
-        };
-        assert_eq!(rt; customer.bytes(), b"acme".as_slice());
-        assert_eq!(rt; hose.ends(), pairs.as_slice());
-        assert_eq!(rt; amounts.pairs(), pairs.as_slice());
-        Ok(())
-    }
-}

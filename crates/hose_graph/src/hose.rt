@@ -160,38 +160,3 @@ fn has_node(ends: &[Endpoint], node: u32) -> bool
 {
     ends.iter().any(|end| end.0 == node)
 }
-
-#[cfg(test)]
-mod tests {
-    use super::*;
-    use std::test::Fail;
-
-    #[test]
-    fn sorts_ends_by_node(rt: HostRuntime) -> Result<(), Fail> {
-        let hose = Hose::build(rt.alloc(), &[(2, 5), (0, 3), (1, 4)])?;
-        let copy = hose.copy(rt.alloc())?;
-        for hose in [&hose, &copy] {
-            assert_eq!(rt; hose.ends(), [(0, 3), (1, 4), (2, 5)].as_slice());
-            assert_eq!(rt; hose.total(), 12);
-        }
-        Ok(())
-    }
-
-    #[test]
-    fn refuses_in_order(rt: HostRuntime) {
-        let many = [(600, 0); 65];
-        let table: [(&[Endpoint], HoseFault); 7] = [
-            (&many, HoseFault::Many),
-            (&[(0, 3)], HoseFault::Few),
-            (&[(0, 0), (1, 1)], HoseFault::Range),
-            (&[(0, 1_000_001), (1, 1)], HoseFault::Range),
-            (&[(512, 1), (512, 1)], HoseFault::Range),
-            (&[(0, 1), (0, 2)], HoseFault::Repeat),
-            (&[(511, 1), (3, 1), (511, 1)], HoseFault::Repeat),
-        ];
-        for (ends, fault) in table {
-            let refusal = Hose::build(rt.alloc(), ends).err();
-            assert_eq!(rt; refusal, Some(fault), "at {ends:?}");
-        }
-    }
-}

@@ -87,37 +87,3 @@ fn is_allowed(byte: u8) -> bool
 {
     byte.is_ascii_lowercase() || byte.is_ascii_digit() || byte == b'-'
 }
-
-#[cfg(test)]
-mod tests {
-    use super::*;
-
-    #[test]
-    fn reads_names_alone(rt: HostRuntime) {
-        let none: &[u8] = b"";
-        let table: [(&[u8], bool); 9] = [
-            (none, false),
-            (b"a", true),
-            (b"-", true),
-            (b"az-09", true),
-            (b"abcdefghijklmnop", true),
-            (b"abcdefghijklmnopq", false),
-            (b"Acme", false),
-            (b"a:3", false),
-            (b"a b", false),
-        ];
-        for (bytes, is_name) in table {
-            let name = Name::read(bytes);
-            assert_eq!(rt; name.is_some(), is_name, "at {bytes:?}");
-            if let Some(name) = name {
-                assert_eq!(rt; name.bytes(), bytes);
-            }
-        }
-    }
-
-    #[test]
-    fn compares_names_by_their_bytes(rt: HostRuntime) {
-        assert!(rt; Name::read(b"acme") == Name::read(b"acme"));
-        assert!(rt; Name::read(b"acme") != Name::read(b"acm"));
-    }
-}

@@ -50,17 +50,3 @@ impl NodeList {
         NodeList::build(alloc, self.nodes())
     }
 }
-
-#[cfg(test)]
-mod tests {
-    use super::*;
-    use std::test::Fail;
-
-    #[test]
-    fn keeps_and_copies_nodes(rt: HostRuntime) -> Result<(), Fail> {
-        let list = NodeList::build(rt.alloc(), &[0, 2])?;
-        assert_eq!(rt; list.nodes(), [0, 2].as_slice());
-        assert_eq!(rt; list.copy(rt.alloc())?.nodes(), [0, 2].as_slice());
-        Ok(())
-    }
-}

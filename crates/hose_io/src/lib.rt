@@ -23,6 +23,3 @@ pub use writing::write_all;
 /// A call of a source or a sink failed. The object's count of faults rose in that call.
 #[derive(Clone, Copy, Debug, PartialEq, Eq)]
 pub struct Failed;
-
-#[cfg(test)]
-mod tests;

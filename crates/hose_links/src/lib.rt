@@ -13,9 +13,6 @@ ghost use Rattle.std.specs.Prelude.{◌≡◌, ℕ, ◌<◌, ◌↔◌, true, fa
 use std::alloc::{AllocError, Global};
 use std::marker::Model;
 
-#[cfg(test)]
-mod tests;
-
 /// A set of links, which are numbered from 0.
 #[derive(Debug, Drop)]
 pub struct LinkSet {

@@ -12,8 +12,6 @@ ghost use Rattle.hose_graph.specs.Row.{HasBoundedDistances};
 ghost use Rattle.hose_law.specs.Row.{IsRow};
 
 mod plain;
-#[cfg(test)]
-mod tests;
 mod tight;
 
 use hose_graph::{Row, Topology};

@@ -13,7 +13,5 @@ mod canonical;
 mod decision;
 mod root;
 mod safe;
-#[cfg(test)]
-mod tests;
 
 pub use decision::{Decision, Grounds, decide};

@@ -340,6 +340,3 @@ fn read_id(words: &mut Cursor<'_>) -> Result<(u64, u64), WrongWord>
     let at = read_at(words)?;
     Ok((id, at))
 }
-
-#[cfg(test)]
-mod tests;

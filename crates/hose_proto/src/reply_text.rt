@@ -240,6 +240,3 @@ fn add_link<S: Sink>(gather: &mut Gather, sink: &mut S, top: &Topology, link: &L
     add_number(gather, sink, b" capacity ", link.capacity);
     add_number(gather, sink, b" cost ", link.cost);
 }
-
-#[cfg(test)]
-pub(crate) mod tests;

@@ -14,8 +14,6 @@ mod kind;
 mod line;
 mod pieces;
 mod reading;
-#[cfg(test)]
-mod tests;
 
 pub use canonical::{digest, put_canonical};
 pub use fault::TopoFault;

@@ -1,5 +1,4 @@
 pub mod Attaching
-pub mod Checking
 pub mod Costs
 pub mod Listing
 pub mod Moving

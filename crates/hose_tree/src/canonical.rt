@@ -8,9 +8,6 @@ ghost use Rattle.hose_law.specs.Row.{IsRow};
 ghost use Rattle.hose_law.specs.Walk.{Joins};
 ghost use Rattle.hose_tree.specs.Attached.{IsTightTree, IsAttached};
 
-#[cfg(test)]
-mod tests;
-
 use crate::Tree;
 use hose_graph::{Hose, Row, Step, Topology};
 use std::alloc::{AllocError, Global};

@@ -20,8 +20,6 @@ mod costing;
 mod fit;
 mod reach;
 mod reserve;
-#[cfg(test)]
-mod tests;
 
 pub use costing::cost;
 pub use fit::{fits, free_rate};

@@ -5,9 +5,6 @@ ghost use Rattle.hose_graph.specs.Network.{Network};
 ghost use Rattle.hose_law.specs.Tree.{IsTree, JoinsHose, IsReservation};
 ghost use Rattle.hose_tree.specs.Rates.{AreRatesOf, reserved_by};
 
-#[cfg(test)]
-mod tests;
-
 use crate::Tree;
 use hose_graph::{Amounts, Endpoint, Hose, MOST_NODES, ReservedLink, Step};
 use std::alloc::{AllocError, Global};

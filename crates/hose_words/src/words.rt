@@ -89,23 +89,3 @@ fn word_len(bytes: &[u8]) -> usize
 {
     bytes.iter().take_while(|byte| **byte != SPACE).count()
 }
-
-#[cfg(test)]
-mod tests {
-    use super::*;
-
-    #[test]
-    fn splits_at_spaces(rt: HostRuntime) {
-        let cases: [(&[u8], &[&[u8]]); 6] = [
-            (b"", &[]),
-            (b"   ", &[]),
-            (b"link", &[b"link"]),
-            (b"link a b", &[b"link", b"a", b"b"]),
-            (b"  link  a ", &[b"link", b"a"]),
-            (b"link\ta\r", &[b"link\ta\r"]),
-        ];
-        for (line, want) in cases {
-            assert!(rt; split(line).eq(want.iter().copied()));
-        }
-    }
-}

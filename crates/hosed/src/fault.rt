@@ -121,28 +121,3 @@ fn put_place<O: Sink>(output: &mut O, line: u64, word: u64) -> Result<(), Failed
     gather.add(output, b"\n");
     gather.finish(output)
 }
-
-#[cfg(test)]
-mod tests {
-    use super::*;
-    use hose_io::MemSink;
-    use std::test::Fail;
-
-    #[test]
-    fn faults_are_told(rt: HostRuntime) -> Result<(), Fail> {
-        for (fault, status, line) in [
-            (Fault::Words(2), 1, "words 2\n"),
-            (Fault::Topology { line: 3, word: 0 }, 2, "topology 3 0\n"),
-            (Fault::Read, 3, "read\n"),
-            (Fault::from(Failed), 4, ""),
-            (Fault::from(AllocError), 7, "no memory\n"),
-            (Fault::TooLong, 8, "too long\n"),
-        ] {
-            assert_eq!(rt; fault.status(), status, "at {fault:?}");
-            let mut output = MemSink::new(rt.alloc())?;
-            assert_eq!(rt; fault.put(&mut output), Ok(()), "at {fault:?}");
-            assert_eq!(rt; output.bytes(), line.as_bytes());
-        }
-        Ok(())
-    }
-}

@@ -14,28 +14,3 @@ pub fn first_not_allowed(words: &[String]) -> Option<u64>
         _ => Some(1),
     }
 }
-
-#[cfg(test)]
-mod tests {
-    use super::*;
-    use std::test::Fail;
-
-    #[test]
-    fn allows_run_alone(rt: HostRuntime) -> Result<(), Fail> {
-        let table: [(&[&str], Option<u64>); 5] = [
-            (&[], Some(1)),
-            (&["run"], None),
-            (&["fly"], Some(1)),
-            (&["run", "x"], Some(2)),
-            (&["fly", "run"], Some(1)),
-        ];
-        for (texts, want) in table {
-            let mut words = Vec::new(rt.alloc());
-            for text in texts {
-                words.push(String::from_str(rt.alloc(), text)?)?;
-            }
-            assert_eq!(rt; first_not_allowed(&words), want, "at {texts:?}");
-        }
-        Ok(())
-    }
-}
