@@ -4,6 +4,7 @@ use Rattle.std.specs.List.{flat_map}
 use Rattle.std.proofs.lemmas.Fmt.{length-decimal-le}
 use Rattle.std.proofs.lemmas.List.{length-append, get_or_append_left, get_or_at}
 use Rattle.hose_words.proofs.Spaced.{AreWords, IsWord, IsWord-allowed, IsWord-decimal, IsWord-known, line_no_feed, spaced}
+use Rattle.hose_words.specs.declared.limits.TheConstants.{LINE_LIMIT}
 use Rattle.hose_graph.specs.Name.{IsName, is_name_byte}
 use Rattle.hose_graph.specs.Network.{Network, IsNetwork, IsLink, name_of}
 use Rattle.hose_graph.specs.declared.link.Link.{Link}
@@ -16,7 +17,7 @@ abbrev AddsAll : Network → List ℕ → Network → List ℕ → Type 0
 AddsAll first text last rest = (count : ℕ) × AddLines first text count last rest
 
 -- a line before others
-line_then : (network next last : Network) (line rest left_over : List ℕ) (words : List (List ℕ)) → 32 ∷ line ≡ spaced words → AreWords words → length line ≤ 4096 → AddsLine network words next
+line_then : (network next last : Network) (line rest left_over : List ℕ) (words : List (List ℕ)) → 32 ∷ line ≡ spaced words → AreWords words → length line ≤ LINE_LIMIT → AddsLine network words next
     → AddsAll next rest last left_over → AddsAll network (line ++ 10 ∷ rest) last left_over
 line_then network next last line rest left_over words is are short adds more = (
   more.0 + 1,
@@ -100,7 +101,7 @@ are_words network link is can = (
   ),
 )
 
-link_short : (network : Network) (link : Link) → IsNetwork network → IsLink network link → length (link_body network link) ≤ 4096
+link_short : (network : Network) (link : Link) → IsNetwork network → IsLink network link → length (link_body network link) ≤ LINE_LIMIT
 link_short network link is can =
     let a = is.names link.a [] can.in_range.a in
     let b = is.names link.b [] can.in_range.b in

@@ -6,6 +6,7 @@ use Rattle.std.proofs.lemmas.List.{length-append, get_or_append_left, get_or_at}
 use Rattle.std.proofs.lemmas.List.Sums.{position_or_len_is}
 use Rattle.hose_words.specs.Words.{words_of}
 use Rattle.hose_words.specs.Lines.{is_line_feed}
+use Rattle.hose_words.specs.declared.limits.TheConstants.{LINE_LIMIT}
 use Rattle.hose_words.proofs.Spaced.{AreWords, IsWithout, line_no_feed, spaced, words_of-line}
 use Rattle.hose_topo.specs.TopologyText.{HasLine}
 
@@ -26,7 +27,7 @@ module _ (line rest : List ℕ) (plain : IsWithout 10 line) where
       ap (λ k. drop (k + 1) (line ++ 10 ∷ rest)) feed_at ∙ drop-append-add line (10 ∷ rest) 1
 
   -- a line that is short enough is the first of the text
-  has_line : (words : List (List ℕ)) → words ≡ words_of line → length line ≤ 4096 → HasLine (line ++ 10 ∷ rest) words
+  has_line : (words : List (List ℕ)) → words ≡ words_of line → length line ≤ LINE_LIMIT → HasLine (line ++ 10 ∷ rest) words
   has_line words split short = record {
     some = λ none. omega (arith, length-append line (10 ∷ rest), ap length none);
     short = rw before_feed short;
@@ -34,6 +35,6 @@ module _ (line rest : List ℕ) (plain : IsWithout 10 line) where
   }
 
 -- a line of words, with a space between each two, is the first of the text
-pub spelled_line : (line rest : List ℕ) (words : List (List ℕ)) → 32 ∷ line ≡ spaced words → AreWords words → length line ≤ 4096 → HasLine (line ++ 10 ∷ rest) words
+pub spelled_line : (line rest : List ℕ) (words : List (List ℕ)) → 32 ∷ line ≡ spaced words → AreWords words → length line ≤ LINE_LIMIT → HasLine (line ++ 10 ∷ rest) words
 spelled_line line rest words is are short =
     has_line line rest (line_no_feed line words is are) words (sym (words_of-line line words is are)) short

@@ -1,5 +1,5 @@
 -- How far the reading of a topology has come, and what the next line makes of that.
-use Rattle.std.proofs.Common.{◌≡◌, ◌∙◌, ℕ, ◌+◌, ◌^◌, ◌≤◌, List, ◌++◌, Bor, Option, None, Some, Result, Ok, Err, inl, inr, refl, sym, ap, subst, arith, length}
+use Rattle.std.proofs.Common.{◌≡◌, ◌∙◌, ℕ, ◌+◌, ◌≤◌, List, ◌++◌, Bor, Option, None, Some, Result, Ok, Err, inl, inr, refl, sym, ap, subst, arith, length}
 use Rattle.std.specs.List.{after_first}
 use Rattle.hose_io.specs.declared.source.Source.{Ghosts}
 use Rattle.hose_words.specs.Words.{words_of}
@@ -8,6 +8,7 @@ use Rattle.hose_words.specs.Reading.{ReadsOn, WhereTold}
 use Rattle.hose_words.specs.declared.lines.Line.{Line}
 use Rattle.hose_words.specs.declared.lines.Line.TheVariants.{Text, Long}
 use Rattle.hose_words.specs.declared.lines.LineFault.{LineFault}
+use Rattle.hose_words.specs.declared.limits.TheConstants.{INPUT_LIMIT}
 use Rattle.hose_words.proofs.OnReading.{ReadsOn-next, ReadsOn-start, ReadsOn-then, WhereTold-both, WhereTold-map, WhereTold-same, WhereTold-then}
 use Rattle.hose_graph.specs.Network.{Network, IsNetwork}
 use Rattle.hose_words.specs.declared.lines.LineFault.TheVariants.{Read, TooLong}
@@ -56,7 +57,7 @@ module _ {S : Type 0} (source : Ghosts S) where
     pub fault : now.fault ≡ old.fault
     pub lines : WhereTold (source.content old.source) (source.content now.source) (λ before after. AddLines no_network (old.pending ++ before) count network (now.pending ++ after))
     pub bytes : count + length now.pending + old.taken ≤ length old.pending + now.taken
-    pub few : count ≤ length old.pending + 2 ^ 30 + 1
+    pub few : count ≤ length old.pending + INPUT_LIMIT + 1
 
   pub HasRead-start : (old : Reader S) → HasRead old old 0 no_network
   HasRead-start old = record {

@@ -6,6 +6,7 @@ use Rattle.hose_words.specs.Words.{words_of}
 use Rattle.hose_words.specs.Lines.{is_line_feed}
 use Rattle.hose_words.specs.Form.{Form, finish, place, branch, maybe, TellsNumber, grammar_of}
 use Rattle.hose_words.specs.Grammar.{Grammar, IsFirstNotAllowed}
+use Rattle.hose_words.specs.declared.limits.TheConstants.{LINE_LIMIT}
 use Rattle.hose_graph.specs.Name.{IsName}
 use Rattle.hose_graph.specs.Limit.{IsUpTo}
 use Rattle.hose_graph.specs.Network.{Network, IsLink, IsNodeOf, HasNodeRoom, HasLinkRoom, name_of}
@@ -71,7 +72,7 @@ TellsLine network kind.End words next = EndsText network words × (next ≡ netw
 -- the words of the first line of a text, if it has a line and that is not too long
 pub record HasLine (text : List ℕ) (words : List (List ℕ)) : Type 0 where
   pub some : text ≢ []
-  pub short : length (before_first is_line_feed text) ≤ 4096
+  pub short : length (before_first is_line_feed text) ≤ LINE_LIMIT
   pub is_split : words ≡ words_of (before_first is_line_feed text)
 
 -- This many lines at the front of a text add to a network, one after the other, and the rest of the
@@ -158,7 +159,7 @@ line_grammar network = grammar_of (line_form network)
 abbrev pub IsWrongLine : Network → List ℕ → ℕ → Type 0
 IsWrongLine network text word =
     ((text ≡ []) × (word ≡ 1))
-    ⊎ (((4096 < length (before_first is_line_feed text)) × (word ≡ 0))
+    ⊎ (((LINE_LIMIT < length (before_first is_line_feed text)) × (word ≡ 0))
     ⊎ ((words : List (List ℕ)) × HasLine text words × (IsPassedOver words → ⊥)
     × IsFirstNotAllowed (line_grammar network) [] words word))
 

@@ -1,5 +1,5 @@
 // A topology's text, line by line.
-ghost use Rattle.std.specs.Prelude.{◌≡◌, ◌⊎◌, ◌↔◌, ℕ, ◌+◌, ◌^◌, ◌<◌, ◌≤◌, List, ◌++◌, length, Some, None, Ok, Err, IfOk};
+ghost use Rattle.std.specs.Prelude.{◌≡◌, ◌⊎◌, ◌↔◌, ℕ, ◌+◌, ◌<◌, ◌≤◌, List, ◌++◌, length, Some, None, Ok, Err, IfOk};
 ghost use Rattle.hose_io.specs.Frame.{Rose};
 ghost use Rattle.hose_words.specs.Reading.{ReadsOn, WhereTold};
 ghost use Rattle.hose_words.specs.declared.lines.LineFault.{LineFault};
@@ -12,7 +12,7 @@ use crate::fault::TopoFault;
 use crate::line::{Taken, take_line};
 use hose_graph::Topology;
 use hose_io::Source;
-use hose_words::{Line, LineFault, LineReader};
+use hose_words::{INPUT_LIMIT, Line, LineFault, LineReader};
 use std::alloc::Global;
 
 /// Reads a topology up to and with the line `end`, and no line after it. A text that is refused is
@@ -41,8 +41,8 @@ pub fn read<S: Source>(alloc: Global, lines: &mut LineReader<S>) -> Result<Topol
 
     ensures read { result ≡ Err TopoFault.Read → (lines.old.fault ≡ Some LineFault.Read)
         ⊎ Rose (S.frame lines.old.source) (S.frame lines.new.source) }
-    ensures too_long { lines.old.taken ≤ 2 ^ 30
-        → ((result ≡ Err TopoFault.TooLong) ↔ (2 ^ 30 < lines.new.taken)) }
+    ensures too_long { lines.old.taken ≤ INPUT_LIMIT
+        → ((result ≡ Err TopoFault.TooLong) ↔ (INPUT_LIMIT < lines.new.taken)) }
     // Whole lines that add to a network were taken, and then bytes that end no line.
     ensures front { lines.old.fault ≡ None → (fault : LineFault) → result ≡ Err (fault_of fault)
         → WhereTold (S.content lines.old.source) (S.content lines.new.source) (λ before after.
@@ -51,7 +51,7 @@ pub fn read<S: Source>(alloc: Global, lines: &mut LineReader<S>) -> Result<Topol
 
     ensures fault { KeepsFault lines.old.fault lines.new.fault result }
     ensures reads_on { ReadsOn S.Source lines.old lines.new }
-    ensures limit { lines.old.taken ≤ 2 ^ 30 + 1 → lines.new.taken ≤ 2 ^ 30 + 1 }
+    ensures limit { lines.old.taken ≤ INPUT_LIMIT + 1 → lines.new.taken ≤ INPUT_LIMIT + 1 }
 {
     let mut top = Topology::new(alloc)?;
     // The lines are counted in 64 bits, as each takes a byte at least of those pending and those to

@@ -30,8 +30,8 @@ pub trait Keyword: Copy {
 /// The words of a line that are still to come, and how many came.
 ///
 /// Each call that wants a word of some kind tells the number of the word where it is missing or not
-/// of that kind, so that `?` hands on the first word of a line that is not allowed. The cursor is
-/// then after that word.
+/// of that kind, so that `?` hands on the first word of a line that is not allowed. Nothing is said
+/// of where the cursor stands after that.
 ///
 /// ```
 /// let mut words = Cursor::new(line);

@@ -5,8 +5,9 @@
 //!
 //! ```
 //! let mut lines = LineReader::new(source);
-//! while let Some(Line::Text(line)) = lines.next()? {
-//!     let mut words = Cursor::new(line);
+//! while let Some(line) = lines.next()? {
+//!     let Line::Text(text) = line else { continue };
+//!     let mut words = Cursor::new(text);
 //!     words.expect(b"show")?;
 //!     let id = words.number()?;
 //!     words.finish()?;
