@@ -1,11 +1,10 @@
 -- No field begins another: where two of a kind begin the same bytes, they are one.
 use Rattle.std.proofs.Common.{◌≡◌, ◌∙◌, ℕ, ◌+◌, ◌<◌, ◌≤◌, ◌^◌, List, [], ◌∷◌, ◌++◌, length, sym, append_assoc, arith}
 use Rattle.byteorder.specs.Endian.{big_bytes}
+use Rattle.hose_graph.specs.declared.limits.TheConstants.{MOST_AMOUNT, MOST_LINKS, MOST_NODES, MOST_RATE}
 use Rattle.hose_graph.specs.Hose.{IsHose, IsEnd}
 use Rattle.hose_graph.specs.declared.entry.Entry.{Entry}
 use Rattle.hose_graph.specs.declared.entry.Entry.TheVariants.{Admit, Release}
-use Rattle.hose_graph.specs.declared.limits.TheConstants.{MOST_NODES, MOST_RATE, MOST_LINKS}
-use Rattle.hose_codec.specs.declared.limits.TheConstants.{MOST_AMOUNT}
 use Rattle.hose_codec.specs.Fields.{name_field, pair_field, pairs_field, ends_field, amounts_field, id_field, FitsPair, IsAmount, AreFormatAmounts}
 use Rattle.hose_codec.specs.Reading.{ArePairsFrom}
 use Rattle.hose_codec.specs.Spelling.{spelling, IsEntry}

@@ -1,9 +1,9 @@
 -- Endpoints and amounts with their number in front.
 use Rattle.std.proofs.Common.{◌≡◌, ◌∙◌, ℕ, ◌<◌, ◌≤◌, ◌^◌, List, ◌∷◌, ◌++◌, length, ap, sym, append_assoc, arith}
 use Rattle.byteorder.specs.Endian.{big_bytes}
+use Rattle.hose_graph.specs.declared.limits.TheConstants.{LEAST_ENDS, MOST_AMOUNT, MOST_ENDS, MOST_LINKS, MOST_NODES, MOST_RATE}
 use Rattle.hose_graph.specs.Hose.{IsHose, IsEnd}
-use Rattle.hose_graph.specs.declared.limits.TheConstants.{LEAST_ENDS, MOST_ENDS, MOST_NODES, MOST_RATE, MOST_LINKS}
-use Rattle.hose_codec.specs.declared.limits.TheConstants.{MOST_AMOUNT, MOST_PAIRS}
+use Rattle.hose_codec.specs.declared.limits.TheConstants.{MOST_PAIRS}
 use Rattle.hose_codec.specs.Fields.{pairs_field, ends_field, amounts_field, IsAmount, AreFormatAmounts}
 use Rattle.hose_codec.specs.Reading.{Begins, BeginsNone, AreCountedPairs}
 use Rattle.hose_codec.proofs.Alone.{hose_pairs, amount_pairs}

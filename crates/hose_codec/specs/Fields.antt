@@ -2,10 +2,12 @@
 use Rattle.std.specs.Prelude.{ℕ, ◌<◌, ◌≤◌, ◌^◌, List, ◌∷◌, ◌++◌, length, All}
 use Rattle.std.specs.List.{flat_map}
 use Rattle.byteorder.specs.Endian.{big_bytes}
+use Rattle.hose_graph.specs.declared.limits.TheConstants.{MOST_AMOUNT, MOST_LINKS}
+use Rattle.hose_graph.specs.Amounts.{ReservedLink, amount_of, link_of}
+use Rattle.hose_graph.specs.Hose.{Endpoint}
 use Rattle.hose_graph.specs.Ascending.{IsAscending}
 use Rattle.hose_graph.specs.Limit.{IsUpTo}
-use Rattle.hose_graph.specs.declared.limits.TheConstants.{MOST_LINKS}
-use Rattle.hose_codec.specs.declared.limits.TheConstants.{MOST_AMOUNT, MOST_PAIRS}
+use Rattle.hose_codec.specs.declared.limits.TheConstants.{MOST_PAIRS}
 
 -- a name: one byte of length, and its bytes
 abbrev pub name_field : List ℕ → List ℕ
@@ -25,11 +27,11 @@ abbrev pub pairs_field : List (ℕ × ℕ) → List ℕ
 pairs_field pairs = flat_map pair_field pairs
 
 -- the endpoints of a hose: one byte of their number, and each of them
-abbrev pub ends_field : List (ℕ × ℕ) → List ℕ
+abbrev pub ends_field : List Endpoint → List ℕ
 ends_field ends = length ends ∷ pairs_field ends
 
 -- amounts: two bytes of their number, and each of them
-abbrev pub amounts_field : List (ℕ × ℕ) → List ℕ
+abbrev pub amounts_field : List ReservedLink → List ℕ
 amounts_field amounts = big_bytes 2 (length amounts) ++ pairs_field amounts
 
 -- the number of a VPN: four bytes
@@ -37,17 +39,17 @@ abbrev pub id_field : ℕ → List ℕ
 id_field id = big_bytes 4 id
 
 -- an amount is on a link that a network can have, and within the limit
-pub record IsAmount (pair : ℕ × ℕ) : Type 0 where
-  pub link : pair.0 < MOST_LINKS
-  pub amount : IsUpTo MOST_AMOUNT pair.1
+pub record IsAmount (pair : ReservedLink) : Type 0 where
+  pub link : link_of pair < MOST_LINKS
+  pub amount : IsUpTo MOST_AMOUNT (amount_of pair)
 
 -- The numbers of these amounts are in the ranges of the format.
-pub record FitFormat (amounts : List (ℕ × ℕ)) : Type 0 where
+pub record FitFormat (amounts : List ReservedLink) : Type 0 where
   pub some : 1 ≤ length amounts
   pub few : length amounts ≤ MOST_PAIRS
   pub within : All IsAmount amounts
 
 -- amounts that the format has: in its ranges, with their links ascending
-pub record AreFormatAmounts (amounts : List (ℕ × ℕ)) : Type 0 where
+pub record AreFormatAmounts (amounts : List ReservedLink) : Type 0 where
   pub fit : FitFormat amounts
   pub ascending : IsAscending amounts

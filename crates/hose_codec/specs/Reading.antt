@@ -13,7 +13,7 @@ pub record Begins {X : Type 0} (field : X → List ℕ) (MayBe : X → Type 0) (
 -- the field of no value begins the bytes
 abbrev pub BeginsNone : {X : Type 0} → (X → List ℕ) → (X → Type 0) → List ℕ → Type 0
 BeginsNone {X} field MayBe bytes =
-    (value : X) (rest : List ℕ) → Begins field MayBe value bytes rest → ⊥
+    (value : X) (rest : List ℕ) → ¬ Begins field MayBe value bytes rest
 
 -- What is read, as `view` sees it, is the value whose field begins the bytes `old`, and `new` is
 -- what follows; or the field of no value begins them.

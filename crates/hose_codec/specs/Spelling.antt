@@ -34,7 +34,7 @@ pub record IsSpelling (entry : Entry) (bytes : List ℕ) : Type 0 where
 
 -- These bytes are the spelling of no entry.
 abbrev pub IsNoSpelling : List ℕ → Type 0
-IsNoSpelling bytes = (entry : Entry) → IsSpelling entry bytes → ⊥
+IsNoSpelling bytes = (entry : Entry) → ¬ IsSpelling entry bytes
 
 -- What is decoded is the entry that the bytes spell. Else there is no such entry, or memory was
 -- wanting for it.

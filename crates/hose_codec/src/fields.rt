@@ -7,9 +7,12 @@ ghost use Rattle.hose_codec.specs.Fields.{name_field, pair_field, pairs_field, e
 ghost use Rattle.hose_codec.specs.Reading.{Reads, IsPairFrom, AreCountedPairs};
 
 use crate::fault::CodecFault;
-use crate::limits::{MOST_AMOUNT, MOST_PAIRS};
+use crate::limits::MOST_PAIRS;
 use byteorder::{BigEndian, ByteOrder};
-use hose_graph::{LEAST_ENDS, MOST_ENDS, MOST_EPOCH, MOST_LINKS, MOST_NODES, MOST_RATE, Name};
+use hose_graph::{
+    Endpoint, LEAST_ENDS, MOST_AMOUNT, MOST_ENDS, MOST_EPOCH, MOST_LINKS, MOST_NODES, MOST_RATE,
+    Name, ReservedLink,
+};
 use std::marker::Model;
 
 /// The bytes that are left to be read. A contract sees them as a list.
@@ -63,7 +66,7 @@ impl<'a> Fields<'a> {
     }
 
     /// The endpoints of a hose, which are put in front of `into`: how many they are.
-    pub fn ends(&mut self, into: &mut [(u32, u64)]) -> Result<usize, CodecFault>
+    pub fn ends(&mut self, into: &mut [Endpoint]) -> Result<usize, CodecFault>
         requires { length into.old ≡ MOST_ENDS }
         ensures count { IfOk result (λ count. count ≤ MOST_ENDS) }
         ensures read { Reads ends_field IsHose (λ count. take count into.new)
@@ -78,7 +81,7 @@ impl<'a> Fields<'a> {
     }
 
     /// Amounts, which are put in front of `into`: how many they are.
-    pub fn amounts(&mut self, into: &mut [(u32, u64)]) -> Result<usize, CodecFault>
+    pub fn amounts(&mut self, into: &mut [ReservedLink]) -> Result<usize, CodecFault>
         requires { length into.old ≡ MOST_PAIRS }
         ensures count { IfOk result (λ count. count ≤ MOST_PAIRS) }
         ensures read { Reads amounts_field AreFormatAmounts (λ count. take count into.new)

@@ -14,6 +14,6 @@ mod reading;
 mod writing;
 
 pub use fault::CodecFault;
-pub use limits::{MOST_AMOUNT, MOST_PAIRS, MOST_SPELLING};
+pub use limits::{MOST_PAIRS, MOST_SPELLING};
 pub use reading::decode;
 pub use writing::encode;

@@ -1,10 +1,9 @@
 // The limits of the format, beside those of networks and hoses, and the kinds of entries.
 
-/// The greatest amount on a link: half of what the rates of a hose can sum up to.
-pub const MOST_AMOUNT: u64 = 32_000_000;
+use hose_graph::MOST_TREE_LINKS;
 
-/// The greatest number of links with an amount: a tree of 512 nodes has so many.
-pub const MOST_PAIRS: usize = 511;
+/// The greatest number of links with an amount.
+pub const MOST_PAIRS: usize = MOST_TREE_LINKS as usize;
 
 /// The greatest number of bytes of a spelling: that of an admission of 64 endpoints with 511
 /// amounts, by a customer whose name has 16 bytes.

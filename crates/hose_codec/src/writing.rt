@@ -7,7 +7,7 @@ ghost use Rattle.hose_codec.specs.Spelling.{spelling, IsEntry, FitsFormat, IsSpe
 
 use crate::limits::{ADMIT, MOST_SPELLING, RELEASE};
 use byteorder::{BigEndian, ByteOrder};
-use hose_graph::{Entry, Name};
+use hose_graph::{Endpoint, Entry, Name, ReservedLink};
 use std::alloc::{AllocError, Global};
 
 /// The spelling of an entry whose numbers are in the ranges of the format.
@@ -54,7 +54,7 @@ fn put_name(out: &mut Vec<u8>, name: &Name) -> Result<(), AllocError>
     out.extend_from_slice(bytes)
 }
 
-fn put_ends(out: &mut Vec<u8>, ends: &[(u32, u64)]) -> Result<(), AllocError>
+fn put_ends(out: &mut Vec<u8>, ends: &[Endpoint]) -> Result<(), AllocError>
     requires { IsHose ends.now }
     ensures { OnOk result (out.new.items ≡ out.old.items ++ ends_field ends.now) }
 {
@@ -62,7 +62,7 @@ fn put_ends(out: &mut Vec<u8>, ends: &[(u32, u64)]) -> Result<(), AllocError>
     put_pairs(out, ends)
 }
 
-fn put_amounts(out: &mut Vec<u8>, amounts: &[(u32, u64)]) -> Result<(), AllocError>
+fn put_amounts(out: &mut Vec<u8>, amounts: &[ReservedLink]) -> Result<(), AllocError>
     requires { FitFormat amounts.now }
     ensures { OnOk result (out.new.items ≡ out.old.items ++ amounts_field amounts.now) }
 {

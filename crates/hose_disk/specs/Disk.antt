@@ -26,8 +26,8 @@ pub record IsCalled {T : Type 0} (before after : DiskFrame) (result : Result T F
 -- ---- bytes
 
 -- new is old with these bytes at this place
-abbrev pub Holds : ℕ → List ℕ → List ℕ → List ℕ → Type 0
-Holds at bytes old new = new ≡ take at old ++ bytes ++ drop (at + length bytes) old
+abbrev pub IsOverwritten : ℕ → List ℕ → List ℕ → List ℕ → Type 0
+IsOverwritten at bytes old new = new ≡ take at old ++ bytes ++ drop (at + length bytes) old
 
 -- new is the front of old, of this length
 abbrev pub IsTaken : ℕ → List ℕ → List ℕ → Type 0
@@ -47,7 +47,7 @@ pub record IsCut (len : ℕ) (old new : List ℕ) : Type 0 where
   pub front : take (length new) old ≡ new
 
 -- a read of `room` bytes from a place gave these
-pub record Reads (at room : ℕ) (bytes got : List ℕ) : Type 0 where
+pub record IsReadAt (at room : ℕ) (bytes got : List ℕ) : Type 0 where
   pub amount : length got ≡ min room (length bytes - at)
   pub bytes_there : got ≡ take (length got) (drop at bytes)
 

@@ -33,16 +33,16 @@ read_of first [] = first
 read_of first (call ∷ earlier) = read_after call (read_of first earlier)
 
 -- Each write began within what a read gave, and ended below the greatest length.
-abbrev pub Fits : List ℕ → List Step → Type 0
-Fits first [] = length first < 2 ^ 62
-Fits first (idle ∷ earlier) = Fits first earlier
-Fits first (wrote at bytes ∷ earlier) =
-    (at ≤ length (read_of first earlier)) × (at + length bytes < 2 ^ 62) × Fits first earlier
-Fits first (tried_write at count ∷ earlier) =
-    (at ≤ length (read_of first earlier)) × (at + count < 2 ^ 62) × Fits first earlier
-Fits first (cut_to len ∷ earlier) = Fits first earlier
-Fits first (tried_cut len ∷ earlier) = Fits first earlier
-Fits first (synced ∷ earlier) = Fits first earlier
+abbrev pub AreInRange : List ℕ → List Step → Type 0
+AreInRange first [] = length first < 2 ^ 62
+AreInRange first (idle ∷ earlier) = AreInRange first earlier
+AreInRange first (wrote at bytes ∷ earlier) =
+    (at ≤ length (read_of first earlier)) × (at + length bytes < 2 ^ 62) × AreInRange first earlier
+AreInRange first (tried_write at count ∷ earlier) =
+    (at ≤ length (read_of first earlier)) × (at + count < 2 ^ 62) × AreInRange first earlier
+AreInRange first (cut_to len ∷ earlier) = AreInRange first earlier
+AreInRange first (tried_cut len ∷ earlier) = AreInRange first earlier
+AreInRange first (synced ∷ earlier) = AreInRange first earlier
 
 -- what a stop may leave after a call, by what a read gave and what a stop might have left before it
 abbrev pub Leaves : Step → List ℕ → (List ℕ → Type 0) → List ℕ → Type 0
@@ -55,14 +55,14 @@ Leaves (tried_cut len) reads was image = (old : List ℕ) × was old × IsCut le
 Leaves synced reads was image = image ≡ reads
 
 -- what the calls make of the first content, each begun or done
-abbrev pub Reaches : List ℕ → List Step → List ℕ → Type 0
-Reaches first [] image = image ≡ first
-Reaches first (call ∷ earlier) image =
-    Leaves call (read_of first earlier) (Reaches first earlier) image
+abbrev pub CallsMake : List ℕ → List Step → List ℕ → Type 0
+CallsMake first [] image = image ≡ first
+CallsMake first (call ∷ earlier) image =
+    Leaves call (read_of first earlier) (CallsMake first earlier) image
 
 -- the images now: what a read gives, and what the calls reach
 abbrev pub IsImage : List ℕ → List Step → List ℕ → Type 0
-IsImage first calls image = (image ≡ read_of first calls) ⊎ Reaches first calls image
+IsImage first calls image = (image ≡ read_of first calls) ⊎ CallsMake first calls image
 
 -- an image at a moment before the last call, and from t on
 abbrev pub WasImage : List ℕ → List Step → ℕ → List ℕ → Type 0
@@ -80,7 +80,7 @@ calls_at calls moment = drop (length calls - moment) calls
 
 -- no call is later than the last
 none_later : (first : List ℕ) (calls : List Step) (t : ℕ) (image : List ℕ) → length calls ≤ t →
-    WasImage first calls t image → ⊥
+    ¬ WasImage first calls t image
 none_later first [] t image le was = was
 none_later first (call ∷ earlier) t image le (inl here) = not-le_of_lt le here.0
 none_later first (call ∷ earlier) t image le (inr before) =

@@ -122,7 +122,7 @@ after_starving kind disk = record disk {
 abbrev pub IsMemCall : {T : Type 0} → DiskCall → Step → Step → MemState → MemState →
     Result T Failed → Type 0
 IsMemCall kind done begun old new (Ok value) =
-    (Contains (of_kind kind old.failing) 1 → ⊥) × (new ≡ after_done kind old done)
+    (¬ Contains (of_kind kind old.failing) 1) × (new ≡ after_done kind old done)
 IsMemCall kind done begun old new (Err failed) =
     (new ≡ after_starving kind old)
     ⊎ (Contains (of_kind kind old.failing) 1 × (new ≡ after_fault kind old begun))

@@ -1,15 +1,15 @@
 // What is read, written and made durable: its contract.
 ghost use Rattle.std.specs.Prelude.{◌≡◌, ◌+◌, ◌<◌, ◌≤◌, ◌^◌, ℕ, List, Option, None, IfOk, IfSome, OnOk, OnErr, length, take};
-ghost use Rattle.hose_disk.specs.Disk.{DiskFrame, IsCalled, Holds, Torn, IsCut, IsTaken, Reads, Told, StepsTo, NoneNew, Only, Elapses};
+ghost use Rattle.hose_disk.specs.Disk.{DiskFrame, IsCalled, IsOverwritten, Torn, IsCut, IsTaken, IsReadAt, Told, StepsTo, NoneNew, Only, Elapses};
 
 use hose_io::Failed;
 
 /// A disk: bytes that are read and written at places, with a length.
 ///
-/// Until a sync succeeds, a stop may leave any bytes in the ranges that were written, and any length
-/// from the least to the greatest since the last one; a call that failed counts as begun. A disk
-/// that tells nothing of its content has no images, so what is said of all images says nothing of
-/// it.
+/// Until a sync succeeds, a stop may leave any bytes in the ranges that were written, and any
+/// length from the least to the greatest since the last one; a call that failed counts as begun. A
+/// disk that tells nothing of its content has no images, so what is said of all images says nothing
+/// of it.
 pub trait Disk: Drop {
     /// How often it has failed, the moment of its opening, and whether its last call failed.
     ghost frame: { Self → DiskFrame };
@@ -42,7 +42,7 @@ pub trait Disk: Drop {
         requires { at + length into.old < 2 ^ 62 }
         ensures room { IfOk result (λ count. count ≤ length into.new) }
         ensures read { IfOk result (λ count. IfSome (content self.old)
-            (λ bytes. Reads at (length into.old) bytes (take count into.new))) }
+            (λ bytes. IsReadAt at (length into.old) bytes (take count into.new))) }
         ensures same { content self.new ≡ content self.old }
         ensures images { NoneNew (may_leave self.old) (may_leave self.new) }
         ensures time { Elapses (moment self.old) (moment self.new)
@@ -54,7 +54,7 @@ pub trait Disk: Drop {
         requires small { at + length bytes.now < 2 ^ 62 }
         requires within { IfSome (content self.old) (λ old. at ≤ length old) }
         ensures written { OnOk result
-            (Told (Holds at bytes.now) (content self.old) (content self.new)) }
+            (Told (IsOverwritten at bytes.now) (content self.old) (content self.new)) }
         ensures begun { OnErr result
             (Told (Torn at (length bytes.now)) (content self.old) (content self.new)) }
         ensures images { StepsTo (Torn at (length bytes.now))

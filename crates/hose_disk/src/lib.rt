@@ -1,6 +1,6 @@
-//! Disks as a journal sees them: what a read gives, and which images a stop at any moment may leave.
-//! A disk in memory keeps a record of its calls, fails where it is told to, and can be stopped after
-//! any of them.
+//! Disks as a journal sees them: what a read gives, and which images a stop at any moment may
+//! leave. A disk in memory keeps a record of its calls, fails where it is told to, and can be
+//! stopped after any of them.
 //!
 //! ```
 //! let mut disk = MemDisk::new(alloc)?;

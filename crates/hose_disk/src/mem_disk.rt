@@ -2,7 +2,7 @@
 ghost use Rattle.std.specs.Prelude.{◌≡◌, ◌+◌, ◌<◌, ◌≤◌, ◌^◌, ℕ, ◌∷◌, ◌++◌, [], true, false, IfOk, OnOk, OnErr, length, take};
 ghost use Rattle.hose_io.specs.Count.{one_more};
 ghost use Rattle.hose_io.specs.Frame.{Rose};
-ghost use Rattle.hose_disk.specs.Disk.{IsCalled, Holds, Torn, IsCut, IsTaken, Reads, Told, StepsTo, NoneNew, Only, Elapses, object_frame};
+ghost use Rattle.hose_disk.specs.Disk.{IsCalled, IsOverwritten, Torn, IsCut, IsTaken, IsReadAt, Told, StepsTo, NoneNew, Only, Elapses, object_frame};
 ghost use Rattle.hose_disk.specs.Images.{IsImage, calls_at, idle, wrote, tried_write, cut_to, tried_cut, synced};
 ghost use Rattle.hose_disk.specs.MemState.{of_kind, with_kind, fresh_disk, frame_of, content_of, moment_of, image_of, left_since_of, IsMemCall};
 ghost use Rattle.hose_disk.specs.Picks.{picked};
@@ -83,8 +83,8 @@ impl MemDisk {
         self.made.calls() as u64
     }
 
-    /// A new disk, whose content is the picked image of a stop at the moment at which so many of the
-    /// recorded calls were done.
+    /// A new disk, whose content is the picked image of a stop at the moment at which so many of
+    /// the recorded calls were done.
     pub fn stop_image(&self, alloc: Global, calls: u64, pick: Pick) -> Result<MemDisk, AllocError>
         requires { calls ≤ length self.now.made.calls }
         ensures fresh { IfOk result (λ disk. disk
@@ -257,7 +257,7 @@ impl Disk for MemDisk {
         requires { at + length into.old < 2 ^ 62 }
         ensures room { IfOk result (λ count. count ≤ length into.new) }
         ensures read { IfOk result
-            (λ count. Reads at (length into.old) (reads self.old.made) (take count into.new)) }
+            (λ count. IsReadAt at (length into.old) (reads self.old.made) (take count into.new)) }
         ensures same { content_of self.new ≡ content_of self.old }
         ensures images { NoneNew (image_of self.old) (image_of self.new) }
         ensures time { Elapses (moment_of self.old) (moment_of self.new)
@@ -274,7 +274,7 @@ impl Disk for MemDisk {
         requires small { at + length bytes.now < 2 ^ 62 }
         requires within { at ≤ length (reads self.old.made) }
         ensures written { OnOk result
-            (Told (Holds at bytes.now) (content_of self.old) (content_of self.new)) }
+            (Told (IsOverwritten at bytes.now) (content_of self.old) (content_of self.new)) }
         ensures begun { OnErr result
             (Told (Torn at (length bytes.now)) (content_of self.old) (content_of self.new)) }
         ensures images { StepsTo (Torn at (length bytes.now))
@@ -316,10 +316,10 @@ impl Disk for MemDisk {
     }
 }
 
-// Reads from a place what there is room for.
+// IsReadAt from a place what there is room for.
 fn read(bytes: &[u8], at: usize, into: &mut [u8]) -> usize
     ensures room { result ≤ length into.new }
-    ensures read { Reads at (length into.old) bytes.now (take result into.new) }
+    ensures read { IsReadAt at (length into.old) bytes.now (take result into.new) }
 {
     if at >= bytes.len() {
         return 0;

@@ -1,6 +1,6 @@
 // What a disk in memory held at first, and a record of its calls.
 ghost use Rattle.std.specs.Prelude.{◌≡◌, ◌≤◌, ◌+◌, ◌^◌, ◌<◌, [], ◌∷◌, length, OnOk, OnErr, IfOk};
-ghost use Rattle.hose_disk.specs.Disk.{Holds};
+ghost use Rattle.hose_disk.specs.Disk.{IsOverwritten};
 ghost use Rattle.hose_disk.specs.Picks.{filled, pick_after, picked};
 ghost use Rattle.hose_disk.specs.Images as images;
 ghost use Rattle.hose_disk.specs.Images.{idle, wrote, tried_write, cut_to, tried_cut, synced, IsImage, calls_at};
@@ -32,7 +32,7 @@ pub struct Recording {
 
 impl Model for Recording {
     ghost use Rattle.std.specs.Prelude.{◌≡◌, ◌<◌, ◌^◌, length};
-    ghost use Rattle.hose_disk.specs.Images.{read_of, Fits};
+    ghost use Rattle.hose_disk.specs.Images.{read_of, AreInRange};
     ghost use Rattle.hose_disk.specs.Recording.{CallRecord, steps_of};
 
     ghost Value = { CallRecord };
@@ -42,7 +42,7 @@ impl Model for Recording {
     ghost invariant = { λ made.
         (made.bytes.items ≡ read_of made.first.items (steps_of made.calls.items))
         × (length made.bytes.items < 2 ^ 62)
-        × Fits made.first.items (steps_of made.calls.items) };
+        × AreInRange made.first.items (steps_of made.calls.items) };
 }
 
 impl Recording {
@@ -223,7 +223,7 @@ fn note(calls: &mut Vec<Recorded>, call: Recorded) -> Result<(), AllocError>
 
 // The bytes with others at a place.
 fn overwrite(alloc: Global, old: &[u8], at: usize, bytes: &[u8]) -> Result<Vec<u8>, AllocError>
-    ensures { IfOk result (λ new. Holds at bytes.now old.now new.items) }
+    ensures { IfOk result (λ new. IsOverwritten at bytes.now old.now new.items) }
 {
     let mut new = Vec::from_slice(alloc, &old[..at.min(old.len())])?;
     new.extend_from_slice(bytes)?;

@@ -81,8 +81,8 @@ abbrev pub with_entry : List Entry → Option Entry → List Entry
 with_entry history None = history
 with_entry history (Some entry) = history ++ entry ∷ []
 
--- Want of memory may be answered to an admission, to a release, and to a question after a VPN that is
--- there. What is reserved on a link, and that there is no such VPN, is told in any case.
+-- Want of memory may be answered to an admission, to a release, and to a question after a VPN that
+-- is there. What is reserved on a link, and that there is no such VPN, is told in any case.
 abbrev pub MayWantMemory : Book → List ℕ → Command → Type 0
 MayWantMemory book customer (Admit hose) = ⊤
 MayWantMemory book customer (Release id) = ⊤

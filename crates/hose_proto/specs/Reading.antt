@@ -36,7 +36,7 @@ pub record IsEndOf (network : Network) (end : Endpoint) : Type 0 where
 -- an endpoint may come after others, which stand in any order
 pub record IsNewEnd (network : Network) (ends : List Endpoint) (end : Endpoint) : Type 0 where
   pub is_end : IsEndOf network end
-  pub is_new : Any (λ earlier. node_of earlier ≡ node_of end) ends → ⊥
+  pub is_new : ¬ Any (λ earlier. node_of earlier ≡ node_of end) ends
   pub room : length ends < MOST_ENDS
 
 -- an endpoint may come after others, in order
@@ -60,8 +60,9 @@ pub record IsNextNode (network : Network) (nodes : List ℕ) (node : ℕ) : Type
 -- the next word is neither an endpoint that may come next nor the end of the list
 pub record MissesEnd (network : Network) (ends : List Endpoint) (old : Position) (number : ℕ)
     : Type 0 where
-  pub none : IsFirst
+  pub none : ¬ IsFirst
       (λ word. (end : Endpoint) × (word ≡ end_word network end) × IsNextEnd network ends end)
-      old.left → ⊥
-  pub no_last : IsFirst (λ word. (word ≡ codes "links") × (LEAST_ENDS ≤ length ends)) old.left → ⊥
+      old.left
+  pub no_last : ¬ IsFirst
+      (λ word. (word ≡ codes "links") × (LEAST_ENDS ≤ length ends)) old.left
   pub at : number ≡ old.read + 1

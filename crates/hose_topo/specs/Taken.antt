@@ -18,7 +18,7 @@ abbrev pub TakesWords : Taken → Network → List (List ℕ) → Network → Ty
 TakesWords Added was words now = AddsLine was words now
 TakesWords End was words now = EndsText was words × (now ≡ was)
 TakesWords (Wrong word) was words now =
-    (IsPassedOver words → ⊥) × IsFirstNotAllowed (line_grammar was) [] words word × (now ≡ was)
+    (¬ IsPassedOver words) × IsFirstNotAllowed (line_grammar was) [] words word × (now ≡ was)
 
 -- what was read as the next line: a long line is wrong, and so is the end of the text, and a fault
 -- is handed on

@@ -27,7 +27,7 @@ pub record AddsNode (network : Network) (words : List (List ℕ)) (next : Networ
   pub name : List ℕ
   pub line : words ≡ codes "node" ∷ name ∷ []
   pub is_name : IsName name
-  pub is_new : Contains network.nodes name → ⊥
+  pub is_new : ¬ Contains network.nodes name
   pub room : HasNodeRoom network
   pub added : next ≡ record network { nodes = network.nodes ++ name ∷ [] }
 
@@ -115,7 +115,7 @@ MayCome network kind.End = 0 < length network.nodes
 
 -- a name that no node has
 abbrev pub IsNewName : Network → List ℕ → Type 0
-IsNewName network word = IsName word × (Contains network.nodes word → ⊥)
+IsNewName network word = IsName word × (¬ Contains network.nodes word)
 
 -- `NAME`
 abbrev pub node_form : Network → Form
@@ -160,7 +160,7 @@ abbrev pub IsWrongLine : Network → List ℕ → ℕ → Type 0
 IsWrongLine network text word =
     ((text ≡ []) × (word ≡ 1))
     ⊎ (((LINE_LIMIT < length (before_first is_line_feed text)) × (word ≡ 0))
-    ⊎ ((words : List (List ℕ)) × HasLine text words × (IsPassedOver words → ⊥)
+    ⊎ ((words : List (List ℕ)) × HasLine text words × (¬ IsPassedOver words)
     × IsFirstNotAllowed (line_grammar network) [] words word))
 
 -- Not the text of a topology: after lines that add to a network, the line of this number, counted

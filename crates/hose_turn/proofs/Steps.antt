@@ -17,12 +17,12 @@ use Rattle.hose_turn.specs.declared.view.Origin.{Origin}
 use Rattle.hose_turn.specs.declared.shares.TheConstants.{ALL_SHARES}
 use Rattle.hose_turn.specs.Places.{HasPlaces}
 use Rattle.hose_turn.specs.Faults.{end_of_count, IsFloored}
-use Rattle.hose_turn.specs.Known.{IsWhole}
+use Rattle.hose_turn.specs.Known.{HasWholeHistory}
 use Rattle.hose_turn.specs.Views.{nobody, unborn, opener, cut, branch, glued, passed_on, known_of}
 use Rattle.hose_turn.specs.Line.{bit, share_of, IsLine}
 use Rattle.hose_turn.specs.History.{IsInformed, IsHistory}
-use Rattle.hose_turn.specs.Rule.{IsUnopened, IsOpened, Holds}
-use Rattle.hose_turn.specs.Steps.{Begins, Looks, PassesOn, Draws, Counts, Settles}
+use Rattle.hose_turn.specs.Rule.{IsUnopened, IsOpened, RuleHolds}
+use Rattle.hose_turn.specs.Steps.{OpensLock, Looks, PassesOn, Draws, Counts, Settles}
 use Rattle.hose_turn.proofs.Prefix.{prefix_self, prefix_shorter, prefix_push}
 use Rattle.hose_turn.proofs.Seats.{only, only_seat, was_theirs, no_some, not_on, num, opt_discrete}
 use Rattle.hose_turn.proofs.Line.{few_hold, alone, none_turns_yet, others_spent, line_splits, line_joins, line_stays, line_draws, line_takes, line_passes, line_opens, line_ends}
@@ -45,7 +45,7 @@ module _ {S : Type 0} (stands : Origin → List Entry → S → Type 0) (faults 
   Seat = Me (Option S) View
 
   abbrev Rule : Table → Type 0
-  Rule = Holds stands faults
+  Rule = RuleHolds stands faults
 
   abbrev Right : Origin → List Entry → ℕ → S → Type 0
   Right origin history count value = stands origin history value × (faults value ≡ count)
@@ -252,7 +252,7 @@ module _ {S : Type 0} (stands : Origin → List Entry → S → Type 0) (faults 
       )
 
   pub begins : (slots seat epoch : ℕ) (me : Seat) (value : S) (origin : Origin) → me.0 ≡ unborn → stands origin origin.since value → epoch ≡ origin.first + length origin.since
-      → Allows Rule slots seat me 0 (λ n. either (n == 0) epoch n) (Begins stands faults (step slots 0 0 epoch (some (Some value))) me)
+      → Allows Rule slots seat me 0 (λ n. either (n == 0) epoch n) (OpensLock stands faults (step slots 0 0 epoch (some (Some value))) me)
   begins slots seat epoch me value origin new right word s rule _ at _ =
       ⊎_elim (λ (unopened : IsUnopened s).
       let ticket : ℕ = unopened.0 in
@@ -290,7 +290,7 @@ module _ {S : Type 0} (stands : Origin → List Entry → S → Type 0) (faults 
 
   -- what the last pass finds
   ends : (turn : TableId) (seat : ℕ) (view : View) → view.share ≡ ALL_SHARES → view.ticket ≡ None → (s : Table) → Rule s → get_elem? s.views seat ≡ some view
-      → (value : S) × (s.homes ≡ some (Some value) ∷ []) × ((history : List Entry) × IsWhole stands (known_of turn view) history value) × ((view.faults ≤ faults value) ⊎ (end_of_count ≤ faults value))
+      → (value : S) × (s.homes ≡ some (Some value) ∷ []) × ((history : List Entry) × HasWholeHistory stands (known_of turn view) history value) × ((view.faults ≤ faults value) ⊎ (end_of_count ≤ faults value))
   ends turn seat view all bare s rule at =
       let live : 0 < view.share = omega arith in
       let opened = opened_of s rule seat view at live in
@@ -315,7 +315,7 @@ module _ {S : Type 0} (stands : Origin → List Entry → S → Type 0) (faults 
   -- what is found in the slot as the lock is closed
   pub closes : (turn : TableId) (seat : ℕ) (view : View) → view.share ≡ ALL_SHARES → view.ticket ≡ None → (words : List ℕ) (slots : List (Option S)) → Final (Seen Rule seat view) words slots
       → (slot : Option S) → get_elem? slots 0 ≡ some slot
-      → (value : S) × (slot ≡ Some value) × ((history : List Entry) × IsWhole stands (known_of turn view) history value) × ((view.faults ≤ faults value) ⊎ (end_of_count ≤ faults value))
+      → (value : S) × (slot ≡ Some value) × ((history : List Entry) × HasWholeHistory stands (known_of turn view) history value) × ((view.faults ≤ faults value) ⊎ (end_of_count ≤ faults value))
   closes turn seat view all bare words slots last slot is =
       let found = ends turn seat view all bare last.0 last.1.0 last.1.1 in
       let there = last.4 0 (Some found.0) (ap (λ (homes : List (maybe.Option (Option S))). get_elem? homes 0) found.1) in

@@ -30,15 +30,15 @@ first_known turn origin = record {
 
 -- The same after the pass counted an entry: it has seen the entry, whose place is the number of
 -- entries before it.
-abbrev pub with_entry : Known → Entry → Known
-with_entry known entry = record known {
+abbrev pub with_own_entry : Known → Entry → Known
+with_own_entry known entry = record known {
   seen = known.seen ++ entry ∷ [];
   own = known.own ++ length known.seen ∷ [];
 }
 
 -- The value stands for the history, which begins with the first list and with what the pass has
 -- seen. Each entry after the first list is the pass's own.
-pub record IsWhole {S : Type 0} (stands : Origin → List Entry → S → Type 0) (pass : Known)
+pub record HasWholeHistory {S : Type 0} (stands : Origin → List Entry → S → Type 0) (pass : Known)
     (history : List Entry) (value : S) : Type 0 where
   pub stood : stands pass.origin history value
   pub since : IsPrefix pass.origin.since history

@@ -32,5 +32,5 @@ module _ {S : Type 0} (stands : Origin → List Entry → S → Type 0) (faults 
     pub tally : IsTally count state.views
 
   -- what holds of the table between any two steps
-  abbrev pub Holds : State (Option S) View → Type 0
-  Holds state = IsUnopened state ⊎ IsOpened state
+  abbrev pub RuleHolds : State (Option S) View → Type 0
+  RuleHolds state = IsUnopened state ⊎ IsOpened state

@@ -16,8 +16,8 @@ Told S = Step (Option S) → Me (Option S) View → ℕ → Me (Option S) View �
 module _ {S : Type 0} (stands : Origin → List Entry → S → Type 0) (faults : S → ℕ) where
   -- The first pass has the turn, and its origin is one with which the announced value stands for
   -- its first list.
-  abbrev pub Begins : Told S
-  Begins step before found after =
+  abbrev pub OpensLock : Told S
+  OpensLock step before found after =
       (value : S) → step.said ≡ some (Some value)
       → (origin : Origin) × (ticket : ℕ) × stands origin origin.since value
       × (after ≡ (opener origin ticket (faults value), (0, None) ∷ before.1))

@@ -1,6 +1,6 @@
 //! What each step tells the pass that makes it.
 ghost use Rattle.hose_turn.specs.Views.{nobody, cut, branch, glued};
-ghost use Rattle.hose_turn.specs.Steps.{Begins, Draws, Looks, Settles, Counts, PassesOn};
+ghost use Rattle.hose_turn.specs.Steps.{OpensLock, Draws, Looks, Settles, Counts, PassesOn};
 ghost use Rattle.hose_turn.specs.Faults.{rise, no_rise};
 
 use crate::stands::{Counted, Stands};
@@ -12,7 +12,7 @@ use std::marker::PhantomData;
 pub(crate) struct Begin;
 
 impl<S: Stands> Play<Option<S>, View> for Begin {
-    ghost then = { Begins S.stands S.faults };
+    ghost then = { OpensLock S.stands S.faults };
 }
 
 /// The first pass gives the value to the table.

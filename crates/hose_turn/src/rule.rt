@@ -17,10 +17,10 @@ pub(crate) const SERVING: usize = 2;
 pub(crate) struct OneHistory;
 
 impl<S: Stands> TableRule<Option<S>, View, ()> for OneHistory {
-    ghost use Rattle.hose_turn.specs.Rule.{Holds};
+    ghost use Rattle.hose_turn.specs.Rule.{RuleHolds};
     ghost use Rattle.hose_turn.specs.Views.{unborn};
 
-    ghost holds = { λ _. Holds S.stands S.faults };
+    ghost holds = { λ _. RuleHolds S.stands S.faults };
 
     ghost first = { λ _. unborn };
 }

@@ -3,7 +3,7 @@ ghost use Rattle.std.specs.Prelude.{◌≡◌, ◌⊎◌, ℕ, ◌+◌, ◌-◌,
 ghost use mathlib.Core.List.{IsPrefix};
 ghost use Rattle.hose_graph.specs.declared.entry.Entry.{Entry};
 ghost use Rattle.hose_turn.specs.declared.view.Origin.{Origin};
-ghost use Rattle.hose_turn.specs.Known.{first_known, with_entry, IsWhole};
+ghost use Rattle.hose_turn.specs.Known.{first_known, with_own_entry, HasWholeHistory};
 ghost use Rattle.hose_turn.specs.Faults.{rise, end_of_count};
 ghost use Rattle.hose_turn.specs.Views.{unborn, opener};
 ghost use Rattle.hose_turn.specs.Held.{holder, value_of, floor_of};
@@ -148,7 +148,7 @@ impl<S: Stands + Drop> Turn<S> {
         requires turn { (holder held.old).turn ≡ self.now }
         requires stands { let known = holder held.old in
             S.stands known.origin (known.seen ++ N.entry ∷ []) (value_of held.old) }
-        ensures counted { holder held.new ≡ with_entry (holder held.old) N.entry }
+        ensures counted { holder held.new ≡ with_own_entry (holder held.old) N.entry }
         ensures value { value_of held.new ≡ value_of held.old }
         ensures floor { floor_of held.new ≡ floor_of held.old }
     {
@@ -166,7 +166,7 @@ impl<S: Stands + Drop> Turn<S> {
         requires turn { (holder held.old).turn ≡ self.now }
         requires stands { let known = holder held.old in
             S.stands known.origin (known.seen ++ entry.now ∷ []) (value_of held.old) }
-        ensures counted { holder held.new ≡ with_entry (holder held.old) entry.now }
+        ensures counted { holder held.new ≡ with_own_entry (holder held.old) entry.now }
         ensures value { value_of held.new ≡ value_of held.old }
         ensures floor { floor_of held.new ≡ floor_of held.old }
     {
@@ -195,7 +195,7 @@ impl<S: Stands + Drop> Turn<S> {
     pub fn close(self, pass: Pass) -> S
         requires turn { pass.turn ≡ self }
         requires share { pass.share ≡ ALL_SHARES }
-        ensures history { (history : List Entry) × IsWhole S.stands pass history result }
+        ensures history { (history : List Entry) × HasWholeHistory S.stands pass history result }
         ensures faults { (pass.faults ≤ S.faults result) ⊎ (end_of_count ≤ S.faults result) }
     {
         let Turn { board } = self;

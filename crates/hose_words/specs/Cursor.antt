@@ -20,7 +20,7 @@ pub record TookAll (old new : Position) (words : List (List ℕ)) : Type 0 where
 
 -- the next word is missing or does not pass, and this is its number
 pub record Misses (passes : List ℕ → Type 0) (old : Position) (number : ℕ) : Type 0 where
-  pub none : IsFirst passes old.left → ⊥
+  pub none : ¬ IsFirst passes old.left
   pub at : number ≡ old.read + 1
 
 -- The word of this number is the first of those to come that a form does not allow.
@@ -33,6 +33,6 @@ pub record IsWrong (form : Form) (old : Position) (number : ℕ) : Type 0 where
 -- ends before they are there. This is the word's number.
 pub record MissesItem {A : Type 0} (word_of : A → List ℕ) (may : A → Type 0) (least : ℕ)
     (items : List A) (old : Position) (number : ℕ) : Type 0 where
-  pub none : IsFirst (λ word. (item : A) × (word ≡ word_of item) × may item) old.left → ⊥
+  pub none : ¬ IsFirst (λ word. (item : A) × (word ≡ word_of item) × may item) old.left
   pub few : old.left ≡ [] → length items < least
   pub at : number ≡ old.read + 1

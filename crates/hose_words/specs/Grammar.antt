@@ -12,10 +12,10 @@ pub record Grammar : Type 1 where
 -- words.
 abbrev pub IsFirstNotAllowed : Grammar → List (List ℕ) → List (List ℕ) → ℕ → Type 0
 IsFirstNotAllowed grammar before [] place =
-    (grammar.is_whole before → ⊥) × (place ≡ length before + 1)
+    (¬ grammar.is_whole before) × (place ≡ length before + 1)
 IsFirstNotAllowed grammar before (word ∷ words) place =
     (grammar.may_follow before word × IsFirstNotAllowed grammar (before ++ word ∷ []) words place)
-    ⊎ ((grammar.may_follow before word → ⊥) × (place ≡ length before + 1))
+    ⊎ ((¬ grammar.may_follow before word) × (place ≡ length before + 1))
 
 -- the first of some words is there and passes
 abbrev pub IsFirst : (List ℕ → Type 0) → List (List ℕ) → Type 0

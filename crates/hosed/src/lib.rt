@@ -41,7 +41,7 @@ pub fn hosed<I: Source, O: Sink>(
     output: &mut O,
 ) -> u8
     // Wrong words take nothing of the input, and the last line tells the first of them.
-    ensures words { (result ≡ 1) ↔ (AreRunWords (map string_bytes words.now) → ⊥) }
+    ensures words { (result ≡ 1) ↔ (¬ AreRunWords (map string_bytes words.now)) }
     ensures wrong_words { result ≡ 1 → (input.new ≡ input.old)
         × IsOut O.Sink output.old output.new
         (last_line (Fault.Words (first_wrong (map string_bytes words.now)))) }

@@ -39,7 +39,7 @@ pub fn program<I: Source, O: Sink>(
     ensures run { AreRunWords (map string_bytes words.now)
         → RunOutcome I.Source O.Sink input.old input.new output.old output.new result }
     ensures wrong_words { asked_of (map string_bytes words.now) ≡ Asked.Service
-        → (AreRunWords (map string_bytes words.now) → ⊥)
+        → ¬ AreRunWords (map string_bytes words.now)
         → (result ≡ 1) × (input.new ≡ input.old) × IsOut O.Sink output.old output.new
         (last_line (fault.Words (first_wrong (map string_bytes words.now)))) }
 

@@ -30,7 +30,7 @@ fn word_of(filled: Result<usize, FillError>, bytes: &[u8]) -> Option<&str>
     requires { IfOk filled (λ count. count ≤ length bytes.now) }
     ensures text { IfOk filled (λ count. IsUtf8 (take count bytes.now)
         → IsSomeAnd result (λ word. word.now ≡ take count bytes.now)) }
-    ensures no_text { IfOk filled (λ count. (IsUtf8 (take count bytes.now) → ⊥)
+    ensures no_text { IfOk filled (λ count. (¬ IsUtf8 (take count bytes.now))
         → IsSomeAnd result (λ word. word.now ≡ NO_WORD.now)) }
     ensures too_long { filled ≡ Err FillError.TooLong
         → IsSomeAnd result (λ word. word.now ≡ NO_WORD.now) }

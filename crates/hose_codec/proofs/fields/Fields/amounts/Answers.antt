@@ -1,8 +1,8 @@
 use Rattle.std.proofs.Common.{rules, ◌≡◌, ◌∙◌, ℕ, ◌≤◌, ◌++◌, List, length, take, drop, sym, subst, arith}
 use Rattle.std.proofs.lemmas.Result.{err_from_is_err_and}
 use Rattle.std.proofs.lemmas.List.{take_at, length-take-le}
-use Rattle.hose_graph.specs.declared.limits.TheConstants.{MOST_LINKS}
-use Rattle.hose_codec.specs.declared.limits.TheConstants.{MOST_AMOUNT, MOST_PAIRS}
+use Rattle.hose_graph.specs.declared.limits.TheConstants.{MOST_AMOUNT, MOST_LINKS}
+use Rattle.hose_codec.specs.declared.limits.TheConstants.{MOST_PAIRS}
 use Rattle.hose_codec.specs.Fields.{pairs_field, amounts_field, AreFormatAmounts}
 use Rattle.hose_codec.specs.Reading.{Begins, BeginsNone, AreCountedPairs}
 use Rattle.hose_codec.proofs.Counted.{amounts_read, no_amounts_read}

@@ -1,5 +1,5 @@
 use Rattle.std.proofs.Common.{refl, length}
-use Rattle.hose_disk.specs.Disk.{Holds, Torn}
+use Rattle.hose_disk.specs.Disk.{IsOverwritten, Torn}
 use Rattle.hose_disk.specs.Images.{wrote, tried_write}
 use Rattle.hose_disk.specs.Recording.{CallRecord, reads}
 use Rattle.hose_disk.specs.declared.call.DiskCall.TheVariants.{Write}
@@ -10,7 +10,7 @@ use Rattle.hose_disk.proofs.mem_disk.MemDiskDisk.write_at.Goals as goal
 pub returns-clause-written : goal.returns-clause-written
 returns-clause-written c =
     on_done Write _ _ c.args.self.now c.make_write.new.self c.make_write.result
-    (λ (made : CallRecord). Holds c.args.at c.args.bytes.now (reads c.args.self.now.made) (reads made)) c.make_write.ensures.exact refl
+    (λ (made : CallRecord). IsOverwritten c.args.at c.args.bytes.now (reads c.args.self.now.made) (reads made)) c.make_write.ensures.exact refl
 
 pub returns-clause-begun : goal.returns-clause-begun
 returns-clause-begun c =

@@ -1,7 +1,7 @@
 use Rattle.std.proofs.Common.{rules, ◌≡◌, ◌≤◌, ◌⊎◌, List, ◌∙◌, ap, subst}
 use Rattle.hose_graph.specs.declared.entry.Entry.{Entry}
 use Rattle.hose_turn.specs.Faults.{end_of_count}
-use Rattle.hose_turn.specs.Known.{Known, IsWhole}
+use Rattle.hose_turn.specs.Known.{Known, HasWholeHistory}
 use Rattle.hose_turn.proofs.Steps.{closes}
 use Rattle.hose_turn.proofs.turn.Turn.close.Goals as goal
 
@@ -18,7 +18,7 @@ returns-clause-history g c =
     let found = closes g.S.Stands.stands g.S.Stands.faults c.into_place-place.result.table_id c.into_place-place.result.id c.into_place-place.result.me.0
     (ap (λ known. known.share) placed.known ∙ c.requires.share) placed.rests.ticket _ _ c.close_with-closed.ensures.values.2 _ c.take-value.ensures.value in
     let same : found.0 ≡ c.unwrap.result = search rules in
-    subst (λ (z : Known × g.row.S.Denot). (history : List Entry) × IsWhole g.S.Stands.stands z.0 history z.1) (λ i. (placed.known i, same i)) found.2
+    subst (λ (z : Known × g.row.S.Denot). (history : List Entry) × HasWholeHistory g.S.Stands.stands z.0 history z.1) (λ i. (placed.known i, same i)) found.2
 
 pub returns-clause-faults : goal.returns-clause-faults
 returns-clause-faults g c =
