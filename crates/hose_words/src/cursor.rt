@@ -72,8 +72,11 @@ impl<'a> Cursor<'a> {
     pub fn next(&mut self) -> Option<&'a [u8]>
         ensures some { IfSome result (λ word. Took self.old self.new word.now) }
         ensures none { IfNone result (self.old.left ≡ []) }
+        ensures stays { IfNone result (self.new ≡ self.old) }
     {
-        let word = self.words.next()?;
+        let Some(word) = self.words.next() else {
+            return None;
+        };
         self.read += 1;
         Some(word)
     }
@@ -185,6 +188,7 @@ impl<'a> Cursor<'a> {
     /// Makes sure that no word is to come.
     pub fn finish(&mut self) -> Result<(), WrongWord>
         ensures ok { OnOk result (self.old.left ≡ []) }
+        ensures stays { OnOk result (self.new ≡ self.old) }
         ensures wrong { IfErr result (λ wrong. IsWrong finish self.old wrong.number) }
     {
         let wrong = self.wrong();
