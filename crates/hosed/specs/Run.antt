@@ -1,5 +1,5 @@
 -- A run from its first byte to its last.
-use Rattle.std.specs.Prelude.{◌≡◌, ℕ, ◌^◌, ◌≤◌, List, [], ◌∷◌, ◌++◌, length, Option, None, Some, take}
+use Rattle.std.specs.Prelude.{◌≡◌, ℕ, ◌≤◌, List, [], ◌∷◌, ◌++◌, length, Option, None, Some, take}
 use Rattle.hose_io.specs.Stream.{Stream, Grows}
 use Rattle.hose_words.specs.Lines.{StopsAfterLines}
 use Rattle.hose_words.specs.declared.lines.LineFault.{LineFault}

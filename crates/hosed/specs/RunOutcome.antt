@@ -1,5 +1,5 @@
 -- What stands after `run`, by what ended it.
-use Rattle.std.specs.Prelude.{◌≡◌, ◌⊎◌, ◌↔◌, ℕ, ◌+◌, ◌^◌, ◌<◌, ◌≤◌, List, length, Result, Ok, Err, ⊤}
+use Rattle.std.specs.Prelude.{◌≡◌, ◌⊎◌, ◌↔◌, ℕ, ◌+◌, ◌<◌, ◌≤◌, List, length, Result, Ok, Err, ⊤}
 use Rattle.hose_io.specs.Frame.{Rose}
 use Rattle.hose_io.specs.Stream.{Gives}
 use Rattle.hose_io.specs.declared.source.Source.{Ghosts as SourceGhosts}

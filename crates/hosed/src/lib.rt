@@ -9,12 +9,12 @@
 //! ```
 #![tactic(auto)]
 
-ghost use Rattle.std.specs.Prelude.{◌≡◌, ◌↔◌, map};
+ghost use Rattle.std.specs.Prelude.{◌≡◌, ◌↔◌, ℕ, map};
 ghost use Rattle.std.specs.String.{string_bytes};
 ghost use Rattle.hose_io.specs.Frame.{Stays};
 ghost use Rattle.hosed.specs.Ending.{IsLastLine, IsOut, status_of_done};
 ghost use Rattle.hosed.specs.Fault.{last_line};
-ghost use Rattle.hosed.specs.ProgramWords.{AreRunWords, first_wrong};
+ghost use Rattle.hosed.specs.ProgramWords.{AreRunWords, IsFirstWrong};
 ghost use Rattle.hosed.specs.RunOutcome.{RunOutcome};
 
 mod fault;
@@ -43,8 +43,8 @@ pub fn hosed<I: Source, O: Sink>(
     // Wrong words take nothing of the input, and the last line tells the first of them.
     ensures words { (result ≡ 1) ↔ (¬ AreRunWords (map string_bytes words.now)) }
     ensures wrong_words { result ≡ 1 → (input.new ≡ input.old)
-        × IsOut O.Sink output.old output.new
-        (last_line (Fault.Words (first_wrong (map string_bytes words.now)))) }
+        × ((word : ℕ) × IsFirstWrong (map string_bytes words.now) word
+        × IsOut O.Sink output.old output.new (last_line (Fault.Words word))) }
 
     ensures run { AreRunWords (map string_bytes words.now)
         → RunOutcome I.Source O.Sink input.old input.new output.old output.new result }

@@ -1,10 +1,10 @@
 // What the program's words choose: a text about itself, or the server.
-ghost use Rattle.std.specs.Prelude.{◌≡◌, map};
+ghost use Rattle.std.specs.Prelude.{◌≡◌, ℕ, map};
 ghost use Rattle.std.specs.String.{string_bytes};
 ghost use Rattle.hose_io.specs.Frame.{Stays};
 ghost use Rattle.hosed.specs.Ending.{IsOut};
 ghost use Rattle.hosed.specs.Fault.{last_line};
-ghost use Rattle.hosed.specs.ProgramWords.{AreRunWords, first_wrong};
+ghost use Rattle.hosed.specs.ProgramWords.{AreRunWords, IsFirstWrong};
 ghost use Rattle.hosed.specs.RunOutcome.{RunOutcome};
 ghost use Rattle.hosed.specs.declared.fault.Fault.TheVariants as fault;
 ghost use Rattle.hosed_main.specs.Asked.{asked_of};
@@ -40,8 +40,9 @@ pub fn program<I: Source, O: Sink>(
         → RunOutcome I.Source O.Sink input.old input.new output.old output.new result }
     ensures wrong_words { asked_of (map string_bytes words.now) ≡ Asked.Service
         → ¬ AreRunWords (map string_bytes words.now)
-        → (result ≡ 1) × (input.new ≡ input.old) × IsOut O.Sink output.old output.new
-        (last_line (fault.Words (first_wrong (map string_bytes words.now)))) }
+        → (result ≡ 1) × (input.new ≡ input.old)
+        × ((word : ℕ) × IsFirstWrong (map string_bytes words.now) word
+        × IsOut O.Sink output.old output.new (last_line (fault.Words word))) }
 
     ensures input { Stays (I.frame input.old) (I.frame input.new) }
     ensures output { Stays (O.frame output.old) (O.frame output.new) }
