@@ -1,19 +1,10 @@
 //! The program `hosed`: it hands its words and its standard streams on, and ends with the status
 //! that comes of them. As in `cat demo/star.txt demo/star_script.txt | ./hosed run`.
-//!
-//! `words.rt` reads the words, `program.rt` has what they choose, and `texts.rt` the texts of
-//! `--help` and `--version`. All else is the server's one call, in the crate `hosed`.
 #![tactic(auto)]
 
-mod program;
-mod texts;
-mod words;
-
 use hose_io::{StdSink, StdSource};
-use program::{no_memory, program};
+use hosed_program::{USAGE, no_memory, program, program_words};
 use std::process::ExitCode;
-use texts::USAGE;
-use words::program_words;
 
 // The status of words that are not allowed.
 const WRONG_WORDS: u8 = 1;

@@ -1,8 +1,8 @@
-//! Runs the server on cases that are written down in files, and tells where it does not do what
+//! Runs the program on cases that are written down in files, and tells where it does not do what
 //! they say.
 //!
 //! The folder in which it runs holds the files; `data/README.md` describes them. Each case is one
-//! call of `hosed::hosed` over streams in memory. What is printed is compared with the file
+//! call of `hosed_program::program` over streams in memory. What is printed is compared with the file
 //! `stdout` of this crate.
 #![tactic(auto)]
 

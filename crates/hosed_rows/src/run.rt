@@ -2,7 +2,7 @@
 use crate::case::Case;
 use crate::streams::{LongSource, NarrowSink};
 use hose_io::{MemSink, MemSource};
-use hosed::hosed;
+use hosed_program::program;
 use std::alloc::{AllocError, Global};
 
 /// What came of a case.
@@ -14,11 +14,11 @@ pub struct Outcome {
     pub taken: u64,
 }
 
-/// Runs the server as the case says.
+/// Runs the program as the case says.
 pub fn run_case(alloc: Global, case: &Case) -> Result<Outcome, AllocError> {
     let mut input = source_of(alloc, case)?;
     let mut output = sink_of(alloc, case)?;
-    let status = hosed(alloc, &case.words, &mut input, &mut output);
+    let status = program(alloc, &case.words, &mut input, &mut output);
     let taken = input.taken();
     Ok(Outcome {
         status,

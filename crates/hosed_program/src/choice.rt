@@ -7,8 +7,8 @@ ghost use Rattle.hosed.specs.Fault.{last_line};
 ghost use Rattle.hosed.specs.ProgramWords.{AreRunWords, IsFirstWrong};
 ghost use Rattle.hosed.specs.RunOutcome.{RunOutcome};
 ghost use Rattle.hosed.specs.declared.fault.Fault.TheVariants as fault;
-ghost use Rattle.hosed_main.specs.Asked.{asked_of};
-ghost use Rattle.hosed_main.specs.Told.{IsTold};
+ghost use Rattle.hosed_program.specs.Asked.{asked_of};
+ghost use Rattle.hosed_program.specs.Told.{IsTold};
 
 use crate::texts::{HELP, VERSION};
 use hose_io::{Sink, Source, write_all};

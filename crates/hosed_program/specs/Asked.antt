@@ -1,8 +1,8 @@
 -- What the program's words ask for.
 use Rattle.std.specs.Prelude.{ℕ, List, [], ◌∷◌, codes, if◌then◌else◌}
 use Rattle.std.specs.Str.{bytes_eq}
-use Rattle.hosed_main.specs.declared.program.Asked.{Asked}
-use Rattle.hosed_main.specs.declared.program.Asked.TheVariants.{Help, Version, Service}
+use Rattle.hosed_program.specs.declared.choice.Asked.{Asked}
+use Rattle.hosed_program.specs.declared.choice.Asked.TheVariants.{Help, Version, Service}
 
 -- `--help` alone, `--version` alone, or anything else
 abbrev pub asked_of : List (List ℕ) → Asked
