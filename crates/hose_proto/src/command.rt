@@ -61,6 +61,13 @@ pub fn read_command_at(
     ensures memory { result ≡ Err ReadFault.Memory
         → IsFirst (IsChoice TakesMemory verb_word) words.old.left }
     ensures nodes { IfOk result (AsksOf top.now) }
+
+    // Whatever is answered, these words ask for one command at most, and where they ask for one,
+    // none of them is wrong.
+    ensures alone { (command other : Command) → IsCommand top.now words.old.left command
+        → IsCommand top.now words.old.left other → command ≡ other }
+    ensures never_wrong { (command : Command) (word : ℕ) → IsCommand top.now words.old.left command
+        → IsFirstNotAllowed (command_grammar top.now) [] words.old.left word → ⊥ }
 {
     // The call tells the proof what holds of each network: that no two nodes have one name.
     let _nodes = top.nodes();

@@ -113,10 +113,11 @@ module _ {S : Type 0} (source : Ghosts S) where
   ended old now new count was next has (Err fault, given, takes) = absurd takes
 
   pub ended_alone : (old now new : Reader S) (count : ℕ) (was next : Network) → HasRead old now count was → TakesNext source now new (Ok End) was next
-      → WhereTold (source.content old.source) (source.content new.source) (λ before _. (other : Network) (rest : List ℕ) → IsTopologyText (old.pending ++ before) other rest → other ≡ next)
+      → WhereTold (source.content old.source) (source.content new.source) (λ before after. (other : Network) (rest : List ℕ) → IsTopologyText (old.pending ++ before) other rest
+      → (other ≡ next) × (rest ≡ new.pending ++ after))
   ended_alone old now new count was next has takes =
       WhereTold-map (source.content old.source) (source.content new.source) _ _ (ended old now new count was next has takes)
-      (λ before after text other rest there. (topology_unique (old.pending ++ before) other next rest (new.pending ++ after) there text).0)
+      (λ before after text other rest there. topology_unique (old.pending ++ before) other next rest (new.pending ++ after) there text)
 
   -- the reader met a fault after lines that add to a network
   pub stopped : (old now new : Reader S) (count : ℕ) (was next : Network) (fault : LineFault) → HasRead old now count was → TakesNext source now new (Err fault) was next → old.fault ≡ None

@@ -23,9 +23,10 @@ pub fn read<S: Source>(alloc: Global, lines: &mut LineReader<S>) -> Result<Topol
     ensures topology { WhereTold (S.content lines.old.source) (S.content lines.new.source)
         (λ before after. IfOk result (λ top.
         IsTopologyText (lines.old.pending ++ before) top (lines.new.pending ++ after))) }
-    ensures alone { WhereTold (S.content lines.old.source) (S.content lines.new.source) (λ before _.
-        IfOk result (λ top. (other : Network) (rest : List ℕ)
-        → IsTopologyText (lines.old.pending ++ before) other rest → other ≡ top)) }
+    ensures alone { WhereTold (S.content lines.old.source) (S.content lines.new.source)
+        (λ before after. IfOk result (λ top. (other : Network) (rest : List ℕ)
+        → IsTopologyText (lines.old.pending ++ before) other rest
+        → (other ≡ top) × (rest ≡ lines.new.pending ++ after))) }
     ensures network { IfOk result IsNetwork }
     ensures some { IfOk result (λ top. 0 < length top.nodes) }
 

@@ -17,14 +17,14 @@ use Rattle.hose_io.specs.declared.sink.Sink.{Ghosts as SinkGhosts}
 use Rattle.hosed.specs.RunOutcome.{RunLeaves}
 use Rattle.hosed.specs.Fault.{of_topology}
 use Rattle.hosed.specs.Run.{HasRun, IsCutOff, IsRun, IsRunUpTo, TellsNoNetwork}
-use Rattle.hosed.specs.Serving.{CutsLast, IsAllTaken, IsLeftOver, SayLines, Serves, ServesUntil, ServesUpTo, texts_of}
+use Rattle.hosed.specs.Serving.{CutsLast, IsAllTaken, IsLeftOver, SayLines, SayOneThingEach, Serves, ServesUntil, ServesUpTo, texts_of}
 use Rattle.hose_topo.specs.Reading.{fault_of, KeepsFault, StopsInTopology}
 use Rattle.hose_topo.specs.TopologyText.{IsTopologyText, IsWrongAt}
 use Rattle.hosed.specs.declared.fault.Fault.{Fault}
 use Rattle.hosed.specs.declared.fault.Fault.TheVariants as fault
 use Rattle.hose_topo.specs.declared.fault.TopoFault.{TopoFault}
 use Rattle.hose_topo.specs.declared.fault.TopoFault.TheVariants.{At, Read, TooLong, Memory}
-use Rattle.hosed.proofs.OneRun.{right_alone}
+use Rattle.hosed.proofs.OneRun.{OneInput, OneText, right_alone}
 
 -- reading stopped inside the topology
 pub stopped_told : {S : Type 0} (source : Ghosts S) (start last : Reader S) (fault : LineFault) → start.pending ≡ []
@@ -73,15 +73,17 @@ has_run source start middle last network stops puts empty text reads joins serve
 
 -- up to the end of the input
 pub run_of : (old new : Option Stream) (network : Network) (lines : List ReadLine) (replies : List Reply) (before after : Option (List ℕ)) → IsNetwork network
-    → HasRun old new network lines replies IsAllTaken → Grows before after (texts_of network replies) → IsRun old new before after
-run_of old new network lines replies before after is run out = record {
+    → WhereTold old new (λ input _. OneInput input network) → HasRun old new network lines replies IsAllTaken → Grows before after (texts_of network replies) → IsRun old new before after
+run_of old new network lines replies before after is one run out = record {
   network = network;
   lines = lines;
   replies = replies;
   run = run;
   out = out;
-  alone = λ without. WhereTold-map old new _ _ run.text
-      (λ input left text output right. right_alone network input text.0 output lines replies run.history is text.2
+  alone = λ without. WhereTold-map old new _ _ (WhereTold-both old new _ _ one run.text)
+      (λ input left both output right.
+      let text = both.1 in
+      right_alone network input text.0 output lines replies run.history is both.0 text.2
       (subst (SayLines network text.0 lines) text.4.0 text.3) run.script without right);
 }
 
@@ -121,6 +123,7 @@ leaves_topology {S = S} T source sink start last output Memory wrong stopped rea
 -- where a topology was read, and then lines were answered
 module _ {S O : Type 0} (source : Ghosts S) (sink : SinkGhosts O) (start middle last : Reader S) (network : Network) (output output' : O) (is : IsNetwork network) (empty : start.pending ≡ [])
     (text : WhereTold (source.content start.source) (source.content middle.source) (λ input left. IsTopologyText (start.pending ++ input) network (middle.pending ++ left)))
+    (one : WhereTold (source.content start.source) (source.content middle.source) (λ input left. OneText (start.pending ++ input) network (middle.pending ++ left)))
     (reads : ReadsOn source start middle) (none : middle.fault ≡ None) (more : ReadsOn source middle last) where
   held_before : source.frame middle.source ≡ source.frame start.source
   held_before = reads.unfailed (λ read. absurd (cc (none, read)))
@@ -131,6 +134,16 @@ module _ {S O : Type 0} (source : Ghosts S) (sink : SinkGhosts O) (start middle 
   -- where `stops` says nothing of the text before
   whatever_before : (stops : List ℕ → List ℕ → Type 0) → WhereTold (source.content start.source) (source.content middle.source) (λ _ _. (behind rest : List ℕ) → stops behind rest → stops behind rest)
   whatever_before stops = WhereTold-map (source.content start.source) (source.content middle.source) _ _ text (λ _ _ _ _ _ same. same)
+
+  -- each line after the topology says one thing
+  one_input : WhereTold (source.content middle.source) (source.content last.source) (λ was _. SayOneThingEach network (middle.pending ++ was) [])
+      → WhereTold (source.content start.source) (source.content last.source) (λ input _. OneInput input network)
+  one_input each = WhereTold-then (source.content start.source) (source.content middle.source) (source.content last.source) reads.takes.0 _ _ _ reads.takes.1 one each
+      (λ a b c alone lines. record {
+        rest = middle.pending ++ b;
+        text = subst (λ (p : List ℕ). OneText (p ++ a) network (middle.pending ++ b)) empty alone;
+        lines = lines;
+      })
 
   run_until : (fault : LineFault) → ServesUntil source sink middle last output output' network fault
       → IsRunUpTo fault (source.content start.source) (source.content last.source) (sink.content output) (sink.content output')
@@ -149,7 +162,7 @@ module _ {S O : Type 0} (source : Ghosts S) (sink : SinkGhosts O) (start middle 
 
   pub leaves_served : {T : Type 0} (done : Result T Fault) → Serves source sink middle last output output' network done → RunLeaves source sink start.source last.source output output' done
   leaves_served (Ok value) served = (
-    run_of (source.content start.source) (source.content last.source) network served.0.lines served.0.replies (sink.content output) (sink.content output') is
+    run_of (source.content start.source) (source.content last.source) network served.0.lines served.0.replies (sink.content output) (sink.content output') is (one_input served.3)
         (has_run source start middle last network IsAllTaken _ empty text reads (whatever_before (IsAllTaken [])) served.0) served.0.out,
     held_over (λ read. absurd (cc (served.1, read))),
     served.2,

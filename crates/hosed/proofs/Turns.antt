@@ -7,7 +7,7 @@ use Rattle.std.proofs.lemmas.Grind.{flat_map-append}
 use Rattle.hose_io.specs.Stream.{Stream, Grows}
 use Rattle.hose_io.proofs.Streams.{Grows-nil, Grows-append}
 use Rattle.hose_io.specs.Writing.{GrowsInPart}
-use Rattle.hose_words.proofs.OnReading.{WhereTold-both, WhereTold-map, WhereTold-then}
+use Rattle.hose_words.proofs.OnReading.{WhereTold-both, WhereTold-map, WhereTold-same, WhereTold-then}
 use Rattle.hose_io.specs.declared.source.Source.{Ghosts}
 use Rattle.hose_io.specs.declared.sink.Sink.{Ghosts as SinkGhosts}
 use Rattle.hose_words.specs.declared.lines.LineFault.TheVariants as line_fault
@@ -36,7 +36,7 @@ use Rattle.hose_proto.specs.ReplyText.{line_of, reply_text}
 use Rattle.hose_io.specs.Frame.{Rose}
 use Rattle.hosed.specs.Fault.{of_line}
 use Rattle.hosed.specs.Ledger.{Ledger, book_with}
-use Rattle.hosed.specs.Serving.{Says, SaysRead, SayLines, no_line, one_more, AnswersLine, AreAnswered, CutsLast, HasServed, IsAllTaken, IsLeftOver, IsOver, StopsReading, Serves, ServesLine, ServesUntil, ServesUpTo, TakesTurn, texts_of}
+use Rattle.hosed.specs.Serving.{Says, SaysOneThing, SaysRead, SayLines, no_line, one_more, SayOneThingEach, none_yet, line_more, AnswersLine, AreAnswered, CutsLast, HasServed, IsAllTaken, IsLeftOver, IsOver, StopsReading, Serves, ServesLine, ServesUntil, ServesUpTo, TakesTurn, texts_of}
 
 -- what a reader shows of a line says what the line says
 pub says_shown : (network : Network) (shown : Line) (bytes : List ℕ) (said : ReadLine) → Shows shown bytes → SaysRead network shown said → Says network bytes said
@@ -50,28 +50,33 @@ says_shown network line.Long bytes (IsBad word) shows says = absurd says
 says_shown network line.Long bytes IsLong shows says = shows
 says_shown network line.Long bytes Unread shows says = absurd says
 
--- the next line of a reader says what is read from it
+-- the next line of a reader says what is read from it, and nothing else
 line_said : {S : Type 0} (source : Ghosts S) (old new : Reader S) (network : Network) (shown : Line) (said : ReadLine) → IsNext source old new (Ok (Some shown)) → SaysRead network shown said
+    → ((bytes : List ℕ) → Shows shown bytes → SaysOneThing network bytes)
     → WhereTold (source.content old.source) (source.content new.source) (λ was now. (old.pending ++ was ≢ [])
-    × Says network (before_first is_line_feed (old.pending ++ was)) said × (new.pending ++ now ≡ after_first is_line_feed (old.pending ++ was)))
-line_said source old new network shown said next says = at (source.content old.source) (source.content new.source) (next.answer next.fault.0)
+    × Says network (before_first is_line_feed (old.pending ++ was)) said × SaysOneThing network (before_first is_line_feed (old.pending ++ was))
+    × (new.pending ++ now ≡ after_first is_line_feed (old.pending ++ was)))
+line_said source old new network shown said next says alone = at (source.content old.source) (source.content new.source) (next.answer next.fault.0)
   where
     at : (before after : Option Stream)
         → IfSome before (λ b. IfSome after (λ a. GivesLine (Some shown) (old.pending ++ b.left) (new.pending ++ a.left)))
         → WhereTold before after (λ was now. (old.pending ++ was ≢ [])
-        × Says network (before_first is_line_feed (old.pending ++ was)) said × (new.pending ++ now ≡ after_first is_line_feed (old.pending ++ was)))
+        × Says network (before_first is_line_feed (old.pending ++ was)) said × SaysOneThing network (before_first is_line_feed (old.pending ++ was))
+        × (new.pending ++ now ≡ after_first is_line_feed (old.pending ++ was)))
     at None after gives = tt
     at (Some b) None gives = tt
-    at (Some b) (Some a) gives = (gives.0, says_shown network shown (before_first is_line_feed (old.pending ++ b.left)) said gives.1 says, gives.2)
+    at (Some b) (Some a) gives =
+        let line = before_first is_line_feed (old.pending ++ b.left) in
+        (gives.0, says_shown network shown line said gives.1 says, alone line gives.1, gives.2)
 
 -- a line that was read, and answered, makes a turn
 pub turn_of : {S : Type 0} (source : Ghosts S) (old new : Reader S) (ledger : Ledger) (shown : Line) (reply : Reply) (book : Book) (network : Network) (puts : List ℕ → Type 0)
     → IsNext source old new (Ok (Some shown)) → (said : ReadLine) × SaysRead ledger.network shown said × AnswersLine ledger said reply book
-    → network ≡ ledger.network → puts (line_of (reply_text network reply)) → TakesTurn source old new ledger book puts
-turn_of source old new ledger shown reply book network puts next answers same out = record {
+    → ((bytes : List ℕ) → Shows shown bytes → SaysOneThing ledger.network bytes) → network ≡ ledger.network → puts (line_of (reply_text network reply)) → TakesTurn source old new ledger book puts
+turn_of source old new ledger shown reply book network puts next answers alone same out = record {
   said = answers.0;
   reply = reply;
-  line = line_said source old new ledger.network shown answers.0 next answers.1;
+  line = line_said source old new ledger.network shown answers.0 next answers.1 alone;
   answers = answers.2;
   out = subst (λ (n : Network). puts (line_of (reply_text n reply))) same out;
   progress = next.progress;
@@ -175,6 +180,7 @@ nothing_served source reader network content = record {
   lines = [];
   replies = [];
   said = at (source.content reader.source);
+  alone = WhereTold-same (source.content reader.source) _ (λ left. none_yet);
   answered = record { history = []; script = refl; decided = record { sound = tt; decided = tt }; is_book = refl };
   out = Grows-nil content;
 }
@@ -193,7 +199,7 @@ module _ {S : Type 0} (source : Ghosts S) (start now new : Reader S) (network : 
       → WhereTold (source.content start.source) (source.content new.source) (λ was left. SayLines network (start.pending ++ was) (served.lines ++ turn.said ∷ []) (new.pending ++ left))
   said_more puts served reads turn =
       WhereTold-then (source.content start.source) (source.content now.source) (source.content new.source) reads.takes.0 _ _ _ reads.takes.1 served.said turn.line
-      (λ a b c before here. subst (SayLines network (start.pending ++ a) (served.lines ++ turn.said ∷ [])) (sym here.2) (one_more turn.said before here.0 here.1))
+      (λ a b c before here. subst (SayLines network (start.pending ++ a) (served.lines ++ turn.said ∷ [])) (sym here.3) (one_more turn.said before here.0 here.1))
 
   -- a turn more is served
   pub served_more : HasServed source start now network book first middle → ReadsOn source start now
@@ -202,6 +208,8 @@ module _ {S : Type 0} (source : Ghosts S) (start now new : Reader S) (network : 
     lines = served.lines ++ turn.said ∷ [];
     replies = served.replies ++ turn.reply ∷ [];
     said = said_more (Grows middle last) served reads turn;
+    alone = WhereTold-then (source.content start.source) (source.content now.source) (source.content new.source) reads.takes.0 _ _ _ reads.takes.1 served.alone turn.line
+        (λ a b c before here. subst (SayOneThingEach network (start.pending ++ a)) (sym here.3) (line_more before here.0 here.2));
     answered = answered_more network served.lines served.replies book next turn.said turn.reply served.answered turn.answers;
     out = subst (Grows first last) (sym (texts_more network served.replies turn.reply))
         (Grows-append first middle last (texts_of network served.replies) (line_of (reply_text network turn.reply)) served.out turn.out);
@@ -291,4 +299,6 @@ module _ {S O : Type 0} (source : Ghosts S) (sink : SinkGhosts O) (start now new
     served_over source start now new network book next (sink.content first) (sink.content middle) (sink.content last) (record { network = network; book = book }) served reads line.0 (ap sink.content line.2),
     line.1,
     ap sink.frame line.2 ∙ held,
+    WhereTold-then (source.content start.source) (source.content now.source) (source.content new.source) reads.takes.0 _ _ _ reads.takes.1 served.alone line.0.ended
+        (λ a b c each over. subst (SayOneThingEach network (start.pending ++ a)) over.0 each),
   )

@@ -55,6 +55,11 @@ abbrev pub IsRead : ReadLine → Type 0
 IsRead Unread = ⊥
 IsRead _ = ⊤
 
+-- but for being left unread, the line says one thing at most
+abbrev pub SaysOneThing : Network → List ℕ → Type 0
+SaysOneThing network bytes = (one other : ReadLine) → Says network bytes one
+    → Says network bytes other → IsRead one → IsRead other → one ≡ other
+
 -- the lines at the front of a text say this, one after the other, and the rest of the text is left
 pub data SayLines (network : Network) : List ℕ → List ReadLine → List ℕ → Type 0 where
   no_line : {text : List ℕ} → SayLines network text [] text
@@ -62,6 +67,13 @@ pub data SayLines (network : Network) : List ℕ → List ReadLine → List ℕ 
       → SayLines network text lines rest → rest ≢ []
       → Says network (before_first is_line_feed rest) line
       → SayLines network text (lines ++ line ∷ []) (after_first is_line_feed rest)
+
+-- each line between the start of a text and this rest of it says one thing
+pub data SayOneThingEach (network : Network) : List ℕ → List ℕ → Type 0 where
+  none_yet : {text : List ℕ} → SayOneThingEach network text text
+  line_more : {text rest : List ℕ} → SayOneThingEach network text rest → rest ≢ []
+      → SaysOneThing network (before_first is_line_feed rest)
+      → SayOneThingEach network text (after_first is_line_feed rest)
 
 -- The ledger answered a line: a command with its answer, and any other line with the reply that
 -- stands for it, which changes nothing.
@@ -84,8 +96,8 @@ pub record AreAnswered (network : Network) (lines : List ReadLine) (replies : Li
   pub decided : IsDecided network 0 0 history
   pub is_book : book ≡ book_of 0 history
 
--- A turn: the first line that was to come was read and answered. `puts` says how much is out of the
--- line of its reply.
+-- A turn: the first line that was to come was read and answered, and it says one thing. `puts` says
+-- how much is out of the line of its reply.
 pub record TakesTurn {S : Type 0} (source : Ghosts S) (old new : Reader S) (ledger : Ledger)
     (book : Book) (puts : List ℕ → Type 0) : Type 0 where
   pub said : ReadLine
@@ -93,6 +105,7 @@ pub record TakesTurn {S : Type 0} (source : Ghosts S) (old new : Reader S) (ledg
   pub line : WhereTold (source.content old.source) (source.content new.source) (λ was now.
       (old.pending ++ was ≢ [])
       × Says ledger.network (before_first is_line_feed (old.pending ++ was)) said
+      × SaysOneThing ledger.network (before_first is_line_feed (old.pending ++ was))
       × (new.pending ++ now ≡ after_first is_line_feed (old.pending ++ was)))
   pub answers : AnswersLine ledger said reply book
   pub out : puts (line_of (reply_text ledger.network reply))
@@ -133,13 +146,15 @@ ServesLine source sink old new output output' ledger book (Err fault.Write) =
 ServesLine source sink old new output output' ledger book (Err _) = ⊥
 
 -- Turns from the empty history on: lines that were to come were read and answered, each by a reply
--- that is out.
+-- that is out, and each says one thing.
 pub record HasServed {S : Type 0} (source : Ghosts S) (start now : Reader S) (network : Network)
     (book : Book) (before after : Option (List ℕ)) : Type 0 where
   pub lines : List ReadLine
   pub replies : List Reply
   pub said : WhereTold (source.content start.source) (source.content now.source) (λ was left.
       SayLines network (start.pending ++ was) lines (now.pending ++ left))
+  pub alone : WhereTold (source.content start.source) (source.content now.source) (λ was left.
+      SayOneThingEach network (start.pending ++ was) (now.pending ++ left))
   pub answered : AreAnswered network lines replies book
   pub out : Grows before after (texts_of network replies)
 
@@ -181,14 +196,16 @@ pub record ServesUntil {S O : Type 0} (source : Ghosts S) (sink : SinkGhosts O)
   pub kept : last.fault ≡ Some fault
   pub held : sink.frame output' ≡ sink.frame output
 
--- What answering all lines comes to: each has its reply, and no more is to come; or reading met a
--- fault, or the output failed in a reply.
+-- What answering all lines comes to: each has its reply and says one thing, and no more is to come;
+-- or reading met a fault, or the output failed in a reply.
 abbrev pub Serves : {S O T : Type 0} → Ghosts S → SinkGhosts O → Reader S → Reader S → O → O
     → Network → Result T Fault → Type 0
 Serves source sink start last output output' network (Ok _) =
     ServesUpTo source start last network IsAllTaken
     (λ replies. Grows (sink.content output) (sink.content output') (texts_of network replies))
     × (last.fault ≡ None) × (sink.frame output' ≡ sink.frame output)
+    × WhereTold (source.content start.source) (source.content last.source) (λ was _.
+    SayOneThingEach network (start.pending ++ was) [])
 Serves source sink start last output output' network (Err fault.Read) =
     ServesUntil source sink start last output output' network line_fault.Read
     × Rose (source.frame start.source) (source.frame last.source)

@@ -4,10 +4,11 @@ ghost use Rattle.hose_io.specs.Frame.{Stays};
 ghost use Rattle.hose_io.specs.Stream.{Gives};
 ghost use Rattle.hose_law.specs.History.{opening_book};
 ghost use Rattle.hose_law.specs.Script.{ReadLine};
+ghost use Rattle.hose_words.specs.Lines.{Shows};
 ghost use Rattle.hose_words.specs.Reading.{ReadsOn};
 ghost use Rattle.hose_proto.specs.ReplyText.{NamesPlaces};
 ghost use Rattle.hosed.specs.RunOutcome.{RunLeaves};
-ghost use Rattle.hosed.specs.Serving.{SaysRead, AnswersLine, Serves, ServesLine};
+ghost use Rattle.hosed.specs.Serving.{SaysOneThing, SaysRead, AnswersLine, Serves, ServesLine};
 
 use crate::fault::Fault;
 use crate::ledger::Ledger;
@@ -107,6 +108,9 @@ fn answer(alloc: Global, ledger: &mut Ledger, line: Line<'_>) -> Reply
     ensures names { NamesPlaces ledger.old.network result }
     ensures answers { (said : ReadLine) × SaysRead ledger.old.network line.entry said
         × AnswersLine ledger.old said result ledger.new.book }
+    // The line, whatever its bytes are, could not have been read as another thing.
+    ensures alone { (bytes : List ℕ) → Shows line.entry bytes
+        → SaysOneThing ledger.old.network bytes }
 {
     let Line::Text(text) = line else {
         return Reply::Long;

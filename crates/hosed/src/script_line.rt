@@ -6,6 +6,7 @@ ghost use Rattle.hose_words.specs.Words.{words_of};
 ghost use Rattle.hose_graph.specs.Name.{IsName};
 ghost use Rattle.hose_proto.specs.Reading.{AsksOf};
 ghost use Rattle.hosed.specs.ScriptLine.{IsAsking, WantsMemory, script_grammar};
+ghost use Rattle.hosed.specs.Serving.{SaysOneThing};
 
 use hose_graph::{Command, Name, Topology};
 use hose_proto::{ReadFault, read_command_at};
@@ -19,6 +20,9 @@ pub fn read_line(alloc: Global, top: &Topology, line: &[u8]) -> Result<(Name, Co
     ensures bad { (word : ℕ) → result ≡ Err (ReadFault.Bad word)
         → IsFirstNotAllowed (script_grammar top.now) [] (words_of line.now) word }
     ensures memory { result ≡ Err ReadFault.Memory → WantsMemory (words_of line.now) }
+
+    // Whatever is answered, the line could not have been read as another thing.
+    ensures alone { SaysOneThing top.now line.now }
 {
     let mut words = Cursor::new(line);
     let customer = read_name(&mut words)?;

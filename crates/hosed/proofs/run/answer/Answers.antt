@@ -7,6 +7,7 @@ use Rattle.hose_law.specs.Script.{ReadLine}
 use Rattle.hose_law.specs.Script.ReadLine.{Asks, IsBad}
 use Rattle.hosed.specs.ScriptLine.{IsAsking, script_grammar}
 use Rattle.hosed.specs.Serving.{SaysRead}
+use Rattle.hosed.proofs.OneReading.{text_alone}
 use Rattle.hosed.proofs.run.answer.Goals as goal
 
 pub returns-in-Ok-clause-answers : goal.returns-in-Ok-clause-answers
@@ -25,3 +26,15 @@ returns-in-Err-Bad-clause-answers c =
     subst (λ (n : Network). IsFirstNotAllowed (script_grammar n) _ (words_of c.in-Text.text.now) word) c.topology.ensures.value
     (c.read_line.ensures.bad word (c.in-Err-Bad.is ∙ ap Err c.in-Err-Bad.field-0-is)) in
     (IsBad word, subst (λ (l : Line). SaysRead network l (IsBad word)) (sym c.in-Text.is) wrong, (search rules, refl))
+
+pub returns-in-Ok-clause-alone : goal.returns-in-Ok-clause-alone
+returns-in-Ok-clause-alone c =
+    text_alone c.topology.result.now c.args.ledger.now.network c.in-Text.text c.args.line c.topology.ensures.value c.in-Text.is c.read_line.ensures.alone
+
+pub returns-in-Err-Bad-clause-alone : goal.returns-in-Err-Bad-clause-alone
+returns-in-Err-Bad-clause-alone c =
+    text_alone c.topology.result.now c.args.ledger.now.network c.in-Text.text c.args.line c.topology.ensures.value c.in-Text.is c.read_line.ensures.alone
+
+pub returns-in-Err-Memory-clause-alone : goal.returns-in-Err-Memory-clause-alone
+returns-in-Err-Memory-clause-alone c =
+    text_alone c.topology.result.now c.args.ledger.now.network c.in-Text.text c.args.line c.topology.ensures.value c.in-Text.is c.read_line.ensures.alone

@@ -33,7 +33,7 @@ returns-clause-leaves g c =
     let network : c.in_ok-ledger.ledger.network ≡ topology = ap (λ (l : Ledger). l.network) c.in_ok-ledger.ensures in
     let serves = subst (λ (n : Network). Serves g.S.Source g.O.Sink c.read.new.lines c.serve.new.lines c.args.output.now c.serve.new.output n c.serve.result) network c.serve.ensures.serves in
     leaves_served g.S.Source g.O.Sink c.args.lines.now c.read.new.lines c.serve.new.lines topology c.args.output.now c.serve.new.output c.in_ok-topology.ensures.network c.requires.pending
-    c.in_ok-topology.ensures.topology c.read.ensures.reads_on c.in_ok-topology.ensures.fault.1 c.serve.ensures.reads_on c.serve.result serves
+    c.in_ok-topology.ensures.topology c.in_ok-topology.ensures.alone c.read.ensures.reads_on c.in_ok-topology.ensures.fault.1 c.serve.ensures.reads_on c.serve.result serves
 
 pub returns-clause-reads_on : goal.returns-clause-reads_on
 returns-clause-reads_on g c = ReadsOn-then g.S.Source c.args.lines.now c.read.new.lines c.serve.new.lines c.read.ensures.reads_on c.serve.ensures.reads_on

@@ -27,7 +27,7 @@ returns-in_err-put_reply-clause-serves g c =
     rw is (
       turn_of g.S.Source c.args.lines.now new c.args.ledger.now c.in-Some.line c.answer-reply.result c.answer-reply.new.ledger.book c.topology.result.now
           (GrowsInPart (g.O.Sink.content c.args.output.now) (g.O.Sink.content c.put_reply.new.sink)) next
-          c.answer-reply.ensures.answers (c.topology.ensures.value ∙ c.answer-reply.ensures.network) put.err,
+          c.answer-reply.ensures.answers c.answer-reply.ensures.alone (c.topology.ensures.value ∙ c.answer-reply.ensures.network) put.err,
       next.fault.1,
       put.met.failed refl,
     )
@@ -39,7 +39,7 @@ returns-clause-serves g c =
     let put = c.in_ok-put_reply.ensures.put in (
       turn_of g.S.Source c.args.lines.now new c.args.ledger.now c.in-Some.line c.answer-reply.result c.answer-reply.new.ledger.book c.topology.result.now
           (Grows (g.O.Sink.content c.args.output.now) (g.O.Sink.content c.put_reply.new.sink)) next
-          c.answer-reply.ensures.answers (c.topology.ensures.value ∙ c.answer-reply.ensures.network) put.ok,
+          c.answer-reply.ensures.answers c.answer-reply.ensures.alone (c.topology.ensures.value ∙ c.answer-reply.ensures.network) put.ok,
       next.fault.1,
       put.met.ok,
     )

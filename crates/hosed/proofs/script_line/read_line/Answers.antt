@@ -4,10 +4,12 @@ use Rattle.hose_words.specs.Cursor.{IsWrong, Position}
 use Rattle.hose_words.specs.Form.{IsChoice}
 use Rattle.hose_words.specs.Grammar.{IsFirst, IsFirstNotAllowed}
 use Rattle.hose_words.specs.Words.{words_of}
+use Rattle.hose_graph.specs.Name.{IsName}
 use Rattle.hose_words.proofs.Forms.{wrong_at_start, wrong_later, wrong_place}
 use Rattle.hose_proto.specs.Command.{TakesMemory, verb_word}
 use Rattle.hose_proto.specs.declared.fault.ReadFault.TheVariants.{Bad, Memory}
 use Rattle.hosed.specs.ScriptLine.{script_form, script_grammar}
+use Rattle.hosed.proofs.OneReading.{customer_alone, nameless_alone}
 use Rattle.hosed.proofs.script_line.read_line.Goals as goal
 
 pub returns-in_err-customer-clause-bad : goal.returns-in_err-customer-clause-bad
@@ -34,3 +36,22 @@ returns-in_err-command-clause-memory c = λ told.
     let cut : words_of c.args.line.now ≡ c.in_ok-customer.customer ∷ c.read_name.new.words.left =
     sym (ap (λ (position : Position). position.left) c.new-words.ensures) ∙ c.in_ok-customer.ensures.ok.cut in
     subst (λ (words : List (List ℕ)). IsFirst (IsChoice TakesMemory verb_word) (drop 1 words)) (sym cut) (c.in_err-command.ensures.memory (ap Err same))
+
+pub returns-in_err-customer-clause-alone : goal.returns-in_err-customer-clause-alone
+returns-in_err-customer-clause-alone c =
+    let left = ap (λ (position : Position). position.left) c.new-words.ensures in
+    nameless_alone c.args.top.now c.args.line.now (λ first. c.in_err-customer.ensures.wrong.none (subst (IsFirst IsName) (sym left) first))
+
+pub returns-in_err-command-clause-alone : goal.returns-in_err-command-clause-alone
+returns-in_err-command-clause-alone c =
+    let cut : words_of c.args.line.now ≡ c.in_ok-customer.customer ∷ c.read_name.new.words.left =
+    sym (ap (λ (position : Position). position.left) c.new-words.ensures) ∙ c.in_ok-customer.ensures.ok.cut in
+    customer_alone c.args.top.now c.args.line.now c.in_ok-customer.customer c.read_name.new.words.left cut
+    (record { alone = c.read_command_at.ensures.alone; never_wrong = c.read_command_at.ensures.never_wrong })
+
+pub returns-clause-alone : goal.returns-clause-alone
+returns-clause-alone c =
+    let cut : words_of c.args.line.now ≡ c.in_ok-customer.customer ∷ c.read_name.new.words.left =
+    sym (ap (λ (position : Position). position.left) c.new-words.ensures) ∙ c.in_ok-customer.ensures.ok.cut in
+    customer_alone c.args.top.now c.args.line.now c.in_ok-customer.customer c.read_name.new.words.left cut
+    (record { alone = c.read_command_at.ensures.alone; never_wrong = c.read_command_at.ensures.never_wrong })
