@@ -1,3 +1,4 @@
+// The lock with one history, over a list of entries that stands for itself.
 ghost use Rattle.std.specs.Prelude.{◌≡◌, ◌≤◌, ◌+◌, ◌∷◌, [], ◌++◌, length, IfOk, OnOk, OnErr};
 
 use hose_graph::{Entry, Name};
