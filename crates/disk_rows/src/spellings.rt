@@ -32,21 +32,20 @@ fn text(alloc: Global, entry: &Entry) -> Result<String, AllocError> {
     format!(in alloc; "{entry:?}")
 }
 
+// Whether the bytes are read as this entry, and what is read is spelled so.
+fn spells(alloc: Global, bytes: &[u8], entry: &Entry) -> Result<bool, Fail> {
+    let read = decode(alloc, bytes)?;
+    let is_same = text(alloc, &read)?.as_str() == text(alloc, entry)?.as_str();
+    Ok(is_same && encode(alloc, &read)?.as_slice() == bytes)
+}
+
 #[test]
 fn entries_are_spelled_and_read_again(rt: HostRuntime) -> Result<(), Fail> {
     let customer = Name::read(b"acme").ok_or("a name")?;
-    let table: [(Entry, &[u8]); 2] = [
-        (admission(rt.alloc(), customer)?, &ADMISSION),
-        (Entry::Release { customer, id: 1 }, &RELEASE),
-    ];
-    for (entry, spelling) in table {
-        let read = decode(rt.alloc(), spelling)?;
-        assert_eq!(rt; encode(rt.alloc(), &read)?.as_slice(), spelling);
-        assert_eq!(rt;
-            text(rt.alloc(), &read)?.as_str(),
-            text(rt.alloc(), &entry)?.as_str()
-        );
-    }
+    let admission = admission(rt.alloc(), customer)?;
+    let release = Entry::Release { customer, id: 1 };
+    assert!(rt; spells(rt.alloc(), &ADMISSION, &admission)?);
+    assert!(rt; spells(rt.alloc(), &RELEASE, &release)?);
     Ok(())
 }
 
