@@ -1,4 +1,4 @@
-//! Bytes at random beside the spelling of entries: those that are read as an entry are its spelling.
+//! Bytes at random beside the spelling of entries: what is read as an entry is its spelling.
 //!
 //! It prints that all are, or the first that are not. With the word `entries` it reads and spells a
 //! million entries instead, and with `copies` it copies as many spellings, so that `bench/codec.sh`
