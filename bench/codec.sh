@@ -1,0 +1,33 @@
+#!/usr/bin/env bash
+# Entries of three endpoints that are read and spelled again in a second, a million of them; and how
+# many times as long that takes as to copy their bytes.
+# usage: bench/codec.sh [PROGRAM]
+set -euo pipefail
+export LC_ALL=C
+cd "$(dirname "${BASH_SOURCE[0]}")/.."
+program=${1:-crates/codec_rows/out/codec_rows}
+# Where the program is not built yet, that is not part of a figure.
+[ -x "$program" ] || (cd crates/codec_rows && rt run >&2)
+
+python3 - "$program" <<'END'
+import subprocess
+import sys
+import time
+
+ENTRIES, RUNS = 1_000_000, 3
+
+
+def least_seconds(word):
+    seconds = []
+    for _ in range(RUNS):
+        start = time.perf_counter()
+        done = subprocess.run([sys.argv[1], word], check=True, capture_output=True, text=True)
+        seconds.append(time.perf_counter() - start)
+        assert done.stdout == f"{45 * ENTRIES} bytes\n", done.stdout
+    return min(seconds)
+
+
+entries, copies = least_seconds("entries"), least_seconds("copies")
+print(f"codec: {ENTRIES / entries:.0f} entries a second read and spelled, {entries:.2f} s")
+print(f"reference: {copies:.4f} s to copy their bytes, ratio {entries / copies:.2f}")
+END

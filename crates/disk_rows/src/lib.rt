@@ -1,0 +1,12 @@
+//! Rows on what a journal stands on: the spelling of entries, and disks that fail and stop.
+//!
+//! Spellings are written by hand, after the format. What a stop may leave is worked out by hand,
+//! and by a plain model that tries every content of a small disk.
+#![tactic(auto)]
+
+#[cfg(test)]
+mod disks;
+#[cfg(test)]
+mod images;
+#[cfg(test)]
+mod spellings;

@@ -1,0 +1,15 @@
+-- The log stands for its own list, since that list itself.
+use Rattle.std.proofs.Common.{refl, [], false}
+use Rattle.thread_rows.proofs.turn.locked.Goals as goal
+
+pub from_ticket-requires : goal.from_ticket-requires
+from_ticket-requires c = (
+  record {
+    first = 0;
+    since = c.args.log.entries.items;
+    network = record { nodes = []; links = [] };
+    opened = 0;
+    tells = false;
+  },
+  (refl, refl),
+)
