@@ -1,20 +1,28 @@
 -- What a customer's traffic may be: the hose model with one rate per endpoint, for both directions
--- together. No contract cites this yet.
-use Rattle.std.specs.Prelude.{◌≡◌, ℕ, ◌+◌, ◌<◌, ◌≤◌, List, [], map, length, All, sum, slice_index, slice_index_or}
-use Rattle.hose_graph.specs.Hose.{Endpoint, rate_of}
+-- together.
+use Rattle.std.specs.Prelude.{◌≡◌, ℕ, zero, suc, ◌+◌, ◌<◌, ◌≤◌, List, [], map, length, All, slice_index, slice_index_or}
+use Rattle.hose_graph.specs.Hose.{Endpoint, node_of, rate_of}
+
+-- the sum of a function over all numbers below n
+abbrev pub sum_below : ℕ → (ℕ → ℕ) → ℕ
+sum_below zero f = 0
+sum_below (suc n) f = sum_below n f + f n
 
 -- the traffic from endpoint i to endpoint j
 abbrev pub entry : List (List ℕ) → ℕ → ℕ → ℕ
 entry matrix i j = slice_index (slice_index_or matrix i []) j
 
--- all that endpoint i sends, and all that endpoint j is sent
-abbrev pub row_sum : List (List ℕ) → ℕ → ℕ
-row_sum matrix i = sum (slice_index_or matrix i [])
+-- all that endpoint i of n sends, and all that it is sent
+abbrev pub sent_by : ℕ → List (List ℕ) → ℕ → ℕ
+sent_by n matrix i = sum_below n (λ j. entry matrix i j)
 
-abbrev pub column_sum : List (List ℕ) → ℕ → ℕ
-column_sum matrix j = sum (map (λ row. slice_index row j) matrix)
+abbrev pub sent_to : ℕ → List (List ℕ) → ℕ → ℕ
+sent_to n matrix i = sum_below n (λ j. entry matrix j i)
 
--- the rate of endpoint i
+-- the node and the rate of endpoint i
+abbrev pub node_at : List Endpoint → ℕ → ℕ
+node_at hose i = slice_index (map node_of hose) i
+
 abbrev pub rate_at : List Endpoint → ℕ → ℕ
 rate_at hose i = slice_index (map rate_of hose) i
 
@@ -23,4 +31,5 @@ pub record IsWithinRates (hose : List Endpoint) (matrix : List (List ℕ)) : Typ
   pub rows : length matrix ≡ length hose
   pub columns : All (λ row. length row ≡ length hose) matrix
   pub diagonal : (i : ℕ) → i < length hose → entry matrix i i ≡ 0
-  pub within : (i : ℕ) → i < length hose → row_sum matrix i + column_sum matrix i ≤ rate_at hose i
+  pub within : (i : ℕ) → i < length hose
+      → sent_by (length hose) matrix i + sent_to (length hose) matrix i ≤ rate_at hose i

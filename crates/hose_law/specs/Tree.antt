@@ -13,6 +13,9 @@ pub record Growth : Type 0 where
   pub start : ℕ
   pub steps : List Step
 
+abbrev pub growth : ℕ → List Step → Growth
+growth start steps = record { start = start; steps = steps }
+
 -- the links of steps, and the nodes that they lead to
 abbrev pub step_links : List Step → List ℕ
 step_links steps = map (λ (step : Step). step.link) steps
