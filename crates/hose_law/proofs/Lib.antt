@@ -3,12 +3,15 @@ mod Apart
 pub mod Bounds
 pub mod CanonicalPlans
 mod CanonicalTrees
+pub mod Carrying
 mod Counting
+pub mod Crossing
 pub mod Distances
 mod Halves
 pub mod Joined
 pub mod LiveIds
 pub mod Lives
+pub mod PairedOff
 mod PlanWeight
 pub mod Releases
 mod Reservations
@@ -17,6 +20,7 @@ pub mod Rows
 pub mod Scripts
 mod ShortWalks
 pub mod Sold
+mod Sums
 mod TightTrees
 pub mod TightWays
 pub mod Trees
