@@ -20,7 +20,7 @@ pub mod Rows
 pub mod Scripts
 mod ShortWalks
 pub mod Sold
-mod Sums
+pub mod Sums
 mod TightTrees
 pub mod TightWays
 pub mod Trees

@@ -1,6 +1,7 @@
 -- Sums over all numbers below a bound.
-use Rattle.std.proofs.Common.{◌≡◌, ℕ, zero, suc, ◌+◌, ◌<◌, ◌≤◌, Bool, true, false, List, [], ◌∷◌, length, get_or, cond, refl, sym, arith}
+use Rattle.std.proofs.Common.{◌≡◌, ℕ, zero, suc, ◌+◌, ◌<◌, ◌≤◌, Bool, true, false, List, [], ◌∷◌, length, get_or, cond, refl, sym, ap, inl, inr, arith}
 use Rattle.std.specs.List.{sum_by}
+use Rattle.std.proofs.lemmas.Bool.{cases_eq}
 use Rattle.std.proofs.lemmas.List.Sums.{sum_by-cons}
 use Rattle.hose_law.specs.Matrix.{sum_below}
 
@@ -55,3 +56,11 @@ sum_over f (x ∷ xs) d =
     let first = shifted_sum (length xs) (λ i. f (get_or (x ∷ xs) i d)) in
     let rest = sum_over f xs d in
     omega (arith, first, rest, sum_by-cons f x xs)
+
+-- a term is at most the sum
+pub term-le : (n : ℕ) (f : ℕ → ℕ) (i : ℕ) → i < n → f i ≤ sum_below n f
+term-le zero f i below = absurd (omega arith)
+term-le (suc n) f i below = elim (cases_eq i n) [
+  | inl same ↦ let here = ap f same in omega (arith, here)
+  | inr differ ↦ let before = term-le n f i (omega (arith, differ)) in omega (arith, before)
+]

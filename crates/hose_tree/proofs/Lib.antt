@@ -1,7 +1,10 @@
 pub mod Attaching
 pub mod Costs
 pub mod Listing
+pub mod Marking
+pub mod Marks
 pub mod Moving
+pub mod Paired
 pub mod Reaching
 pub mod Reserving
 pub mod Union

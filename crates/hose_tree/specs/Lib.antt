@@ -3,3 +3,4 @@ pub mod Attached
 pub mod Nodes
 pub mod Rates
 pub mod Reach
+pub mod Side

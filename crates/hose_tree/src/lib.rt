@@ -18,15 +18,22 @@ ghost use Rattle.hose_graph.specs.Network.{Network, IsNetwork};
 mod canonical;
 mod costing;
 mod fit;
+mod matrix;
+mod pairing;
 mod reach;
 mod reserve;
+mod side;
+mod traffic;
 
 pub use costing::cost;
 pub use fit::{fits, free_rate};
 pub use hose_graph::Step;
+pub use matrix::Matrix;
+pub use pairing::heaviest;
 pub use reach::reached;
 pub use reserve::reservations;
 use std::marker::Model;
+pub use traffic::load;
 
 /// A tree of links: a start node, and the steps by which it grows.
 ///
