@@ -4,11 +4,13 @@ pub mod Bounds
 pub mod CanonicalPlans
 mod CanonicalTrees
 pub mod Carrying
+pub mod Cheapest
 mod Counting
 pub mod Crossing
 pub mod Distances
 mod Halves
 pub mod Joined
+mod LeastRoot
 pub mod LiveIds
 pub mod Lives
 pub mod PairedOff
