@@ -14,7 +14,7 @@ mod LeastRoot
 pub mod LiveIds
 pub mod Lives
 pub mod PairedOff
-mod PlanWeight
+pub mod PlanWeight
 pub mod Releases
 mod Reservations
 pub mod Rooms
