@@ -19,3 +19,5 @@ mod replies;
 mod streams;
 #[cfg(test)]
 mod topologies;
+#[cfg(test)]
+mod traffic;

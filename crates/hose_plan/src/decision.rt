@@ -81,8 +81,8 @@ pub fn decide<R: RowMaker>(
     if !fits(top, loads, &first) {
         return decide_over_safe(alloc, top, loads, hose, Some(first), rows);
     }
+    let cost = cost(top, &first);
     let amounts = first.copy(alloc)?;
-    let cost = cost(top, &amounts);
     let grounds = Grounds {
         first: Some(first),
         half: hose.total() / 2,

@@ -1,10 +1,10 @@
 // The traffic within the rates of a hose that puts the most on a link of a tree.
-ghost use Rattle.std.specs.Prelude.{◌≡◌, ◌≤◌, ◌+◌, ◌<◌, ◌*◌, Contains, IfOk, length, map};
+ghost use Rattle.std.specs.Prelude.{◌≡◌, ◌≤◌, ◌+◌, ◌<◌, ◌*◌, IfOk, length, map};
 ghost use Rattle.std.specs.List.{range_with_len};
 ghost use Rattle.hose_law.specs.Heaviest.{IsPairedOff, common, rate_before};
 ghost use Rattle.hose_law.specs.Matrix.{IsWithinRates, rate_at};
 ghost use Rattle.hose_law.specs.Route.{matrix_load};
-ghost use Rattle.hose_law.specs.Tree.{JoinsHose, links_of, smaller_side};
+ghost use Rattle.hose_law.specs.Tree.{JoinsHose, smaller_side};
 ghost use Rattle.hose_tree.specs.Side.{is_marked, paired};
 
 use crate::Tree;
@@ -20,7 +20,6 @@ use std::alloc::{AllocError, Global};
 /// the column of the other; all else is 0.
 pub fn heaviest(alloc: Global, tree: &Tree, hose: &Hose, link: u32) -> Result<Matrix, AllocError>
     requires joins { JoinsHose tree.now hose.now }
-    requires link { Contains (links_of tree.now) link }
     ensures within { IfOk result (IsWithinRates hose.now) }
     ensures load { IfOk result (λ matrix.
         matrix_load tree.now hose.now matrix link ≡ smaller_side tree.now hose.now link) }

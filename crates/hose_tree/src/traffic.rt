@@ -1,8 +1,8 @@
 // What traffic between the endpoints of a hose puts on a link of a tree.
-ghost use Rattle.std.specs.Prelude.{◌≡◌, ℕ, ◌<◌, ◌≤◌, ◌*◌, Contains, length};
+ghost use Rattle.std.specs.Prelude.{◌≡◌, ℕ, ◌<◌, ◌≤◌, ◌*◌, length};
 ghost use Rattle.hose_law.specs.Matrix.{IsWithinRates, entry};
 ghost use Rattle.hose_law.specs.Route.{matrix_load};
-ghost use Rattle.hose_law.specs.Tree.{JoinsHose, links_of};
+ghost use Rattle.hose_law.specs.Tree.{JoinsHose};
 ghost use Rattle.hose_tree.specs.Side.{sent_across};
 
 use crate::Tree;
@@ -14,7 +14,6 @@ use hose_graph::{Hose, MOST_ENDS, MOST_NODES, MOST_RATE};
 /// endpoints whose route on the tree has the link.
 pub fn load(tree: &Tree, hose: &Hose, matrix: &Matrix, link: u32) -> u64
     requires joins { JoinsHose tree.now hose.now }
-    requires link { Contains (links_of tree.now) link }
     requires within { IsWithinRates hose.now matrix.now }
     ensures { result ≡ matrix_load tree.now hose.now matrix.now link }
 {

@@ -3,6 +3,7 @@ use Rattle.std.proofs.Common.{◌≡◌, ◌∙◌, ℕ, ◌/◌, Bool, false, L
 use Rattle.std.proofs.lemmas.Bool.{false≢true}
 use Rattle.hose_law.specs.CanonicalPlan.{IsCanonicalPlan}
 use Rattle.hose_law.specs.Decision.{Fits, HasFirstFit}
+use Rattle.hose_law.specs.Plan.{plan_cost}
 use Rattle.hose_law.specs.Room.{free_rates}
 use Rattle.hose_law.specs.Walk.{all_links}
 use Rattle.hose_law.proofs.CanonicalPlans.{planned_sound}
@@ -41,7 +42,7 @@ returns-clause-decision g c =
     let fits : Fits (free_rates network c.args.loads.now) first = c.fits.ensures.0 c.if-not-fits.false in
     let has : HasFirstFit network (room_beside network c.args.loads.now) hose = (first, record { is_plan = plan; fits = fits }) in (
       record { allowed = inl (has, refl); is_plan = subst (IsCanonicalPlan network (all_links network) hose) same plan },
-      c.cost-cost.ensures,
+      c.cost-cost.ensures ∙ ap (plan_cost network) same,
       record {
         first = plan;
         half = ap (λ (n : ℕ). n / 2) c.total.ensures.sum;
