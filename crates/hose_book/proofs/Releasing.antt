@@ -1,0 +1,119 @@
+-- A release by its place: where the ids of the live rise, it takes out the one VPN there.
+use Rattle.std.proofs.Common.{◌≡◌, ◌<◌, ℕ, zero, suc, ◌+◌, Bool, true, false, List, [], ◌∷◌, Option, None, Some, length, get_or, filter, not, All, subst, sym, ap, ◌∙◌, refl, arith}
+use Rattle.std.specs.List.{HoldsAt, remove, slice_get}
+use Rattle.std.specs.Option.{IsSomeAnd}
+use Rattle.std.proofs.lemmas.Bool.{cond-true, cond-false}
+use Rattle.std.proofs.lemmas.Bool.Decides.{Decides-not}
+use Rattle.std.proofs.lemmas.Option.{none-some, same_Some, get_or_from_slice_get, slice_get_within, slice_get-get_or}
+use Rattle.std.proofs.lemmas.List.Elements.{All-filter, All-head, All-tail, All-weaker}
+use Rattle.std.proofs.lemmas.List.Sums.{sum_by-remove}
+use Rattle.hose_graph.specs.declared.vpn.Vpn.{Vpn}
+use Rattle.hose_graph.specs.declared.entry.Entry.TheVariants.{Release}
+use Rattle.hose_graph.specs.Network.{Network}
+use Rattle.hose_law.specs.Book.{Book, HasVpn, IsLiveVpn, amount_on, load_of}
+use Rattle.hose_law.specs.History.{is_vpn, next_book}
+use Rattle.hose_law.specs.Live.{Rise}
+use Rattle.hose_book.specs.Ledger.{Ledger, IsKept}
+use Rattle.hose_law.proofs.Releases.{IsVpnOf, is_vpn_decides}
+
+-- a filter that all pass keeps all
+all_kept : {X : Type 0} (test : X → Bool) (xs : List X) → All (λ x. test x ≡ true) xs → filter test xs ≡ xs
+all_kept test [] pass = refl
+all_kept {X} test (x ∷ xs) pass =
+    let P : X → Type 0 = λ y. test y ≡ true in
+    cond-true (test x) (x ∷ filter test xs) (filter test xs) (All-head P x xs pass) ∙ ap (λ (ys : List X). x ∷ ys) (all_kept test xs (All-tail P x xs pass))
+
+-- the first id is below the others
+first_below : (first : Vpn) (live : List Vpn) → Rise (first ∷ live) → All (λ (other : Vpn). first.id < other.id) live
+first_below first live rise k d inside = rise 0 (suc k) d (omega arith) (omega (arith, inside))
+
+rest_rises : (first : Vpn) (live : List Vpn) → Rise (first ∷ live) → Rise live
+rest_rises first live rise i j d less inside = rise (suc i) (suc j) d (omega (arith, less)) (omega (arith, inside))
+
+module _ (customer : List ℕ) (id : ℕ) where
+  -- whether a release leaves a VPN
+  abbrev stays : Vpn → Bool
+  stays vpn = not (is_vpn customer id vpn)
+
+  goes : (vpn : Vpn) → IsVpnOf customer id vpn → stays vpn ≡ false
+  goes vpn is = ap not ((is_vpn_decides customer id vpn).1 is)
+
+  others_stay : (vpn : Vpn) → (IsVpnOf customer id vpn → ⊥) → stays vpn ≡ true
+  others_stay vpn other = (Decides-not (is_vpn customer id vpn) (is_vpn_decides customer id vpn)).1 other
+
+  -- the VPN with the number is the only one, since ids rise
+  pub filter_removes : (live : List Vpn) (place : ℕ) (vpn : Vpn) → Rise live → slice_get live place ≡ Some vpn → IsVpnOf customer id vpn → filter stays live ≡ remove live place
+  filter_removes [] place vpn rise there is = absurd (none-some vpn there)
+  filter_removes (first ∷ live) zero vpn rise there is =
+      let same : first ≡ vpn = same_Some first vpn there in
+      let first_is : first.id ≡ id = ap (λ (v : Vpn). v.id) same ∙ is.0 in
+      let first_goes : stays first ≡ false = ap stays same ∙ goes vpn is in
+      let rest_stay : All (λ (v : Vpn). stays v ≡ true) live =
+      All-weaker (λ (v : Vpn). first.id < v.id) (λ (v : Vpn). stays v ≡ true) (λ v above. others_stay v (λ both. omega (arith, both.0, first_is, above))) live (first_below first live rise) in
+      cond-false (stays first) (first ∷ filter stays live) (filter stays live) first_goes ∙ all_kept stays live rest_stay
+  filter_removes (first ∷ live) (suc place) vpn rise there is =
+      let inside : place < length live = slice_get_within live place vpn there in
+      let read : get_or live place vpn ≡ vpn = get_or_from_slice_get live place vpn vpn there in
+      let below : first.id < (get_or live place vpn).id = first_below first live rise place vpn inside in
+      let first_stays : stays first ≡ true = others_stay first (λ both. omega (arith, both.0, is.0, below, ap (λ (v : Vpn). v.id) read)) in
+      cond-true (stays first) (first ∷ filter stays live) (filter stays live) first_stays
+      ∙ ap (λ (vs : List Vpn). first ∷ vs) (filter_removes live place vpn (rest_rises first live rise) there is)
+
+-- a place inside has something
+past : (live : List Vpn) (place : ℕ) → place < length live → slice_get live place ≡ None → ⊥
+past [] place inside none = omega (arith, inside)
+past (first ∷ live) zero inside none = none-some first (sym none)
+past (first ∷ live) (suc place) inside none = past live place (omega (arith, inside)) none
+
+within : (live : List Vpn) (place : ℕ) (P : Vpn → Type 0) → IsSomeAnd (slice_get live place) P → place < length live
+within [] place P some = absurd some
+within (first ∷ live) zero P some = omega arith
+within (first ∷ live) (suc place) P some = omega (arith, within live place P some)
+
+module _ (book : Book) (customer : List ℕ) (id place : ℕ) where
+  -- what a test finds at a place is the live VPN
+  pub live_at : place < length book.live → HoldsAt (λ (v : Vpn). is_vpn customer id v ≡ true) book.live place → IsSomeAnd (slice_get book.live place) (IsLiveVpn book customer id)
+  live_at inside holds = at (slice_get book.live place) refl
+    where
+      at : (found : Option Vpn) → slice_get book.live place ≡ found → IsSomeAnd found (IsLiveVpn book customer id)
+      at None there = absurd (past book.live place inside there)
+      at (Some vpn) there =
+          let read : get_or book.live place vpn ≡ vpn = get_or_from_slice_get book.live place vpn vpn there in
+          let is : IsVpnOf customer id vpn = (is_vpn_decides customer id vpn).0 (subst (λ (v : Vpn). is_vpn customer id v ≡ true) read (holds vpn)) in
+          record { live = (place, inside, read); is_id = is.0; is_customer = is.1 }
+
+  -- what is known of the VPN at the place: a release takes it out, and what it reserved
+  pub record Taken (vpn : Vpn) : Type 0 where
+    pub inside : place < length book.live
+    pub is : IsLiveVpn book customer id vpn
+    pub released : next_book book (Release customer id) ≡ record { epoch = book.epoch + 1; live = remove book.live place }
+    pub load_less : (l : ℕ) → load_of (next_book book (Release customer id)) l + amount_on l vpn.amounts ≡ load_of book l
+
+  pub taken_at : (vpn : Vpn) → Rise book.live → IsSomeAnd (slice_get book.live place) (IsLiveVpn book customer id) → vpn ≡ get_or book.live place vpn → Taken vpn
+  taken_at vpn rise asked read =
+      let inside : place < length book.live = within book.live place (IsLiveVpn book customer id) asked in
+      let there : slice_get book.live place ≡ Some vpn = slice_get-get_or book.live place vpn inside ∙ ap Some (sym read) in
+      let is : IsLiveVpn book customer id vpn = subst (λ (o : Option Vpn). IsSomeAnd o (IsLiveVpn book customer id)) there asked in
+      let released : next_book book (Release customer id) ≡ record { epoch = book.epoch + 1; live = remove book.live place } =
+      ap (λ (live : List Vpn). record { epoch = book.epoch + 1; live = live }) (filter_removes customer id book.live place vpn rise there (is.is_id, is.is_customer)) in
+      let less : (l : ℕ) → load_of (next_book book (Release customer id)) l + amount_on l vpn.amounts ≡ load_of book l = λ l.
+      (let amount : Vpn → ℕ = λ v. amount_on l v.amounts in
+      let out = sum_by-remove amount book.live place vpn inside in
+      omega (arith, out, ap (λ (b : Book). load_of b l) released, ap amount read)) in
+      record { inside = inside; is = is; released = released; load_less = less }
+
+-- the same where it was found in the ledger that a book is seen as
+pub taken_in : (ledger : Ledger) (network : Network) (book : Book) (customer : List ℕ) (id place : ℕ) (vpn : Vpn) → record { network = network; book = book } ≡ ledger → Rise book.live
+    → IsSomeAnd (slice_get ledger.book.live place) (IsLiveVpn ledger.book customer id) → vpn ≡ get_or book.live place vpn → Taken book customer id place vpn
+taken_in ledger network book customer id place vpn seen rise asked read =
+    let here = subst (λ (s : Ledger). IsSomeAnd (slice_get s.book.live place) (IsLiveVpn s.book customer id)) (sym seen) asked in
+    taken_at book customer id place vpn rise here read
+
+-- what is found is a VPN of the customer
+pub has_vpn : (book : Book) (customer : List ℕ) (id : ℕ) (found : Option Vpn) → IsSomeAnd found (IsLiveVpn book customer id) → HasVpn book customer id
+has_vpn book customer id None some = absurd some
+has_vpn book customer id (Some vpn) is = (vpn, is)
+
+-- what a release leaves is kept as before
+pub kept_left : (network : Network) (book : Book) (customer : List ℕ) (id : ℕ) → All (IsKept network) book.live → All (IsKept network) (next_book book (Release customer id)).live
+kept_left network book customer id on = All-filter (stays customer id) (IsKept network) book.live on

@@ -1,0 +1,95 @@
+// What an entry does to the book.
+ghost use Rattle.std.specs.Prelude.{◌≡◌, ◌+◌, ◌<◌, ◌≤◌, ◌^◌, ℕ, length, slice_index, slice_get, All, IsSomeAnd};
+ghost use Rattle.hose_graph.specs.Amounts.{link_of};
+ghost use Rattle.hose_graph.specs.Hose.{IsHose};
+ghost use Rattle.hose_law.specs.Book.{IsLiveVpn, amount_on};
+ghost use Rattle.hose_law.specs.History.{IsSoundAt, last_epoch, next_book};
+
+use crate::Book;
+use hose_graph::{Amounts, Entry, Hose, Name, ReservedLink, Vpn};
+
+impl Book {
+    /// Enters an entry for which `check` answers Ok: the epoch is one more, an admitted VPN is the
+    /// last of the live, and a released one is not live any more. It takes no memory.
+    pub fn apply(&mut self, entry: Entry)
+        requires { IsSoundAt self.old.network self.old.book entry }
+        ensures network { self.new.network ≡ self.old.network }
+        ensures book { self.new.book ≡ next_book self.old.book entry }
+    {
+        match entry {
+            Entry::Admit {
+                customer,
+                hose,
+                amounts,
+            } => self.admit(customer, hose, amounts),
+            Entry::Release { customer, id } => self.release(&customer, id),
+        }
+    }
+
+    fn admit(&mut self, customer: Name, hose: Hose, amounts: Amounts)
+        requires { IsSoundAt self.old.network self.old.book (Entry.Admit customer hose amounts) }
+        ensures network { self.new.network ≡ self.old.network }
+        ensures book { self.new.book ≡ next_book self.old.book (Entry.Admit customer hose amounts) }
+    {
+        // That this is a hose is told by the call that gives its endpoints.
+        let _ends = hose.ends();
+        add_amounts(&mut self.loads, amounts.pairs());
+        self.epoch += 1;
+        self.live.push_reserved(Vpn {
+            id: self.epoch,
+            customer,
+            hose,
+            amounts,
+        });
+    }
+
+    fn release(&mut self, customer: &Name, id: u64)
+        requires { IsSoundAt self.old.network self.old.book (Entry.Release customer.now id) }
+        ensures network { self.new.network ≡ self.old.network }
+        ensures book { self.new.book ≡ next_book self.old.book (Entry.Release customer.now id) }
+    {
+        // It is there, as the entry is sound.
+        if let Some(place) = self.place_of(customer, id) {
+            self.remove(customer, id, place);
+        }
+    }
+
+    // Takes the VPN at a place out of the book.
+    fn remove(&mut self, customer: &Name, id: u64, place: usize)
+        requires there { IsSomeAnd (slice_get self.old.book.live place)
+            (IsLiveVpn self.old.book customer.now id) }
+        requires epoch { self.old.book.epoch < last_epoch }
+        ensures network { self.new.network ≡ self.old.network }
+        ensures book { self.new.book ≡ next_book self.old.book (Entry.Release customer.now id) }
+    {
+        let vpn = self.live.remove(place);
+        subtract_amounts(&mut self.loads, vpn.amounts.pairs());
+        self.epoch += 1;
+    }
+}
+
+// Adds what a plan reserves to the loads.
+fn add_amounts(loads: &mut [u64], amounts: &[ReservedLink])
+    requires links { All (λ pair. link_of pair < length loads.old) amounts.now }
+    requires fits { (l : ℕ) → l < length loads.old
+        → slice_index loads.old l + amount_on l amounts.now < 2 ^ 64 }
+    ensures { (l : ℕ) → l < length loads.old
+        → slice_index loads.new l ≡ slice_index loads.old l + amount_on l amounts.now }
+{
+    for (l, amount) in amounts {
+        loads[*l as usize] += *amount;
+    }
+}
+
+// Subtracts what a plan reserves from the loads.
+fn subtract_amounts(loads: &mut [u64], amounts: &[ReservedLink])
+    requires links { All (λ pair. link_of pair < length loads.old) amounts.now }
+    requires held { (l : ℕ) → l < length loads.old
+        → amount_on l amounts.now ≤ slice_index loads.old l }
+    ensures { (l : ℕ) → l < length loads.old
+        → slice_index loads.new l + amount_on l amounts.now ≡ slice_index loads.old l }
+{
+    for (l, amount) in amounts {
+        loads[*l as usize] -= *amount;
+    }
+}

@@ -1,0 +1,101 @@
+// Whether an entry is sound at the book.
+ghost use Rattle.std.specs.Prelude.{◌≡◌, ◌↔◌, ◌<◌, ◌≤◌, IsOk, Err, IfNone, IfSome, All, length, ℕ, List};
+ghost use Rattle.hose_graph.specs.Amounts.{link_of};
+ghost use Rattle.hose_graph.specs.Ascending.{IsAscending};
+ghost use Rattle.hose_law.specs.Decision.{Fits};
+ghost use Rattle.hose_law.specs.History.{IsSoundAt};
+ghost use Rattle.hose_law.specs.Room.{free_rates};
+ghost use Rattle.std.specs.Prelude.{IsTrue};
+ghost use Rattle.hose_law.specs.Tree.{IsTreeReservation};
+ghost use Rattle.hose_law.specs.Walk.{all_links};
+ghost use Rattle.hose_tree.specs.Amounts.{AreCarried, AreOnLinks};
+ghost use Rattle.hose_book.specs.Refusal.{IsLowestFull, IsRefusedFor, Judges};
+
+use crate::Book;
+use hose_graph::{Amounts, Entry, Hose, MOST_EPOCH, MOST_LIVE, Name, Topology};
+use hose_tree::free_rate;
+
+/// Why an entry is not sound at a book.
+#[derive(Clone, Copy, Debug, PartialEq, Eq)]
+pub enum BookRefusal {
+    /// The epoch is the last one, 4,000,000,000.
+    Spent,
+    /// 20,000 VPNs are live.
+    Full,
+    /// The amounts are not what the hose reserves on any tree that joins it, or one of them is 0.
+    NotATree,
+    /// A link has less free than its amount; it is the lowest-numbered of these.
+    NoRoom {
+        link: u32,
+    },
+    /// The customer has no live VPN of this id.
+    NoVpn,
+}
+
+impl Book {
+    /// Judges an entry: whether it is sound at the book, or the first cause that it is not. For an
+    /// admission these are in order `Spent`, `Full`, `NotATree`, `NoRoom`; for a release `NoVpn`,
+    /// `Spent`.
+    pub fn check(&self, entry: &Entry) -> Result<(), BookRefusal>
+        ensures ok { IsOk result ↔ IsSoundAt self.now.network self.now.book entry.now }
+        ensures refused { (refusal : BookRefusal) → (result ≡ Err refusal)
+            ↔ IsRefusedFor self.now.network self.now.book entry.now refusal }
+    {
+        match entry {
+            Entry::Admit { hose, amounts, .. } => self.check_admission(hose, amounts),
+            Entry::Release { customer, id } => self.check_release(customer, *id),
+        }
+    }
+
+    fn check_admission(&self, hose: &Hose, amounts: &Amounts) -> Result<(), BookRefusal>
+        ensures { (customer : List ℕ) → Judges self.now.network self.now.book
+            (Entry.Admit customer hose.now amounts.now) result }
+    {
+        if self.epoch == MOST_EPOCH {
+            return Err(BookRefusal::Spent);
+        }
+        if self.live.len() >= MOST_LIVE {
+            return Err(BookRefusal::Full);
+        }
+        if !is_reservation_stub(&self.topology, hose, amounts) {
+            return Err(BookRefusal::NotATree);
+        }
+        match first_full_link(&self.topology, self.loads(), amounts) {
+            Some(link) => Err(BookRefusal::NoRoom { link }),
+            None => Ok(()),
+        }
+    }
+
+    fn check_release(&self, customer: &Name, id: u64) -> Result<(), BookRefusal>
+        ensures { Judges self.now.network self.now.book (Entry.Release customer.now id) result }
+    {
+        if self.place_of(customer, id).is_none() {
+            return Err(BookRefusal::NoVpn);
+        }
+        if self.epoch == MOST_EPOCH {
+            return Err(BookRefusal::Spent);
+        }
+        Ok(())
+    }
+}
+
+// The lowest link that has less free than its amount.
+fn first_full_link(top: &Topology, loads: &[u64], amounts: &Amounts) -> Option<u32>
+    requires loads { AreCarried top.now loads.now }
+    requires links { AreOnLinks top.now amounts.now }
+    ensures some { IfSome result (IsLowestFull (free_rates top.now loads.now) amounts.now) }
+    ensures none { IfNone result (Fits (free_rates top.now loads.now) amounts.now) }
+{
+    for (link, amount) in amounts.pairs() {
+        if *amount > free_rate(top, loads, *link) {
+            return Some(*link);
+        }
+    }
+    None
+}
+
+fn is_reservation_stub(top: &Topology, hose: &Hose, amounts: &Amounts) -> bool
+    ensures { IsTrue result ↔ IsTreeReservation top.now (all_links top.now) hose.now amounts.now }
+{
+    false
+}

@@ -1,0 +1,39 @@
+// Finding a VPN among the live.
+ghost use Rattle.std.specs.Prelude.{◌≡◌, ¬_, IfSome, IfNone, IsSomeAnd, slice_get};
+ghost use Rattle.hose_law.specs.Book.{HasVpn, IsLiveVpn};
+ghost use Rattle.hose_book.specs.Ledger.{IsKept};
+
+use crate::Book;
+use hose_graph::{Name, Vpn};
+
+impl Book {
+    /// The live VPN of a customer and an id.
+    pub fn find(&self, customer: &Name, id: u64) -> Option<&Vpn>
+        ensures found { IfSome result
+            (λ vpn. IsLiveVpn self.now.book customer.now id vpn.now) }
+        ensures none { IfNone result (¬ HasVpn self.now.book customer.now id) }
+        ensures kept { IfSome result (λ vpn. IsKept self.now.network vpn.now) }
+    {
+        let place = self.place_of(customer, id)?;
+        Some(&self.live[place])
+    }
+
+    /// Its place among the live, whose ids rise.
+    pub fn place_of(&self, customer: &Name, id: u64) -> Option<usize>
+        ensures found { IfSome result (λ place. IsSomeAnd (slice_get self.now.book.live place)
+            (IsLiveVpn self.now.book customer.now id)) }
+        ensures none { IfNone result (¬ HasVpn self.now.book customer.now id) }
+    {
+        let place = place_of_id(&self.live, id)?;
+        if self.live[place].customer != *customer {
+            return None;
+        }
+        Some(place)
+    }
+}
+
+// The place of the VPN with an id.
+fn place_of_id(live: &[Vpn], id: u64) -> Option<usize>
+{
+    live.binary_search_by_key(&id, |vpn| vpn.id).ok()
+}

@@ -1,0 +1,125 @@
+//! The book of a network: which VPNs are live, and what they reserve on each link. It judges any
+//! entry, whoever made it, and enters those that are sound; a journal can be read into it and put
+//! under it.
+//!
+//! ```
+//! let mut book = Book::new(alloc, topology)?;
+//! match book.check(&entry) {
+//!     Ok(()) => book.apply(entry),
+//!     Err(refusal) => eprintln!(rt; "{refusal:?}")?,
+//! }
+//! ```
+//!
+//! `Books` is a book that takes entries, kept in memory alone (`Plain`) or elsewhere besides.
+#![tactic(auto)]
+
+ghost use Rattle.std.specs.Prelude.{◌≡◌, ◌≤◌, IfOk};
+ghost use Rattle.hose_graph.specs.Network.{IsNetwork};
+ghost use Rattle.hose_graph.specs.declared.limits.TheConstants.{MOST_EPOCH};
+ghost use Rattle.hose_law.specs.Book.{loads_of};
+ghost use Rattle.hose_law.specs.History.{opening_book};
+ghost use Rattle.hose_law.specs.Live.{Rise};
+ghost use Rattle.hose_tree.specs.Amounts.{AreCarried};
+
+mod changing;
+mod checking;
+mod finding;
+
+pub use checking::BookRefusal;
+use hose_graph::{MOST_EPOCH, MOST_LIVE, Topology, Vpn};
+use std::alloc::{AllocError, Global};
+use std::marker::Model;
+
+/// A network with its live VPNs, in the order of their admission, and the sum of what they reserve
+/// on each link. No link is ever oversold.
+///
+/// A contract sees it as the network and its book.
+#[derive(Drop)]
+pub struct Book {
+    topology: Topology,
+    epoch: u64,
+    loads: Vec<u64>,
+    live: Vec<Vpn>,
+}
+
+impl Model for Book {
+    ghost use Rattle.std.specs.Prelude.{◌≤◌, length, vec_capacity, All};
+    ghost use Rattle.hose_graph.specs.Network.{IsNetwork};
+    ghost use Rattle.hose_book.specs.Ledger.{Ledger, AreKeptLoads, IsKept};
+    ghost use Rattle.hose_law.specs.History.{last_epoch, most_live};
+    ghost use Rattle.hose_law.specs.Live.{HasRisingIds};
+
+    ghost Value = { Ledger };
+
+    ghost view = { λ b.
+        record { network = b.topology; book = record { epoch = b.epoch; live = b.live.items } } };
+
+    // There is room for all VPNs that may be live.
+    ghost invariant = { λ b. IsNetwork b.topology
+        × AreKeptLoads b.topology (record { epoch = b.epoch; live = b.live.items }) b.loads.items
+        × (b.epoch ≤ last_epoch)
+        × (length b.live.items ≤ most_live)
+        × (most_live ≤ vec_capacity b.live)
+        × HasRisingIds 0 (record { epoch = b.epoch; live = b.live.items })
+        × All (IsKept b.topology) b.live.items };
+}
+
+impl Book {
+    /// The book of a network at epoch 0, with nothing live. It has room for 20,000 VPNs, so that
+    /// nothing after it takes memory.
+    pub fn new(alloc: Global, topology: Topology) -> Result<Book, AllocError>
+        ensures { IfOk result
+            (λ book. book ≡ record { network = topology; book = opening_book 0 }) }
+    {
+        Book::at(alloc, topology, 0)
+    }
+
+    /// The same at an epoch of at most 4,000,000,000.
+    pub fn at(alloc: Global, topology: Topology, epoch: u64) -> Result<Book, AllocError>
+        requires { epoch ≤ MOST_EPOCH }
+        ensures { IfOk result
+            (λ book. book ≡ record { network = topology; book = opening_book epoch }) }
+    {
+        let loads = Vec::from_elem(alloc, 0, topology.links() as usize)?;
+        let live = Vec::with_capacity(alloc, MOST_LIVE)?;
+        Ok(Book {
+            topology,
+            epoch,
+            loads,
+            live,
+        })
+    }
+
+    /// The network that it is of.
+    pub fn topology(&self) -> &Topology
+        ensures value { result.now ≡ self.now.network }
+        ensures network { IsNetwork result.now }
+    {
+        &self.topology
+    }
+
+    /// How many entries it has taken, and the epoch that it began at.
+    pub fn epoch(&self) -> u64
+        ensures value { result ≡ self.now.book.epoch }
+        ensures bound { result ≤ MOST_EPOCH }
+    {
+        self.epoch
+    }
+
+    /// What the live VPNs reserve on each link, in the customer's unit of bandwidth: never more
+    /// than its capacity.
+    pub fn loads(&self) -> &[u64]
+        ensures value { result.now ≡ loads_of self.now.network self.now.book }
+        ensures carried { AreCarried self.now.network result.now }
+    {
+        &self.loads
+    }
+
+    /// The live VPNs, in the order of their admission: their ids rise.
+    pub fn live(&self) -> &[Vpn]
+        ensures value { result.now ≡ self.now.book.live }
+        ensures rise { Rise result.now }
+    {
+        &self.live
+    }
+}
