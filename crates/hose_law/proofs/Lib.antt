@@ -13,6 +13,7 @@ mod PlanWeight
 pub mod Releases
 mod Reservations
 pub mod Rooms
+pub mod Routes
 pub mod Rows
 pub mod Scripts
 mod ShortWalks
