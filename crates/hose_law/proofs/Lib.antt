@@ -1,5 +1,5 @@
 -- what is public is for the crates above too
-mod Apart
+pub mod Apart
 pub mod Bounds
 pub mod CanonicalPlans
 mod CanonicalTrees
@@ -11,7 +11,7 @@ pub mod LiveIds
 pub mod Lives
 mod PlanWeight
 pub mod Releases
-mod Reservations
+pub mod Reservations
 pub mod Rooms
 pub mod Routes
 pub mod Rows

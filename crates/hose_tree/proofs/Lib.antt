@@ -1,8 +1,15 @@
+pub mod Asking
 pub mod Attaching
+pub mod Bare
 pub mod Costs
+pub mod Forests
+pub mod Judging
+pub mod Leaves
 pub mod Listing
 pub mod Moving
+pub mod Peels
 pub mod Reaching
 pub mod Reserving
+pub mod Touching
 pub mod Union
 pub mod Unwinding

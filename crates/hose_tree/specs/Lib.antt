@@ -1,5 +1,6 @@
 pub mod Amounts
 pub mod Attached
 pub mod Nodes
+pub mod Peeling
 pub mod Rates
 pub mod Reach
