@@ -58,7 +58,7 @@ impl<'a> Fields<'a> {
     }
 
     /// The name that is next, if there is one.
-    // An option, since a name beside a fault in one result is copied bytewise.
+    // An option: a name that shares its bytes with a fault would be copied in pieces.
     pub fn name(&mut self) -> Option<Name>
         ensures { Takes name_field IsName self.old self.new result }
     {

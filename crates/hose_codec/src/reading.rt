@@ -51,8 +51,8 @@ fn admission(alloc: Global, mut fields: Fields) -> Result<Entry, CodecFault>
     fields.end()?;
     Ok(Entry::Admit {
         customer,
-        hose: Hose::from_sorted(alloc, &pairs_of(alloc, ends)?)?,
-        amounts: Amounts::build(alloc, &pairs_of(alloc, amounts)?)?,
+        hose: Hose::from_vec(pairs_of(alloc, ends)?),
+        amounts: Amounts::from_vec(pairs_of(alloc, amounts)?),
     })
 }
 

@@ -34,15 +34,3 @@ returns-in_err-pairs_of-2 c =
     let p = err_from_is_err_and c.from_residual-in_err-pairs_of-2.result c.from_residual-in_err-pairs_of-2.ensures.1 in
     rw (p.1, p.2)
     (_, admission_spelled _ _ _ _ _ _ _ c.in-Some.ensures c.in_ok-ends.ensures c.in_ok-amounts.ensures (c.in_ok-end.ensures.ok.0 refl))
-
-pub returns-in_err-from_sorted : goal.returns-in_err-from_sorted
-returns-in_err-from_sorted c =
-    let p = err_from_is_err_and c.from_residual-in_err-from_sorted.result c.from_residual-in_err-from_sorted.ensures.1 in
-    rw (p.1, p.2)
-    (_, admission_spelled _ _ _ _ _ _ _ c.in-Some.ensures c.in_ok-ends.ensures c.in_ok-amounts.ensures (c.in_ok-end.ensures.ok.0 refl))
-
-pub returns-in_err-build : goal.returns-in_err-build
-returns-in_err-build c =
-    let p = err_from_is_err_and c.from_residual-in_err-build.result c.from_residual-in_err-build.ensures.1 in
-    rw (p.1, p.2)
-    (_, admission_spelled _ _ _ _ _ _ _ c.in-Some.ensures c.in_ok-ends.ensures c.in_ok-amounts.ensures (c.in_ok-end.ensures.ok.0 refl))
