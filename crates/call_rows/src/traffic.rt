@@ -28,7 +28,8 @@ fn tree_from(alloc: Global, top: &Topology, root: u32, hose: &Hose) -> Result<Tr
     if !reaches(&row, hose) {
         return Err(Fail::from("no tree"));
     }
-    Ok(Tree::from_row(alloc, top, &row, hose)?)
+    let tree = Tree::from_row(alloc, top, &row, hose)?;
+    Ok(tree)
 }
 
 // The heaviest matrix of a link, and its load.

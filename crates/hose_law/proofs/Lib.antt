@@ -1,5 +1,5 @@
 -- what is public is for the crates above too
-mod Apart
+pub mod Apart
 pub mod Bounds
 pub mod CanonicalPlans
 mod CanonicalTrees
@@ -16,8 +16,9 @@ pub mod Lives
 pub mod PairedOff
 pub mod PlanWeight
 pub mod Releases
-mod Reservations
+pub mod Reservations
 pub mod Rooms
+pub mod Routes
 pub mod Rows
 pub mod Scripts
 mod ShortWalks

@@ -8,12 +8,12 @@ use Rattle.hose_graph.specs.Hose.{total_rate}
 use Rattle.hose_law.specs.Tree.{Growth, IsReservation, links_of, rate_beyond, smaller_side}
 
 -- a pair of a list begins with one of its firsts, and each first begins a pair
-first_there : (pairs : List (ℕ × ℕ)) (pair : ℕ × ℕ) → Contains pairs pair → Contains (firsts pairs) pair.0
+pub first_there : (pairs : List (ℕ × ℕ)) (pair : ℕ × ℕ) → Contains pairs pair → Contains (firsts pairs) pair.0
 first_there pairs pair (k, below, same) =
     let first : ℕ × ℕ → ℕ = λ p. p.0 in
     (k, omega (arith, below, length-map pairs first), get_or-map first pairs k pair pair.0 below ∙ ap first same)
 
-pair_there : (pairs : List (ℕ × ℕ)) (l : ℕ) → Contains (firsts pairs) l → (amount : ℕ) × Contains pairs (l, amount)
+pub pair_there : (pairs : List (ℕ × ℕ)) (l : ℕ) → Contains (firsts pairs) l → (amount : ℕ) × Contains pairs (l, amount)
 pair_there pairs l (k, within, same) =
     let first : ℕ × ℕ → ℕ = λ p. p.0 in
     let below : k < length pairs = omega (arith, within, length-map pairs first) in

@@ -18,6 +18,7 @@ ghost use Rattle.hose_law.specs.Decision.{HaveEqualDecisions, HaveEqualGrounds};
 ghost use Rattle.hose_law.specs.History.{IsSound, book_of};
 ghost use Rattle.hose_law.specs.Live.{AreLiveHeld, IsAdmission, StaysLive};
 ghost use Rattle.hose_law.specs.Plan.{plan_cost};
+ghost use Rattle.hose_law.specs.Route.{AreSame, HaveSameRoutes};
 ghost use Rattle.hose_law.specs.Tree.{IsTree, IsTreeOver, growth};
 
 use hose_graph::{Amounts, Entry, Hose, Step, Topology};
@@ -63,6 +64,21 @@ pub fn law_least(
 pub fn law_one_weight(top: &Topology, links: &[bool], hose: &Hose, root: u32)
     ensures { (one other : ℕ) → IsWeight top.now links.now root hose.now one
         → IsWeight top.now links.now root hose.now other → one ≡ other }
+{}
+
+/// Two trees of the same nodes and links have the same routes: a route depends neither on the start
+/// of a tree nor on the order of its steps.
+pub fn law_routes(
+    top: &Topology,
+    start: u32,
+    steps: &[Step],
+    other_start: u32,
+    other_steps: &[Step],
+)
+    requires tree { IsTree top.now (growth start steps.now) }
+    requires other { IsTree top.now (growth other_start other_steps.now) }
+    requires same { AreSame (growth start steps.now) (growth other_start other_steps.now) }
+    ensures { HaveSameRoutes (growth start steps.now) (growth other_start other_steps.now) }
 {}
 
 /// A VPN is live and unchanged from its admission up to its own release.

@@ -1,6 +1,7 @@
 pub mod Amounts
 pub mod Attached
 pub mod Nodes
+pub mod Peeling
 pub mod Rates
 pub mod Reach
 pub mod Side

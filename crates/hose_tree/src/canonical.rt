@@ -85,7 +85,7 @@ fn tight_link(row: &Row, node: u32) -> Option<u32>
 }
 
 // The node to which a link leads from one of its nodes.
-fn other_end(top: &Topology, link: u32, node: u32) -> u32
+pub(crate) fn other_end(top: &Topology, link: u32, node: u32) -> u32
     requires link { link < length top.now.links }
     requires joins { (other : ℕ) × Joins top.now link node other }
     ensures { Joins top.now link node result }

@@ -1,6 +1,7 @@
 //! Trees of links: the one that joins a hose by shortest walks to the root of a row, what a hose
-//! reserves on the links of any tree, what that costs, whether it fits beside loads, and what a
-//! node reaches. The planner stands on it; the ledger uses `cost` to tell a network once more.
+//! reserves on the links of any tree, what that costs, whether it fits beside loads, what a node
+//! reaches, and whether amounts are a hose's on some tree. The planner stands on it; the ledger
+//! uses `cost` to tell a network once more.
 //!
 //! ```
 //! let tree = Tree::from_row(alloc, &top, &row, &hose)?;
@@ -18,6 +19,7 @@ ghost use Rattle.hose_graph.specs.Network.{Network, IsNetwork};
 mod canonical;
 mod costing;
 mod fit;
+mod judge;
 mod matrix;
 mod pairing;
 mod reach;
@@ -28,6 +30,7 @@ mod traffic;
 pub use costing::cost;
 pub use fit::{fits, free_rate};
 pub use hose_graph::Step;
+pub use judge::is_reservation;
 pub use matrix::Matrix;
 pub use pairing::heaviest;
 pub use reach::reached;

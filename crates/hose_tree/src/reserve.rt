@@ -27,7 +27,7 @@ pub fn reservations(alloc: Global, tree: &Tree, hose: &Hose) -> Result<Amounts, 
 }
 
 // Adds the rates of a hose at its nodes, where none stood.
-fn add_rates(rates: &mut [u64], ends: &[Endpoint])
+pub(crate) fn add_rates(rates: &mut [u64], ends: &[Endpoint])
     requires hose { IsHose ends.now }
     requires places { length rates.old ≡ MOST_NODES }
     requires empty { AreRatesOf [] rates.old }
@@ -62,7 +62,7 @@ fn amounts_by_step(
 }
 
 // Moves the rate at a step's new node to its old node, and says what it was.
-fn move_rate(rates: &mut [u64], step: &Step) -> u64
+pub(crate) fn move_rate(rates: &mut [u64], step: &Step) -> u64
     requires old { step.now.old < length rates.old }
     requires new { step.now.new < length rates.old }
     requires differ { step.now.old ≢ step.now.new }

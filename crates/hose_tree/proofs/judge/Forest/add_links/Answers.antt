@@ -1,0 +1,45 @@
+use Rattle.std.proofs.Common.{ℕ, ◌+◌, ◌≤◌, [], length, take, get_or, arith}
+use Rattle.std.proofs.lemmas.List.{length-take}
+use Rattle.std.proofs.lemmas.List.Elements.{All-weaker}
+use Rattle.hose_tree.specs.Peeling.{IsPossible}
+use Rattle.hose_tree.proofs.Forests.{MOST, forest_more, next_more, room}
+use Rattle.hose_tree.proofs.judge.Forest.add_links.Goals as goal
+
+pub add_link-requires-clause-places : goal.add_link-requires-clause-places
+add_link-requires-clause-places c =
+    let is_link = c.link.ensures.is_link in
+    record { a = omega (arith, is_link.in_range.a, c.requires.network.few_nodes); b = omega (arith, is_link.in_range.b, c.requires.network.few_nodes) }
+
+pub add_link-requires-clause-degrees : goal.add_link-requires-clause-degrees
+add_link-requires-clause-degrees c =
+    room c.args.top.now (λ pair. 1) c.args.pairs.now c.loop-number.number-index 1 c.loop-number.self.degrees (λ k d below. omega arith) c.requires.few (omega arith)
+    c.loop-number.invariant.degrees
+
+pub add_link-requires-clause-links : goal.add_link-requires-clause-links
+add_link-requires-clause-links c =
+    let pairs = c.args.pairs.now in
+    let links = length c.args.top.now.links in
+    let each : (pair : ℕ × ℕ) → IsPossible links c.args.total pair → pair.0 ≤ MOST = λ pair is. omega (arith, is.link, c.requires.network.few_links) in
+    room c.args.top.now (λ pair. pair.0) pairs c.loop-number.number-index (get_or pairs c.loop-number.number-index (0, 0)).0 c.loop-number.self.links
+    (All-weaker (IsPossible links c.args.total) (λ (pair : ℕ × ℕ). pair.0 ≤ MOST) each pairs c.requires.possible) c.requires.few
+    (each _ (c.requires.possible c.loop-number.number-index (0, 0) c.loop-number-test.true)) c.loop-number.invariant.links
+
+pub add_link-requires-clause-amounts : goal.add_link-requires-clause-amounts
+add_link-requires-clause-amounts c =
+    let pairs = c.args.pairs.now in
+    let links = length c.args.top.now.links in
+    let each : (pair : ℕ × ℕ) → IsPossible links c.args.total pair → pair.1 ≤ MOST = λ pair is. omega (arith, is.within, c.requires.total) in
+    room c.args.top.now (λ pair. pair.1) pairs c.loop-number.number-index (get_or pairs c.loop-number.number-index (0, 0)).1 c.loop-number.self.amounts
+    (All-weaker (IsPossible links c.args.total) (λ (pair : ℕ × ℕ). pair.1 ≤ MOST) each pairs c.requires.possible) c.requires.few
+    (each _ (c.requires.possible c.loop-number.number-index (0, 0) c.loop-number-test.true)) c.loop-number.invariant.amounts
+
+pub add_link-requires-clause-left : goal.add_link-requires-clause-left
+add_link-requires-clause-left c =
+    omega (arith, c.loop-number.invariant.left, length-take c.loop-number.number-index c.args.pairs.now, c.requires.few, c.loop-number-test.true)
+
+pub loop-number-preserved : goal.loop-number-preserved
+loop-number-preserved c =
+    let pairs = c.args.pairs.now in
+    let i = c.loop-number.number-index in
+    forest_more c.args.top.now [] (take i pairs) (take (i + 1) pairs) (get_or pairs i (0, 0)) (next_more c.args.top.now pairs i c.loop-number-test.true)
+    c.link.result c.link.ensures.value c.loop-number.self c.add_link.new.self c.add_link.ensures c.loop-number.invariant

@@ -1,0 +1,5 @@
+use Rattle.hose_tree.specs.Peeling.{HasNoLeafBelow, KeepsQuestions}
+use Rattle.hose_tree.proofs.judge.Forest.peel.Given as goal
+
+abbrev pub invariant-loop-node : goal.invariant-loop-node
+invariant-loop-node l = KeepsQuestions l.top l.total l.fn.self l.self × HasNoLeafBelow l.node l.self
