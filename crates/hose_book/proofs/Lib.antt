@@ -1,3 +1,5 @@
+pub mod Ids
+pub mod Judging
 pub mod Loads
 pub mod Releasing
 pub mod Reserved

@@ -65,7 +65,7 @@ past [] place inside none = omega (arith, inside)
 past (first ∷ live) zero inside none = none-some first (sym none)
 past (first ∷ live) (suc place) inside none = past live place (omega (arith, inside)) none
 
-within : (live : List Vpn) (place : ℕ) (P : Vpn → Type 0) → IsSomeAnd (slice_get live place) P → place < length live
+pub within : (live : List Vpn) (place : ℕ) (P : Vpn → Type 0) → IsSomeAnd (slice_get live place) P → place < length live
 within [] place P some = absurd some
 within (first ∷ live) zero P some = omega arith
 within (first ∷ live) (suc place) P some = omega (arith, within live place P some)

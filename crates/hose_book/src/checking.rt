@@ -5,15 +5,12 @@ ghost use Rattle.hose_graph.specs.Ascending.{IsAscending};
 ghost use Rattle.hose_law.specs.Decision.{Fits};
 ghost use Rattle.hose_law.specs.History.{IsSoundAt};
 ghost use Rattle.hose_law.specs.Room.{free_rates};
-ghost use Rattle.std.specs.Prelude.{IsTrue};
-ghost use Rattle.hose_law.specs.Tree.{IsTreeReservation};
-ghost use Rattle.hose_law.specs.Walk.{all_links};
 ghost use Rattle.hose_tree.specs.Amounts.{AreCarried, AreOnLinks};
 ghost use Rattle.hose_book.specs.Refusal.{IsLowestFull, IsRefusedFor, Judges};
 
 use crate::Book;
 use hose_graph::{Amounts, Entry, Hose, MOST_EPOCH, MOST_LIVE, Name, Topology};
-use hose_tree::free_rate;
+use hose_tree::{free_rate, is_reservation};
 
 /// Why an entry is not sound at a book.
 #[derive(Clone, Copy, Debug, PartialEq, Eq)]
@@ -57,7 +54,7 @@ impl Book {
         if self.live.len() >= MOST_LIVE {
             return Err(BookRefusal::Full);
         }
-        if !is_reservation_stub(&self.topology, hose, amounts) {
+        if !is_reservation(&self.topology, hose, amounts) {
             return Err(BookRefusal::NotATree);
         }
         match first_full_link(&self.topology, self.loads(), amounts) {
@@ -92,10 +89,4 @@ fn first_full_link(top: &Topology, loads: &[u64], amounts: &Amounts) -> Option<u
         }
     }
     None
-}
-
-fn is_reservation_stub(top: &Topology, hose: &Hose, amounts: &Amounts) -> bool
-    ensures { IsTrue result ↔ IsTreeReservation top.now (all_links top.now) hose.now amounts.now }
-{
-    false
 }

@@ -1,6 +1,7 @@
 // Finding a VPN among the live.
-ghost use Rattle.std.specs.Prelude.{◌≡◌, ¬_, IfSome, IfNone, IsSomeAnd, slice_get};
+ghost use Rattle.std.specs.Prelude.{◌≡◌, ◌≢◌, ◌<◌, ℕ, Contains, IfSome, IfNone, IsSomeAnd, OnSome, length, slice_get, IsNone};
 ghost use Rattle.hose_law.specs.Book.{HasVpn, IsLiveVpn};
+ghost use Rattle.hose_law.specs.Live.{Rise};
 ghost use Rattle.hose_book.specs.Ledger.{IsKept};
 
 use crate::Book;
@@ -14,7 +15,9 @@ impl Book {
         ensures none { IfNone result (¬ HasVpn self.now.book customer.now id) }
         ensures kept { IfSome result (λ vpn. IsKept self.now.network vpn.now) }
     {
-        let place = self.place_of(customer, id)?;
+        let Some(place) = self.place_of(customer, id) else {
+            return None;
+        };
         Some(&self.live[place])
     }
 
@@ -24,8 +27,11 @@ impl Book {
             (IsLiveVpn self.now.book customer.now id)) }
         ensures none { IfNone result (¬ HasVpn self.now.book customer.now id) }
     {
-        let place = place_of_id(&self.live, id)?;
-        if self.live[place].customer != *customer {
+        let Some(place) = place_of_id(&self.live, id) else {
+            return None;
+        };
+        let vpn = &self.live[place];
+        if vpn.customer != *customer {
             return None;
         }
         Some(place)
@@ -34,6 +40,14 @@ impl Book {
 
 // The place of the VPN with an id.
 fn place_of_id(live: &[Vpn], id: u64) -> Option<usize>
+    requires { Rise live.now }
+    ensures found { IfSome result (λ place.
+        IsSomeAnd (slice_get live.now place) (λ vpn. vpn.id ≡ id)) }
+    ensures none { IsNone result → (vpn : Vpn) → Contains live.now vpn → vpn.id ≢ id }
 {
-    live.binary_search_by_key(&id, |vpn| vpn.id).ok()
+    let place = live.partition_point(|vpn| vpn.id < id);
+    if place == live.len() || live[place].id != id {
+        return None;
+    }
+    Some(place)
 }

@@ -14,14 +14,14 @@ use Rattle.hose_graph.specs.Hose.{IsEnd, IsHose}
 use Rattle.hose_graph.specs.Network.{Network, IsNetwork}
 use Rattle.hose_graph.specs.declared.limits.TheConstants.{MOST_AMOUNT, MOST_COST, MOST_RATE, MOST_TREE_LINKS}
 use Rattle.hose_graph.specs.declared.step.Step.{Step}
-use Rattle.hose_law.specs.Plan.{plan_cost}
-use Rattle.hose_law.specs.Tree.{Grow, IsTreeReservation, links_of, step_links, new_nodes}
+use Rattle.hose_law.specs.Plan.{AreNodes, plan_cost}
+use Rattle.hose_law.specs.Tree.{Grow, IsOn, IsTreeReservation, links_of, step_links, new_nodes}
 use Rattle.hose_law.specs.Walk.{Joins, cost_of}
 use Rattle.hose_law.proofs.Apart.{apart_links, apart_rising, same_sums}
 use Rattle.hose_law.proofs.Joined.{joined, joins_costs}
 use Rattle.hose_law.proofs.Reservations.{reserved_in_tree, tree_in_reserved}
 use Rattle.hose_law.proofs.TightWays.{in_reverse, from_reverse}
-use Rattle.hose_law.proofs.Trees.{distinct_behind, new_nodes_differ, on_is_node, start_is_not_new, rate_beyond-le}
+use Rattle.hose_law.proofs.Trees.{distinct_behind, new_nodes_differ, on_is_node, on_reverse, start_is_not_new, rate_beyond-le}
 use Rattle.hose_graph.proofs.Members.{first_or_rest, none_in_empty}
 
 -- the link of a step joins two nodes
@@ -65,6 +65,13 @@ module _ (network : Network) (is : IsNetwork network) (set : List Bool) (hose pa
           let joins = reserved_joins reservation pair there in
           let by = joined network is pair.0 joins.0 joins.1 joins.2 in
           slice_get_within network.links pair.0 by.link by.there
+
+  -- Each endpoint is one of its nodes.
+  pub reserved_nodes : IsTreeReservation network set hose pairs → AreNodes network hose
+  reserved_nodes reservation =
+      let tree = reservation.tree in
+      All-weaker (λ (end : ℕ × ℕ). IsOn tree.start tree.steps end.0) (λ (end : ℕ × ℕ). end.0 < length network.nodes)
+      (λ end on. on_is_node network is tree.start (reverse tree.steps) end.0 reservation.is_tree (on_reverse tree.start tree.steps end.0 on)) hose reservation.joins
 
   -- Fewer links are reserved than a network can have nodes.
   pub reserved_few : IsTreeReservation network set hose pairs → length pairs ≤ MOST_TREE_LINKS

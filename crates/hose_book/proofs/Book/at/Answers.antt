@@ -1,0 +1,27 @@
+use Rattle.std.proofs.Common.{◌≡◌, ℕ, List, [], All, length, get_or, replicate, sym, ap, subst, arith}
+use Rattle.std.proofs.lemmas.List.{length-replicate, get_or-replicate}
+use Rattle.std.proofs.lemmas.List.Elements.{All-nil}
+use Rattle.hose_graph.specs.declared.vpn.Vpn.{Vpn}
+use Rattle.hose_law.specs.Live.{HasRisingIds}
+use Rattle.hose_book.proofs.Ids.{none_rise}
+use Rattle.hose_book.specs.Ledger.{IsKept}
+use Rattle.hose_law.specs.Book.{load_of}
+use Rattle.hose_book.proofs.Book.at.Goals as goal
+
+pub invariant_of-result : goal.invariant_of-result
+invariant_of-result c =
+    let zeros : c.in_ok-loads.loads.items ≡ replicate c.links.result 0 = c.in_ok-loads.ensures.items_if_clones_equal (λ y same. same) in
+    let no_load : (l : ℕ) → load_of (record { epoch = c.args.epoch; live = c.in_ok-live.live.items }) l ≡ 0 =
+    λ l. ap (λ (live : List Vpn). load_of (record { epoch = c.args.epoch; live = live }) l) c.in_ok-live.ensures.items in (
+      c.links.ensures.network,
+      record {
+        places = omega (arith, ap length zeros, length-replicate {A = ℕ} c.links.result 0, c.links.ensures.count);
+        each = λ l inside. omega (arith, ap (λ (s : List ℕ). get_or s l 0) zeros, get_or-replicate {A = ℕ} c.links.result l 0 0 (omega (arith, inside, c.links.ensures.count)), no_load l);
+        none_oversold = λ l. omega (arith, no_load l);
+      },
+      omega arith,
+      omega (arith, ap length c.in_ok-live.ensures.items),
+      omega (arith, c.in_ok-live.ensures.capacity),
+      subst (λ (live : List Vpn). HasRisingIds 0 (record { epoch = c.args.epoch; live = live })) (sym c.in_ok-live.ensures.items) (none_rise c.args.epoch),
+      subst (All (IsKept c.args.topology)) (sym c.in_ok-live.ensures.items) (All-nil (IsKept c.args.topology)),
+    )
