@@ -1,7 +1,6 @@
 -- What a book says of an entry: it is sound, or there is one cause to refuse it.
 use Rattle.std.proofs.Common.{◌≡◌, ◌<◌, ◌≤◌, ◌↔◌, ℕ, List, Result, Ok, Err, IsOk, length, get_or, map, take, get_or-take, refl, sym, ap, subst, inl, inr, ◌∙◌, arith}
 use Rattle.std.specs.Bool.{⊤}
-use Rattle.std.specs.List.{Contains}
 use Rattle.std.proofs.lemmas.Bool.{cases_eq, cases_lt}
 use Rattle.std.proofs.lemmas.List.{get_or-map, get_or_default, length-map, length-take}
 use Rattle.std.proofs.lemmas.List.Kept.{AllPairs-from_increasing}

@@ -1,5 +1,5 @@
 -- What an entry does to the loads.
-use Rattle.std.proofs.Common.{◌≡◌, ℕ, zero, suc, ◌+◌, ◌≤◌, List, [], ◌∷◌, map, get_or, All, ap, arith}
+use Rattle.std.proofs.Common.{◌≡◌, ℕ, zero, suc, ◌+◌, ◌≤◌, List, [], ◌∷◌, map, get_or, All, arith}
 use Rattle.std.proofs.lemmas.List.Elements.{All-head, All-tail}
 use Rattle.std.proofs.lemmas.List.Sums.{sum_by_push}
 use Rattle.hose_graph.specs.declared.link.Link.{Link}
@@ -10,7 +10,6 @@ use Rattle.hose_law.specs.Walk.{capacity_of}
 use Rattle.hose_law.specs.Book.{Book, amount_on, load_of}
 use Rattle.hose_law.specs.History.{next_book}
 use Rattle.hose_graph.specs.declared.limits.TheConstants.{MOST_CAPACITY}
-use Rattle.hose_book.specs.Ledger.{AreKeptLoads}
 
 -- a link carries at most the greatest capacity
 pub capacity_small : (network : Network) (l : ℕ) → IsNetwork network → capacity_of network l ≤ MOST_CAPACITY

@@ -7,7 +7,7 @@ use Rattle.hose_graph.specs.Hose.{Endpoint}
 use Rattle.hose_graph.specs.Network.{Network}
 use Rattle.hose_law.specs.Book.{Book, HasVpn}
 use Rattle.hose_law.specs.History.{IsSoundAt, last_epoch, most_live}
-use Rattle.hose_law.specs.Room.{Room, room_of}
+use Rattle.hose_law.specs.Room.{room_of}
 use Rattle.hose_law.specs.Tree.{IsTreeReservation}
 use Rattle.hose_book.specs.declared.checking.BookRefusal.{BookRefusal}
 use Rattle.hose_book.specs.declared.checking.BookRefusal.TheVariants.{Spent, Full, NotATree, NoRoom, NoVpn}

@@ -22,9 +22,7 @@ pub enum BookRefusal {
     /// The amounts are not what the hose reserves on any tree that joins it, or one of them is 0.
     NotATree,
     /// A link has less free than its amount; it is the lowest-numbered of these.
-    NoRoom {
-        link: u32,
-    },
+    NoRoom { link: u32 },
     /// The customer has no live VPN of this id.
     NoVpn,
 }

@@ -35,7 +35,8 @@ use Rattle.hose_words.specs.Reading.{WhereTold, ReadsOn}
 use Rattle.hose_proto.specs.ReplyText.{line_of, reply_text}
 use Rattle.hose_io.specs.Frame.{Rose}
 use Rattle.hosed.specs.Fault.{of_line}
-use Rattle.hosed.specs.Ledger.{Ledger, book_with}
+use Rattle.hose_book.specs.Ledger.{Ledger}
+use Rattle.hosed.specs.Answering.{book_with}
 use Rattle.hosed.specs.Serving.{Says, SaysOneThing, SaysRead, SayLines, no_line, one_more, SayOneThingEach, none_yet, line_more, AnswersLine, AreAnswered, CutsLast, HasServed, IsAllTaken, IsLeftOver, IsOver, StopsReading, Serves, ServesLine, ServesUntil, ServesUpTo, TakesTurn, texts_of}
 
 -- what a reader shows of a line says what the line says

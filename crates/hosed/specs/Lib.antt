@@ -1,6 +1,6 @@
+pub mod Answering
 pub mod Ending
 pub mod Fault
-pub mod Ledger
 pub mod ProgramWords
 pub mod Run
 pub mod RunOutcome

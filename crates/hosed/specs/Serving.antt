@@ -25,7 +25,8 @@ use Rattle.hose_law.specs.Script.ReadLine.{Asks, IsBad, IsLong, Unread}
 use Rattle.hosed.specs.ScriptLine.{IsAsking, WantsMemory, script_grammar}
 use Rattle.hosed.specs.Ending.{GrowsShort}
 use Rattle.hose_proto.specs.ReplyText.{line_of, reply_text}
-use Rattle.hosed.specs.Ledger.{Ledger, Answers}
+use Rattle.hose_book.specs.Ledger.{Ledger}
+use Rattle.hosed.specs.Answering.{Answers}
 use Rattle.hose_words.specs.Reading.{WhereTold}
 use Rattle.hosed.specs.declared.fault.Fault.{Fault}
 use Rattle.hosed.specs.declared.fault.Fault.TheVariants as fault

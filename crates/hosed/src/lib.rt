@@ -7,6 +7,10 @@
 //! ```
 //! let status = hosed(alloc, &words, &mut StdSource::new(stdin), &mut StdSink::new(stdout));
 //! ```
+//!
+//! Each reply is the sequential book's at its place in one history; each admitted tree's reservations
+//! carry every traffic matrix within the rates, at no more than any tree over the links then allowed
+//! would cost.
 #![tactic(auto)]
 
 ghost use Rattle.std.specs.Prelude.{◌≡◌, ◌↔◌, ℕ, map};
@@ -17,8 +21,8 @@ ghost use Rattle.hosed.specs.Fault.{last_line};
 ghost use Rattle.hosed.specs.ProgramWords.{AreRunWords, IsFirstWrong};
 ghost use Rattle.hosed.specs.RunOutcome.{RunOutcome};
 
+mod answering;
 mod fault;
-mod ledger;
 mod run;
 mod script_line;
 mod words;

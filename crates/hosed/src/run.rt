@@ -10,9 +10,10 @@ ghost use Rattle.hose_proto.specs.ReplyText.{NamesPlaces};
 ghost use Rattle.hosed.specs.RunOutcome.{RunLeaves};
 ghost use Rattle.hosed.specs.Serving.{SaysOneThing, SaysRead, AnswersLine, Serves, ServesLine};
 
+use crate::answering;
 use crate::fault::Fault;
-use crate::ledger::Ledger;
 use crate::script_line::read_line;
+use hose_book::Book;
 use hose_graph::Reply;
 use hose_io::{Sink, Source};
 use hose_proto::{ReadFault, put_reply};
@@ -53,42 +54,42 @@ fn run_lines<S: Source, O: Sink>(
     ensures output { Stays (O.frame output.old) (O.frame output.new) }
 {
     let topology = read(alloc, lines)?;
-    let mut ledger = Ledger::new(alloc, topology)?;
-    serve(alloc, &mut ledger, lines, output)
+    let mut book = Book::new(alloc, topology)?;
+    serve(alloc, &mut book, lines, output)
 }
 
 // Answers all lines that are to come.
 fn serve<S: Source, O: Sink>(
     alloc: Global,
-    ledger: &mut Ledger,
+    book: &mut Book,
     lines: &mut LineReader<S>,
     output: &mut O,
 ) -> Result<(), Fault>
-    requires opening { ledger.old.book ≡ opening_book 0 }
+    requires opening { book.old.book ≡ opening_book 0 }
     requires limit { lines.old.taken ≤ INPUT_LIMIT + 1 }
     requires no_fault { lines.old.fault ≡ None }
     ensures serves { Serves S.Source O.Sink lines.old lines.new output.old output.new
-        ledger.old.network result }
+        book.old.network result }
     ensures too_long { (result ≡ Err Fault.TooLong) ↔ (INPUT_LIMIT < lines.new.taken) }
     ensures reads_on { ReadsOn S.Source lines.old lines.new }
     ensures limit { lines.new.taken ≤ INPUT_LIMIT + 1 }
     ensures output { Stays (O.frame output.old) (O.frame output.new) }
 {
-    while serve_line(alloc, ledger, lines, output)? {}
+    while serve_line(alloc, book, lines, output)? {}
     Ok(())
 }
 
 // Answers the next line, and says whether there was one.
 fn serve_line<S: Source, O: Sink>(
     alloc: Global,
-    ledger: &mut Ledger,
+    book: &mut Book,
     lines: &mut LineReader<S>,
     output: &mut O,
 ) -> Result<bool, Fault>
     requires no_fault { lines.old.fault ≡ None }
-    ensures network { ledger.new.network ≡ ledger.old.network }
+    ensures network { book.new.network ≡ book.old.network }
     ensures serves { ServesLine S.Source O.Sink lines.old lines.new output.old output.new
-        ledger.old ledger.new.book result }
+        book.old book.new.book result }
     ensures too_long { (result ≡ Err Fault.TooLong) ↔ (INPUT_LIMIT < lines.new.taken) }
     ensures reads_on { ReadsOn S.Source lines.old lines.new }
     ensures limit { lines.new.taken ≤ INPUT_LIMIT + 1 }
@@ -97,26 +98,26 @@ fn serve_line<S: Source, O: Sink>(
     let Some(line) = lines.next()? else {
         return Ok(false);
     };
-    let reply = answer(alloc, ledger, line);
-    put_reply(output, ledger.topology(), &reply)?;
+    let reply = answer(alloc, book, line);
+    put_reply(output, book.topology(), &reply)?;
     Ok(true)
 }
 
 // The reply to a line.
-fn answer(alloc: Global, ledger: &mut Ledger, line: Line<'_>) -> Reply
-    ensures network { ledger.new.network ≡ ledger.old.network }
-    ensures names { NamesPlaces ledger.old.network result }
-    ensures answers { (said : ReadLine) × SaysRead ledger.old.network line.entry said
-        × AnswersLine ledger.old said result ledger.new.book }
+fn answer(alloc: Global, book: &mut Book, line: Line<'_>) -> Reply
+    ensures network { book.new.network ≡ book.old.network }
+    ensures names { NamesPlaces book.old.network result }
+    ensures answers { (said : ReadLine) × SaysRead book.old.network line.entry said
+        × AnswersLine book.old said result book.new.book }
     // The line, whatever its bytes are, could not have been read as another thing.
     ensures alone { (bytes : List ℕ) → Shows line.entry bytes
-        → SaysOneThing ledger.old.network bytes }
+        → SaysOneThing book.old.network bytes }
 {
     let Line::Text(text) = line else {
         return Reply::Long;
     };
-    match read_line(alloc, ledger.topology(), text) {
-        Ok(asked) => ledger.answer(alloc, asked.0, asked.1),
+    match read_line(alloc, book.topology(), text) {
+        Ok(asked) => answering::answer(book, alloc, asked.0, asked.1),
         Err(ReadFault::Bad { word }) => Reply::Bad { word },
         Err(ReadFault::Memory) => Reply::Memory,
     }

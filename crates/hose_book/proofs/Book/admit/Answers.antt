@@ -8,7 +8,6 @@ use Rattle.hose_law.specs.History.{IsSoundAt, next_book}
 use Rattle.hose_law.proofs.Sold.{NoneOversold, entry_keeps}
 use Rattle.hose_law.proofs.LiveIds.{rising_next}
 use Rattle.hose_law.specs.Live.{HasRisingIds}
-use Rattle.hose_law.specs.Plan.{AreNodes}
 use Rattle.hose_book.specs.Ledger.{Ledger, AreKeptLoads, IsKept}
 use Rattle.hose_law.proofs.Bounds.{reserved_links, reserved_few, reserved_most, reserved_nodes}
 use Rattle.hose_book.proofs.Loads.{capacity_small, load_more}

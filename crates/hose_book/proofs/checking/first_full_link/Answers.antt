@@ -1,4 +1,4 @@
-use Rattle.std.proofs.Common.{◌≡◌, ◌<◌, ◌≤◌, ℕ, List, get_or, length, subst, sym, ap, arith}
+use Rattle.std.proofs.Common.{◌≤◌, ℕ, List, get_or, length, subst, sym, ap, arith}
 use Rattle.std.proofs.lemmas.List.{take_all}
 use Rattle.std.proofs.lemmas.List.Elements.{All-more}
 use Rattle.hose_law.specs.Decision.{Fits}

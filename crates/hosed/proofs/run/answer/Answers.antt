@@ -12,7 +12,7 @@ use Rattle.hosed.proofs.run.answer.Goals as goal
 
 pub returns-in-Ok-clause-answers : goal.returns-in-Ok-clause-answers
 returns-in-Ok-clause-answers c =
-    let network = c.args.ledger.now.network in
+    let network = c.args.book.now.network in
     let said : ReadLine = Asks c.in-Ok.asked.0 c.in-Ok.asked.1 in
     let asks : IsAsking network c.in-Text.text.now c.in-Ok.asked.0 c.in-Ok.asked.1 =
     subst (λ (n : Network). IsAsking n c.in-Text.text.now c.in-Ok.asked.0 c.in-Ok.asked.1) c.topology.ensures.value c.in-Ok.ensures.ok in
@@ -20,7 +20,7 @@ returns-in-Ok-clause-answers c =
 
 pub returns-in-Err-Bad-clause-answers : goal.returns-in-Err-Bad-clause-answers
 returns-in-Err-Bad-clause-answers c =
-    let network = c.args.ledger.now.network in
+    let network = c.args.book.now.network in
     let word = c.in-Err-Bad.word in
     let wrong : IsFirstNotAllowed (script_grammar network) _ (words_of c.in-Text.text.now) word =
     subst (λ (n : Network). IsFirstNotAllowed (script_grammar n) _ (words_of c.in-Text.text.now) word) c.topology.ensures.value
@@ -29,12 +29,12 @@ returns-in-Err-Bad-clause-answers c =
 
 pub returns-in-Ok-clause-alone : goal.returns-in-Ok-clause-alone
 returns-in-Ok-clause-alone c =
-    text_alone c.topology.result.now c.args.ledger.now.network c.in-Text.text c.args.line c.topology.ensures.value c.in-Text.is c.read_line.ensures.alone
+    text_alone c.topology.result.now c.args.book.now.network c.in-Text.text c.args.line c.topology.ensures.value c.in-Text.is c.read_line.ensures.alone
 
 pub returns-in-Err-Bad-clause-alone : goal.returns-in-Err-Bad-clause-alone
 returns-in-Err-Bad-clause-alone c =
-    text_alone c.topology.result.now c.args.ledger.now.network c.in-Text.text c.args.line c.topology.ensures.value c.in-Text.is c.read_line.ensures.alone
+    text_alone c.topology.result.now c.args.book.now.network c.in-Text.text c.args.line c.topology.ensures.value c.in-Text.is c.read_line.ensures.alone
 
 pub returns-in-Err-Memory-clause-alone : goal.returns-in-Err-Memory-clause-alone
 returns-in-Err-Memory-clause-alone c =
-    text_alone c.topology.result.now c.args.ledger.now.network c.in-Text.text c.args.line c.topology.ensures.value c.in-Text.is c.read_line.ensures.alone
+    text_alone c.topology.result.now c.args.book.now.network c.in-Text.text c.args.line c.topology.ensures.value c.in-Text.is c.read_line.ensures.alone

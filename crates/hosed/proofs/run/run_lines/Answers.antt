@@ -4,7 +4,7 @@ use Rattle.std.proofs.lemmas.Result.{err_from_is_err_and}
 use Rattle.hose_words.proofs.OnReading.{ReadsOn-then}
 use Rattle.hose_graph.specs.Network.{Network}
 use Rattle.hosed.specs.Fault.{of_topology}
-use Rattle.hosed.specs.Ledger.{Ledger}
+use Rattle.hose_book.specs.Ledger.{Ledger}
 use Rattle.hosed.specs.Serving.{Serves}
 use Rattle.hose_topo.specs.Reading.{KeepsFault}
 use Rattle.hosed.proofs.Running.{leaves_served, leaves_topology, not_read, stopped_told, wrong_told}
@@ -30,7 +30,7 @@ returns-in_err-topology-clause-leaves g c =
 pub returns-clause-leaves : goal.returns-clause-leaves
 returns-clause-leaves g c =
     let topology = c.in_ok-topology.topology in
-    let network : c.in_ok-ledger.ledger.network ≡ topology = ap (λ (l : Ledger). l.network) c.in_ok-ledger.ensures in
+    let network : c.in_ok-book.book.network ≡ topology = ap (λ (l : Ledger). l.network) c.in_ok-book.ensures in
     let serves = subst (λ (n : Network). Serves g.S.Source g.O.Sink c.read.new.lines c.serve.new.lines c.args.output.now c.serve.new.output n c.serve.result) network c.serve.ensures.serves in
     leaves_served g.S.Source g.O.Sink c.args.lines.now c.read.new.lines c.serve.new.lines topology c.args.output.now c.serve.new.output c.in_ok-topology.ensures.network c.requires.pending
     c.in_ok-topology.ensures.topology c.in_ok-topology.ensures.alone c.read.ensures.reads_on c.in_ok-topology.ensures.fault.1 c.serve.ensures.reads_on c.serve.result serves

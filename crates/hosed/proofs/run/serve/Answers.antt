@@ -12,7 +12,7 @@ loop-init g c =
     let lines = c.args.lines.now in
     let content = g.O.Sink.content c.args.output.now in
     record {
-      served = subst (λ (b : Book). HasServed g.S.Source lines lines c.args.ledger.now.network b content content) (sym c.requires.opening) (nothing_served g.S.Source lines c.args.ledger.now.network content);
+      served = subst (λ (b : Book). HasServed g.S.Source lines lines c.args.book.now.network b content content) (sym c.requires.opening) (nothing_served g.S.Source lines c.args.book.now.network content);
       reads = ReadsOn-start g.S.Source lines;
       network = refl;
       none = c.requires.no_fault;
@@ -22,12 +22,12 @@ loop-init g c =
 
 pub loop-preserved : goal.loop-preserved
 loop-preserved g c =
-    let network = c.args.ledger.now.network in
+    let network = c.args.book.now.network in
     let before = c.loop.invariant in
-    let next = c.serve_line.new.ledger.book in
-    let line = as_line g.S.Source g.O.Sink c.loop.lines c.serve_line.new.lines c.loop.output c.serve_line.new.output c.loop.ledger next network c.serve_line.result (Ok true) before.network (c.in_ok-serve_line.was ∙ ap Ok c.if-branch.true) c.serve_line.ensures.serves in
+    let next = c.serve_line.new.book.book in
+    let line = as_line g.S.Source g.O.Sink c.loop.lines c.serve_line.new.lines c.loop.output c.serve_line.new.output c.loop.book next network c.serve_line.result (Ok true) before.network (c.in_ok-serve_line.was ∙ ap Ok c.if-branch.true) c.serve_line.ensures.serves in
     record {
-      served = served_more g.S.Source c.args.lines.now c.loop.lines c.serve_line.new.lines network c.loop.ledger.book next _ _ _ before.served before.reads line.0;
+      served = served_more g.S.Source c.args.lines.now c.loop.lines c.serve_line.new.lines network c.loop.book.book next _ _ _ before.served before.reads line.0;
       reads = ReadsOn-then g.S.Source c.args.lines.now c.loop.lines c.serve_line.new.lines before.reads c.serve_line.ensures.reads_on;
       network = c.serve_line.ensures.network ∙ before.network;
       none = line.1;
@@ -37,23 +37,23 @@ loop-preserved g c =
 
 pub returns-in_err-serve_line-clause-serves : goal.returns-in_err-serve_line-clause-serves
 returns-in_err-serve_line-clause-serves g c =
-    let network = c.args.ledger.now.network in
+    let network = c.args.book.now.network in
     let before = c.loop.invariant in
     let fault = c.in_err-serve_line.field-0.0 in
-    let next = c.serve_line.new.ledger.book in
-    let line = as_line g.S.Source g.O.Sink c.loop.lines c.serve_line.new.lines c.loop.output c.serve_line.new.output c.loop.ledger next network c.serve_line.result (Err fault) before.network c.in_err-serve_line.was c.serve_line.ensures.serves in
+    let next = c.serve_line.new.book.book in
+    let line = as_line g.S.Source g.O.Sink c.loop.lines c.serve_line.new.lines c.loop.output c.serve_line.new.output c.loop.book next network c.serve_line.result (Err fault) before.network c.in_err-serve_line.was c.serve_line.ensures.serves in
     let told = err_from_is_err_and c.from_residual.result c.from_residual.ensures.1 in
     let is : c.from_residual.result ≡ Err fault = told.1 ∙ ap Err told.2 in
-    rw is (serves_fault g.S.Source g.O.Sink c.args.lines.now c.loop.lines c.serve_line.new.lines network c.loop.ledger.book next c.args.output.now c.loop.output c.serve_line.new.output
+    rw is (serves_fault g.S.Source g.O.Sink c.args.lines.now c.loop.lines c.serve_line.new.lines network c.loop.book.book next c.args.output.now c.loop.output c.serve_line.new.output
     before.served before.reads before.none before.held ⊤ fault line)
 
 pub returns-clause-serves : goal.returns-clause-serves
 returns-clause-serves g c =
-    let network = c.args.ledger.now.network in
+    let network = c.args.book.now.network in
     let before = c.loop.invariant in
-    let next = c.serve_line.new.ledger.book in
-    let line = as_line g.S.Source g.O.Sink c.loop.lines c.serve_line.new.lines c.loop.output c.serve_line.new.output c.loop.ledger next network c.serve_line.result (Ok false) before.network (c.in_ok-serve_line.was ∙ ap Ok c.if-branch.false) c.serve_line.ensures.serves in
-    serves_all g.S.Source g.O.Sink c.args.lines.now c.loop.lines c.serve_line.new.lines network c.loop.ledger.book next c.args.output.now c.loop.output c.serve_line.new.output
+    let next = c.serve_line.new.book.book in
+    let line = as_line g.S.Source g.O.Sink c.loop.lines c.serve_line.new.lines c.loop.output c.serve_line.new.output c.loop.book next network c.serve_line.result (Ok false) before.network (c.in_ok-serve_line.was ∙ ap Ok c.if-branch.false) c.serve_line.ensures.serves in
+    serves_all g.S.Source g.O.Sink c.args.lines.now c.loop.lines c.serve_line.new.lines network c.loop.book.book next c.args.output.now c.loop.output c.serve_line.new.output
     before.served before.reads before.none before.held ⊤ tt line
 
 pub returns-in_err-serve_line-clause-reads_on : goal.returns-in_err-serve_line-clause-reads_on

@@ -15,7 +15,7 @@ returns-in_err-line-clause-serves g c =
     let next = subst (IsNext g.S.Source c.args.lines.now new) c.in_err-line.was c.next.follows.holds-at-none in
     let told = err_from_is_err_and c.from_residual.result c.from_residual.ensures.1 in
     let is : c.from_residual.result ≡ Err (of_line met) = told.1 ∙ ap Err told.2 in
-    rw is (serves_read g.S.Source g.O.Sink c.args.lines.now new c.args.output.now c.args.ledger.now c.args.ledger.now.book met c.requires.no_fault next)
+    rw is (serves_read g.S.Source g.O.Sink c.args.lines.now new c.args.output.now c.args.book.now c.args.book.now.book met c.requires.no_fault next)
 
 pub returns-in_err-put_reply-clause-serves : goal.returns-in_err-put_reply-clause-serves
 returns-in_err-put_reply-clause-serves g c =
@@ -25,7 +25,7 @@ returns-in_err-put_reply-clause-serves g c =
     let told = err_from_is_err_and c.from_residual-in_err-put_reply.result c.from_residual-in_err-put_reply.ensures.1 in
     let is : c.from_residual-in_err-put_reply.result ≡ Err Write = told.1 ∙ ap Err told.2 in
     rw is (
-      turn_of g.S.Source c.args.lines.now new c.args.ledger.now c.in-Some.line c.answer-reply.result c.answer-reply.new.ledger.book c.topology.result.now
+      turn_of g.S.Source c.args.lines.now new c.args.book.now c.in-Some.line c.answer-reply.result c.answer-reply.new.book.book c.topology.result.now
           (GrowsInPart (g.O.Sink.content c.args.output.now) (g.O.Sink.content c.put_reply.new.sink)) next
           c.answer-reply.ensures.answers c.answer-reply.ensures.alone (c.topology.ensures.value ∙ c.answer-reply.ensures.network) put.err,
       next.fault.1,
@@ -37,7 +37,7 @@ returns-clause-serves g c =
     let new = c.next.follows.lender-at-none in
     let next = subst (IsNext g.S.Source c.args.lines.now new) (c.in_ok-line.was ∙ ap Ok c.in-Some.is) c.next.follows.holds-at-none in
     let put = c.in_ok-put_reply.ensures.put in (
-      turn_of g.S.Source c.args.lines.now new c.args.ledger.now c.in-Some.line c.answer-reply.result c.answer-reply.new.ledger.book c.topology.result.now
+      turn_of g.S.Source c.args.lines.now new c.args.book.now c.in-Some.line c.answer-reply.result c.answer-reply.new.book.book c.topology.result.now
           (Grows (g.O.Sink.content c.args.output.now) (g.O.Sink.content c.put_reply.new.sink)) next
           c.answer-reply.ensures.answers c.answer-reply.ensures.alone (c.topology.ensures.value ∙ c.answer-reply.ensures.network) put.ok,
       next.fault.1,
