@@ -2,9 +2,11 @@
 """Compares `hosed run`, reply by reply, with a slow and plain planner on random networks.
 
 The networks have up to 9 nodes. The planner here shares no code with the crates and follows the
-rules word by word; it is tried on rows worked out by hand first. Prints how many networks,
-commands and replies of each kind agreed, and the seconds of both; or the first difference, with the
-input up to it, and ends with status 1.
+rules word by word; it is tried on rows worked out by hand first. On a third as many smaller
+networks the cost of an admission is that of a search by force: the least over all trees of the
+links allowed, with the least amounts that carry each matrix within the rates. Prints how many
+networks, commands and replies of each kind agreed, and the seconds of both; or the first
+difference, with the input up to it, and ends with status 1.
 
 usage: bench/compare_planner.py [PROGRAM [NETWORKS [SEED]]]
 The PROGRAM (./hosed) is seen from the top of the repository.
@@ -16,12 +18,11 @@ import subprocess
 import sys
 import time
 from collections import Counter
-from itertools import zip_longest
+from itertools import combinations, product, zip_longest
 from typing import NamedTuple
 
 COMMANDS = 60  # of each network
 CUSTOMERS = ("acme", "zeta")
-MOST_RATE = 6
 SECONDS = 60  # that the program has for one network
 
 
@@ -149,14 +150,24 @@ def plan_cost(network, plan):
     return sum(network.links[number].cost * amount for number, amount in plan)
 
 
+def safe_links(network, loads, hose):
+    half = sum(rate for _, rate in hose) // 2
+    links = range(len(network.links))
+    return {number for number in links if free_rate(network, loads, number) >= half}
+
+
+def allowed_links(network, loads, hose, kind):
+    """The links over which a plan of this kind was made."""
+    return set(range(len(network.links))) if kind == "first" else safe_links(network, loads, hose)
+
+
 def decide(network, loads, hose):
     """`first` or `second` and the plan to admit the hose with; or `refused` and the side."""
     everything = set(range(len(network.links)))
     first = canonical_plan(network, everything, hose)
     if first is not None and fits(network, loads, first):
         return "first", first
-    half = sum(rate for _, rate in hose) // 2
-    safe = {number for number in everything if free_rate(network, loads, number) >= half}
+    safe = safe_links(network, loads, hose)
     second = canonical_plan(network, safe, hose)
     if second is None:
         return "refused", reached(network, safe, hose[0][0])
@@ -164,12 +175,60 @@ def decide(network, loads, hose):
     return "second", second
 
 
+# ---- The search by force.
+
+
+def matrices(hose):
+    """All traffic within the rates: what each two endpoints send each other, both ways together."""
+    pairs = list(combinations(range(len(hose)), 2))
+    most = [min(hose[i][1], hose[j][1]) for i, j in pairs]
+    for amounts in product(*(range(least + 1) for least in most)):
+        sums = [0] * len(hose)
+        for (i, j), amount in zip(pairs, amounts):
+            sums[i] += amount
+            sums[j] += amount
+        if all(total <= rate for total, (_, rate) in zip(sums, hose)):
+            yield dict(zip(pairs, amounts))
+
+
+def trees(network, over, hose):
+    """Every tree of these links that joins the hose, as a set of links."""
+    for count in range(1, len(network.nodes)):
+        for links in combinations(sorted(over), count):
+            nodes = {network.links[number].a for number in links}
+            nodes |= {network.links[number].b for number in links}
+            one_part = set(reached(network, set(links), hose[0][0])) == nodes
+            if one_part and len(nodes) == count + 1 and all(node in nodes for node, _ in hose):
+                yield set(links)
+
+
+def least_cost(network, over, hose):
+    """What the cheapest tree of these links costs that carries all traffic within the rates."""
+    traffic = list(matrices(hose))
+    heaviest = {}  # the greatest load across a link, by the endpoints on its one side
+    least = None
+    for links in trees(network, over, hose):
+        cost = 0
+        for number in links:
+            away = reached(network, links - {number}, network.links[number].a)
+            side = tuple(node in away for node, _ in hose)
+            if side not in heaviest:
+                heaviest[side] = max(
+                    sum(amount for (i, j), amount in matrix.items() if side[i] != side[j])
+                    for matrix in traffic
+                )
+            cost += network.links[number].cost * heaviest[side]
+        least = cost if least is None else min(least, cost)
+    return least
+
+
 # ---- The server: what it replies to each command.
 
 
 class Server:
-    def __init__(self, network):
+    def __init__(self, network, by_force=False):
         self.network = network
+        self.by_force = by_force
         self.epoch = 0
         self.live = {}  # VPNs by their numbers
         self.kinds = Counter()
@@ -186,7 +245,8 @@ class Server:
 
     def admit(self, customer, hose):
         hose = sorted(hose)
-        kind, found = decide(self.network, self.loads(), hose)
+        loads = self.loads()
+        kind, found = decide(self.network, loads, hose)
         if kind == "refused":
             self.kinds["refused"] += 1
             side = " ".join(self.network.nodes[node] for node in found)
@@ -194,6 +254,10 @@ class Server:
         self.kinds[f"admitted with the {kind} plan"] += 1
         self.epoch += 1
         cost = plan_cost(self.network, found)
+        if self.by_force:
+            self.kinds["admitted at the least cost by force"] += 1
+            over = allowed_links(self.network, loads, hose, kind)
+            cost = least_cost(self.network, over, hose)
         self.live[self.epoch] = Vpn(customer, hose, found, cost)
         return f"admitted {self.epoch} cost {cost} at {self.epoch} links {pairs_text(found)}"
 
@@ -240,14 +304,25 @@ def pairs_text(plan):
 # ---- Random networks and scripts.
 
 
-def random_network(draw):
+class Size(NamedTuple):
+    nodes: int
+    links: int
+    ends: int
+    rate: int
+
+
+COMPARED = Size(nodes=9, links=27, ends=5, rate=6)
+FORCED = Size(nodes=6, links=9, ends=4, rate=3)
+
+
+def random_network(draw, size):
     """Few nodes and costs, and little room.
 
     So there are cycles, parallel links and ties, and first plans often do not fit.
     """
-    names = draw.sample("abcdefghijklmnopqrstuvwxyz", draw.randint(2, 9))
+    names = draw.sample("abcdefghijklmnopqrstuvwxyz", draw.randint(2, size.nodes))
     links = []
-    for _ in range(draw.randint(len(names) - 1, 3 * len(names))):
+    for _ in range(draw.randint(len(names) - 1, min(3 * len(names), size.links))):
         a, b = draw.sample(range(len(names)), 2)
         length = draw.randint(1, 4)
         capacity, cost = draw.randint(1, 16), draw.choice((length, length, draw.randint(1, 4)))
@@ -263,9 +338,10 @@ def topology_lines(network):
     return lines + ["end"]
 
 
-def random_hose(draw, network):
-    nodes = draw.sample(range(len(network.nodes)), draw.randint(2, min(5, len(network.nodes))))
-    return [(node, draw.randint(1, MOST_RATE)) for node in nodes]
+def random_hose(draw, network, size):
+    most = min(size.ends, len(network.nodes))
+    nodes = draw.sample(range(len(network.nodes)), draw.randint(2, most))
+    return [(node, draw.randint(1, size.rate)) for node in nodes]
 
 
 def random_vpn(draw, server):
@@ -276,12 +352,12 @@ def random_vpn(draw, server):
     return draw.choice(CUSTOMERS), draw.randint(0, server.epoch + 1)
 
 
-def random_command(draw, server):
+def random_command(draw, server, size):
     """A line, and the reply to it."""
     customer = draw.choice(CUSTOMERS)
     kind = draw.choices(("admit", "release", "show", "link"), (10, 5, 2, 3))[0]
     if kind == "admit":
-        hose = random_hose(draw, server.network)
+        hose = random_hose(draw, server.network, size)
         return f"{customer} admit {server.ends_text(hose)}", server.admit(customer, hose)
     if kind == "link":
         number = draw.randint(0, len(server.network.links))
@@ -349,30 +425,47 @@ def compare(program, topology, script, wanted):
     return run.returncode == 0
 
 
+class Seconds:
+    planner = 0.0
+    hosed = 0.0
+
+
+def compare_network(program, seed, size, by_force, seconds, kinds):
+    """Whether the program replies to a random script on a random network as the server here."""
+    draw = random.Random(seed)
+    start = time.perf_counter()
+    server = Server(random_network(draw, size), by_force)
+    script, wanted = zip(*(random_command(draw, server, size) for _ in range(COMMANDS)))
+    planned = time.perf_counter()
+    agrees = compare(program, topology_lines(server.network), list(script), wanted)
+    seconds.planner += planned - start
+    seconds.hosed += time.perf_counter() - planned
+    kinds.update(server.kinds)
+    return agrees
+
+
 def main():
     program, networks, seed = (sys.argv[1:] + ["./hosed", "300", "1"][len(sys.argv) - 1 :])[:3]
     os.chdir(os.path.join(os.path.dirname(os.path.abspath(__file__)), ".."))
     check_by_hand()
     # The first run may build the program.
     subprocess.run([program, "--version"], stdout=subprocess.DEVNULL, check=True)
-    kinds = Counter()
-    planner = hosed = 0.0
+    kinds, seconds, forced = Counter(), Seconds(), int(networks) // 3
     for number in range(int(networks)):
-        draw = random.Random(f"{seed} {number}")
-        server = Server(random_network(draw))
-        start = time.perf_counter()
-        script, wanted = zip(*(random_command(draw, server) for _ in range(COMMANDS)))
-        planned = time.perf_counter()
-        if not compare(program, topology_lines(server.network), list(script), wanted):
+        if not compare_network(program, f"{seed} {number}", COMPARED, False, seconds, kinds):
             sys.exit(1)
-        planner += planned - start
-        hosed += time.perf_counter() - planned
-        kinds.update(server.kinds)
-    print(f"compared: {networks} networks, {sum(kinds.values())} commands")
+    commands = sum(kinds.values())
+    reference = Seconds()
+    for number in range(forced):
+        if not compare_network(program, f"{seed} force {number}", FORCED, True, reference, kinds):
+            sys.exit(1)
+    print(f"compared: {networks} networks, {commands} commands; {forced} networks by force")
     for kind, count in sorted(kinds.items()):
         print(f"{kind}: {count}")
-    print(f"seconds: {hosed:.2f}, with the start of {networks} processes")
-    print(f"reference: {planner:.2f} s for the planner here, ratio {hosed / planner:.2f}")
+    ratio = seconds.hosed / seconds.planner
+    print(f"seconds: {seconds.hosed:.2f}, with the start of {networks} processes")
+    print(f"reference: {seconds.planner:.2f} s for the planner here, ratio {ratio:.2f}")
+    print(f"by force: {reference.planner:.2f} s")
 
 
 if __name__ == "__main__":

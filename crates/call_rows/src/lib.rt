@@ -21,3 +21,5 @@ mod replies;
 mod streams;
 #[cfg(test)]
 mod topologies;
+#[cfg(test)]
+mod traffic;

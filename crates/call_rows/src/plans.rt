@@ -18,7 +18,7 @@ use std::alloc::{AllocError, Global};
 use std::test::Fail;
 
 // The row of a root over all links.
-fn row_from(alloc: Global, top: &Topology, root: u32) -> Result<Row, AllocError>
+pub fn row_from(alloc: Global, top: &Topology, root: u32) -> Result<Row, AllocError>
     requires { root < length top.now.nodes }
     ensures row { IfOk result (λ row. (set : List Bool) × IsRow top.now set row.root row) }
     ensures bounded { IfOk result HasBoundedDistances }
@@ -29,7 +29,7 @@ fn row_from(alloc: Global, top: &Topology, root: u32) -> Result<Row, AllocError>
 }
 
 // Whether each endpoint has a distance.
-fn reaches(row: &Row, hose: &Hose) -> bool
+pub fn reaches(row: &Row, hose: &Hose) -> bool
     ensures { IsTrue result → All (λ end. IsSome (distance_of row.now (node_of end))) hose.now }
 {
     hose.ends().iter().all(|end| has_distance(row, end.0))

@@ -17,7 +17,7 @@ same_names x y r s same =
     let rest : x ++ r ≡ y ++ s = cc in
     same_parts x y r s long rest
 
-pub same_pair : (x y : ℕ × ℕ) (r s : List ℕ) → FitsPair x → FitsPair y → pair_field x ++ r ≡ pair_field y ++ s → (x ≡ y) × (r ≡ s)
+same_pair : (x y : ℕ × ℕ) (r s : List ℕ) → FitsPair x → FitsPair y → pair_field x ++ r ≡ pair_field y ++ s → (x ≡ y) × (r ≡ s)
 same_pair x y r s x_fits y_fits same =
     let parts : big_bytes 2 x.0 ++ (big_bytes 4 x.1 ++ r) ≡ big_bytes 2 y.0 ++ (big_bytes 4 y.1 ++ s) =
     sym (append_assoc (big_bytes 2 x.0) (big_bytes 4 x.1) r) ∙ same ∙ append_assoc (big_bytes 2 y.0) (big_bytes 4 y.1) s in

@@ -7,7 +7,7 @@ use Rattle.byteorder.specs.Endian.{big_bytes, big_number, big_from}
 use Rattle.byteorder.specs.Numbers.{big_number-reads_back, length-bytes_high_first}
 
 -- these numbers are bytes
-abbrev AreBytes : List ℕ → Type 0
+abbrev pub AreBytes : List ℕ → Type 0
 AreBytes bytes = (i : ℕ) → get_or bytes i 0 < 256
 
 pub bytes_of_two : (bytes : List ℕ) (n : ℕ) → length bytes ≡ 2 → AreBytes bytes → n ≡ big_number 2 bytes → big_bytes 2 n ≡ bytes

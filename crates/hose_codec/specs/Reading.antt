@@ -1,6 +1,9 @@
 -- What a reader of a field answers, and what it leaves to be read.
-use Rattle.std.specs.Prelude.{◌≡◌, ℕ, ◌+◌, ◌<◌, ◌≤◌, List, [], ◌∷◌, ◌++◌, length, Result, Ok, Err, ⊤}
+use Rattle.std.specs.Prelude.{◌≡◌, ℕ, ◌+◌, ◌<◌, ◌≤◌, List, [], ◌∷◌, ◌++◌, length, Result, Ok, Err, Option, Some, None, ⊤}
+use Rattle.byteorder.specs.Endian.{big_number}
 use Rattle.hose_graph.specs.Limit.{IsUpTo}
+use Rattle.hose_codec.specs.Fields.{FitsPair, pair_field}
+use Rattle.hose_codec.specs.declared.limits.TheConstants.{PAIR_BYTES}
 use Rattle.hose_codec.specs.declared.fault.CodecFault.{CodecFault}
 use Rattle.hose_codec.specs.declared.fault.CodecFault.TheVariants.{Bad}
 
@@ -22,6 +25,11 @@ abbrev pub Reads : {V X : Type 0} → (X → List ℕ) → (X → Type 0) → (V
 Reads field MayBe view old new (Ok read) = Begins field MayBe (view read) old new
 Reads field MayBe view old new (Err fault) = (fault ≡ Bad) × BeginsNone field MayBe old
 
+-- The same of a reader that tells no fault.
+abbrev pub Takes : {X : Type 0} → (X → List ℕ) → (X → Type 0) → List ℕ → List ℕ → Option X → Type 0
+Takes field MayBe old new (Some value) = Begins field MayBe value old new
+Takes field MayBe old new None = BeginsNone field MayBe old
+
 -- a pair with its first number from `least` on and below `bound`, and its second from 1 to `most`
 pub record IsPairFrom (bound most least : ℕ) (pair : ℕ × ℕ) : Type 0 where
   pub later : least ≤ pair.0
@@ -38,3 +46,15 @@ ArePairsFrom bound most least (pair ∷ pairs) =
 pub record AreCountedPairs (bound most count : ℕ) (pairs : List (ℕ × ℕ)) : Type 0 where
   pub counted : length pairs ≡ count
   pub ascending : ArePairsFrom bound most 0 pairs
+
+-- A pair is taken from the front of the bytes `old`, and `new` is what follows; or there are too
+-- few bytes for one.
+abbrev pub TakesPair : List ℕ → List ℕ → Option (ℕ × ℕ) → Type 0
+TakesPair old new (Some pair) = Begins pair_field FitsPair pair old new
+TakesPair old new None = length old < PAIR_BYTES
+
+-- the pairs whose bytes these are
+abbrev pub pairs_of : List ℕ → List (ℕ × ℕ)
+pairs_of (a ∷ b ∷ c ∷ d ∷ e ∷ f ∷ bytes) =
+    (big_number 2 (a ∷ b ∷ []), big_number 4 (c ∷ d ∷ e ∷ f ∷ [])) ∷ pairs_of bytes
+pairs_of bytes = []

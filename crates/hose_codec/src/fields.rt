@@ -1,18 +1,18 @@
 // A reader of fields, which takes them from the front of bytes.
-ghost use Rattle.std.specs.Prelude.{◌≡◌, ◌+◌, ◌<◌, ◌≤◌, ◌^◌, ℕ, [], ◌∷◌, length, take, IfOk, OnErr, IsOk, ⊤, ◌↔◌};
+ghost use Rattle.std.specs.Prelude.{◌≡◌, ◌+◌, ◌<◌, ◌≤◌, ◌^◌, ◌*◌, ℕ, [], ◌∷◌, length, IfOk, OnErr, IsOk, IsTrue, ⊤, ◌↔◌};
 ghost use Rattle.byteorder.specs.Endian.{big_bytes};
 ghost use Rattle.hose_graph.specs.Name.{IsName};
 ghost use Rattle.hose_graph.specs.Hose.{IsHose};
 ghost use Rattle.hose_codec.specs.Fields.{name_field, pair_field, pairs_field, ends_field, amounts_field, id_field, AreFormatAmounts};
-ghost use Rattle.hose_codec.specs.Reading.{Reads, IsPairFrom, AreCountedPairs};
+ghost use Rattle.hose_codec.specs.Reading.{Reads, Takes, ArePairsFrom, AreCountedPairs, TakesPair, pairs_of};
 
 use crate::fault::CodecFault;
-use crate::limits::MOST_PAIRS;
+use crate::limits::{MOST_PAIRS, PAIR_BYTES};
 use byteorder::{BigEndian, ByteOrder};
 use hose_graph::{
-    Endpoint, LEAST_ENDS, MOST_AMOUNT, MOST_ENDS, MOST_EPOCH, MOST_LINKS, MOST_NODES, MOST_RATE,
-    Name, ReservedLink,
+    LEAST_ENDS, MOST_AMOUNT, MOST_ENDS, MOST_EPOCH, MOST_LINKS, MOST_NODES, MOST_RATE, Name,
 };
+use std::alloc::{AllocError, Global};
 use std::marker::Model;
 
 /// The bytes that are left to be read. A contract sees them as a list.
@@ -57,42 +57,41 @@ impl<'a> Fields<'a> {
         Ok(*byte)
     }
 
-    pub fn name(&mut self) -> Result<Name, CodecFault>
-        ensures { Reads name_field IsName (λ name. name) self.old self.new result }
+    /// The name that is next, if there is one.
+    // An option: a name that shares its bytes with a fault would be copied in pieces.
+    pub fn name(&mut self) -> Option<Name>
+        ensures { Takes name_field IsName self.old self.new result }
     {
-        let len = self.byte()?;
-        let bytes = self.part(usize::from(len))?;
-        Name::read(bytes).ok_or(CodecFault::Bad)
+        let Ok(len) = self.byte() else {
+            return None;
+        };
+        let Ok(bytes) = self.part(usize::from(len)) else {
+            return None;
+        };
+        Name::read(bytes)
     }
 
-    /// The endpoints of a hose, which are put in front of `into`: how many they are.
-    pub fn ends(&mut self, into: &mut [Endpoint]) -> Result<usize, CodecFault>
-        requires { length into.old ≡ MOST_ENDS }
-        ensures count { IfOk result (λ count. count ≤ MOST_ENDS) }
-        ensures read { Reads ends_field IsHose (λ count. take count into.new)
-            self.old self.new result }
+    /// The bytes of the endpoints of a hose.
+    pub fn ends(&mut self) -> Result<&'a [u8], CodecFault>
+        ensures { Reads ends_field IsHose (λ ends. pairs_of ends.now) self.old self.new result }
     {
         let count = usize::from(self.byte()?);
         if !(LEAST_ENDS..=MOST_ENDS).contains(&count) {
             return Err(CodecFault::Bad);
         }
-        self.pairs(&mut into[..count], MOST_NODES, MOST_RATE)?;
-        Ok(count)
+        self.pairs(count, MOST_NODES, MOST_RATE)
     }
 
-    /// Amounts, which are put in front of `into`: how many they are.
-    pub fn amounts(&mut self, into: &mut [ReservedLink]) -> Result<usize, CodecFault>
-        requires { length into.old ≡ MOST_PAIRS }
-        ensures count { IfOk result (λ count. count ≤ MOST_PAIRS) }
-        ensures read { Reads amounts_field AreFormatAmounts (λ count. take count into.new)
+    /// The bytes of amounts.
+    pub fn amounts(&mut self) -> Result<&'a [u8], CodecFault>
+        ensures { Reads amounts_field AreFormatAmounts (λ amounts. pairs_of amounts.now)
             self.old self.new result }
     {
         let count = usize::from(self.two_bytes()?);
         if !(1..=MOST_PAIRS).contains(&count) {
             return Err(CodecFault::Bad);
         }
-        self.pairs(&mut into[..count], MOST_LINKS, MOST_AMOUNT)?;
-        Ok(count)
+        self.pairs(count, MOST_LINKS, MOST_AMOUNT)
     }
 
     /// The number of a VPN.
@@ -106,36 +105,34 @@ impl<'a> Fields<'a> {
         Ok(id)
     }
 
-    // Fills `into` with pairs whose first numbers ascend and are below `bound`, and whose second
-    // ones are from 1 to `most`.
-    fn pairs(&mut self, into: &mut [(u32, u64)], bound: u32, most: u64) -> Result<(), CodecFault>
+    // The bytes of so many pairs, whose first numbers ascend and are below `bound`, and whose
+    // second ones are from 1 to `most`.
+    fn pairs(&mut self, count: usize, bound: u32, most: u64) -> Result<&'a [u8], CodecFault>
+        requires count { count < 2 ^ 16 }
         requires bound { bound ≤ 2 ^ 16 }
         requires most { most < 2 ^ 32 }
-        ensures { Reads pairs_field (AreCountedPairs bound most (length into.old)) (λ _. into.new)
+        ensures { Reads pairs_field (AreCountedPairs bound most count) (λ pairs. pairs_of pairs.now)
             self.old self.new result }
     {
-        let mut least = 0;
-        for pair in into.iter_mut() {
-            *pair = self.pair(least, bound, most)?;
-            least = pair.0 + 1;
-        }
-        Ok(())
-    }
-
-    // A pair whose first number is from `least` on and below `bound`, and whose second one is from
-    // 1 to `most`.
-    fn pair(&mut self, least: u32, bound: u32, most: u64) -> Result<(u32, u64), CodecFault>
-        requires bound { bound ≤ 2 ^ 16 }
-        requires most { most < 2 ^ 32 }
-        ensures { Reads pair_field (IsPairFrom bound most least) (λ pair. pair)
-            self.old self.new result }
-    {
-        let first = u32::from(self.two_bytes()?);
-        let second = u64::from(self.four_bytes()?);
-        if !(least..bound).contains(&first) || !(1..=most).contains(&second) {
+        let bytes = self.part(PAIR_BYTES * count)?;
+        if !are_pairs(bytes, bound, most) {
             return Err(CodecFault::Bad);
         }
-        Ok((first, second))
+        Ok(bytes)
+    }
+
+    // The next pair, if there are bytes for one.
+    fn next_pair(&mut self) -> Option<(u32, u64)>
+        ensures { TakesPair self.old self.new result }
+    {
+        if self.rest.len() < PAIR_BYTES {
+            return None;
+        }
+        let (pair, rest) = self.rest.split_at(PAIR_BYTES);
+        self.rest = rest;
+        let first = number_of_two(&pair[..2]);
+        let second = number_of_four(&pair[2..]);
+        Some((u32::from(first), u64::from(second)))
     }
 
     fn two_bytes(&mut self) -> Result<u16, CodecFault>
@@ -164,6 +161,39 @@ impl<'a> Fields<'a> {
         self.rest = rest;
         Ok(part)
     }
+}
+
+// Whether the first numbers of the pairs that these bytes spell ascend and are below `bound`, and
+// the second ones are from 1 to `most`.
+fn are_pairs(bytes: &[u8], bound: u32, most: u64) -> bool
+    ensures are { IsTrue result ↔ ArePairsFrom bound most 0 (pairs_of bytes.now) }
+    // Where no byte is left over, these are the bytes of the pairs.
+    ensures spelled { (count : ℕ) → length bytes.now ≡ PAIR_BYTES * count →
+        pairs_field (pairs_of bytes.now) ≡ bytes.now }
+{
+    let mut fields = Fields::new(bytes);
+    let mut least = 0;
+    while let Some((first, second)) = fields.next_pair() {
+        if !(least..bound).contains(&first) || !(1..=most).contains(&second) {
+            return false;
+        }
+        least = first + 1;
+    }
+    true
+}
+
+/// The pairs whose bytes these are.
+// A list that a call hands out passes through memory twice.
+#[inline(always)]
+pub fn pairs_of(alloc: Global, bytes: &[u8]) -> Result<Vec<(u32, u64)>, AllocError>
+    ensures { IfOk result (λ pairs. pairs.items ≡ pairs_of bytes.now) }
+{
+    let mut pairs = Vec::with_capacity(alloc, bytes.len() / PAIR_BYTES)?;
+    let mut fields = Fields::new(bytes);
+    while let Some(pair) = fields.next_pair() {
+        pairs.push_reserved(pair);
+    }
+    Ok(pairs)
 }
 
 // The number whose bytes these two are.

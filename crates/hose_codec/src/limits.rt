@@ -14,3 +14,6 @@ pub const ADMIT: u8 = 1;
 
 /// The kind of a release.
 pub const RELEASE: u8 = 2;
+
+/// The number of bytes of a pair: two of a node or link, and four of its rate or amount.
+pub const PAIR_BYTES: usize = 6;

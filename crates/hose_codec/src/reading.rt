@@ -4,9 +4,9 @@ ghost use Rattle.hose_graph.specs.declared.entry.Entry.{Entry};
 ghost use Rattle.hose_codec.specs.Spelling.{IsEntry, FitsFormat, IsSpelling, IsNoSpelling, Decodes, spelling};
 
 use crate::fault::CodecFault;
-use crate::fields::Fields;
-use crate::limits::{ADMIT, MOST_PAIRS, RELEASE};
-use hose_graph::{Amounts, Entry, Hose, MOST_ENDS};
+use crate::fields::{Fields, pairs_of};
+use crate::limits::{ADMIT, RELEASE};
+use hose_graph::{Amounts, Entry, Hose};
 use std::alloc::Global;
 
 /// The entry that these bytes are the spelling of.
@@ -43,16 +43,16 @@ fn entry_of(alloc: Global, bytes: &[u8]) -> Result<Entry, CodecFault>
 fn admission(alloc: Global, mut fields: Fields) -> Result<Entry, CodecFault>
     ensures { Decodes (ADMIT ∷ fields.entry) result }
 {
-    let customer = fields.name()?;
-    let mut ends = [(0, 0); MOST_ENDS];
-    let end_count = fields.ends(&mut ends)?;
-    let mut pairs = [(0, 0); MOST_PAIRS];
-    let pair_count = fields.amounts(&mut pairs)?;
+    let Some(customer) = fields.name() else {
+        return Err(CodecFault::Bad);
+    };
+    let ends = fields.ends()?;
+    let amounts = fields.amounts()?;
     fields.end()?;
     Ok(Entry::Admit {
         customer,
-        hose: Hose::from_sorted(alloc, &ends[..end_count])?,
-        amounts: Amounts::build(alloc, &pairs[..pair_count])?,
+        hose: Hose::from_vec(pairs_of(alloc, ends)?),
+        amounts: Amounts::from_vec(pairs_of(alloc, amounts)?),
     })
 }
 
@@ -60,7 +60,9 @@ fn admission(alloc: Global, mut fields: Fields) -> Result<Entry, CodecFault>
 fn release(mut fields: Fields) -> Result<Entry, CodecFault>
     ensures { Decodes (RELEASE ∷ fields.entry) result }
 {
-    let customer = fields.name()?;
+    let Some(customer) = fields.name() else {
+        return Err(CodecFault::Bad);
+    };
     let id = fields.id()?;
     fields.end()?;
     Ok(Entry::Release { customer, id })

@@ -1,11 +1,11 @@
 // Writing an entry, field by field.
-ghost use Rattle.std.specs.Prelude.{◌≡◌, ◌<◌, ◌≤◌, ◌^◌, ◌++◌, All, OnOk, IfOk, vec_len};
+ghost use Rattle.std.specs.Prelude.{◌≡◌, ◌<◌, ◌≤◌, ◌^◌, ◌++◌, All, OnOk, IfOk, length, vec_len};
 ghost use Rattle.hose_graph.specs.Name.{IsName};
 ghost use Rattle.hose_graph.specs.Hose.{IsHose};
 ghost use Rattle.hose_codec.specs.Fields.{name_field, pairs_field, ends_field, amounts_field, id_field, FitFormat, FitsPair};
 ghost use Rattle.hose_codec.specs.Spelling.{spelling, IsEntry, FitsFormat, IsSpelling};
 
-use crate::limits::{ADMIT, MOST_SPELLING, RELEASE};
+use crate::limits::{ADMIT, MOST_SPELLING, PAIR_BYTES, RELEASE};
 use byteorder::{BigEndian, ByteOrder};
 use hose_graph::{Endpoint, Entry, Name, ReservedLink};
 use std::alloc::{AllocError, Global};
@@ -16,9 +16,24 @@ pub fn encode(alloc: Global, entry: &Entry) -> Result<Vec<u8>, AllocError>
     ensures spelling { IfOk result (λ bytes. IsSpelling entry.now bytes.items) }
     ensures short { IfOk result (λ bytes. vec_len bytes ≤ MOST_SPELLING) }
 {
-    let mut out = Vec::new(alloc);
+    let mut out = Vec::with_capacity(alloc, spelling_len(entry))?;
     put_entry(&mut out, entry)?;
     Ok(out)
+}
+
+// How many bytes the spelling of the entry has.
+fn spelling_len(entry: &Entry) -> usize
+    requires { FitsFormat entry.now }
+    ensures { result ≡ length (spelling entry.now) }
+{
+    match entry {
+        Entry::Admit {
+            customer,
+            hose,
+            amounts,
+        } => 5 + customer.bytes().len() + PAIR_BYTES * (hose.ends().len() + amounts.pairs().len()),
+        Entry::Release { customer, .. } => 6 + customer.bytes().len(),
+    }
 }
 
 fn put_entry(out: &mut Vec<u8>, entry: &Entry) -> Result<(), AllocError>

@@ -33,9 +33,15 @@ impl Amounts {
         requires { IsAscending pairs.now }
         ensures { IfOk result (λ amounts. amounts ≡ pairs.now) }
     {
-        Ok(Amounts {
-            pairs: Vec::from_slice(alloc, pairs)?,
-        })
+        Ok(Amounts::from_vec(Vec::from_slice(alloc, pairs)?))
+    }
+
+    /// The amounts of these links, as `build` makes them, which takes no memory.
+    pub fn from_vec(pairs: Vec<ReservedLink>) -> Amounts
+        requires { IsAscending pairs.items }
+        ensures { result ≡ pairs.items }
+    {
+        Amounts { pairs }
     }
 
     /// The links with their amounts, in ascending order of links.

@@ -96,9 +96,15 @@ impl Hose {
         requires { IsHose ends.now }
         ensures { IfOk result (λ hose. hose ≡ ends.now) }
     {
-        Ok(Hose {
-            ends: Vec::from_slice(alloc, ends)?,
-        })
+        Ok(Hose::from_vec(Vec::from_slice(alloc, ends)?))
+    }
+
+    /// The hose of these endpoints, as `from_sorted` makes it, which takes no memory.
+    pub fn from_vec(ends: Vec<Endpoint>) -> Hose
+        requires { IsHose ends.items }
+        ensures { result ≡ ends.items }
+    {
+        Hose { ends }
     }
 
     /// The same hose once more.

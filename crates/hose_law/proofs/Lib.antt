@@ -3,13 +3,18 @@ pub mod Apart
 pub mod Bounds
 pub mod CanonicalPlans
 mod CanonicalTrees
+pub mod Carrying
+pub mod Cheapest
 mod Counting
+pub mod Crossing
 pub mod Distances
 mod Halves
 pub mod Joined
+mod LeastRoot
 pub mod LiveIds
 pub mod Lives
-mod PlanWeight
+pub mod PairedOff
+pub mod PlanWeight
 pub mod Releases
 pub mod Reservations
 pub mod Rooms
@@ -18,6 +23,7 @@ pub mod Rows
 pub mod Scripts
 mod ShortWalks
 pub mod Sold
+pub mod Sums
 mod TightTrees
 pub mod TightWays
 pub mod Trees

@@ -2,6 +2,7 @@ pub mod Answer
 pub mod Book
 pub mod CanonicalPlan
 pub mod Carries
+pub mod Cheapest
 pub mod Decision
 pub mod Heaviest
 pub mod History

@@ -11,13 +11,15 @@
 
 ghost use Rattle.std.specs.Prelude.{◌≡◌, ℕ, ◌≤◌, length, take};
 ghost use Rattle.hose_law.specs.Book.{IsOversold};
+ghost use Rattle.hose_law.specs.Carries.{Carry};
+ghost use Rattle.hose_law.specs.Cheapest.{HasRootWithin, amounts_cost};
 ghost use Rattle.hose_law.specs.CanonicalPlan.{IsCanonicalPlan, IsRoot, IsWeight};
 ghost use Rattle.hose_law.specs.Decision.{HaveEqualDecisions, HaveEqualGrounds};
 ghost use Rattle.hose_law.specs.History.{IsSound, book_of};
 ghost use Rattle.hose_law.specs.Live.{AreLiveHeld, IsAdmission, StaysLive};
 ghost use Rattle.hose_law.specs.Plan.{plan_cost};
 ghost use Rattle.hose_law.specs.Route.{AreSame, HaveSameRoutes};
-ghost use Rattle.hose_law.specs.Tree.{IsTree, growth};
+ghost use Rattle.hose_law.specs.Tree.{IsTree, IsTreeOver, growth};
 
 use hose_graph::{Amounts, Entry, Hose, Step, Topology};
 
@@ -33,6 +35,26 @@ pub fn law_weight(top: &Topology, links: &[bool], hose: &Hose, plan: &Amounts)
     requires { IsCanonicalPlan top.now links.now hose.now plan.now }
     ensures { (root : ℕ) × (weight : ℕ) × IsRoot top.now links.now hose.now root weight
         × (plan_cost top.now plan.now ≡ weight) }
+{
+    // That this is a network is told by the call that counts its nodes.
+    let _nodes = top.nodes();
+}
+
+/// Whatever amounts carry a hose on a tree over a set of links, some node that reaches all endpoints
+/// over the set weighs no more than they cost. An amount is that of the step at its place.
+pub fn law_least(
+    top: &Topology,
+    links: &[bool],
+    hose: &Hose,
+    start: u32,
+    steps: &[Step],
+    amounts: &[u64],
+)
+    requires tree { IsTree top.now (growth start steps.now) }
+    requires over { IsTreeOver links.now (growth start steps.now) }
+    requires carry { Carry (growth start steps.now) hose.now amounts.now }
+    ensures { HasRootWithin top.now links.now hose.now
+        (amounts_cost top.now (growth start steps.now) amounts.now) }
 {
     // That this is a network is told by the call that counts its nodes.
     let _nodes = top.nodes();

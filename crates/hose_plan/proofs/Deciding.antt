@@ -1,10 +1,14 @@
 -- The decision beside loads.
-use Rattle.std.proofs.Common.{◌≡◌, ℕ, List, [], ◌∷◌, get_or, refl, subst, inl, inr}
+use Rattle.std.proofs.Common.{◌≡◌, ◌∙◌, ℕ, Bool, List, [], ◌∷◌, get_or, refl, sym, subst, inl, inr}
 use Rattle.hose_graph.specs.Network.{Network, IsNetwork}
-use Rattle.hose_law.specs.CanonicalPlan.{IsCanonicalPlan}
-use Rattle.hose_law.specs.Decision.{Fits, HasFirstFit, IsRefused, IsReachedList, lowest_end}
+use Rattle.hose_law.specs.CanonicalPlan.{IsCanonicalPlan, IsRoot}
+use Rattle.hose_law.specs.Cheapest.{IsCheapest}
+use Rattle.hose_law.specs.Decision.{Fits, HasFirstFit, IsPlannedOver, IsRefused, IsReachedList, lowest_end}
+use Rattle.hose_law.specs.Plan.{plan_cost}
 use Rattle.hose_law.specs.Room.{Room, safe_links}
 use Rattle.hose_law.proofs.CanonicalPlans.{canonical_unique}
+use Rattle.hose_law.proofs.Cheapest.{canonical_cheapest}
+use Rattle.hose_law.proofs.PlanWeight.{plan_weight}
 
 -- the lowest endpoint is the first
 pub lowest_is_first : (hose : List (ℕ × ℕ)) → (get_or hose 0 (0, 0)).0 ≡ lowest_end hose
@@ -31,3 +35,10 @@ module _ (network : Network) (room : Room) (hose : List (ℕ × ℕ)) where
     ];
     is_side = is_side;
   }
+
+-- What is planned over a set is a cheapest way to carry the hose over it, and costs what the root weighs.
+pub planned_cheapest : (network : Network) → IsNetwork network → (room : Room) (hose : List (ℕ × ℕ)) (set : List Bool) (plan : List (ℕ × ℕ)) (cost : ℕ)
+    → IsPlannedOver network room hose set plan → cost ≡ plan_cost network plan → IsCheapest network set hose plan × ((root : ℕ) × IsRoot network set hose root cost)
+planned_cheapest network is room hose set plan cost planned costs =
+    let weighed = plan_weight network is set hose plan planned.is_plan in
+    (canonical_cheapest network is set hose plan planned.is_plan, (weighed.0, subst (IsRoot network set hose weighed.0) (sym (costs ∙ weighed.3)) weighed.2))

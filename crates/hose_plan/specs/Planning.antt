@@ -5,6 +5,8 @@ use Rattle.hose_plan.specs.declared.decision.Decision.{Decision}
 use Rattle.hose_plan.specs.declared.decision.Decision.TheVariants.{Plan, Refused}
 use Rattle.hose_graph.specs.Hose.{Endpoint}
 use Rattle.hose_graph.specs.Network.{Network}
+use Rattle.hose_law.specs.CanonicalPlan.{IsRoot}
+use Rattle.hose_law.specs.Cheapest.{IsCheapest}
 use Rattle.hose_law.specs.Decision.{AreGrounds, CanBeReserved, IsPlannedOver, IsRefused}
 use Rattle.hose_law.specs.Plan.{plan_cost}
 use Rattle.hose_law.specs.Room.{Room, free_rates, half_rate}
@@ -41,6 +43,14 @@ abbrev pub IsSoundDecision : Network → Room → List Endpoint → Decision →
 IsSoundDecision network room hose (Plan grounds amounts cost) =
     CanBeReserved network room hose amounts
 IsSoundDecision network room hose (Refused side) = ⊤
+
+-- what it admits is a cheapest way to carry the hose over the links that are allowed, and costs what
+-- the root over them weighs
+abbrev pub IsCheapestDecision : Network → Room → List Endpoint → Decision → Type 0
+IsCheapestDecision network room hose (Plan grounds amounts cost) =
+    IsCheapest network (allowed_links room grounds) hose amounts
+    × ((root : ℕ) × IsRoot network (allowed_links room grounds) hose root cost)
+IsCheapestDecision network room hose (Refused side) = ⊤
 
 -- each node of its side is one of the network
 abbrev pub NamesNodes : Network → Decision → Type 0

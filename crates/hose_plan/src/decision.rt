@@ -4,7 +4,7 @@ ghost use Rattle.hose_graph.specs.Hose.{IsHose};
 ghost use Rattle.hose_law.specs.Decision.{HasFirstFit};
 ghost use Rattle.hose_law.specs.Plan.{AreNodes};
 ghost use Rattle.hose_law.specs.Walk.{all_links};
-ghost use Rattle.hose_plan.specs.Planning.{IsDecision, IsSoundDecision, NamesNodes, room_beside};
+ghost use Rattle.hose_plan.specs.Planning.{IsCheapestDecision, IsDecision, IsSoundDecision, NamesNodes, room_beside};
 ghost use Rattle.hose_plan.specs.Rooting.{IsPlanOver};
 ghost use Rattle.hose_tree.specs.Amounts.{AreCarried};
 
@@ -51,6 +51,11 @@ pub enum Decision {
 
 /// Decides on a hose beside the loads of a topology's links: the first plan where it fits, else the
 /// plan over the safe links, else a refusal. There is a load for each link, at most its capacity.
+///
+/// A plan carries all traffic within the hose's rates, and no amounts on any tree over the links
+/// that are then allowed carry it at less cost. That is this project's own law, for one rate an
+/// endpoint; the idea of a tree of shortest ways to one root is from "Provisioning a virtual private
+/// network: a network design problem for multicommodity flow" (STOC 2001).
 pub fn decide<R: RowMaker>(
     alloc: Global,
     top: &Topology,
@@ -64,6 +69,8 @@ pub fn decide<R: RowMaker>(
         (IsDecision top.now (room_beside top.now loads.now) hose.now) }
     ensures sound { IfOk result
         (IsSoundDecision top.now (room_beside top.now loads.now) hose.now) }
+    ensures cheapest { IfOk result
+        (IsCheapestDecision top.now (room_beside top.now loads.now) hose.now) }
     ensures names { IfOk result (NamesNodes top.now) }
     ensures hose { IfOk result (λ _. IsHose hose.now) }
 {
@@ -74,8 +81,8 @@ pub fn decide<R: RowMaker>(
     if !fits(top, loads, &first) {
         return decide_over_safe(alloc, top, loads, hose, Some(first), rows);
     }
+    let cost = cost(top, &first);
     let amounts = first.copy(alloc)?;
-    let cost = cost(top, &amounts);
     let grounds = Grounds {
         first: Some(first),
         half: hose.total() / 2,
@@ -107,6 +114,8 @@ fn decide_over_safe<R: RowMaker>(
         (IsDecision top.now (room_beside top.now loads.now) hose.now) }
     ensures sound { IfOk result
         (IsSoundDecision top.now (room_beside top.now loads.now) hose.now) }
+    ensures cheapest { IfOk result
+        (IsCheapestDecision top.now (room_beside top.now loads.now) hose.now) }
     ensures names { IfOk result (NamesNodes top.now) }
     ensures hose { IfOk result (λ _. IsHose hose.now) }
 {

@@ -6,7 +6,10 @@ pub mod Forests
 pub mod Judging
 pub mod Leaves
 pub mod Listing
+pub mod Marking
+pub mod Marks
 pub mod Moving
+pub mod Paired
 pub mod Peels
 pub mod Reaching
 pub mod Reserving

@@ -4,3 +4,4 @@ pub mod Nodes
 pub mod Peeling
 pub mod Rates
 pub mod Reach
+pub mod Side

@@ -20,16 +20,23 @@ mod canonical;
 mod costing;
 mod fit;
 mod judge;
+mod matrix;
+mod pairing;
 mod reach;
 mod reserve;
+mod side;
+mod traffic;
 
 pub use costing::cost;
 pub use fit::{fits, free_rate};
 pub use hose_graph::Step;
 pub use judge::is_reservation;
+pub use matrix::Matrix;
+pub use pairing::heaviest;
 pub use reach::reached;
 pub use reserve::reservations;
 use std::marker::Model;
+pub use traffic::load;
 
 /// A tree of links: a start node, and the steps by which it grows.
 ///

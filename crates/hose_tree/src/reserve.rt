@@ -2,6 +2,7 @@
 ghost use Rattle.std.specs.Prelude.{◌≡◌, ◌≢◌, ℕ, ◌+◌, ◌<◌, ◌^◌, [], length, map, reverse, slice_index, IfOk};
 ghost use Rattle.hose_graph.specs.Hose.{IsHose};
 ghost use Rattle.hose_graph.specs.Network.{Network};
+ghost use Rattle.hose_law.specs.Carries.{CarryOn};
 ghost use Rattle.hose_law.specs.Tree.{IsTree, JoinsHose, IsReservation};
 ghost use Rattle.hose_tree.specs.Rates.{AreRatesOf, reserved_by};
 
@@ -10,11 +11,13 @@ use hose_graph::{Amounts, Endpoint, Hose, MOST_NODES, ReservedLink, Step};
 use std::alloc::{AllocError, Global};
 use std::mem;
 
-/// What a hose reserves on the links of a tree: on each link the rate sum of its smaller side. The
-/// tree may start at any of its nodes, and its steps may come in any order that grows it.
+/// What a hose reserves on the links of a tree: on each link the rate sum of its smaller side, which
+/// is all that traffic within the rates can put there. The tree may start at any of its nodes, and
+/// its steps may come in any order that grows it.
 pub fn reservations(alloc: Global, tree: &Tree, hose: &Hose) -> Result<Amounts, AllocError>
     requires joins { JoinsHose tree.now hose.now }
-    ensures { IfOk result (IsReservation tree.now hose.now) }
+    ensures reserves { IfOk result (IsReservation tree.now hose.now) }
+    ensures carry { IfOk result (CarryOn tree.now hose.now) }
 {
     let mut rates = vec![in alloc; 0; MOST_NODES as usize]?;
     add_rates(&mut rates, hose.ends());

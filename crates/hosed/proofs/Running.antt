@@ -10,6 +10,7 @@ use Rattle.hose_words.proofs.OnReading.{IsAfterLines-then, WhereTold-both, Where
 use Rattle.hose_graph.specs.Network.{Network, IsNetwork}
 use Rattle.hose_graph.specs.declared.reply.Reply.{Reply}
 use Rattle.hose_law.specs.Script.{ReadLine}
+use Rattle.hose_law.proofs.Cheapest.{decided_cheapest}
 use Rattle.hose_law.proofs.Lives.{live_held, stays_live}
 use Rattle.hose_law.proofs.Sold.{sold}
 use Rattle.hose_io.specs.Frame.{Rose}
@@ -47,13 +48,13 @@ wrong_told source start last line word empty wrong none =
     ))
 
 -- a network was read, and then lines were answered; what `stops` says behind the topology it says of the whole input
-pub has_run : {S : Type 0} (source : Ghosts S) (start middle last : Reader S) (network : Network) (stops : List ℕ → List ℕ → List ℕ → Type 0) (puts : List Reply → Type 0) → start.pending ≡ []
+pub has_run : {S : Type 0} (source : Ghosts S) (start middle last : Reader S) (network : Network) → IsNetwork network → (stops : List ℕ → List ℕ → List ℕ → Type 0) (puts : List Reply → Type 0) → start.pending ≡ []
     → WhereTold (source.content start.source) (source.content middle.source) (λ input left. IsTopologyText (start.pending ++ input) network (middle.pending ++ left))
     → ReadsOn source start middle
     → WhereTold (source.content start.source) (source.content middle.source) (λ input left. (behind rest : List ℕ) → stops (middle.pending ++ left) behind rest → stops (start.pending ++ input) behind rest)
     → (served : ServesUpTo source middle last network stops puts)
     → HasRun (source.content start.source) (source.content last.source) network served.lines served.replies stops
-has_run source start middle last network stops puts empty text reads joins served = record {
+has_run source start middle last network is stops puts empty text reads joins served = record {
   history = served.answered.history;
   text = WhereTold-then (source.content start.source) (source.content middle.source) (source.content last.source) reads.takes.0 _ _ _ reads.takes.1
       (WhereTold-both (source.content start.source) (source.content middle.source) _ _ text joins) served.said
@@ -69,6 +70,7 @@ has_run source start middle last network stops puts empty text reads joins serve
   none_oversold = λ place l. sold network 0 served.answered.history place l served.answered.decided.sound;
   held = live_held 0 served.answered.history;
   kept = stays_live 0 served.answered.history;
+  cheapest = decided_cheapest network is 0 served.answered.history served.answered.decided;
 }
 
 -- up to the end of the input
@@ -156,14 +158,14 @@ module _ {S O : Type 0} (source : Ghosts S) (sink : SinkGhosts O) (start middle 
         network = network;
         lines = served.serves.lines;
         replies = served.serves.replies;
-        run = has_run source start middle last network (StopsAfterLines fault) _ empty text reads joins served.serves;
+        run = has_run source start middle last network is (StopsAfterLines fault) _ empty text reads joins served.serves;
         out = served.serves.out;
       }
 
   pub leaves_served : {T : Type 0} (done : Result T Fault) → Serves source sink middle last output output' network done → RunLeaves source sink start.source last.source output output' done
   leaves_served (Ok value) served = (
     run_of (source.content start.source) (source.content last.source) network served.0.lines served.0.replies (sink.content output) (sink.content output') is (one_input served.3)
-        (has_run source start middle last network IsAllTaken _ empty text reads (whatever_before (IsAllTaken [])) served.0) served.0.out,
+        (has_run source start middle last network is IsAllTaken _ empty text reads (whatever_before (IsAllTaken [])) served.0) served.0.out,
     held_over (λ read. absurd (cc (served.1, read))),
     served.2,
   )
@@ -174,7 +176,7 @@ module _ {S O : Type 0} (source : Ghosts S) (sink : SinkGhosts O) (start middle 
   leaves_served (Err fault.TooLong) served = (inr (run_until line.TooLong served, served.held), held_over (λ read. absurd (cc (served.kept, read))))
   leaves_served (Err fault.Write) served = (
     cut_of (source.content start.source) (source.content last.source) network served.0.lines served.0.replies (sink.content output) (sink.content output')
-        (has_run source start middle last network IsLeftOver _ empty text reads (whatever_before (IsLeftOver [])) served.0) served.0.out,
+        (has_run source start middle last network is IsLeftOver _ empty text reads (whatever_before (IsLeftOver [])) served.0) served.0.out,
     held_over (λ read. absurd (cc (served.1, read))),
     served.2,
   )

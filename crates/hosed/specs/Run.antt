@@ -8,6 +8,7 @@ use Rattle.hose_graph.specs.declared.entry.Entry.{Entry}
 use Rattle.hose_graph.specs.declared.reply.Reply.{Reply}
 use Rattle.hose_graph.specs.Network.{Network}
 use Rattle.hose_law.specs.Book.{IsOversold}
+use Rattle.hose_law.specs.Cheapest.{AreCheapest}
 use Rattle.hose_law.specs.History.{book_of, IsDecided}
 use Rattle.hose_law.specs.Live.{AreLiveHeld, StaysLive}
 use Rattle.hose_law.specs.Script.{ReadLine, IsScript, WithoutMemory}
@@ -34,8 +35,10 @@ pub record IsRightFor (input output : List ℕ) : Type 0 where
 -- The input is the text of a network and then lines that were answered: the replies are those of
 -- the script of the lines from the empty history, and that history is decided from its start. At
 -- each place of it no link is oversold, and exactly those VPNs are live that were admitted before
--- it and not released since, each as it was admitted. `stops` says how the input stands to what
--- comes after the lines and to what is left.
+-- it and not released since, each as it was admitted. What each admission reserves carries every
+-- matrix within the rates of its hose, and no tree over the links allowed at the book before it
+-- carries them at less cost. `stops` says how the input stands to what comes after the lines and to
+-- what is left.
 pub record HasRun (old new : Option Stream) (network : Network) (lines : List ReadLine)
     (replies : List Reply) (stops : List ℕ → List ℕ → List ℕ → Type 0) : Type 0 where
   pub history : List Entry
@@ -47,6 +50,7 @@ pub record HasRun (old new : Option Stream) (network : Network) (lines : List Re
   pub none_oversold : (place l : ℕ) → ¬ IsOversold network (book_of 0 (take place history)) l
   pub held : (place : ℕ) → place ≤ length history → AreLiveHeld 0 history place
   pub kept : (place : ℕ) → StaysLive 0 history place
+  pub cheapest : AreCheapest network 0 history
 
 -- The input was read to its end, and the output has the replies to its lines. Without a reply for
 -- want of memory no other output is right for the input.

@@ -28,7 +28,7 @@ returns-clause-plan g c =
       is_root = best.1;
       tree = c.in_ok-tree.tree;
       is_canonical = subst (λ (root : ℕ). IsCanonicalTree c.args.top.now c.args.links.now c.args.hose.now root c.in_ok-tree.tree) rooted (c.in_ok-tree.ensures c.args.links.now is_row);
-      reserves = c.in_ok-reservations.ensures;
+      reserves = c.in_ok-reservations.ensures.reserves;
     }
 
 pub returns-clause-links : goal.returns-clause-links

@@ -3,11 +3,12 @@ use Rattle.std.proofs.Common.{◌≡◌, ◌∙◌, ℕ, ◌/◌, Bool, false, L
 use Rattle.std.proofs.lemmas.Bool.{false≢true}
 use Rattle.hose_law.specs.CanonicalPlan.{IsCanonicalPlan}
 use Rattle.hose_law.specs.Decision.{Fits, HasFirstFit}
+use Rattle.hose_law.specs.Plan.{plan_cost}
 use Rattle.hose_law.specs.Room.{free_rates}
 use Rattle.hose_law.specs.Walk.{all_links}
 use Rattle.hose_law.proofs.CanonicalPlans.{planned_sound}
 use Rattle.hose_plan.specs.Planning.{room_beside}
-use Rattle.hose_plan.proofs.Deciding.{none_fits, other_fits}
+use Rattle.hose_plan.proofs.Deciding.{none_fits, other_fits, planned_cheapest}
 use Rattle.hose_plan.proofs.decision.decide.Goals as goal
 
 pub decide_over_safe-requires-clause-first : goal.decide_over_safe-requires-clause-first
@@ -41,7 +42,7 @@ returns-clause-decision g c =
     let fits : Fits (free_rates network c.args.loads.now) first = c.fits.ensures.0 c.if-not-fits.false in
     let has : HasFirstFit network (room_beside network c.args.loads.now) hose = (first, record { is_plan = plan; fits = fits }) in (
       record { allowed = inl (has, refl); is_plan = subst (IsCanonicalPlan network (all_links network) hose) same plan },
-      c.cost-cost.ensures,
+      c.cost-cost.ensures ∙ ap (plan_cost network) same,
       record {
         first = plan;
         half = ap (λ (n : ℕ). n / 2) c.total.ensures.sum;
@@ -53,3 +54,9 @@ pub returns-clause-sound : goal.returns-clause-sound
 returns-clause-sound g c =
     let network = c.args.top.now in
     planned_sound network c.plan.ensures.network (room_beside network c.args.loads.now) c.args.hose.now (all_links network) c.in_ok-amounts.amounts c.plan.ensures.hose (returns-clause-decision g c).0
+
+pub returns-clause-cheapest : goal.returns-clause-cheapest
+returns-clause-cheapest g c =
+    let network = c.args.top.now in
+    let is = returns-clause-decision g c in
+    planned_cheapest network c.plan.ensures.network (room_beside network c.args.loads.now) c.args.hose.now (all_links network) c.in_ok-amounts.amounts c.cost-cost.result is.0 is.1

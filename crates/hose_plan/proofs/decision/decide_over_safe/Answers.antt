@@ -4,7 +4,7 @@ use Rattle.hose_law.specs.CanonicalPlan.{IsCanonicalPlan}
 use Rattle.hose_law.specs.Decision.{IsReachedList, lowest_end}
 use Rattle.hose_law.proofs.CanonicalPlans.{planned_sound}
 use Rattle.hose_plan.specs.Planning.{room_beside}
-use Rattle.hose_plan.proofs.Deciding.{lowest_is_first, refused}
+use Rattle.hose_plan.proofs.Deciding.{lowest_is_first, planned_cheapest, refused}
 use Rattle.hose_plan.proofs.decision.decide_over_safe.Goals as goal
 
 pub returns-in_default-clause-decision : goal.returns-in_default-clause-decision
@@ -35,3 +35,9 @@ returns-clause-decision g c =
 pub returns-clause-sound : goal.returns-clause-sound
 returns-clause-sound g c =
     planned_sound c.args.top.now c.plan.ensures.network (room_beside c.args.top.now c.args.loads.now) c.args.hose.now c.in_ok-safe.safe c.in-Some.amounts c.plan.ensures.hose (returns-clause-decision g c).0
+
+pub returns-clause-cheapest : goal.returns-clause-cheapest
+returns-clause-cheapest g c =
+    let network = c.args.top.now in
+    let is = returns-clause-decision g c in
+    planned_cheapest network c.plan.ensures.network (room_beside network c.args.loads.now) c.args.hose.now c.in_ok-safe.safe c.in-Some.amounts c.cost-cost.result is.0 is.1

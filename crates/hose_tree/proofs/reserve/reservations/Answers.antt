@@ -2,7 +2,9 @@ use Rattle.std.proofs.Common.{rules, ◌≡◌, ℕ, List, map, reverse}
 use Rattle.std.specs.List.Sorted.{IsPermutation, IsNonDecreasingBy}
 use Rattle.std.proofs.lemmas.List.Sorted.{IsNonDecreasingBy-from_sort_by_key}
 use Rattle.std.proofs.lemmas.Result.{IfOk-weaker}
+use Rattle.hose_law.specs.Carries.{CarryOn}
 use Rattle.hose_law.specs.Tree.{IsReservation}
+use Rattle.hose_law.proofs.Carrying.{reserved_carry}
 use Rattle.hose_tree.specs.Rates.{reserved_by}
 use Rattle.hose_tree.proofs.Reserving.{IsReservation-sorted}
 use Rattle.hose_tree.proofs.reserve.reservations.Goals as goal
@@ -24,7 +26,15 @@ build-requires c =
     let is = reserves (goal.at.build-requires c).After-sort_unstable_by_key in
     rw c.deref.ensures.value is.ascending
 
-pub returns : goal.returns
-returns c =
+pub returns-clause-reserves : goal.returns-clause-reserves
+returns-clause-reserves c =
     IfOk-weaker c.build.result (λ (amounts : List (ℕ × ℕ)). amounts ≡ c.deref.result.now) (IsReservation c.args.tree.now c.args.hose.now)
-    (λ amounts same. rw (same, c.deref.ensures.value) (reserves (goal.at.returns c).After-sort_unstable_by_key)) c.build.ensures
+    (λ amounts same. rw (same, c.deref.ensures.value) (reserves (goal.at.returns-clause-reserves c).After-sort_unstable_by_key)) c.build.ensures
+
+pub returns-clause-carry : goal.returns-clause-carry
+returns-clause-carry c =
+    let tree = c.args.tree.now in
+    let hose = c.args.hose.now in
+    let is = reserves (goal.at.returns-clause-carry c).After-sort_unstable_by_key in
+    IfOk-weaker c.build.result (λ (amounts : List (ℕ × ℕ)). amounts ≡ c.deref.result.now) (CarryOn tree hose)
+    (λ amounts same. reserved_carry tree hose amounts c.requires.joins (rw (same, c.deref.ensures.value) is)) c.build.ensures

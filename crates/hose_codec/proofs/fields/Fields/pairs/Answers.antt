@@ -1,36 +1,23 @@
-use Rattle.std.proofs.Common.{◌≡◌, ℕ, ◌+◌, ◌-◌, ◌++◌, [], ◌∷◌, List, length, take, suc, sym, subst, arith, slice_set}
+use Rattle.std.proofs.Common.{rules}
 use Rattle.std.proofs.lemmas.Result.{err_from_is_err_and}
-use Rattle.std.proofs.lemmas.List.{take_all, take_more_set}
-use Rattle.hose_codec.proofs.Filling.{Filling, filling_goes_on, filling_fails, filling_ends}
+use Rattle.hose_codec.specs.declared.fault.CodecFault.TheVariants.{Bad}
+use Rattle.hose_codec.specs.Reading.{ArePairsFrom, pairs_of}
+use Rattle.hose_codec.proofs.Bytes.{no_part_no_pairs, no_pairs_are_read, pairs_are_read}
 use Rattle.hose_codec.proofs.fields.Fields.pairs.Goals as goal
 
-pub returns-in_err-pair : goal.returns-in_err-pair
-returns-in_err-pair c =
+pub returns-in_err-bytes : goal.returns-in_err-bytes
+returns-in_err-bytes c =
     let p = err_from_is_err_and c.from_residual.result c.from_residual.ensures.1 in
-    rw (p.1, p.2) (
-      c.in_err-pair.ensures.0,
-      filling_fails _ _ _ _ _ _ _ _ (omega arith) c.in_err-pair.ensures.1 c.loop-pair.invariant,
-    )
+    rw (p.1, p.2) (c.in_err-bytes.ensures.0, no_part_no_pairs _ _ c.args.count _ c.in_err-bytes.ensures.1)
 
-pub loop-pair-preserved : goal.loop-pair-preserved
-loop-pair-preserved c =
-    let total = length c.args.into.now in
-    let k = c.loop-pair.pair-index in
-    let pair = c.in_ok-pair.field-0 in
-    let left : total - k ≡ suc (total - (k + 1)) = omega arith in
-    let before : Filling c.args.bound c.args.most c.loop-pair.least (suc (total - (k + 1))) total c.args.self.now c.loop-pair.self (take k c.loop-pair.into) =
-    subst (λ (left : ℕ). Filling c.args.bound c.args.most c.loop-pair.least left total c.args.self.now c.loop-pair.self (take k c.loop-pair.into)) left c.loop-pair.invariant in
-    let front : take (k + 1) (slice_set c.loop-pair.into k pair) ≡ take k c.loop-pair.into ++ pair ∷ [] =
-    take_more_set c.loop-pair.into k pair (omega arith) in
-    subst (λ (done : List (ℕ × ℕ)). Filling c.args.bound c.args.most (pair.0 + 1) (total - (k + 1)) total c.args.self.now c.pair.new.self done) (sym front)
-    (filling_goes_on _ _ _ _ _ _ _ _ _ pair c.requires.bound c.requires.most c.in_ok-pair.ensures before)
+pub returns-then-not-are_pairs : goal.returns-then-not-are_pairs
+returns-then-not-are_pairs c =
+    let begins = c.in_ok-bytes.ensures in
+    let none : ¬ ArePairsFrom c.args.bound c.args.most 0 (pairs_of c.in_ok-bytes.bytes.now) = search rules in
+    (λ i. Bad, no_pairs_are_read _ _ c.args.count _ _ _ c.requires.bound c.requires.most begins.may_be begins.parts none)
 
 pub returns : goal.returns
 returns c =
-    let total = length c.args.into.now in
-    let k = c.loop-pair.pair-index in
-    let left : total - k ≡ 0 = omega arith in
-    let whole : take k c.loop-pair.into ≡ c.loop-pair.into = take_all k c.loop-pair.into (omega arith) in
-    filling_ends _ _ c.loop-pair.least total _ _ _
-    (subst (λ (done : List (ℕ × ℕ)). Filling c.args.bound c.args.most c.loop-pair.least 0 total c.args.self.now c.loop-pair.self done) whole
-    (subst (λ (left : ℕ). Filling c.args.bound c.args.most c.loop-pair.least left total c.args.self.now c.loop-pair.self (take k c.loop-pair.into)) left c.loop-pair.invariant))
+    let begins = c.in_ok-bytes.ensures in
+    let are : ArePairsFrom c.args.bound c.args.most 0 (pairs_of c.in_ok-bytes.bytes.now) = search rules in
+    pairs_are_read _ _ c.args.count _ _ _ begins.may_be begins.parts (c.are_pairs.ensures.spelled c.args.count begins.may_be) are

@@ -1,0 +1,47 @@
+-- Least cost: amounts that carry a hose over a set of links, and none on any tree that cost less.
+use Rattle.std.specs.Prelude.{◌≡◌, ℕ, ◌<◌, ◌≤◌, Bool, List, length, take, Some, All, slice_get}
+use Rattle.hose_graph.specs.declared.entry.Entry.{Entry}
+use Rattle.hose_graph.specs.declared.entry.Entry.TheVariants.{Admit}
+use Rattle.hose_graph.specs.Amounts.{ReservedLink}
+use Rattle.hose_graph.specs.Hose.{Endpoint, node_of}
+use Rattle.hose_graph.specs.Network.{Network}
+use Rattle.hose_law.specs.CanonicalPlan.{IsWeight}
+use Rattle.hose_law.specs.Carries.{Carry, CarryOver, amounts_on}
+use Rattle.hose_law.specs.Decision.{IsAllowed}
+use Rattle.hose_law.specs.History.{book_of}
+use Rattle.hose_law.specs.Plan.{plan_cost}
+use Rattle.hose_law.specs.Room.{room_of}
+use Rattle.hose_law.specs.Tree.{Growth, IsTree, IsTreeOver}
+use Rattle.hose_law.specs.Walk.{Reaches}
+
+-- what amounts on a tree cost, of which there is one for each step
+abbrev pub amounts_cost : Network → Growth → List ℕ → ℕ
+amounts_cost network tree amounts = plan_cost network (amounts_on tree amounts)
+
+-- The pairs are a cheapest way to carry a hose over a set of links: they stand for amounts that
+-- carry it on a tree over the set, and no amounts that carry it on any such tree cost less.
+pub record IsCheapest (network : Network) (set : List Bool) (hose : List Endpoint)
+    (pairs : List ReservedLink) : Type 0 where
+  pub carries : CarryOver network set hose pairs
+  pub least : (tree : Growth) (amounts : List ℕ) → IsTree network tree → IsTreeOver set tree
+      → Carry tree hose amounts → plan_cost network pairs ≤ amounts_cost network tree amounts
+
+-- Some node that reaches all endpoints over a set of links weighs no more than this: it cannot but
+-- have a weight, and has none above.
+pub record HasRootWithin (network : Network) (set : List Bool) (hose : List Endpoint)
+    (most : ℕ) : Type 0 where
+  pub root : ℕ
+  pub is_node : root < length network.nodes
+  pub reaches : All (λ (end : Endpoint). Reaches network set root (node_of end)) hose
+  pub weighs : ¬ ((weight : ℕ) → ¬ IsWeight network set root hose weight)
+  pub within : (weight : ℕ) → IsWeight network set root hose weight → weight ≤ most
+
+-- Each admission of a history reserves a cheapest way to carry its hose over the links that were
+-- allowed at the book before it.
+abbrev pub AreCheapest : Network → ℕ → List Entry → Type 0
+AreCheapest network epoch history =
+    (place : ℕ) (customer : List ℕ) (hose : List Endpoint) (amounts : List ReservedLink)
+    → slice_get history place ≡ Some (Admit customer hose amounts)
+    → (set : List Bool)
+    × IsAllowed network (room_of network (book_of epoch (take place history))) hose set
+    × IsCheapest network set hose amounts
