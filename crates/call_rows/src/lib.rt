@@ -8,6 +8,8 @@
 #[cfg(test)]
 mod commands;
 #[cfg(test)]
+mod judging;
+#[cfg(test)]
 mod networks;
 #[cfg(test)]
 mod plans;
