@@ -1,2 +1,3 @@
+pub mod Commit
 pub mod Ledger
 pub mod Refusal

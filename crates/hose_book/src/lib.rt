@@ -21,11 +21,15 @@ ghost use Rattle.hose_law.specs.History.{opening_book};
 ghost use Rattle.hose_law.specs.Live.{Rise};
 ghost use Rattle.hose_tree.specs.Amounts.{AreCarried};
 
+mod books;
 mod changing;
 mod checking;
+mod committed;
 mod finding;
 
+pub use books::{Books, Plain};
 pub use checking::BookRefusal;
+pub use committed::Committed;
 use hose_graph::{MOST_EPOCH, MOST_LIVE, Topology, Vpn};
 use std::alloc::{AllocError, Global};
 use std::marker::Model;

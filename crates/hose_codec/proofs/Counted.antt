@@ -4,7 +4,8 @@ use Rattle.byteorder.specs.Endian.{big_bytes}
 use Rattle.hose_graph.specs.declared.limits.TheConstants.{LEAST_ENDS, MOST_AMOUNT, MOST_ENDS, MOST_LINKS, MOST_NODES, MOST_RATE}
 use Rattle.hose_graph.specs.Hose.{IsHose, IsEnd}
 use Rattle.hose_codec.specs.declared.limits.TheConstants.{MOST_PAIRS}
-use Rattle.hose_codec.specs.Fields.{pairs_field, ends_field, amounts_field, IsAmount, AreFormatAmounts}
+use Rattle.hose_codec.specs.Fields.{pairs_field, ends_field, amounts_field, AreFormatAmounts}
+use Rattle.hose_graph.specs.Ranges.{IsAmount}
 use Rattle.hose_codec.specs.Reading.{Begins, BeginsNone, Reads, AreCountedPairs}
 use Rattle.hose_codec.specs.declared.fault.CodecFault.{CodecFault}
 use Rattle.hose_codec.proofs.Alone.{hose_pairs, amount_pairs}

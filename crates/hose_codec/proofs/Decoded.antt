@@ -4,7 +4,8 @@ use Rattle.std.specs.Prelude.{IfOk}
 use Rattle.hose_graph.specs.declared.entry.Entry.{Entry}
 use Rattle.hose_graph.specs.declared.entry.Entry.TheVariants.{Admit, Release}
 use Rattle.hose_codec.specs.declared.fault.CodecFault.{CodecFault}
-use Rattle.hose_codec.specs.Spelling.{spelling, IsEntry, FitsFormat, IsSpelling, Decodes}
+use Rattle.hose_codec.specs.Spelling.{spelling, IsEntry, IsSpelling, Decodes}
+use Rattle.hose_graph.specs.Ranges.{IsInRanges}
 use Rattle.hose_codec.proofs.Entries.{only_entry, same_entry}
 
 pub again : (bytes : List ℕ) (result : Result Entry CodecFault) → Decodes bytes result → (entry : Entry) → IsSpelling entry bytes → IfOk result (λ read. read ≡ entry)
@@ -16,7 +17,7 @@ pub alone : (bytes : List ℕ) (result : Result Entry CodecFault) → Decodes by
 alone bytes (Ok entry) decodes = λ other rest is begins. only_entry entry other bytes rest decodes is begins
 alone bytes (Err fault) decodes = tt
 
-pub fits : (bytes : List ℕ) (result : Result Entry CodecFault) → Decodes bytes result → IfOk result FitsFormat
+pub fits : (bytes : List ℕ) (result : Result Entry CodecFault) → Decodes bytes result → IfOk result IsInRanges
 fits bytes (Ok (Admit customer hose amounts)) decodes = decodes.is_entry.2.fit
 fits bytes (Ok (Release customer id)) decodes = decodes.is_entry.1
 fits bytes (Err fault) decodes = tt

@@ -2,12 +2,10 @@
 use Rattle.std.specs.Prelude.{ℕ, ◌<◌, ◌≤◌, ◌^◌, List, ◌∷◌, ◌++◌, length, All}
 use Rattle.std.specs.List.{flat_map}
 use Rattle.byteorder.specs.Endian.{big_bytes}
-use Rattle.hose_graph.specs.declared.limits.TheConstants.{MOST_AMOUNT, MOST_LINKS}
-use Rattle.hose_graph.specs.Amounts.{ReservedLink, amount_of, link_of}
+use Rattle.hose_graph.specs.Amounts.{ReservedLink}
 use Rattle.hose_graph.specs.Hose.{Endpoint}
 use Rattle.hose_graph.specs.Ascending.{IsAscending}
-use Rattle.hose_graph.specs.Limit.{IsUpTo}
-use Rattle.hose_codec.specs.declared.limits.TheConstants.{MOST_PAIRS}
+use Rattle.hose_graph.specs.Ranges.{AreInRanges}
 
 -- a name: one byte of length, and its bytes
 abbrev pub name_field : List ℕ → List ℕ
@@ -38,18 +36,7 @@ amounts_field amounts = big_bytes 2 (length amounts) ++ pairs_field amounts
 abbrev pub id_field : ℕ → List ℕ
 id_field id = big_bytes 4 id
 
--- an amount is on a link that a network can have, and within the limit
-pub record IsAmount (pair : ReservedLink) : Type 0 where
-  pub link : link_of pair < MOST_LINKS
-  pub amount : IsUpTo MOST_AMOUNT (amount_of pair)
-
--- The numbers of these amounts are in the ranges of the format.
-pub record FitFormat (amounts : List ReservedLink) : Type 0 where
-  pub some : 1 ≤ length amounts
-  pub few : length amounts ≤ MOST_PAIRS
-  pub within : All IsAmount amounts
-
 -- amounts that the format has: in its ranges, with their links ascending
 pub record AreFormatAmounts (amounts : List ReservedLink) : Type 0 where
-  pub fit : FitFormat amounts
+  pub fit : AreInRanges amounts
   pub ascending : IsAscending amounts

@@ -6,7 +6,7 @@ use Rattle.hose_graph.specs.Name.{IsName}
 use Rattle.hose_graph.specs.declared.entry.Entry.{Entry}
 use Rattle.hose_graph.specs.declared.entry.Entry.TheVariants.{Admit, Release}
 use Rattle.hose_graph.specs.declared.limits.TheConstants.{MOST_EPOCH}
-use Rattle.hose_codec.specs.Fields.{name_field, ends_field, amounts_field, id_field, FitFormat, AreFormatAmounts}
+use Rattle.hose_codec.specs.Fields.{name_field, ends_field, amounts_field, id_field, AreFormatAmounts}
 use Rattle.hose_codec.specs.declared.limits.TheConstants.{ADMIT, RELEASE}
 use Rattle.hose_codec.specs.declared.fault.CodecFault.{CodecFault}
 use Rattle.hose_codec.specs.declared.fault.CodecFault.TheVariants.{Bad, Memory}
@@ -16,11 +16,6 @@ abbrev pub spelling : Entry → List ℕ
 spelling (Admit customer hose amounts) =
     ADMIT ∷ (name_field customer ++ (ends_field hose ++ amounts_field amounts))
 spelling (Release customer id) = RELEASE ∷ (name_field customer ++ id_field id)
-
--- The numbers of the entry are in the ranges of the format, as far as its type leaves that open.
-abbrev pub FitsFormat : Entry → Type 0
-FitsFormat (Admit customer hose amounts) = FitFormat amounts
-FitsFormat (Release customer id) = id ≤ MOST_EPOCH
 
 -- an entry that the format has
 abbrev pub IsEntry : Entry → Type 0

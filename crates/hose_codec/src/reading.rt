@@ -1,7 +1,8 @@
 // Reading an entry. No memory is taken before the bytes are known to be the spelling of one.
 ghost use Rattle.std.specs.Prelude.{◌≡◌, ◌↔◌, ◌∷◌, ◌++◌, [], List, ℕ, IfOk, IsErrOf};
 ghost use Rattle.hose_graph.specs.declared.entry.Entry.{Entry};
-ghost use Rattle.hose_codec.specs.Spelling.{IsEntry, FitsFormat, IsSpelling, IsNoSpelling, Decodes, spelling};
+ghost use Rattle.hose_codec.specs.Spelling.{IsEntry, IsSpelling, IsNoSpelling, Decodes, spelling};
+ghost use Rattle.hose_graph.specs.Ranges.{IsInRanges};
 
 use crate::fault::CodecFault;
 use crate::fields::{Fields, pairs_of};
@@ -16,7 +17,7 @@ pub fn decode(alloc: Global, bytes: &[u8]) -> Result<Entry, CodecFault>
     ensures again { (entry : Entry) → IsSpelling entry bytes.now →
         IfOk result (λ read. read ≡ entry) }
     // What was decoded can be encoded.
-    ensures fits { IfOk result FitsFormat }
+    ensures fits { IfOk result IsInRanges }
     // No other spelling begins the bytes.
     ensures alone { IfOk result (λ entry. (other : Entry) (rest : List ℕ) → IsEntry other →
         bytes.now ≡ spelling other ++ rest → (other ≡ entry) × (rest ≡ [])) }

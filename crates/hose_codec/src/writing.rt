@@ -2,8 +2,10 @@
 ghost use Rattle.std.specs.Prelude.{◌≡◌, ◌<◌, ◌≤◌, ◌^◌, ◌++◌, All, OnOk, IfOk, length, vec_len};
 ghost use Rattle.hose_graph.specs.Name.{IsName};
 ghost use Rattle.hose_graph.specs.Hose.{IsHose};
-ghost use Rattle.hose_codec.specs.Fields.{name_field, pairs_field, ends_field, amounts_field, id_field, FitFormat, FitsPair};
-ghost use Rattle.hose_codec.specs.Spelling.{spelling, IsEntry, FitsFormat, IsSpelling};
+ghost use Rattle.hose_codec.specs.Fields.{name_field, pairs_field, ends_field, amounts_field, id_field, FitsPair};
+ghost use Rattle.hose_graph.specs.Ranges.{AreInRanges};
+ghost use Rattle.hose_codec.specs.Spelling.{spelling, IsEntry, IsSpelling};
+ghost use Rattle.hose_graph.specs.Ranges.{IsInRanges};
 
 use crate::limits::{ADMIT, MOST_SPELLING, PAIR_BYTES, RELEASE};
 use byteorder::{BigEndian, ByteOrder};
@@ -12,7 +14,7 @@ use std::alloc::{AllocError, Global};
 
 /// The spelling of an entry whose numbers are in the ranges of the format.
 pub fn encode(alloc: Global, entry: &Entry) -> Result<Vec<u8>, AllocError>
-    requires { FitsFormat entry.now }
+    requires { IsInRanges entry.now }
     ensures spelling { IfOk result (λ bytes. IsSpelling entry.now bytes.items) }
     ensures short { IfOk result (λ bytes. vec_len bytes ≤ MOST_SPELLING) }
 {
@@ -23,7 +25,7 @@ pub fn encode(alloc: Global, entry: &Entry) -> Result<Vec<u8>, AllocError>
 
 // How many bytes the spelling of the entry has.
 fn spelling_len(entry: &Entry) -> usize
-    requires { FitsFormat entry.now }
+    requires { IsInRanges entry.now }
     ensures { result ≡ length (spelling entry.now) }
 {
     match entry {
@@ -37,7 +39,7 @@ fn spelling_len(entry: &Entry) -> usize
 }
 
 fn put_entry(out: &mut Vec<u8>, entry: &Entry) -> Result<(), AllocError>
-    requires { FitsFormat entry.now }
+    requires { IsInRanges entry.now }
     ensures put { OnOk result (out.new.items ≡ out.old.items ++ spelling entry.now) }
     ensures is_entry { OnOk result (IsEntry entry.now) }
 {
@@ -78,7 +80,7 @@ fn put_ends(out: &mut Vec<u8>, ends: &[Endpoint]) -> Result<(), AllocError>
 }
 
 fn put_amounts(out: &mut Vec<u8>, amounts: &[ReservedLink]) -> Result<(), AllocError>
-    requires { FitFormat amounts.now }
+    requires { AreInRanges amounts.now }
     ensures { OnOk result (out.new.items ≡ out.old.items ++ amounts_field amounts.now) }
 {
     let mut count = [0; 2];

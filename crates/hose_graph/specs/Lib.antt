@@ -4,4 +4,5 @@ pub mod Hose
 pub mod Limit
 pub mod Name
 pub mod Network
+pub mod Ranges
 pub mod Row

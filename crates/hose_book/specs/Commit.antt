@@ -1,0 +1,23 @@
+-- What comes of an entry that is sound: it is entered, or what keeps the book elsewhere failed.
+use Rattle.std.specs.Prelude.{◌≡◌, None, []}
+use Rattle.hose_io.specs.Frame.{Frame, Rose, Stays}
+use Rattle.hose_graph.specs.declared.entry.Entry.{Entry}
+use Rattle.hose_law.specs.History.{next_book}
+use Rattle.hose_book.specs.Ledger.{Ledger}
+use Rattle.hose_book.specs.declared.committed.Committed.{Committed}
+use Rattle.hose_book.specs.declared.committed.Committed.TheVariants.{Done, Disk}
+
+-- the book is the next one, or as before; the network stays
+abbrev pub Commits : Ledger → Entry → Committed → Ledger → Type 0
+Commits old entry Done new =
+    new ≡ record { network = old.network; book = next_book old.book entry }
+Commits old entry Disk new = new ≡ old
+
+-- a failure raised the count, and a success left it
+abbrev pub IsMet : Frame → Committed → Frame → Type 0
+IsMet before Done after = after ≡ before
+IsMet before Disk after = Stays before after × Rose before after
+
+-- the frame of what never fails
+abbrev pub unfailing : Frame
+unfailing = record { faults = 0; number = 0; loan = [] }

@@ -1,0 +1,23 @@
+-- The ranges of the numbers of an entry, as far as its type leaves them open.
+use Rattle.std.specs.Prelude.{ℕ, ◌<◌, ◌≤◌, List, All, length}
+use Rattle.hose_graph.specs.declared.entry.Entry.{Entry}
+use Rattle.hose_graph.specs.declared.entry.Entry.TheVariants.{Admit, Release}
+use Rattle.hose_graph.specs.declared.limits.TheConstants.{MOST_AMOUNT, MOST_EPOCH, MOST_LINKS, MOST_TREE_LINKS}
+use Rattle.hose_graph.specs.Amounts.{ReservedLink, amount_of, link_of}
+use Rattle.hose_graph.specs.Limit.{IsUpTo}
+
+-- an amount is on a link that a network can have, and within the limit
+pub record IsAmount (pair : ReservedLink) : Type 0 where
+  pub link : link_of pair < MOST_LINKS
+  pub amount : IsUpTo MOST_AMOUNT (amount_of pair)
+
+-- there are some amounts, no more than a tree has links, and each is within the limits
+pub record AreInRanges (amounts : List ReservedLink) : Type 0 where
+  pub some : 1 ≤ length amounts
+  pub few : length amounts ≤ MOST_TREE_LINKS
+  pub within : All IsAmount amounts
+
+-- the entry's numbers are in their ranges
+abbrev pub IsInRanges : Entry → Type 0
+IsInRanges (Admit customer hose amounts) = AreInRanges amounts
+IsInRanges (Release customer id) = id ≤ MOST_EPOCH
