@@ -1,6 +1,6 @@
 // Whether amounts are what a hose reserves on some tree.
 use crate::reading::{STAR, network};
-use hose_graph::{Amounts, Hose, Reply, Topology};
+use hose_graph::{Amounts, Endpoint, Hose, Reply, Topology};
 use hose_proto::read_reply;
 use hose_tree::is_reservation;
 use std::alloc::Global;
@@ -59,18 +59,32 @@ fn what_a_hose_reserves_on_trees_of_a_ring(rt: HostRuntime) -> Result<(), Fail> 
     Ok(())
 }
 
+// The same of a hose of two endpoints in a star. The proof of a test is quicker where the large
+// contract stands here.
+fn is_reserved(alloc: Global, ends: &[Endpoint], amounts: &Amounts) -> Result<bool, Fail> {
+    let star = network(alloc, STAR)?;
+    let hose = Hose::build(alloc, ends)?;
+    Ok(is_reservation(&star, &hose, amounts))
+}
+
 #[test]
-fn what_is_no_reservation_of_any_network(rt: HostRuntime) -> Result<(), Fail> {
-    let star = network(rt.alloc(), STAR)?;
-    let hose = Hose::build(rt.alloc(), &[(0, 3), (1, 3)])?;
-    let nothing = Amounts::build(rt.alloc(), &[])?;
-    assert!(rt; !is_reservation(&star, &hose, &nothing));
-    let too_many = Amounts::build(rt.alloc(), &[(0, 3), (1, 3), (2, 0)])?;
-    assert!(rt; !is_reservation(&star, &hose, &too_many));
-    let beyond = Amounts::build(rt.alloc(), &[(0, 3), (1, 3), (3, 3)])?;
-    assert!(rt; !is_reservation(&star, &hose, &beyond));
-    let outside = Hose::build(rt.alloc(), &[(0, 3), (9, 3)])?;
-    let one_link = Amounts::build(rt.alloc(), &[(0, 3)])?;
-    assert!(rt; !is_reservation(&star, &outside, &one_link));
+fn amounts_on_no_link_one_too_many_and_one_that_is_not_there(rt: HostRuntime) -> Result<(), Fail> {
+    let alloc = rt.alloc();
+    let none = Amounts::build(alloc, &[])?;
+    let needless = Amounts::build(alloc, &[(0, 3), (1, 3), (2, 0)])?;
+    let beyond = Amounts::build(alloc, &[(0, 3), (1, 3), (3, 3)])?;
+    for amounts in [&none, &needless, &beyond] {
+        assert!(rt; !is_reserved(alloc, &[(0, 3), (1, 3)], amounts)?);
+    }
+    Ok(())
+}
+
+#[test]
+fn an_endpoint_outside_the_network(rt: HostRuntime) -> Result<(), Fail> {
+    let amounts = Amounts::build(rt.alloc(), &[(0, 3)])?;
+    for (node, want) in [(3, true), (4, false), (511, false)] {
+        let is = is_reserved(rt.alloc(), &[(0, 3), (node, 3)], &amounts)?;
+        assert_eq!(rt; is, want, "{node}");
+    }
     Ok(())
 }
