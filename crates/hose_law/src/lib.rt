@@ -40,8 +40,9 @@ pub fn law_weight(top: &Topology, links: &[bool], hose: &Hose, plan: &Amounts)
     let _nodes = top.nodes();
 }
 
-/// Whatever amounts carry a hose on a tree over a set of links, some node that reaches all endpoints
-/// over the set weighs no more than they cost. An amount is that of the step at its place.
+/// Whatever amounts carry a hose on a tree over a set of links, some node that reaches all
+/// endpoints over the set weighs no more than they cost. An amount is that of the step at its
+/// place.
 pub fn law_least(
     top: &Topology,
     links: &[bool],

@@ -44,8 +44,8 @@ IsSoundDecision network room hose (Plan grounds amounts cost) =
     CanBeReserved network room hose amounts
 IsSoundDecision network room hose (Refused side) = ⊤
 
--- what it admits is a cheapest way to carry the hose over the links that are allowed, and costs what
--- the root over them weighs
+-- what it admits is a cheapest way to carry the hose over the links that are allowed, and costs
+-- what the root over them weighs
 abbrev pub IsCheapestDecision : Network → Room → List Endpoint → Decision → Type 0
 IsCheapestDecision network room hose (Plan grounds amounts cost) =
     IsCheapest network (allowed_links room grounds) hose amounts

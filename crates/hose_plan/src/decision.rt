@@ -54,8 +54,8 @@ pub enum Decision {
 ///
 /// A plan carries all traffic within the hose's rates, and no amounts on any tree over the links
 /// that are then allowed carry it at less cost. That is this project's own law, for one rate an
-/// endpoint; the idea of a tree of shortest ways to one root is from "Provisioning a virtual private
-/// network: a network design problem for multicommodity flow" (STOC 2001).
+/// endpoint; the idea of a tree of shortest ways to one root is from "Provisioning a virtual
+/// private network: a network design problem for multicommodity flow" (STOC 2001).
 pub fn decide<R: RowMaker>(
     alloc: Global,
     top: &Topology,

@@ -76,7 +76,8 @@ impl Stretch {
     fn of(hose: &Hose, marks: &[bool], i: u32) -> Stretch
         requires marks { length marks.now ≡ MOST_NODES }
         requires endpoint { i < length hose.now }
-        ensures start { result.start ≡ rate_before (rate_at hose.now) (is_marked hose.now marks.now) i }
+        ensures start { result.start
+            ≡ rate_before (rate_at hose.now) (is_marked hose.now marks.now) i }
         ensures end { result.end ≡ result.start + rate_at hose.now i }
     {
         let side = is_beyond(hose, marks, i);

@@ -11,9 +11,9 @@ use hose_graph::{Amounts, Endpoint, Hose, MOST_NODES, ReservedLink, Step};
 use std::alloc::{AllocError, Global};
 use std::mem;
 
-/// What a hose reserves on the links of a tree: on each link the rate sum of its smaller side, which
-/// is all that traffic within the rates can put there. The tree may start at any of its nodes, and
-/// its steps may come in any order that grows it.
+/// What a hose reserves on the links of a tree: on each link the rate sum of its smaller side,
+/// which is all that traffic within the rates can put there. The tree may start at any of its
+/// nodes, and its steps may come in any order that grows it.
 pub fn reservations(alloc: Global, tree: &Tree, hose: &Hose) -> Result<Amounts, AllocError>
     requires joins { JoinsHose tree.now hose.now }
     ensures reserves { IfOk result (IsReservation tree.now hose.now) }

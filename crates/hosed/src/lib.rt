@@ -8,9 +8,9 @@
 //! let status = hosed(alloc, &words, &mut StdSource::new(stdin), &mut StdSink::new(stdout));
 //! ```
 //!
-//! Each reply is the sequential book's at its place in one history; each admitted tree's reservations
-//! carry every traffic matrix within the rates, at no more than any tree over the links then allowed
-//! would cost.
+//! Each reply is the sequential book's at its place in one history; each admitted tree's
+//! reservations carry every traffic matrix within the rates, at no more than any tree over the
+//! links then allowed would cost.
 #![tactic(auto)]
 
 ghost use Rattle.std.specs.Prelude.{◌≡◌, ◌↔◌, ℕ, map};
