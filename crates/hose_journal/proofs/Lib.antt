@@ -1,0 +1,4 @@
+pub mod Accounts
+pub mod Gates
+pub mod Lists
+pub mod Runs

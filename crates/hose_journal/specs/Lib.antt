@@ -1,0 +1,5 @@
+pub mod Entries
+pub mod Gates
+pub mod Image
+pub mod Journal
+pub mod Moments

@@ -1,0 +1,15 @@
+//! A journal of a book's entries on a disk, which a stop at any moment leaves whole: each image
+//! stands for the entries that were acknowledged, or for those and one more that was being written
+//! or is in doubt.
+#![tactic(auto)]
+
+mod journal;
+mod layout;
+mod prepared;
+mod putting;
+mod readying;
+mod steps;
+
+pub use journal::Journal;
+pub use prepared::Ready;
+pub use readying::ready;
