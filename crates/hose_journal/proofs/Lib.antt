@@ -1,4 +1,5 @@
 pub mod Accounts
+pub mod Beginnings
 pub mod Gates
 pub mod Lists
 pub mod Runs

@@ -18,6 +18,9 @@ pub const DIGEST_BYTES: usize = 32;
 /// The number of bytes of the head with the first record's gate: a journal without an entry.
 pub const EMPTY_BYTES: usize = 39;
 
+/// The number of bytes of a journal without an entry, after its first gate.
+pub const HEAD_BYTES: usize = EMPTY_BYTES - 1;
+
 /// The number of bytes of a record's length.
 pub const LENGTH_BYTES: usize = 4;
 

@@ -3,6 +3,7 @@
 //! or is in doubt.
 #![tactic(auto)]
 
+mod beginning;
 mod journal;
 mod layout;
 mod prepared;
