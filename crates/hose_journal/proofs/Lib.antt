@@ -2,4 +2,5 @@ pub mod Accounts
 pub mod Beginnings
 pub mod Gates
 pub mod Lists
+pub mod Parts
 pub mod Runs

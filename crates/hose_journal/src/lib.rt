@@ -6,6 +6,7 @@
 mod beginning;
 mod journal;
 mod layout;
+mod part;
 mod prepared;
 mod putting;
 mod readying;
