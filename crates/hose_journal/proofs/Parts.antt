@@ -1,11 +1,11 @@
 -- Which record begins bytes.
-use Rattle.std.proofs.Common.{◌≡◌, ◌≢◌, ◌⊎◌, inl, inr, ⊎_elim, ℕ, ◌+◌, ◌-◌, ◌≤◌, ◌<◌, ◌^◌, List, [], ◌∷◌, ◌++◌, length, get_or, take, drop, refl, sym, ◌∙◌, ap, subst, arith, length-append, append_assoc, append-nil, take-append-drop}
+use Rattle.std.proofs.Common.{◌≡◌, ◌⊎◌, inr, ℕ, ◌+◌, ◌-◌, ◌≤◌, ◌<◌, ◌^◌, List, [], ◌∷◌, ◌++◌, length, get_or, take, drop, refl, sym, ◌∙◌, ap, arith, length-append, append_assoc, take-append-drop}
 use Rattle.std.specs.Prelude.{Err}
 use Rattle.std.proofs.lemmas.List.{take_all, take_at, drop_at, drop_more, length-take-le}
 use Rattle.byteorder.specs.Endian.{big_bytes}
 use Rattle.byteorder.specs.Numbers.{length-bytes_high_first}
 use Rattle.hose_graph.specs.declared.entry.Entry.{Entry}
-use Rattle.hose_codec.specs.Spelling.{spelling, IsEntry, IsNoSpelling}
+use Rattle.hose_codec.specs.Spelling.{spelling, IsNoSpelling}
 use Rattle.hose_codec.specs.declared.fault.CodecFault.{CodecFault}
 use Rattle.hose_codec.specs.declared.fault.CodecFault.TheVariants.{Bad, Memory}
 use Rattle.hose_codec.specs.declared.limits.TheConstants.{MOST_SPELLING}

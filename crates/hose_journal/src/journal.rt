@@ -1,5 +1,5 @@
 // A journal to which entries are added.
-ghost use Rattle.std.specs.Prelude.{◌≡◌, ◌⊎◌, ◌<◌, ◌+◌, Option, Some, None, length, IsFalse, IsTrue, IsOk, OnErr, OnOk};
+ghost use Rattle.std.specs.Prelude.{◌≡◌, ◌⊎◌, ◌<◌, ◌+◌, Option, Some, None, false, length, IsFalse, IsTrue, IsOk, OnErr, OnOk};
 ghost use Rattle.hose_graph.specs.declared.entry.Entry.{Entry};
 ghost use Rattle.hose_disk.specs.Disk.{IsCalled};
 ghost use Rattle.hose_journal.specs.Entries.{IsListOf};
@@ -24,6 +24,17 @@ pub struct Journal<D: Disk> {
 }
 
 impl<D: Disk> Journal<D> {
+    // The journal with its last gate at this place, and no entry in doubt.
+    pub(crate) fn at(disk: D, gate: u64) -> Journal<D>
+        ensures { result ≡ record { disk = disk; gate = gate; doubt = false } }
+    {
+        Journal {
+            disk,
+            gate,
+            doubt: false,
+        }
+    }
+
     /// Whether an entry is in doubt.
     pub fn doubt(&self) -> bool
         ensures { result ≡ self.now.doubt }

@@ -26,3 +26,9 @@ pub const LENGTH_BYTES: usize = 4;
 
 /// The greatest number of bytes of a record with the gate before it.
 pub const MOST_RECORD: usize = 1 + LENGTH_BYTES + MOST_SPELLING;
+
+/// The greatest number of bytes of a record with the gates before and after it.
+pub const MOST_PART: usize = MOST_RECORD + 1;
+
+/// The number of bytes that a reading asks the disk for at once.
+pub const PIECE_BYTES: usize = 65_536;

@@ -4,14 +4,19 @@
 #![tactic(auto)]
 
 mod beginning;
+mod fault;
 mod journal;
 mod layout;
 mod part;
+mod piece;
 mod prepared;
 mod putting;
+mod reading;
 mod readying;
 mod steps;
 
+pub use fault::JournalFault;
 pub use journal::Journal;
 pub use prepared::Ready;
+pub use reading::Reading;
 pub use readying::ready;

@@ -1,4 +1,4 @@
-use Rattle.std.proofs.Common.{rules, ◌<◌, ◌≤◌, ◌⊎◌, inl, inr, length, arith, ◌^◌}
+use Rattle.std.proofs.Common.{rules, ◌<◌, ◌≤◌, ◌⊎◌, inl, inr, length, arith}
 use Rattle.hose_codec.specs.declared.limits.TheConstants.{MOST_SPELLING}
 use Rattle.hose_journal.proofs.Parts.{no_body, has_body}
 use Rattle.hose_journal.proofs.part.body.Goals as goal

@@ -1,8 +1,4 @@
-use Rattle.std.proofs.Common.{◌≡◌, ◌≤◌, length, rules, drop, get_or, arith}
-use Rattle.hose_codec.specs.Spelling.{IsNoSpelling}
-use Rattle.hose_codec.specs.declared.fault.CodecFault.TheVariants.{Bad}
-use Rattle.hose_journal.specs.Entries.{HasBody}
-use Rattle.hose_journal.specs.declared.layout.TheConstants.{OPEN}
+use Rattle.std.proofs.Common.{rules}
 use Rattle.hose_journal.proofs.Parts.{bad_part, open_bytes}
 use Rattle.hose_journal.proofs.part.part.Goals as goal
 
