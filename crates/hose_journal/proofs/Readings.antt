@@ -76,7 +76,7 @@ none_begins rest after none (inr long) entry gate more is same =
 
 -- ---- contents
 
-both : (content : Option (List ℕ)) (P Q R : List ℕ → Type 0) → ((bytes : List ℕ) → P bytes → Q bytes → R bytes) → IfSome content P → IfSome content Q → IfSome content R
+pub both : (content : Option (List ℕ)) (P Q R : List ℕ → Type 0) → ((bytes : List ℕ) → P bytes → Q bytes → R bytes) → IfSome content P → IfSome content Q → IfSome content R
 both None P Q R to p q = tt
 both (Some bytes) P Q R to p q = to bytes p q
 
@@ -169,7 +169,7 @@ next_of disk reading digest entries entry distance part same gate = subst (λ (f
 
 -- ---- the end
 
-closed_images : (found : Option (List ℕ)) (P : List ℕ → Type 0) (image : List ℕ) → IfSome found P → found ≡ Some image → P image
+pub closed_images : (found : Option (List ℕ)) (P : List ℕ → Type 0) (image : List ℕ) → IfSome found P → found ≡ Some image → P image
 closed_images found P image told same = subst (λ (found : Option (List ℕ)). IfSome found P) same told
 
 -- at a closed gate the journal stands for the entries that were read

@@ -1,5 +1,5 @@
 -- How runs of calls go on.
-use Rattle.std.proofs.Common.{◌≡◌, inl, inr, ⊎_elim, ℕ, ◌≤◌, List, Option, None, Some, refl, sym, ◌∙◌, subst, arith, IfSome}
+use Rattle.std.proofs.Common.{◌≡◌, inl, inr, ⊎_elim, ℕ, ◌≤◌, List, Option, None, Some, refl, sym, ◌∙◌, subst, arith, IfSome, ap}
 use Rattle.std.specs.Prelude.{Result, Ok, Err, OnErr}
 use Rattle.hose_disk.specs.Disk.{Only, Told, Elapses}
 use Rattle.hose_journal.specs.Moments.{Images, LeavesOnly, IsTornFrom}
@@ -68,6 +68,18 @@ module _ {D : Type 0} (disk : Ghosts D) where
   synced_step step old mid new is_image counts untold told same only =
       synced_told step (disk.content old) (disk.content mid) (disk.may_leave old) (disk.may_leave new) is_image
       (λ image none is. untold (disk.moment new) image (same ∙ told_none step (disk.content old) (disk.content mid) told none) (counts (disk.moment new) image (omega arith) is)) told only
+
+  -- after a sync a stop leaves what is read
+  only_told : (content : Option (List ℕ)) (images : List ℕ → Type 0) → ((image : List ℕ) → content ≡ None → images image → ⊥) → IfSome content (λ bytes. Only bytes images) → (image : List ℕ) → images image → content ≡ Some image
+  only_told None images untold only image is = absurd (untold image refl is)
+  only_told (Some bytes) images untold only image is = ap (λ (l : List ℕ). Some l) (sym (only image is))
+
+  pub only_content : (mid new : D) → ((t : ℕ) (image : List ℕ) → t ≤ disk.moment new → disk.may_leave new image → disk.left_since new t image)
+      → ((t : ℕ) (image : List ℕ) → disk.content new ≡ None → disk.left_since new t image → ⊥)
+      → disk.content new ≡ disk.content mid → IfSome (disk.content mid) (λ bytes. Only bytes (disk.may_leave new)) → (image : List ℕ) → disk.may_leave new image → disk.content new ≡ Some image
+  only_content mid new counts untold same only image is_image =
+      only_told (disk.content new) (disk.may_leave new) (λ other none is. untold (disk.moment new) other none (counts (disk.moment new) other (omega arith) is))
+      (subst (λ (told : Option (List ℕ)). IfSome told (λ bytes. Only bytes (disk.may_leave new))) (sym same) only) image is_image
 
 pub on_err_of : {T E : Type 0} (result : Result T E) (P : Type 0) → P → OnErr result P
 on_err_of (Ok value) P p = tt

@@ -9,10 +9,10 @@ use Rattle.hose_disk.specs.Disk.{NoneNew, object_frame}
 use Rattle.hose_disk.specs.declared.disk.Disk.{Ghosts}
 use Rattle.hose_journal.specs.Entries.{record_of, entries_format, front_of, Means}
 use Rattle.hose_journal.specs.Image.{AreItems, IsClosed, damaged}
-use Rattle.hose_journal.specs.Moments.{Images, LeavesOnly}
+use Rattle.hose_journal.specs.Moments.{LeavesOnly, ReadsItsImages}
 use Rattle.hose_journal.specs.declared.fault.JournalFault.{JournalFault}
 use Rattle.hose_journal.specs.declared.fault.JournalFault.TheVariants.{Disk, Other, Damaged, Memory}
-use Rattle.hose_journal.specs.declared.layout.TheConstants.{DIGEST_BYTES, MOST_PART, PIECE_BYTES}
+use Rattle.hose_journal.specs.declared.layout.TheConstants.{DIGEST_BYTES, HEAD_BYTES, MOST_PART, PIECE_BYTES}
 use Rattle.hose_journal.specs.declared.piece.Piece.{Piece}
 use Rattle.hose_journal.specs.declared.reading.Reading.{Reading}
 
@@ -55,7 +55,7 @@ pub record Reads {D : Type 0} (disk : Ghosts D) (reading : Reading D) (digest : 
   pub within : reading.gate < reading.end
   pub small : reading.end < 2 ^ 62
   pub piece : IsPiece (disk.content reading.disk) reading.end reading.piece
-  pub only : Images disk reading.disk (λ image. disk.content reading.disk ≡ Some image)
+  pub only : ReadsItsImages disk reading.disk
   pub told : IfSome (disk.content reading.disk) (IsReadUpTo digest entries reading.end)
   pub closed : IsTrue reading.closed →
       IfSome (disk.content reading.disk) (IsClosed (front_of digest entries))
@@ -103,3 +103,13 @@ KeepsFault (Err Disk) fault = fault ≡ Some Disk
 KeepsFault (Err (Damaged at)) fault = fault ≡ Some (Damaged at)
 KeepsFault (Err (Other kept given)) fault = fault ≡ Some (Other kept given)
 KeepsFault (Err Memory) fault = fault ≡ None
+
+-- a journal whose head was read, on a disk of this length
+pub record IsOpen {D : Type 0} (disk : Ghosts D) (now : D) (piece : Piece) (end : ℕ)
+    (digest : List ℕ) : Type 0 where
+  pub size : length digest ≡ DIGEST_BYTES
+  pub within : HEAD_BYTES < end
+  pub small : end < 2 ^ 62
+  pub is_piece : IsPiece (disk.content now) end piece
+  pub only : ReadsItsImages disk now
+  pub told : IfSome (disk.content now) (IsReadUpTo digest [] end)

@@ -3,7 +3,7 @@ ghost use Rattle.std.specs.Prelude.{◌≡◌, ◌∷◌, ◌++◌, [], OnOk};
 ghost use Rattle.hose_disk.specs.Disk.{IsCalled};
 ghost use Rattle.hose_journal.specs.Entries.{IsListOf, front_of};
 ghost use Rattle.hose_journal.specs.Image.{IsClosed, IsUnbegun};
-ghost use Rattle.hose_journal.specs.Moments.{Images, LeavesOnly, TellsAsBefore};
+ghost use Rattle.hose_journal.specs.Moments.{Images, LeavesOnly, ReadsItsImages, TellsAsBefore};
 
 use crate::layout::{CLOSED, DIGEST_BYTES, HEAD_BYTES, MARK, OPEN};
 use crate::putting::put;
@@ -14,6 +14,7 @@ pub fn begin<D: Disk>(disk: &mut D, digest: &[u8; DIGEST_BYTES]) -> Result<(), F
     requires { Images D.Disk disk.old IsUnbegun }
     ensures any_moment { LeavesOnly D.Disk disk.old disk.new (IsListOf digest.now []) }
     ensures begun { OnOk result (Images D.Disk disk.new (IsClosed (front_of digest.now []))) }
+    ensures durable { OnOk result (ReadsItsImages D.Disk disk.new) }
     ensures tells { TellsAsBefore D.Disk disk.old disk.new }
     ensures call { IsCalled (D.frame disk.old) (D.frame disk.new) result }
 {
@@ -41,6 +42,7 @@ fn write_head<D: Disk>(disk: &mut D, digest: &[u8; DIGEST_BYTES]) -> Result<(), 
     requires { Images D.Disk disk.old (λ image. image ≡ CLOSED ∷ []) }
     ensures any_moment { LeavesOnly D.Disk disk.old disk.new (IsListOf digest.now []) }
     ensures begun { OnOk result (Images D.Disk disk.new (IsClosed (front_of digest.now []))) }
+    ensures durable { OnOk result (ReadsItsImages D.Disk disk.new) }
     ensures tells { TellsAsBefore D.Disk disk.old disk.new }
     ensures call { IsCalled (D.frame disk.old) (D.frame disk.new) result }
 {

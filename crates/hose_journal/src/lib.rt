@@ -7,6 +7,7 @@ mod beginning;
 mod fault;
 mod journal;
 mod layout;
+mod opening;
 mod part;
 mod piece;
 mod prepared;
@@ -17,6 +18,7 @@ mod steps;
 
 pub use fault::JournalFault;
 pub use journal::Journal;
+pub use opening::open;
 pub use prepared::Ready;
 pub use reading::Reading;
 pub use readying::ready;

@@ -1,7 +1,7 @@
 // Bytes that are written and synced.
 ghost use Rattle.std.specs.Prelude.{◌+◌, ◌<◌, ◌≤◌, ◌^◌, length, IfSome, OnOk};
 ghost use Rattle.hose_disk.specs.Disk.{IsCalled};
-ghost use Rattle.hose_journal.specs.Moments.{IsTornFrom, Lands, LeavesOnly, TellsAsBefore};
+ghost use Rattle.hose_journal.specs.Moments.{IsTornFrom, Lands, LeavesOnly, ReadsItsImages, TellsAsBefore};
 
 use hose_disk::{Disk, Failed};
 
@@ -12,6 +12,7 @@ pub fn put<D: Disk>(disk: &mut D, at: u64, bytes: &[u8]) -> Result<(), Failed>
     ensures any_moment { LeavesOnly D.Disk disk.old disk.new
         (IsTornFrom D.Disk disk.old at (length bytes.now)) }
     ensures landed { OnOk result (Lands D.Disk disk.old disk.new at bytes.now) }
+    ensures durable { OnOk result (ReadsItsImages D.Disk disk.new) }
     ensures tells { TellsAsBefore D.Disk disk.old disk.new }
     ensures call { IsCalled (D.frame disk.old) (D.frame disk.new) result }
 {

@@ -1,13 +1,14 @@
 // A journal whose entries are read, one after another.
-ghost use Rattle.std.specs.Prelude.{◌≡◌, List, ℕ, None, Some, IfNone, IfSome, IsErr, IsFalse, IsTrue, OnOk};
+ghost use Rattle.std.specs.Prelude.{◌≡◌, [], List, ℕ, None, Some, IfNone, IfSome, IsErr, IsFalse, IsTrue, OnOk};
 ghost use Rattle.hose_io.specs.Frame.{Rose};
 ghost use Rattle.hose_graph.specs.declared.entry.Entry.{Entry};
 ghost use Rattle.hose_disk.specs.Disk.{object_frame};
 ghost use Rattle.hose_journal.specs.Journal.{Stands};
-ghost use Rattle.hose_journal.specs.Reading.{AtGate, HasRead, KeepsFault, OnlyRead, Reaches, Reads};
+ghost use Rattle.hose_journal.specs.Reading.{AtGate, HasRead, IsOpen, KeepsFault, OnlyRead, Reaches, Reads};
 
 use crate::fault::JournalFault;
 use crate::journal::Journal;
+use crate::layout::HEAD_BYTES;
 use crate::part::part;
 use crate::piece::Piece;
 use hose_codec::CodecFault;
@@ -29,6 +30,26 @@ pub struct Reading<D: Disk> {
 }
 
 impl<D: Disk> Reading<D> {
+    // The reading at the gate after the head, of a disk of this length.
+    pub(crate) fn first(alloc: Global, disk: D, piece: Piece, end: u64) -> Reading<D>
+        ensures opened { (digest : List ℕ) → IsOpen D.Disk disk piece end digest →
+            Reads D.Disk result digest [] }
+        ensures disk { result.disk ≡ disk }
+        ensures fault { result.fault ≡ None }
+        ensures last { result.last ≡ HEAD_BYTES }
+    {
+        Reading {
+            alloc,
+            disk,
+            piece,
+            end,
+            gate: HEAD_BYTES as u64,
+            last: HEAD_BYTES as u64,
+            closed: false,
+            fault: None,
+        }
+    }
+
     /// The next entry, or none at a gate that is not open.
     ///
     /// After a fault it answers the same from then on, but for want of memory: then nothing has

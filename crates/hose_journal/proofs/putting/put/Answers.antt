@@ -1,7 +1,7 @@
 use Rattle.std.proofs.Common.{length}
 use Rattle.hose_disk.specs.Disk.{IsOverwritten}
 use Rattle.hose_journal.specs.Moments.{IsTornFrom}
-use Rattle.hose_journal.proofs.Runs.{started, goes_on, torn_before, synced_step}
+use Rattle.hose_journal.proofs.Runs.{started, goes_on, torn_before, synced_step, only_content}
 use Rattle.hose_journal.proofs.putting.put.Goals as goal
 
 pub returns-in_err-write_at-clause-any_moment : goal.returns-in_err-write_at-clause-any_moment
@@ -34,3 +34,7 @@ pub returns-clause-landed : goal.returns-clause-landed
 returns-clause-landed g c =
     synced_step g.D.Disk (IsOverwritten c.args.at c.args.bytes.now) c.args.disk.now c.write_at.new.self c.sync.new.self (g.met.D.Disk.reads_an_image c.args.disk.now) (g.met.D.Disk.counts_now c.sync.new.self)
     (g.met.D.Disk.untold c.sync.new.self) c.in_ok-write_at.ensures.written c.sync.ensures.same c.in_ok-sync.ensures.durable
+
+pub returns-clause-durable : goal.returns-clause-durable
+returns-clause-durable g c =
+    only_content g.D.Disk c.write_at.new.self c.sync.new.self (g.met.D.Disk.counts_now c.sync.new.self) (g.met.D.Disk.untold c.sync.new.self) c.sync.ensures.same c.in_ok-sync.ensures.durable
