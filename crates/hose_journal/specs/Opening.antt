@@ -1,11 +1,12 @@
 -- What the opening of a journal finds, and what it leaves.
 use Rattle.std.specs.Prelude.{◌≡◌, ◌⊎◌, ℕ, ◌<◌, ◌≤◌, ◌^◌, List, [], ◌++◌, length, Option, Result, Ok, Err, IfSome}
-use Rattle.hose_io.specs.Frame.{Rose}
+use Rattle.hose_io.specs.Frame.{Stays}
 use Rattle.hose_disk.specs.Disk.{object_frame}
 use Rattle.hose_disk.specs.declared.disk.Disk.{Ghosts}
 use Rattle.hose_journal.specs.Entries.{IsListOf, Means}
 use Rattle.hose_journal.specs.Image.{IsUnbegun, IsHeadless, IsUnmarked, IsOther, head, other, damaged}
-use Rattle.hose_journal.specs.Reading.{IsPiece}
+use Rattle.hose_journal.specs.Moments.{TellsAsBefore}
+use Rattle.hose_journal.specs.Reading.{IsPiece, HasFailed}
 use Rattle.hose_journal.specs.declared.fault.JournalFault.{JournalFault}
 use Rattle.hose_journal.specs.declared.fault.JournalFault.TheVariants.{Disk, Other, Damaged, Memory}
 use Rattle.hose_journal.specs.declared.piece.Piece.{Piece}
@@ -50,6 +51,11 @@ IsRefused disk old new digest (Damaged at) =
     IfSome (disk.content old) (λ bytes. Means digest bytes (damaged at))
 IsRefused disk old new digest (Other kept given) = (given ≡ digest)
     × IfSome (disk.content old) (λ bytes. Means digest bytes (other kept))
-IsRefused disk old new digest Disk =
-    Rose (object_frame (disk.frame old)) (object_frame (disk.frame new))
+IsRefused disk old new digest Disk = HasFailed disk old new
 IsRefused disk old new digest Memory = new ≡ old
+
+-- What an opening keeps of the disk: its count does not fall, and it is the one that it was.
+pub record KeepsDisk {D : Type 0} (disk : Ghosts D) (old new : D) : Type 0 where
+  pub stays : Stays (object_frame (disk.frame old)) (object_frame (disk.frame new))
+  pub opened : (disk.frame new).opened ≡ (disk.frame old).opened
+  pub tells : TellsAsBefore disk old new

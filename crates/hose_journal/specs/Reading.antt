@@ -1,5 +1,5 @@
 -- What a reading has taken from a disk.
-use Rattle.std.specs.Prelude.{◌≡◌, ◌⊎◌, ℕ, ◌+◌, ◌-◌, ◌<◌, ◌≤◌, ◌^◌, List, [], ◌∷◌, ◌++◌, length, take, drop, Option, Some, None, Result, Ok, Err, IfSome, IsTrue, ⊤}
+use Rattle.std.specs.Prelude.{◌≡◌, ◌⊎◌, ℕ, ◌+◌, ◌-◌, ◌<◌, ◌≤◌, ◌^◌, List, [], ◌∷◌, ◌++◌, length, take, drop, Option, Some, None, Result, Ok, Err, IfSome, IsTrue, true, ⊤}
 use Rattle.hose_io.specs.Frame.{Rose, Stays}
 use Rattle.hose_graph.specs.declared.entry.Entry.{Entry}
 use Rattle.hose_codec.specs.Spelling.{IsEntry}
@@ -23,6 +23,11 @@ pub record OnlyRead {D : Type 0} (disk : Ghosts D) (old new : D) : Type 0 where
   pub run : LeavesOnly disk old new (disk.may_leave old)
   pub stays : Stays (object_frame (disk.frame old)) (object_frame (disk.frame new))
   pub opened : (disk.frame new).opened ≡ (disk.frame old).opened
+
+-- A call on a disk failed: its count of faults rose, and its last call is one that failed.
+pub record HasFailed {D : Type 0} (disk : Ghosts D) (old new : D) : Type 0 where
+  pub rose : Rose (object_frame (disk.frame old)) (object_frame (disk.frame new))
+  pub told : (disk.frame new).has_failed ≡ true
 
 -- A piece of what a disk of this length holds.
 pub record IsPiece (content : Option (List ℕ)) (end : ℕ) (piece : Piece) : Type 0 where
@@ -90,8 +95,7 @@ HasRead disk old new digest entries (Ok None) =
     Reads disk new digest entries × (new.last ≡ old.gate) × IsTrue new.closed
 HasRead disk old new digest entries (Err (Damaged at)) = (at ≡ old.gate) × (new.last ≡ old.gate)
     × IfSome (disk.content old.disk) (λ bytes. Means digest bytes (damaged at))
-HasRead disk old new digest entries (Err Disk) =
-    Rose (object_frame (disk.frame old.disk)) (object_frame (disk.frame new.disk))
+HasRead disk old new digest entries (Err Disk) = HasFailed disk old.disk new.disk
 HasRead disk old new digest entries (Err Memory) =
     Reads disk new digest entries × (new.last ≡ old.last)
 HasRead disk old new digest entries (Err (Other kept given)) = ⊥

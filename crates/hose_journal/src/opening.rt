@@ -1,11 +1,9 @@
 // Opening a journal: one sync, and then only reading, unless none was begun.
 ghost use Rattle.std.specs.Prelude.{◌≡◌, ◌⊎◌, ◌↔◌, [], ◌++◌, List, ℕ, IfErr, IfOk, IfSome, IsErr, IsTrue, MatchResult, OnOk, length};
-ghost use Rattle.hose_io.specs.Frame.{Rose};
-ghost use Rattle.hose_disk.specs.Disk.{object_frame};
 ghost use Rattle.hose_journal.specs.Image.{IsUnbegun};
 ghost use Rattle.hose_journal.specs.Moments.{LeavesOnly};
-ghost use Rattle.hose_journal.specs.Opening.{HasHead, IsFront, IsOpened, IsRefused, KeepsList};
-ghost use Rattle.hose_journal.specs.Reading.{IsOpen, OnlyRead, Reads};
+ghost use Rattle.hose_journal.specs.Opening.{HasHead, IsFront, IsOpened, IsRefused, KeepsDisk, KeepsList};
+ghost use Rattle.hose_journal.specs.Reading.{HasFailed, IsOpen, OnlyRead, Reads};
 
 use crate::beginning::begin;
 use crate::fault::JournalFault;
@@ -32,6 +30,9 @@ pub fn open<D: Disk>(
     ensures fault { IfOk result (λ reading. reading.fault ≡ None) }
     ensures refused { IfErr result (λ refused.
         IsRefused D.Disk disk refused.1 digest refused.0) }
+    ensures keeps { MatchResult result
+        (λ reading. KeepsDisk D.Disk disk reading.disk)
+        (λ refused. KeepsDisk D.Disk disk refused.1) }
 {
     let mut disk = disk;
     let Ok(mut piece) = Piece::new(alloc) else {
@@ -55,6 +56,7 @@ fn prepare<D: Disk>(
     ensures list { OnOk result
         (KeepsList (D.content disk.old) (D.content disk.new) digest.now) }
     ensures refused { IfErr result (IsRefused D.Disk disk.old disk.new digest.now) }
+    ensures keeps { KeepsDisk D.Disk disk.old disk.new }
 {
     disk.sync()?;
     let end = load_front(disk, piece)?;
@@ -77,8 +79,7 @@ fn load_front<D: Disk>(disk: &mut D, piece: &mut Piece) -> Result<u64, Failed>
     requires { length piece.old.bytes.items ≡ PIECE_BYTES }
     ensures front { IfOk result (IsFront D.Disk disk.new piece.new) }
     ensures only { OnlyRead D.Disk disk.old disk.new }
-    ensures failed { IsErr result →
-        Rose (object_frame (D.frame disk.old)) (object_frame (D.frame disk.new)) }
+    ensures failed { IsErr result → HasFailed D.Disk disk.old disk.new }
 {
     let end = disk.len()?;
     piece.load(disk, 0, end)?;

@@ -1,10 +1,8 @@
 // A journal whose entries are read, one after another.
 ghost use Rattle.std.specs.Prelude.{◌≡◌, [], List, ℕ, None, Some, IfNone, IfSome, IsErr, IsFalse, IsTrue, OnOk};
-ghost use Rattle.hose_io.specs.Frame.{Rose};
 ghost use Rattle.hose_graph.specs.declared.entry.Entry.{Entry};
-ghost use Rattle.hose_disk.specs.Disk.{object_frame};
 ghost use Rattle.hose_journal.specs.Journal.{Stands};
-ghost use Rattle.hose_journal.specs.Reading.{AtGate, HasRead, IsOpen, KeepsFault, OnlyRead, Reaches, Reads};
+ghost use Rattle.hose_journal.specs.Reading.{AtGate, HasFailed, HasRead, IsOpen, KeepsFault, OnlyRead, Reaches, Reads};
 
 use crate::fault::JournalFault;
 use crate::journal::Journal;
@@ -157,8 +155,7 @@ impl<D: Disk> Reading<D> {
         ensures reaches { OnOk result (Reaches self.new.piece self.new.gate) }
         ensures kept { self.new ≡ record self.old { disk = self.new.disk; piece = self.new.piece } }
         ensures only { OnlyRead D.Disk self.old.disk self.new.disk }
-        ensures failed { IsErr result →
-            Rose (object_frame (D.frame self.old.disk)) (object_frame (D.frame self.new.disk)) }
+        ensures failed { IsErr result → HasFailed D.Disk self.old.disk self.new.disk }
     {
         if !self.piece.reaches(self.gate) {
             self.piece.load(&mut self.disk, self.gate, self.end)?;
