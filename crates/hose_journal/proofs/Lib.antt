@@ -1,0 +1,9 @@
+pub mod Accounts
+pub mod Beginnings
+pub mod Gates
+pub mod Lists
+pub mod Openings
+pub mod Parts
+pub mod Pieces
+pub mod Readings
+pub mod Runs

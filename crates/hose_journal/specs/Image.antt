@@ -1,0 +1,106 @@
+-- What an image of a disk stands for: a list of items, the journal of another topology, or damage
+-- at a place. The format of the records is a parameter.
+use Rattle.std.specs.Prelude.{◌≡◌, ◌≢◌, ◌⊎◌, ℕ, ◌<◌, ◌≤◌, List, [], ◌∷◌, ◌++◌, length, take, drop, slice_index, ⊤}
+use Rattle.hose_journal.specs.declared.layout.TheConstants.{OPEN, CLOSED, MARK, DIGEST_BYTES, EMPTY_BYTES}
+
+-- ---- the layout
+
+-- A format of records: the bytes of an item's record, from after its gate up to the next gate, and
+-- which items there may be. Both may depend on the items before it.
+pub record Format (X : Type 0) : Type 1 where
+  pub bytes : List X → X → List ℕ
+  pub MayBe : List X → X → Type 0
+
+-- the records of these items, each after an open gate, where others stand before them
+abbrev pub records : {X : Type 0} → Format X → List X → List X → List ℕ
+records format before [] = []
+records format before (item ∷ items) =
+    OPEN ∷ (format.bytes before item ++ records format (before ++ item ∷ []) items)
+
+-- each of these items may come after those before it
+abbrev pub AreItems : {X : Type 0} → Format X → List X → List X → Type 0
+AreItems format before [] = ⊤
+AreItems format before (item ∷ items) =
+    format.MayBe before item × AreItems format (before ++ item ∷ []) items
+
+-- the head: an open gate, the mark and the digest of the topology
+abbrev pub head : List ℕ → List ℕ
+head digest = OPEN ∷ (MARK ++ digest)
+
+-- what stands before the gate that follows these items
+abbrev pub front : {X : Type 0} → Format X → List ℕ → List X → List ℕ
+front format digest items = head digest ++ records format [] items
+
+-- the journal of these items
+abbrev pub journal_of : {X : Type 0} → Format X → List ℕ → List X → List ℕ
+journal_of format digest items = front format digest items ++ CLOSED ∷ []
+
+-- ---- reading an image
+
+-- what an image stands for
+pub data Meaning (X : Type 0) : Type 0 where
+  listed : List X → Meaning X
+  other : List ℕ → Meaning X
+  damaged : ℕ → Meaning X
+
+-- A journal that was not begun: it has too few bytes, or it has no record and its first gate is
+-- not open.
+abbrev pub IsUnbegun : List ℕ → Type 0
+IsUnbegun image = (length image < EMPTY_BYTES)
+    ⊎ ((length image ≡ EMPTY_BYTES) × (slice_index image 0 ≢ OPEN))
+
+-- Records, but no open gate before them.
+pub record IsHeadless (image : List ℕ) : Type 0 where
+  pub long : EMPTY_BYTES < length image
+  pub shut : slice_index image 0 ≢ OPEN
+
+-- Its first gate is open, and another mark follows.
+pub record IsUnmarked (image : List ℕ) : Type 0 where
+  pub long : EMPTY_BYTES ≤ length image
+  pub begun : slice_index image 0 ≡ OPEN
+  pub differs : take (length MARK) (drop 1 image) ≢ MARK
+
+-- a head with another digest
+pub record IsOther (digest kept image : List ℕ) : Type 0 where
+  pub rest : List ℕ
+  pub some : 1 ≤ length rest
+  pub size : length kept ≡ DIGEST_BYTES
+  pub is : image ≡ head kept ++ rest
+  pub differs : kept ≢ digest
+
+-- A gate that is not open follows this. What stands after it means nothing.
+pub record IsClosed (before image : List ℕ) : Type 0 where
+  pub gate : ℕ
+  pub rest : List ℕ
+  pub shut : gate ≢ OPEN
+  pub is : image ≡ before ++ gate ∷ rest
+
+-- No whole record begins these bytes. A record is whole where the next gate is there too.
+abbrev pub BeginsNoRecord : {X : Type 0} → Format X → List X → List ℕ → Type 0
+BeginsNoRecord {X} format before bytes = (item : X) (gate : ℕ) (rest : List ℕ) →
+    format.MayBe before item → bytes ≢ format.bytes before item ++ gate ∷ rest
+
+-- an open gate at this place after these items, which begins no whole record
+pub record IsBroken {X : Type 0} (format : Format X) (digest : List ℕ) (place : ℕ)
+    (items : List X) (image : List ℕ) : Type 0 where
+  pub rest : List ℕ
+  pub are : AreItems format [] items
+  pub here : place ≡ length (front format digest items)
+  pub is : image ≡ front format digest items ++ OPEN ∷ rest
+  pub none : BeginsNoRecord format items rest
+
+-- These items, each after an open gate, and then a gate that is not open.
+pub record IsListed {X : Type 0} (format : Format X) (digest : List ℕ) (items : List X)
+    (image : List ℕ) : Type 0 where
+  pub are : AreItems format [] items
+  pub closed : IsClosed (front format digest items) image
+
+-- What an image stands for under the digest of a topology.
+abbrev pub StandsFor : {X : Type 0} → Format X → List ℕ → List ℕ → Meaning X → Type 0
+StandsFor format digest image (listed items) =
+    (IsUnbegun image × (items ≡ [])) ⊎ IsListed format digest items image
+StandsFor format digest image (other kept) = IsOther digest kept image
+StandsFor {X} format digest image (damaged place) =
+    (IsHeadless image × (place ≡ 0))
+    ⊎ ((IsUnmarked image × (place ≡ 1))
+    ⊎ ((items : List X) × IsBroken format digest place items image))

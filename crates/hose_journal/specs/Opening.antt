@@ -1,0 +1,61 @@
+-- What the opening of a journal finds, and what it leaves.
+use Rattle.std.specs.Prelude.{◌≡◌, ◌⊎◌, ℕ, ◌<◌, ◌≤◌, ◌^◌, List, [], ◌++◌, length, Option, Result, Ok, Err, IfSome}
+use Rattle.hose_io.specs.Frame.{Stays}
+use Rattle.hose_disk.specs.Disk.{object_frame}
+use Rattle.hose_disk.specs.declared.disk.Disk.{Ghosts}
+use Rattle.hose_journal.specs.Entries.{IsListOf, Means}
+use Rattle.hose_journal.specs.Image.{IsUnbegun, IsHeadless, IsUnmarked, IsOther, head, other, damaged}
+use Rattle.hose_journal.specs.Moments.{TellsAsBefore}
+use Rattle.hose_journal.specs.Reading.{IsPiece, HasFailed}
+use Rattle.hose_journal.specs.declared.fault.JournalFault.{JournalFault}
+use Rattle.hose_journal.specs.declared.fault.JournalFault.TheVariants.{Disk, Other, Damaged, Memory}
+use Rattle.hose_journal.specs.declared.piece.Piece.{Piece}
+
+-- an image at some moment of an opening: one of before, or a journal without an entry where none
+-- was begun
+abbrev pub IsOpened : {D : Type 0} → Ghosts D → D → List ℕ → List ℕ → Type 0
+IsOpened disk old digest image =
+    disk.may_leave old image ⊎ (IfSome (disk.content old) IsUnbegun × IsListOf digest [] image)
+
+-- What is read is as before, or it is a journal without an entry where none was begun.
+abbrev pub KeepsList : Option (List ℕ) → Option (List ℕ) → List ℕ → Type 0
+KeepsList old new digest = (new ≡ old)
+    ⊎ (IfSome old IsUnbegun × IfSome new (IsListOf digest []))
+
+-- the first piece of a disk of this length
+pub record IsFront {D : Type 0} (disk : Ghosts D) (now : D) (piece : Piece) (end : ℕ) :
+    Type 0 where
+  pub small : end < 2 ^ 62
+  pub from : piece.from ≡ 0
+  pub is_piece : IsPiece (disk.content now) end piece
+  pub told : IfSome (disk.content now) (λ bytes. length bytes ≡ end)
+
+-- a head of this digest, with a gate after it
+pub record IsHeadOf (digest front : List ℕ) : Type 0 where
+  pub rest : List ℕ
+  pub some : 1 ≤ length rest
+  pub is : front ≡ head digest ++ rest
+
+-- what is found at the front of a journal that was begun
+abbrev pub HasHead : List ℕ → List ℕ → Result Unit JournalFault → Type 0
+HasHead front digest (Ok unit) = IsHeadOf digest front
+HasHead front digest (Err (Damaged at)) =
+    (IsHeadless front × (at ≡ 0)) ⊎ (IsUnmarked front × (at ≡ 1))
+HasHead front digest (Err (Other kept given)) = IsOther digest kept front × (given ≡ digest)
+HasHead front digest (Err Disk) = ⊥
+HasHead front digest (Err Memory) = ⊥
+
+-- Why a journal is not opened. A fault of the disk has raised its count.
+abbrev pub IsRefused : {D : Type 0} → Ghosts D → D → D → List ℕ → JournalFault → Type 0
+IsRefused disk old new digest (Damaged at) =
+    IfSome (disk.content old) (λ bytes. Means digest bytes (damaged at))
+IsRefused disk old new digest (Other kept given) = (given ≡ digest)
+    × IfSome (disk.content old) (λ bytes. Means digest bytes (other kept))
+IsRefused disk old new digest Disk = HasFailed disk old new
+IsRefused disk old new digest Memory = new ≡ old
+
+-- What an opening keeps of the disk: its count does not fall, and it is the one that it was.
+pub record KeepsDisk {D : Type 0} (disk : Ghosts D) (old new : D) : Type 0 where
+  pub stays : Stays (object_frame (disk.frame old)) (object_frame (disk.frame new))
+  pub opened : (disk.frame new).opened ≡ (disk.frame old).opened
+  pub tells : TellsAsBefore disk old new

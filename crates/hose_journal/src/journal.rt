@@ -1,0 +1,114 @@
+// A journal to which entries are added.
+ghost use Rattle.std.specs.Prelude.{◌≡◌, ◌⊎◌, ◌<◌, ◌+◌, Option, Some, None, false, length, IsFalse, IsTrue, IsOk, OnErr, OnOk};
+ghost use Rattle.hose_graph.specs.declared.entry.Entry.{Entry};
+ghost use Rattle.hose_disk.specs.Disk.{IsCalled};
+ghost use Rattle.hose_journal.specs.Entries.{IsListOf};
+ghost use Rattle.hose_journal.specs.Journal.{Account, IsAmid, IsReady, Stands, with_doubt, with_entry};
+ghost use Rattle.hose_journal.specs.Moments.{Images, LeavesOnly, TellsAsBefore};
+
+use crate::layout::{CLOSED, OPEN};
+use crate::prepared::Ready;
+use crate::steps::{set_gate, stage};
+use hose_disk::{Disk, Failed};
+use hose_graph::MOST_EPOCH;
+
+/// A journal to which entries are added, one at a time.
+///
+/// An entry whose append fails in its last two calls on the disk is in doubt: a stop may leave it or
+/// not, until it is revoked. At most one is in doubt at any moment.
+#[derive(Drop)]
+pub struct Journal<D: Disk> {
+    disk: D,
+    gate: u64,
+    doubt: bool,
+}
+
+impl<D: Disk> Journal<D> {
+    // The journal with its last gate at this place, and no entry in doubt.
+    pub(crate) fn at(disk: D, gate: u64) -> Journal<D>
+        ensures { result ≡ record { disk = disk; gate = gate; doubt = false } }
+    {
+        Journal {
+            disk,
+            gate,
+            doubt: false,
+        }
+    }
+
+    /// Whether an entry is in doubt.
+    pub fn doubt(&self) -> bool
+        ensures { result ≡ self.now.doubt }
+    {
+        self.doubt
+    }
+
+    /// Revokes the entry in doubt. Without one it makes no call on the disk.
+    pub fn settle(&mut self) -> Result<(), Failed>
+        requires { (account : Account) × Stands D.Disk self.old account }
+        // At every moment each image stands for the entries, with the one in doubt or without it.
+        ensures any_moment { (account : Account) → Stands D.Disk self.old account →
+            LeavesOnly D.Disk self.old.disk self.new.disk (IsAmid account None) }
+        ensures settled { OnOk result ((account : Account) → Stands D.Disk self.old account →
+            Stands D.Disk self.new (with_doubt account None)) }
+        ensures failed { OnErr result ((account : Account) → Stands D.Disk self.old account →
+            Stands D.Disk self.new account) }
+
+        ensures unsure { OnErr result (IsTrue self.old.doubt) }
+        ensures none { IsFalse self.old.doubt → self.new ≡ self.old }
+        ensures tells { TellsAsBefore D.Disk self.old.disk self.new.disk }
+        ensures call { IsTrue self.old.doubt →
+            IsCalled (D.frame self.old.disk) (D.frame self.new.disk) result }
+    {
+        if self.doubt {
+            set_gate(&mut self.disk, self.gate, CLOSED)?;
+            self.doubt = false;
+        }
+        Ok(())
+    }
+
+    /// Adds an entry, after the one in doubt was revoked.
+    pub fn append(&mut self, ready: &Ready) -> Result<(), Failed>
+        requires { (account : Account) × (entry : Entry) × Stands D.Disk self.old account
+            × IsReady entry ready.now × (length account.entries < MOST_EPOCH) }
+        // At every moment each image stands for the entries, or for them and one more: this one, or
+        // the one that was in doubt.
+        ensures any_moment { (account : Account) → (entry : Entry) → Stands D.Disk self.old account →
+            IsReady entry ready.now → length account.entries < MOST_EPOCH →
+            LeavesOnly D.Disk self.old.disk self.new.disk (IsAmid account (Some entry)) }
+        ensures added { OnOk result ((account : Account) → (entry : Entry) →
+            Stands D.Disk self.old account → IsReady entry ready.now →
+            length account.entries < MOST_EPOCH →
+            Stands D.Disk self.new (with_entry account entry)) }
+        ensures durable { OnOk result ((account : Account) → (entry : Entry) →
+            Stands D.Disk self.old account → IsReady entry ready.now →
+            length account.entries < MOST_EPOCH →
+            Images D.Disk self.new.disk
+            (IsListOf account.digest (with_entry account entry).entries)) }
+        // The entry in doubt is the one of before where it could not be revoked; else it is none, or
+        // this one.
+        ensures failed { OnErr result ((account : Account) → (entry : Entry) →
+            Stands D.Disk self.old account → IsReady entry ready.now →
+            length account.entries < MOST_EPOCH →
+            Stands D.Disk self.new account
+            ⊎ (Stands D.Disk self.new (with_doubt account None)
+            ⊎ Stands D.Disk self.new (with_doubt account (Some entry)))) }
+
+        ensures tells { TellsAsBefore D.Disk self.old.disk self.new.disk }
+        ensures call { IsCalled (D.frame self.old.disk) (D.frame self.new.disk) result }
+    {
+        self.settle()?;
+        stage(&mut self.disk, self.gate, &ready.bytes)?;
+        self.doubt = true;
+        set_gate(&mut self.disk, self.gate, OPEN)?;
+        self.doubt = false;
+        self.gate += ready.bytes.len() as u64;
+        Ok(())
+    }
+
+    /// Ends the work on the journal, and hands back the disk as it is.
+    pub fn stop(self) -> D
+        ensures { result ≡ self.disk }
+    {
+        self.disk
+    }
+}

@@ -1,0 +1,165 @@
+// A journal whose entries are read, one after another.
+ghost use Rattle.std.specs.Prelude.{◌≡◌, [], List, ℕ, None, Some, IfNone, IfSome, IsErr, IsFalse, IsTrue, OnOk};
+ghost use Rattle.hose_graph.specs.declared.entry.Entry.{Entry};
+ghost use Rattle.hose_journal.specs.Journal.{Stands};
+ghost use Rattle.hose_journal.specs.Reading.{AtGate, HasFailed, HasRead, IsOpen, KeepsFault, OnlyRead, Reaches, Reads};
+
+use crate::fault::JournalFault;
+use crate::journal::Journal;
+use crate::layout::HEAD_BYTES;
+use crate::part::part;
+use crate::piece::Piece;
+use hose_codec::CodecFault;
+use hose_disk::{Disk, Failed};
+use hose_graph::Entry;
+use std::alloc::Global;
+
+/// A journal whose entries are read, one after another.
+#[derive(Drop)]
+pub struct Reading<D: Disk> {
+    alloc: Global,
+    disk: D,
+    piece: Piece,
+    end: u64,
+    gate: u64,
+    last: u64,
+    closed: bool,
+    fault: Option<JournalFault>,
+}
+
+impl<D: Disk> Reading<D> {
+    // The reading at the gate after the head, of a disk of this length.
+    pub(crate) fn first(alloc: Global, disk: D, piece: Piece, end: u64) -> Reading<D>
+        ensures opened { (digest : List ℕ) → IsOpen D.Disk disk piece end digest →
+            Reads D.Disk result digest [] }
+        ensures disk { result.disk ≡ disk }
+        ensures fault { result.fault ≡ None }
+        ensures last { result.last ≡ HEAD_BYTES }
+    {
+        Reading {
+            alloc,
+            disk,
+            piece,
+            end,
+            gate: HEAD_BYTES as u64,
+            last: HEAD_BYTES as u64,
+            closed: false,
+            fault: None,
+        }
+    }
+
+    /// The next entry, or none at a gate that is not open.
+    ///
+    /// After a fault it answers the same from then on, but for want of memory: then nothing has
+    /// moved.
+    pub fn next(&mut self) -> Result<Option<Entry>, JournalFault>
+        requires { IfNone self.old.fault ((digest : List ℕ) × (entries : List Entry)
+            × Reads D.Disk self.old digest entries) }
+        ensures read { IfNone self.old.fault ((digest : List ℕ) → (entries : List Entry) →
+            Reads D.Disk self.old digest entries →
+            HasRead D.Disk self.old self.new digest entries result) }
+        ensures fault { IfNone self.old.fault (KeepsFault result self.new.fault) }
+        ensures again { IfSome self.old.fault (λ fault.
+            (result ≡ Err fault) × (self.new ≡ self.old)) }
+        ensures only { OnlyRead D.Disk self.old.disk self.new.disk }
+    {
+        if let Some(fault) = self.fault {
+            return Err(fault);
+        }
+        match self.read() {
+            Ok(entry) => Ok(entry),
+            Err(JournalFault::Memory) => Err(JournalFault::Memory),
+            Err(fault) => {
+                self.fault = Some(fault);
+                Err(fault)
+            }
+        }
+    }
+
+    /// The place of the gate at which was read last.
+    pub fn at(&self) -> u64
+        ensures { result ≡ self.now.last }
+    {
+        self.last
+    }
+
+    /// The journal after its last entry.
+    pub fn finish(self) -> Journal<D>
+        requires { (digest : List ℕ) × (entries : List Entry)
+            × Reads D.Disk self digest entries × IsTrue self.closed }
+        ensures stands { (digest : List ℕ) → (entries : List Entry) →
+            Reads D.Disk self digest entries →
+            Stands D.Disk result
+            (record { digest = digest; entries = entries; doubt = None }) }
+        ensures disk { result.disk ≡ self.disk }
+    {
+        Journal::at(self.disk, self.gate)
+    }
+
+    /// Ends the reading, and hands back the disk.
+    pub fn stop(self) -> D
+        ensures { result ≡ self.disk }
+    {
+        self.disk
+    }
+
+    // Reads on from the gate.
+    fn read(&mut self) -> Result<Option<Entry>, JournalFault>
+        requires { (digest : List ℕ) × (entries : List Entry) × Reads D.Disk self.old digest entries }
+        ensures read { (digest : List ℕ) → (entries : List Entry) →
+            Reads D.Disk self.old digest entries →
+            HasRead D.Disk self.old self.new digest entries result }
+        ensures fault { self.new.fault ≡ self.old.fault }
+        ensures only { OnlyRead D.Disk self.old.disk self.new.disk }
+    {
+        if self.closed {
+            self.last = self.gate;
+            return Ok(None);
+        }
+        self.fill()?;
+        match self.here() {
+            Ok(Some((entry, distance))) => {
+                self.last = self.gate;
+                self.gate += distance as u64;
+                Ok(Some(entry))
+            }
+            Ok(None) => {
+                self.last = self.gate;
+                self.closed = true;
+                Ok(None)
+            }
+            Err(CodecFault::Bad) => {
+                self.last = self.gate;
+                Err(JournalFault::Damaged { at: self.gate })
+            }
+            Err(CodecFault::Memory) => Err(JournalFault::Memory),
+        }
+    }
+
+    // What stands at the gate, in the piece that was read.
+    fn here(&self) -> Result<Option<(Entry, usize)>, CodecFault>
+        requires { (digest : List ℕ) × (entries : List Entry) × Reads D.Disk self.now digest entries
+            × Reaches self.now.piece self.now.gate }
+        ensures { (digest : List ℕ) → (entries : List Entry) →
+            Reads D.Disk self.now digest entries → Reaches self.now.piece self.now.gate →
+            AtGate D.Disk self.now digest entries result }
+    {
+        part(self.alloc, self.piece.rest(self.gate))
+    }
+
+    // Reads the next piece where this one does not reach as far as a record may.
+    fn fill(&mut self) -> Result<(), Failed>
+        requires { (digest : List ℕ) × (entries : List Entry) × Reads D.Disk self.old digest entries }
+        ensures filled { OnOk result ((digest : List ℕ) → (entries : List Entry) →
+            Reads D.Disk self.old digest entries → Reads D.Disk self.new digest entries) }
+        ensures reaches { OnOk result (Reaches self.new.piece self.new.gate) }
+        ensures kept { self.new ≡ record self.old { disk = self.new.disk; piece = self.new.piece } }
+        ensures only { OnlyRead D.Disk self.old.disk self.new.disk }
+        ensures failed { IsErr result → HasFailed D.Disk self.old.disk self.new.disk }
+    {
+        if !self.piece.reaches(self.gate) {
+            self.piece.load(&mut self.disk, self.gate, self.end)?;
+        }
+        Ok(())
+    }
+}

@@ -1,0 +1,45 @@
+// The two steps of an append. Between them a stop leaves the list as it was.
+ghost use Rattle.std.specs.Prelude.{◌≡◌, ◌+◌, ◌<◌, ◌^◌, ◌∷◌, ◌++◌, List, ℕ, length, OnOk};
+ghost use Rattle.hose_disk.specs.Disk.{IsCalled};
+ghost use Rattle.hose_journal.specs.Gates.{IsDoubtful, Starts};
+ghost use Rattle.hose_journal.specs.Image.{IsClosed};
+ghost use Rattle.hose_journal.specs.Moments.{Images, LeavesOnly, TellsAsBefore};
+
+use crate::putting::put;
+use hose_disk::{Disk, Failed};
+
+/// Writes bytes after a closed gate.
+pub fn stage<D: Disk>(disk: &mut D, gate: u64, bytes: &[u8]) -> Result<(), Failed>
+    requires small { gate + 1 + length bytes.now < 2 ^ 62 }
+    requires closed { (before : List ℕ) × (length before ≡ gate)
+        × Images D.Disk disk.old (IsClosed before) }
+    ensures any_moment { (before : List ℕ) → length before ≡ gate →
+        Images D.Disk disk.old (IsClosed before) →
+        LeavesOnly D.Disk disk.old disk.new (IsClosed before) }
+    ensures staged { OnOk result ((before : List ℕ) → length before ≡ gate →
+        Images D.Disk disk.old (IsClosed before) →
+        Images D.Disk disk.new (IsDoubtful before bytes.now)) }
+    ensures tells { TellsAsBefore D.Disk disk.old disk.new }
+    ensures call { IsCalled (D.frame disk.old) (D.frame disk.new) result }
+{
+    put(disk, gate + 1, bytes)?;
+    Ok(())
+}
+
+/// Writes a gate before bytes that are on the disk.
+pub fn set_gate<D: Disk>(disk: &mut D, gate: u64, value: u8) -> Result<(), Failed>
+    requires small { gate + 1 < 2 ^ 62 }
+    requires staged { (before : List ℕ) × (bytes : List ℕ) × (length before ≡ gate)
+        × Images D.Disk disk.old (IsDoubtful before bytes) }
+    ensures any_moment { (before : List ℕ) → (bytes : List ℕ) → length before ≡ gate →
+        Images D.Disk disk.old (IsDoubtful before bytes) →
+        LeavesOnly D.Disk disk.old disk.new (IsDoubtful before bytes) }
+    ensures set { OnOk result ((before : List ℕ) → (bytes : List ℕ) → length before ≡ gate →
+        Images D.Disk disk.old (IsDoubtful before bytes) →
+        Images D.Disk disk.new (Starts (before ++ value ∷ bytes))) }
+    ensures tells { TellsAsBefore D.Disk disk.old disk.new }
+    ensures call { IsCalled (D.frame disk.old) (D.frame disk.new) result }
+{
+    put(disk, gate, &[value])?;
+    Ok(())
+}
