@@ -1,6 +1,6 @@
 // Making an entry ready for the disk.
 ghost use Rattle.std.specs.Prelude.{IfOk};
-ghost use Rattle.hose_codec.specs.Spelling.{FitsFormat};
+ghost use Rattle.hose_graph.specs.Ranges.{IsInRanges};
 ghost use Rattle.hose_journal.specs.Journal.{IsReady};
 
 use crate::layout::{CLOSED, LENGTH_BYTES};
@@ -12,7 +12,7 @@ use std::alloc::{AllocError, Global};
 
 /// Takes the memory that an append of this entry needs.
 pub fn ready(alloc: Global, entry: &Entry) -> Result<Ready, AllocError>
-    requires { FitsFormat entry.now }
+    requires { IsInRanges entry.now }
     ensures { IfOk result (IsReady entry.now) }
 {
     let body = encode(alloc, entry)?;
