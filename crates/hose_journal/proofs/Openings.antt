@@ -84,7 +84,7 @@ module _ {D : Type 0} (disk : Ghosts D) where
   front_told now piece end front =
       both (disk.content now) _ _ (λ bytes. held piece ≡ take PIECE_BYTES bytes)
       (λ bytes long read.
-        ap (λ (k : ℕ). drop (0 - k) (take piece.len piece.bytes.items)) front.from ∙ read long ∙ ap (λ (k : ℕ). take PIECE_BYTES (drop k bytes)) front.from) front.told front.is_piece.read
+      ap (λ (k : ℕ). drop (0 - k) (take piece.len piece.bytes.items)) front.from ∙ read long ∙ ap (λ (k : ℕ). take PIECE_BYTES (drop k bytes)) front.from) front.told front.is_piece.read
 
   along : (a b : Option (List ℕ)) (P : List ℕ → Type 0) → b ≡ a → IfSome a P → IfSome b P
   along a b P same told = subst (λ (found : Option (List ℕ)). IfSome found P) (sym same) told
