@@ -1,14 +1,14 @@
 -- An image stands for one list only.
-use Rattle.std.proofs.Common.{◌≡◌, ◌≢◌, ◌⊎◌, inl, inr, ℕ, ◌+◌, ◌≤◌, ◌<◌, List, [], ◌∷◌, ◌++◌, length, get_or, refl, sym, ◌∙◌, ap, arith, length-append, append_assoc}
+use Rattle.std.proofs.Common.{◌≡◌, ◌≢◌, inl, inr, ℕ, List, [], ◌∷◌, ◌++◌, length, get_or, refl, sym, ◌∙◌, ap, arith, length-append, append_assoc}
 use Rattle.byteorder.specs.Endian.{big_bytes}
 use Rattle.hose_graph.specs.declared.entry.Entry.{Entry}
 use Rattle.hose_codec.specs.Spelling.{spelling, IsEntry}
 use Rattle.hose_codec.proofs.Alone.{same_entries}
 use Rattle.hose_codec.proofs.Lengths.{length-spelling}
 use Rattle.hose_codec.proofs.Numbers.{same_numbers, same_parts}
-use Rattle.hose_journal.specs.declared.layout.TheConstants.{OPEN, MARK, DIGEST_BYTES, EMPTY_BYTES}
+use Rattle.hose_journal.specs.declared.layout.TheConstants.{OPEN, MARK, DIGEST_BYTES}
 use Rattle.hose_journal.specs.Entries.{record_of, entries_format, front_of, IsListOf}
-use Rattle.hose_journal.specs.Image.{AreItems, records, head, IsClosed, IsListed, IsUnbegun}
+use Rattle.hose_journal.specs.Image.{AreItems, records, head, IsListed, IsUnbegun}
 
 -- two records that begin the same bytes
 pub same_record : (x y : Entry) (r s : List ℕ) → IsEntry x → IsEntry y → record_of x ++ r ≡ record_of y ++ s → (x ≡ y) × (r ≡ s)
