@@ -73,7 +73,8 @@ impl<D: Disk> Journal<D> {
         // At every moment each image stands for the entries, or for them and one more: this one, or
         // the one that was in doubt.
         ensures any_moment { (account : Account) → (entry : Entry) →
-            Stands D.Disk self.old account → IsReady entry ready.now → length account.entries < MOST_EPOCH →
+            Stands D.Disk self.old account → IsReady entry ready.now →
+            length account.entries < MOST_EPOCH →
             LeavesOnly D.Disk self.old.disk self.new.disk (IsAmid account (Some entry)) }
         ensures added { OnOk result ((account : Account) → (entry : Entry) →
             Stands D.Disk self.old account → IsReady entry ready.now →
