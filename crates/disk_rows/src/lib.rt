@@ -1,4 +1,4 @@
-//! Rows on what a journal stands on: the spelling of entries, and disks that fail and stop.
+//! Rows on journals and what they stand on: the spelling of entries, and disks that fail and stop.
 //!
 //! Spellings are written by hand, after the format. What a stop may leave is worked out by hand,
 //! and by a plain model that tries every content of a small disk.
@@ -8,5 +8,7 @@
 mod disks;
 #[cfg(test)]
 mod images;
+#[cfg(test)]
+mod journals;
 #[cfg(test)]
 mod spellings;

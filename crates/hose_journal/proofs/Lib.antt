@@ -2,6 +2,7 @@ pub mod Accounts
 pub mod Beginnings
 pub mod Gates
 pub mod Lists
+pub mod OneList
 pub mod Openings
 pub mod Parts
 pub mod Pieces

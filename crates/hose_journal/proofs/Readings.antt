@@ -192,3 +192,15 @@ fault_kept disk old new digest entries Disk other has = has
 fault_kept disk old new digest entries (Damaged at) other has = has
 fault_kept disk old new digest entries (Other kept given) other has = has
 fault_kept disk old new digest entries Memory other has = absurd (other refl)
+
+-- ---- for callers
+
+-- after an answer the reading goes on, with the entry if there was one
+pub goes_on_reading : {D : Type 0} (disk : Ghosts D) (old new : Reading D) (digest : List ℕ) (entries : List Entry) (found : Option Entry) → HasRead disk old new digest entries (Ok found) → (all : List Entry) × Reads disk new digest all
+goes_on_reading disk old new digest entries None has = (entries, has.0)
+goes_on_reading disk old new digest entries (Some entry) has = (entries ++ entry ∷ [], has.0)
+
+-- no entry was found
+pub found_none : {D : Type 0} (disk : Ghosts D) (old new : Reading D) (digest : List ℕ) (entries : List Entry) (found : Option Entry) → found ≡ None → HasRead disk old new digest entries (Ok found) → Reads disk new digest entries × IsTrue new.closed
+found_none disk old new digest entries None none has = (has.0, has.2)
+found_none disk old new digest entries (Some entry) none has = absurd cc

@@ -15,7 +15,10 @@ record_of entry = big_bytes LENGTH_BYTES (length (spelling entry)) ++ spelling e
 
 -- a record of an entry says nothing of those before it
 abbrev pub entries_format : Format Entry
-entries_format = record { bytes = λ before entry. record_of entry; MayBe = λ before entry. IsEntry entry }
+entries_format = record {
+  bytes = λ before entry. record_of entry;
+  MayBe = λ before entry. IsEntry entry;
+}
 
 -- what stands before the gate after these entries
 abbrev pub front_of : List ℕ → List Entry → List ℕ

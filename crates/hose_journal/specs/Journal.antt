@@ -48,7 +48,8 @@ pub record Stands {D : Type 0} (disk : Ghosts D) (journal : Journal D) (account 
 -- the image stands for the entries and one more
 abbrev pub IsListWith : Account → Option Entry → List ℕ → Type 0
 IsListWith account None image = ⊥
-IsListWith account (Some entry) image = IsListOf account.digest (account.entries ++ entry ∷ []) image
+IsListWith account (Some entry) image =
+    IsListOf account.digest (account.entries ++ entry ∷ []) image
 
 -- an image at some moment while an entry is revoked or written: it stands for the entries, or for
 -- them and the one in doubt or the one that is written

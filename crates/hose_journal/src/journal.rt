@@ -14,8 +14,8 @@ use hose_graph::MOST_EPOCH;
 
 /// A journal to which entries are added, one at a time.
 ///
-/// An entry whose append fails in its last two calls on the disk is in doubt: a stop may leave it or
-/// not, until it is revoked. At most one is in doubt at any moment.
+/// An entry whose append fails in its last two calls on the disk is in doubt: a stop may leave it
+/// or not, until it is revoked. At most one is in doubt at any moment.
 #[derive(Drop)]
 pub struct Journal<D: Disk> {
     disk: D,
@@ -72,8 +72,9 @@ impl<D: Disk> Journal<D> {
             × IsReady entry ready.now × (length account.entries < MOST_EPOCH) }
         // At every moment each image stands for the entries, or for them and one more: this one, or
         // the one that was in doubt.
-        ensures any_moment { (account : Account) → (entry : Entry) → Stands D.Disk self.old account →
-            IsReady entry ready.now → length account.entries < MOST_EPOCH →
+        ensures any_moment { (account : Account) → (entry : Entry) →
+            Stands D.Disk self.old account → IsReady entry ready.now →
+            length account.entries < MOST_EPOCH →
             LeavesOnly D.Disk self.old.disk self.new.disk (IsAmid account (Some entry)) }
         ensures added { OnOk result ((account : Account) → (entry : Entry) →
             Stands D.Disk self.old account → IsReady entry ready.now →
@@ -84,8 +85,8 @@ impl<D: Disk> Journal<D> {
             length account.entries < MOST_EPOCH →
             Images D.Disk self.new.disk
             (IsListOf account.digest (with_entry account entry).entries)) }
-        // The entry in doubt is the one of before where it could not be revoked; else it is none, or
-        // this one.
+        // The entry in doubt is the one of before where it could not be revoked; else it is none,
+        // or this one.
         ensures failed { OnErr result ((account : Account) → (entry : Entry) →
             Stands D.Disk self.old account → IsReady entry ready.now →
             length account.entries < MOST_EPOCH →

@@ -1,6 +1,6 @@
-//! A journal of a book's entries on a disk. A stop at any moment leaves an image that stands for the
-//! entries that were acknowledged, or for those and one more: the one that was being written, or the
-//! one in doubt, whose append has failed.
+//! A journal of a book's entries on a disk. A stop at any moment leaves an image that stands for
+//! the entries that were acknowledged, or for those and one more: the one that was being written,
+//! or the one in doubt, whose append has failed.
 //!
 //! A record is readable only after an open gate, and its gate is opened by a write of its own, once
 //! the record is on the disk. So an append makes four calls on the disk, and takes no memory.

@@ -9,8 +9,8 @@ use hose_codec::{CodecFault, MOST_SPELLING, decode};
 use hose_graph::Entry;
 use std::alloc::Global;
 
-/// The entry whose record begins these bytes, after an open gate, and the distance to the next gate;
-/// none at a gate that is not open.
+/// The entry whose record begins these bytes, after an open gate, and the distance to the next
+/// gate; none at a gate that is not open.
 pub fn part(alloc: Global, bytes: &[u8]) -> Result<Option<(Entry, usize)>, CodecFault>
     ensures { IsPart bytes.now result }
 {

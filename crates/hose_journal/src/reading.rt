@@ -1,5 +1,5 @@
 // A journal whose entries are read, one after another.
-ghost use Rattle.std.specs.Prelude.{◌≡◌, [], List, ℕ, None, Some, IfNone, IfSome, IsErr, IsFalse, IsTrue, OnOk};
+ghost use Rattle.std.specs.Prelude.{◌≡◌, [], List, ℕ, None, Some, IfSome, IsErr, IsFalse, IsTrue, OnOk};
 ghost use Rattle.hose_graph.specs.declared.entry.Entry.{Entry};
 ghost use Rattle.hose_journal.specs.Journal.{Stands};
 ghost use Rattle.hose_journal.specs.Reading.{AtGate, HasFailed, HasRead, IsOpen, KeepsFault, OnlyRead, Reaches, Reads};
@@ -53,12 +53,12 @@ impl<D: Disk> Reading<D> {
     /// After a fault it answers the same from then on, but for want of memory: then nothing has
     /// moved.
     pub fn next(&mut self) -> Result<Option<Entry>, JournalFault>
-        requires { IfNone self.old.fault ((digest : List ℕ) × (entries : List Entry)
-            × Reads D.Disk self.old digest entries) }
-        ensures read { IfNone self.old.fault ((digest : List ℕ) → (entries : List Entry) →
+        requires { self.old.fault ≡ None →
+            (digest : List ℕ) × (entries : List Entry) × Reads D.Disk self.old digest entries }
+        ensures read { self.old.fault ≡ None → (digest : List ℕ) → (entries : List Entry) →
             Reads D.Disk self.old digest entries →
-            HasRead D.Disk self.old self.new digest entries result) }
-        ensures fault { IfNone self.old.fault (KeepsFault result self.new.fault) }
+            HasRead D.Disk self.old self.new digest entries result }
+        ensures fault { self.old.fault ≡ None → KeepsFault result self.new.fault }
         ensures again { IfSome self.old.fault (λ fault.
             (result ≡ Err fault) × (self.new ≡ self.old)) }
         ensures only { OnlyRead D.Disk self.old.disk self.new.disk }
@@ -105,7 +105,8 @@ impl<D: Disk> Reading<D> {
 
     // Reads on from the gate.
     fn read(&mut self) -> Result<Option<Entry>, JournalFault>
-        requires { (digest : List ℕ) × (entries : List Entry) × Reads D.Disk self.old digest entries }
+        requires { (digest : List ℕ) × (entries : List Entry)
+            × Reads D.Disk self.old digest entries }
         ensures read { (digest : List ℕ) → (entries : List Entry) →
             Reads D.Disk self.old digest entries →
             HasRead D.Disk self.old self.new digest entries result }
@@ -149,7 +150,8 @@ impl<D: Disk> Reading<D> {
 
     // Reads the next piece where this one does not reach as far as a record may.
     fn fill(&mut self) -> Result<(), Failed>
-        requires { (digest : List ℕ) × (entries : List Entry) × Reads D.Disk self.old digest entries }
+        requires { (digest : List ℕ) × (entries : List Entry)
+            × Reads D.Disk self.old digest entries }
         ensures filled { OnOk result ((digest : List ℕ) → (entries : List Entry) →
             Reads D.Disk self.old digest entries → Reads D.Disk self.new digest entries) }
         ensures reaches { OnOk result (Reaches self.new.piece self.new.gate) }
