@@ -1,6 +1,8 @@
-// Journals on disks in memory that are stopped after each call.
-use hose_disk::{Disk, MemDisk, Pick};
-use hose_graph::{Entry, Name};
+// Journals on disks in memory: stopped after each call, with a call that fails, and with bytes that
+// were changed. The bytes are written by hand, after the format.
+use crate::spellings::{ADMISSION, RELEASE, admission_of, edited};
+use hose_codec::decode;
+use hose_disk::{Disk, DiskCall, Failed, MemDisk, Pick};
 use hose_journal::{JournalFault, open, ready};
 use std::alloc::Global;
 use std::test::Fail;
@@ -30,10 +32,9 @@ fn entries(alloc: Global, disk: MemDisk) -> Result<u32, JournalFault> {
     Ok(2)
 }
 
-// The disk after a journal was opened on it and an entry was appended, if both went well.
-fn appended(alloc: Global, disk: MemDisk) -> Result<MemDisk, Fail> {
-    let customer = Name::read(b"acme").ok_or("a name")?;
-    let entry = Entry::Release { customer, id: 1 };
+// The disk after a journal was begun on it and the entry of this spelling was appended.
+fn appended(alloc: Global, disk: MemDisk, spelling: &[u8]) -> Result<MemDisk, Fail> {
+    let entry = decode(alloc, spelling)?;
     let Ok(mut reading) = open(alloc, disk, DIGEST) else {
         return Err("refused".into());
     };
@@ -41,7 +42,7 @@ fn appended(alloc: Global, disk: MemDisk) -> Result<MemDisk, Fail> {
         return Err("an entry".into());
     };
     let mut journal = reading.finish();
-    let _appended = journal.append(&ready(alloc, &entry)?);
+    journal.append(&ready(alloc, &entry)?)?;
     Ok(journal.stop())
 }
 
@@ -72,8 +73,156 @@ fn an_opening_that_is_stopped_leaves_no_entry(rt: HostRuntime) -> Result<(), Fai
 
 #[test]
 fn an_append_that_is_stopped_leaves_an_entry_or_none(rt: HostRuntime) -> Result<(), Fail> {
-    let mut disk = appended(rt.alloc(), MemDisk::new(rt.alloc())?)?;
-    assert_eq!(rt; disk.len(), Ok(54));
+    let mut disk = appended(rt.alloc(), MemDisk::new(rt.alloc())?, &ADMISSION)?;
+    assert_eq!(rt; disk.len(), Ok(89));
     assert_eq!(rt; most(rt.alloc(), &disk)?, 1);
+    assert_eq!(rt; entries(rt.alloc(), disk), Ok(1));
+    Ok(())
+}
+
+// Whether a release is in doubt whose append had the nth call of a kind fail, and the disk after an
+// admission was appended then.
+fn appended_after(alloc: Global, kind: DiskCall, nth: u64) -> Result<(bool, MemDisk), Fail> {
+    let (first, second) = (decode(alloc, &RELEASE)?, decode(alloc, &ADMISSION)?);
+    let mut disk = MemDisk::new(alloc)?;
+    disk.fail(alloc, kind, nth)?;
+    let Ok(mut reading) = open(alloc, disk, DIGEST) else {
+        return Err("refused".into());
+    };
+    let Ok(None) = reading.next() else {
+        return Err("an entry".into());
+    };
+    let mut journal = reading.finish();
+    let Err(Failed) = journal.append(&ready(alloc, &first)?) else {
+        return Err("appended".into());
+    };
+    let doubt = journal.doubt();
+    journal.append(&ready(alloc, &second)?)?;
+    Ok((doubt, journal.stop()))
+}
+
+// The beginning of a journal makes three writes and five syncs with that of its opening.
+#[test]
+fn an_append_after_one_that_failed_stands_alone(rt: HostRuntime) -> Result<(), Fail> {
+    for (kind, nth, in_doubt) in [
+        (DiskCall::Write, 4, false),
+        (DiskCall::Sync, 6, false),
+        (DiskCall::Write, 5, true),
+        (DiskCall::Sync, 7, true),
+    ] {
+        let (doubt, mut disk) = appended_after(rt.alloc(), kind, nth)?;
+        assert_eq!(rt; doubt, in_doubt, "{kind:?} {nth}");
+        assert_eq!(rt; disk.len(), Ok(89), "{kind:?} {nth}");
+        assert_eq!(rt; most(rt.alloc(), &disk)?, 1, "{kind:?} {nth}");
+        assert_eq!(rt; entries(rt.alloc(), disk), Ok(1), "{kind:?} {nth}");
+    }
+    Ok(())
+}
+
+// The journal of the releases of VPN 1 and of VPN 2 by acme.
+const TWO: [u8; 69] = [
+    1, 0x48, 0x4f, 0x53, 0x45, 1, //
+    7, 7, 7, 7, 7, 7, 7, 7, 7, 7, 7, 7, 7, 7, 7, 7, //
+    7, 7, 7, 7, 7, 7, 7, 7, 7, 7, 7, 7, 7, 7, 7, 7, //
+    1, 0, 0, 0, 10, 0x02, 0x04, 0x61, 0x63, 0x6d, 0x65, 0, 0, 0, 1, //
+    1, 0, 0, 0, 10, 0x02, 0x04, 0x61, 0x63, 0x6d, 0x65, 0, 0, 0, 2, //
+    0,
+];
+
+// What a disk of these bytes is read as.
+fn read(alloc: Global, bytes: &[u8]) -> Result<Result<u32, JournalFault>, Fail> {
+    let mut disk = MemDisk::new(alloc)?;
+    if bytes.len() < 4_000 {
+        disk.write_at(0, bytes)?;
+    }
+    Ok(entries(alloc, disk))
+}
+
+const fn damaged(at: u64) -> Result<u32, JournalFault> {
+    Err(JournalFault::Damaged { at })
+}
+
+#[test]
+fn a_journal_that_was_cut_is_damaged_at_its_last_gate(rt: HostRuntime) -> Result<(), Fail> {
+    for (from, to, want) in [
+        (0, 39, Ok(0)),
+        (39, 54, damaged(38)),
+        (54, 69, damaged(53)),
+        (69, 70, Ok(2)),
+    ] {
+        for len in from..to {
+            let front = &TWO[..TWO.len().min(len)];
+            assert_eq!(rt; read(rt.alloc(), front)?, want, "{len} bytes");
+        }
+    }
+    Ok(())
+}
+
+// What the journal of two entries is read as where a bit of the byte at a place is turned.
+fn turned(
+    alloc: Global,
+    place: usize,
+    byte: u8,
+    bit: u8,
+) -> Result<Result<u32, JournalFault>, Fail> {
+    read(alloc, &edited(TWO, place, &[byte ^ bit]))
+}
+
+const BITS: [u8; 8] = [1, 2, 4, 8, 16, 32, 64, 128];
+
+// Of a spelling some bits make the spelling of another entry.
+#[test]
+fn a_turned_bit_is_told_at_its_place(rt: HostRuntime) -> Result<(), Fail> {
+    for (from, count, want, or) in [
+        (0, 1, damaged(0), damaged(0)),
+        (1, 5, damaged(1), damaged(1)),
+        (38, 1, Ok(0), Ok(0)),
+        (39, 4, damaged(38), damaged(38)),
+        (43, 10, damaged(38), Ok(2)),
+        (53, 1, Ok(1), Ok(1)),
+        (54, 4, damaged(53), damaged(53)),
+        (58, 10, damaged(53), Ok(2)),
+        (68, 1, damaged(68), Ok(2)),
+    ] {
+        for (place, byte) in TWO.iter().enumerate().skip(from).take(count) {
+            for bit in BITS {
+                let got = turned(rt.alloc(), place, *byte, bit)?;
+                assert!(rt; got == want || got == or, "{got:?} with {bit} at {place}");
+            }
+        }
+    }
+    Ok(())
+}
+
+#[test]
+fn a_turned_bit_of_the_digest_makes_another_journal(rt: HostRuntime) -> Result<(), Fail> {
+    for place in 0..32 {
+        for bit in BITS {
+            let other = JournalFault::Other {
+                kept: edited(DIGEST, place, &[7 ^ bit]),
+                given: DIGEST,
+            };
+            let got = turned(rt.alloc(), place + 6, 7, bit)?;
+            assert_eq!(rt; got, Err(other), "{bit} at {place}");
+        }
+    }
+    Ok(())
+}
+
+#[test]
+fn a_length_is_that_of_the_record(rt: HostRuntime) -> Result<(), Fail> {
+    let body = admission_of(rt.alloc(), 16, 64, 511)?;
+    for (len, want) in [
+        (0u32, damaged(38)),
+        (3_471, Ok(1)),
+        (3_472, damaged(38)),
+        (4_294_967_295, damaged(38)),
+    ] {
+        let mut bytes = TWO[..39].to_vec(rt.alloc())?;
+        bytes.extend_from_slice(&len.to_be_bytes())?;
+        bytes.extend_from_slice(&body)?;
+        bytes.extend_from_slice(&[0, 0])?;
+        assert_eq!(rt; read(rt.alloc(), &bytes)?, want, "{len}");
+    }
     Ok(())
 }

@@ -5,7 +5,7 @@ use std::alloc::{AllocError, Global};
 use std::test::Fail;
 
 // What acme's hose with 3 at node 0, 4 at node 1 and 5 at node 2 reserves on a star.
-const ADMISSION: [u8; 45] = [
+pub(crate) const ADMISSION: [u8; 45] = [
     0x01, 0x04, 0x61, 0x63, 0x6d, 0x65, 0x03, //
     0x00, 0x00, 0x00, 0x00, 0x00, 0x03, //
     0x00, 0x01, 0x00, 0x00, 0x00, 0x04, //
@@ -17,7 +17,7 @@ const ADMISSION: [u8; 45] = [
 ];
 
 // The release of VPN 1 by acme.
-const RELEASE: [u8; 10] = [0x02, 0x04, 0x61, 0x63, 0x6d, 0x65, 0x00, 0x00, 0x00, 0x01];
+pub(crate) const RELEASE: [u8; 10] = [0x02, 0x04, 0x61, 0x63, 0x6d, 0x65, 0x00, 0x00, 0x00, 0x01];
 
 fn admission(alloc: Global, customer: Name) -> Result<Entry, Fail> {
     let pairs = [(0, 3), (1, 4), (2, 5)];
@@ -71,7 +71,7 @@ fn judge(alloc: Global, bytes: &[u8]) -> Result<Verdict, CodecFault> {
 }
 
 // The text with these bytes from a place on.
-fn edited<const N: usize>(spelling: [u8; N], place: usize, bytes: &[u8]) -> [u8; N] {
+pub(crate) fn edited<const N: usize>(spelling: [u8; N], place: usize, bytes: &[u8]) -> [u8; N] {
     let mut spelling = spelling;
     for (to, from) in spelling.iter_mut().skip(place).zip(bytes) {
         *to = *from;
@@ -213,7 +213,12 @@ fn shorter_and_longer_bytes_are_bad(rt: HostRuntime) -> Result<(), Fail> {
 
 // An admission with a name of so many bytes, so many endpoints, and so many links, each as late in
 // its range as it can be and with the greatest number.
-fn admission_of(alloc: Global, name: u8, ends: u8, links: u16) -> Result<Vec<u8>, AllocError> {
+pub(crate) fn admission_of(
+    alloc: Global,
+    name: u8,
+    ends: u8,
+    links: u16,
+) -> Result<Vec<u8>, AllocError> {
     let mut bytes = Vec::new(alloc);
     bytes.extend_from_slice(&[0x01, name])?;
     for _ in 0..name {
