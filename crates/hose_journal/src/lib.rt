@@ -18,6 +18,7 @@
 mod beginning;
 mod fault;
 mod journal;
+mod laws;
 mod layout;
 mod opening;
 mod part;
@@ -30,6 +31,7 @@ mod steps;
 
 pub use fault::JournalFault;
 pub use journal::Journal;
+pub use laws::law_one_list;
 pub use opening::open;
 pub use prepared::Ready;
 pub use reading::Reading;
