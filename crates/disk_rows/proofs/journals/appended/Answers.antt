@@ -1,4 +1,4 @@
-use Rattle.std.proofs.Common.{[], None, lit<}
+use Rattle.std.proofs.Common.{[], lit<}
 use Rattle.hose_disk.specs.contracts.mem_disk.MemDiskDisk.TheImpl.{ghosts}
 use Rattle.hose_journal.proofs.Readings.{found_none}
 use Rattle.disk_rows.proofs.journals.appended.Goals as goal
