@@ -44,7 +44,7 @@ impl Piece {
 
     /// Whether it has all that a record at this place needs, or all up to the disk's end.
     pub fn reaches(&self, at: u64) -> bool
-        ensures { IsTrue result → Reaches self.now at }
+        ensures { IsTrue result ↔ Reaches self.now at }
     {
         if at < self.from {
             return false;
