@@ -5,7 +5,7 @@ use Rattle.std.proofs.lemmas.List.{take_all, take_at, drop_at, drop_more, length
 use Rattle.byteorder.specs.Endian.{big_bytes}
 use Rattle.byteorder.specs.Numbers.{length-bytes_high_first}
 use Rattle.hose_graph.specs.declared.entry.Entry.{Entry}
-use Rattle.hose_codec.specs.Spelling.{spelling, IsNoSpelling}
+use Rattle.hose_codec.specs.Spelling.{spelling, IsSpelling, IsNoSpelling}
 use Rattle.hose_codec.specs.declared.fault.CodecFault.{CodecFault}
 use Rattle.hose_codec.specs.declared.fault.CodecFault.TheVariants.{Bad, Memory}
 use Rattle.hose_codec.specs.declared.limits.TheConstants.{MOST_SPELLING}
@@ -55,9 +55,14 @@ no_entry rest body has none entry gate more is same =
     let spelled = (same_parts body (spelling entry) (has.gate ∷ has.rest) (gate ∷ more) sizes.0 sizes.1).0 in
     none entry (record { is_entry = is; spelled = spelled })
 
-pub bad_part : (bytes rest body : List ℕ) (fault : CodecFault) → bytes ≡ OPEN ∷ rest → HasBody rest body → (fault ≡ Bad → IsNoSpelling body) → IsPart bytes (Err fault)
-bad_part bytes rest body Bad same has none = inr (record { rest = rest; is = same; none = no_entry rest body has (none refl) })
-bad_part bytes rest body Memory same has none = tt
+pub bad_part : (bytes rest body : List ℕ) (fault : CodecFault) → bytes ≡ OPEN ∷ rest → HasBody rest body → (fault ≡ Bad → IsNoSpelling body)
+    → (fault ≡ Memory → (entry : Entry) × IsSpelling entry body) → IsPart bytes (Err fault)
+bad_part bytes rest body Bad same has none wanting = inr (record { rest = rest; is = same; none = no_entry rest body has (none refl) })
+bad_part bytes rest body Memory same has none wanting =
+    let spelled = wanting refl in
+    let entry = spelled.0 in
+    let begun = has.is ∙ ap (λ (l : List ℕ). big_bytes 4 (length l) ++ (l ++ has.gate ∷ has.rest)) (spelled.1.spelled) ∙ sym (whole_record entry (has.gate ∷ has.rest)) in
+    (entry, length (record_of entry) + 1, record { gate = has.gate; rest = has.rest; is_entry = spelled.1.is_entry; far = refl; is = same ∙ ap (λ (l : List ℕ). OPEN ∷ l) begun })
 
 pub open_bytes : (bytes : List ℕ) → 1 ≤ length bytes → get_or bytes 0 0 ≡ OPEN → bytes ≡ OPEN ∷ take (length bytes - 1) (drop 1 bytes)
 open_bytes [] some is = absurd (omega arith)

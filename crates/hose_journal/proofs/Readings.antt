@@ -135,16 +135,19 @@ module _ {D : Type 0} (disk : Ghosts D) (reading : Reading D) (digest : List ℕ
       let enough : (seen.after ≡ []) ⊎ (MOST_PART ≤ length bad.rest + 1) = elim (seen.enough) [ inl none ↦ inl none | inr long ↦ inr (omega (arith, long, ap length bad.is)) ] in
       broken (bad.rest ++ seen.after) (none_begins bad.rest seen.after bad.none enough) bytes (upto.is ∙ ap (λ (l : List ℕ). front_of digest entries ++ l) tail)
 
-  pub at_gate : (result : Result (Option (Entry × ℕ)) CodecFault) → IsPart held result → AtGate disk reading digest entries result
-  at_gate (Ok (Some part)) is = record {
+  next_at : (entry : Entry) (distance : ℕ) → IsRecord held entry distance → IsNext disk reading digest entries entry distance
+  next_at entry distance is = record {
     is_entry = is.is_entry;
     far = is.far;
-    within = omega (arith, is.far, ap length is.is, length-append (record_of part.0) (is.gate ∷ is.rest), length-held, reads.piece.within, reaches.from);
-    told = told (IsReadUpTo digest (entries ++ part.0 ∷ []) reading.end) (next_told part.0 part.1 is);
+    within = omega (arith, is.far, ap length is.is, length-append (record_of entry) (is.gate ∷ is.rest), length-held, reads.piece.within, reaches.from);
+    told = told (IsReadUpTo digest (entries ++ entry ∷ []) reading.end) (next_told entry distance is);
   }
+
+  pub at_gate : (result : Result (Option (Entry × ℕ)) CodecFault) → IsPart held result → AtGate disk reading digest entries result
+  at_gate (Ok (Some part)) is = next_at part.0 part.1 is
   at_gate (Ok None) is = told (IsClosed (front_of digest entries)) (closed_told is)
   at_gate (Err Bad) is = told (λ bytes. Means digest bytes (damaged reading.gate)) (bad_told is)
-  at_gate (Err Wanting) is = tt
+  at_gate (Err Wanting) is = (is.0, is.1, next_at is.0 is.1 is.2)
 
 -- ---- the next entry
 

@@ -1,5 +1,5 @@
 -- The records of entries, in the first version of the format.
-use Rattle.std.specs.Prelude.{◌≡◌, ◌≢◌, ◌⊎◌, ℕ, ◌+◌, ◌≤◌, List, [], ◌∷◌, ◌++◌, length, Option, Some, None, Result, Ok, Err, ⊤}
+use Rattle.std.specs.Prelude.{◌≡◌, ◌≢◌, ◌⊎◌, ℕ, ◌+◌, ◌≤◌, List, [], ◌∷◌, ◌++◌, length, Option, Some, None, Result, Ok, Err}
 use Rattle.byteorder.specs.Endian.{big_bytes}
 use Rattle.hose_graph.specs.declared.entry.Entry.{Entry}
 use Rattle.hose_codec.specs.Spelling.{spelling, IsEntry}
@@ -70,9 +70,9 @@ pub record IsBad (bytes : List ℕ) : Type 0 where
   pub is : bytes ≡ OPEN ∷ rest
   pub none : BeginsNoRecord entries_format [] rest
 
--- what is read of these bytes
+-- What is read of these bytes. Memory is wanted only for an entry whose record begins them.
 abbrev pub IsPart : List ℕ → Result (Option (Entry × ℕ)) CodecFault → Type 0
 IsPart bytes (Ok (Some part)) = IsRecord bytes part.0 part.1
 IsPart bytes (Ok None) = IsShut bytes
 IsPart bytes (Err Bad) = (bytes ≡ []) ⊎ IsBad bytes
-IsPart bytes (Err Memory) = ⊤
+IsPart bytes (Err Memory) = (entry : Entry) × (distance : ℕ) × IsRecord bytes entry distance

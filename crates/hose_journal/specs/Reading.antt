@@ -1,10 +1,10 @@
 -- What a reading has taken from a disk.
-use Rattle.std.specs.Prelude.{◌≡◌, ◌⊎◌, ℕ, ◌+◌, ◌-◌, ◌<◌, ◌≤◌, ◌^◌, List, [], ◌∷◌, ◌++◌, length, take, drop, Option, Some, None, Result, Ok, Err, IfSome, IsTrue, true, ⊤}
+use Rattle.std.specs.Prelude.{◌≡◌, ◌⊎◌, ℕ, ◌+◌, ◌-◌, ◌<◌, ◌≤◌, ◌^◌, List, [], ◌∷◌, ◌++◌, length, take, drop, Option, Some, None, Result, Ok, Err, IfSome, IsTrue, true}
 use Rattle.hose_io.specs.Frame.{Rose, Stays}
 use Rattle.hose_graph.specs.declared.entry.Entry.{Entry}
 use Rattle.hose_codec.specs.Spelling.{IsEntry}
 use Rattle.hose_codec.specs.declared.fault.CodecFault.{CodecFault}
-use Rattle.hose_codec.specs.declared.fault.CodecFault.TheVariants.{Bad}
+use Rattle.hose_codec.specs.declared.fault.CodecFault.TheVariants.{Bad, Memory as Wanting}
 use Rattle.hose_disk.specs.Disk.{NoneNew, object_frame}
 use Rattle.hose_disk.specs.declared.disk.Disk.{Ghosts}
 use Rattle.hose_journal.specs.Entries.{record_of, entries_format, front_of, Means}
@@ -83,10 +83,12 @@ AtGate disk reading digest entries (Ok None) =
     IfSome (disk.content reading.disk) (IsClosed (front_of digest entries))
 AtGate disk reading digest entries (Err Bad) =
     IfSome (disk.content reading.disk) (λ bytes. Means digest bytes (damaged reading.gate))
-AtGate disk reading digest entries (Err fault) = ⊤
+AtGate disk reading digest entries (Err Wanting) =
+    (entry : Entry) × (distance : ℕ) × IsNext disk reading digest entries entry distance
 
 -- What a call that reads on answers, and what it leaves of the reading. A fault of the disk has
--- raised its count, and after want of memory nothing has moved.
+-- raised its count, and after want of memory, which comes only
+-- where an entry's record is next, nothing has moved.
 abbrev pub HasRead : {D : Type 0} → Ghosts D → Reading D → Reading D → List ℕ → List Entry →
     Result (Option Entry) JournalFault → Type 0
 HasRead disk old new digest entries (Ok (Some entry)) =
@@ -98,6 +100,7 @@ HasRead disk old new digest entries (Err (Damaged at)) = (at ≡ old.gate) × (n
 HasRead disk old new digest entries (Err Disk) = HasFailed disk old.disk new.disk
 HasRead disk old new digest entries (Err Memory) =
     Reads disk new digest entries × (new.last ≡ old.last)
+    × ((entry : Entry) × (distance : ℕ) × IsNext disk new digest entries entry distance)
 HasRead disk old new digest entries (Err (Other kept given)) = ⊥
 
 -- a fault is told from then on, but for want of memory
