@@ -1,9 +1,13 @@
 // Journals on disks in memory: stopped after each call, with a call that fails, and with bytes that
 // were changed. The bytes are written by hand, after the format.
+ghost use Rattle.std.specs.Prelude.{[], None, List, ℕ, IfOk};
+ghost use Rattle.hose_disk.specs.contracts.mem_disk.MemDiskDisk.TheImpl.{ghosts};
+ghost use Rattle.hose_journal.specs.Journal.{Stands};
+
 use crate::spellings::{ADMISSION, RELEASE, admission_of, edited};
 use hose_codec::decode;
 use hose_disk::{Disk, DiskCall, Failed, MemDisk, Pick};
-use hose_journal::{JournalFault, open, ready};
+use hose_journal::{Journal, JournalFault, open, ready};
 use std::alloc::Global;
 use std::test::Fail;
 
@@ -32,16 +36,24 @@ fn entries(alloc: Global, disk: MemDisk) -> Result<u32, JournalFault> {
     Ok(2)
 }
 
-// The disk after a journal was begun on it and the entry of this spelling was appended.
-fn appended(alloc: Global, disk: MemDisk, spelling: &[u8]) -> Result<MemDisk, Fail> {
-    let entry = decode(alloc, spelling)?;
+// The journal that is begun on this disk.
+fn begun(alloc: Global, disk: MemDisk) -> Result<Journal<MemDisk>, Fail>
+    ensures { IfOk result (λ journal. (digest : List ℕ)
+        × Stands ghosts journal (record { digest = digest; entries = []; doubt = None })) }
+{
     let Ok(mut reading) = open(alloc, disk, DIGEST) else {
         return Err("refused".into());
     };
     let Ok(None) = reading.next() else {
         return Err("an entry".into());
     };
-    let mut journal = reading.finish();
+    Ok(reading.finish())
+}
+
+// The disk after a journal was begun on it and the entry of this spelling was appended.
+fn appended(alloc: Global, disk: MemDisk, spelling: &[u8]) -> Result<MemDisk, Fail> {
+    let entry = decode(alloc, spelling)?;
+    let mut journal = begun(alloc, disk)?;
     journal.append(&ready(alloc, &entry)?)?;
     Ok(journal.stop())
 }
@@ -86,13 +98,7 @@ fn appended_after(alloc: Global, kind: DiskCall, nth: u64) -> Result<(bool, MemD
     let (first, second) = (decode(alloc, &RELEASE)?, decode(alloc, &ADMISSION)?);
     let mut disk = MemDisk::new(alloc)?;
     disk.fail(alloc, kind, nth)?;
-    let Ok(mut reading) = open(alloc, disk, DIGEST) else {
-        return Err("refused".into());
-    };
-    let Ok(None) = reading.next() else {
-        return Err("an entry".into());
-    };
-    let mut journal = reading.finish();
+    let mut journal = begun(alloc, disk)?;
     let Err(Failed) = journal.append(&ready(alloc, &first)?) else {
         return Err("appended".into());
     };

@@ -1,11 +1,10 @@
-use Rattle.std.proofs.Common.{◌⊎◌, inl, inr, ◌<◌, [], None, Some, length, lit<}
+use Rattle.std.proofs.Common.{◌⊎◌, inl, inr, ◌<◌, None, Some, length, lit<}
 use Rattle.hose_graph.specs.declared.entry.Entry.{Entry}
 use Rattle.hose_graph.specs.declared.limits.TheConstants.{MOST_EPOCH}
 use Rattle.hose_disk.specs.declared.disk.Disk.{Ghosts}
 use Rattle.hose_disk.specs.contracts.mem_disk.MemDiskDisk.TheImpl.{ghosts}
 use Rattle.hose_journal.specs.declared.journal.Journal.{Journal}
 use Rattle.hose_journal.specs.Journal.{Account, Stands, with_doubt}
-use Rattle.hose_journal.proofs.Readings.{found_none}
 use Rattle.disk_rows.proofs.journals.appended_after.Goals as goal
 
 -- after an append that failed the journal stands for some account of as many entries
@@ -17,22 +16,11 @@ stands_still disk journal account entry (inl stands) few = (account, stands, few
 stands_still disk journal account entry (inr (inl stands)) few = (with_doubt account None, stands, few)
 stands_still disk journal account entry (inr (inr stands)) few = (with_doubt account (Some entry), stands, few)
 
-pub finish-journal-requires : goal.finish-journal-requires
-finish-journal-requires c =
-    let has = c.in-Ok-None.ensures.read c.in-Ok.ensures.fault _ [] c.in-Ok.ensures.reads in
-    let end = found_none ghosts c.in-Ok.reading c.next.new.self _ [] c.in-Ok-None.field-0 c.in-Ok-None.field-0-is has in
-    (_, [], end.0, end.1)
-
 pub append-requires : goal.append-requires
-append-requires c =
-    let has = c.in-Ok-None.ensures.read c.in-Ok.ensures.fault _ [] c.in-Ok.ensures.reads in
-    let end = found_none ghosts c.in-Ok.reading c.next.new.self _ [] c.in-Ok-None.field-0 c.in-Ok-None.field-0-is has in
-    (_, _, c.finish-journal.ensures.stands _ [] end.0, c.in_ok-ready.ensures, lit< tt)
+append-requires c = (_, _, c.in_ok-journal.ensures.1, c.in_ok-ready.ensures, lit< tt)
 
 pub append-requires-2 : goal.append-requires-2
 append-requires-2 c =
-    let has = c.in-Ok-None.ensures.read c.in-Ok.ensures.fault _ [] c.in-Ok.ensures.reads in
-    let end = found_none ghosts c.in-Ok.reading c.next.new.self _ [] c.in-Ok-None.field-0 c.in-Ok-None.field-0-is has in
-    let failed = c.in-Err.ensures.failed _ _ (c.finish-journal.ensures.stands _ [] end.0) c.in_ok-ready.ensures (lit< tt) in
+    let failed = c.in-Err.ensures.failed _ _ c.in_ok-journal.ensures.1 c.in_ok-ready.ensures (lit< tt) in
     let now = stands_still ghosts c.append.new.self _ _ failed (lit< tt) in
     (now.0, _, now.1, c.in_ok-ready-2.ensures, now.2)
