@@ -1,7 +1,7 @@
 #!/usr/bin/env bash
 # Microseconds that commands take on a book with 10 and with 20,000 live VPNs: a question after the
-# youngest VPN, an admission with the release of the youngest, and an admission with the release of
-# the oldest. The book of 10 is the reference of the same run.
+# youngest VPN, and an admission with the release of the youngest, of the oldest and of the one in
+# the middle. The book of 10 is the reference of the same run.
 # usage: bench/book.sh [PROGRAM]
 . "$(dirname "$0")/setup.sh"
 
@@ -9,13 +9,12 @@
 seconds() { # LIVE COMMANDS REPEATS
     python3 - "$@" >"$work/input" <<'SCRIPT'
 import sys
-from collections import deque
 
 live, commands, repeats = int(sys.argv[1]), sys.argv[2], int(sys.argv[3])
 ADMIT = "acme admit a:1 b:1"
 print("node a\nnode b\nlink a b 1000000000 1\nend")
 print("\n".join([ADMIT] * live))
-epoch, ids = live, deque(range(1, live + 1))
+epoch, ids = live, list(range(1, live + 1))
 for _ in range(repeats):
     if commands == "show":
         print(f"acme show {ids[-1]}")
@@ -23,7 +22,8 @@ for _ in range(repeats):
     if commands == "youngest":
         print(f"{ADMIT}\nacme release {epoch + 1}")
     else:
-        print(f"acme release {ids.popleft()}\n{ADMIT}")
+        place = 0 if commands == "oldest" else len(ids) // 2
+        print(f"acme release {ids.pop(place)}\n{ADMIT}")
         ids.append(epoch + 2)
     epoch += 2
 SCRIPT
@@ -55,3 +55,4 @@ print((with_them - before) / repeats * 1e6)' "$before" "$with" "$3"
 figure show 200000 "a question after the youngest VPN"
 figure youngest 40000 "an admission and the release of the youngest VPN"
 figure oldest 10000 "an admission and the release of the oldest VPN"
+figure middle 10000 "an admission and the release of the VPN in the middle"

@@ -1,5 +1,6 @@
 #!/usr/bin/env python3
-"""Runs the program on an input, and prints the least seconds of so many runs and the most KiB.
+"""Runs the program on an input, and prints the least seconds of so many runs, the most KiB, and the
+least seconds of a processor, which other processes disturb less.
 
 The output of the last run stays in the file REPLIES.
 
@@ -12,15 +13,22 @@ import sys
 import time
 
 
+def processor_seconds():
+    used = resource.getrusage(resource.RUSAGE_CHILDREN)
+    return used.ru_utime + used.ru_stime
+
+
 def main():
     program, text, replies, runs = sys.argv[1:]
-    seconds = []
+    seconds, processor = [], []
     for _ in range(int(runs)):
         with open(text, "rb") as source, open(replies, "wb") as sink:
-            start = time.perf_counter()
+            before, start = processor_seconds(), time.perf_counter()
             subprocess.run([program, "run"], stdin=source, stdout=sink)
             seconds.append(time.perf_counter() - start)
-    print(f"{min(seconds):.4f} {resource.getrusage(resource.RUSAGE_CHILDREN).ru_maxrss}")
+            processor.append(processor_seconds() - before)
+    peak = resource.getrusage(resource.RUSAGE_CHILDREN).ru_maxrss
+    print(f"{min(seconds):.4f} {peak} {min(processor):.4f}")
 
 
 if __name__ == "__main__":

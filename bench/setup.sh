@@ -10,9 +10,9 @@ trap 'rm -rf "$work"' EXIT
 printf 'node a\nend\n' | "$program" run
 
 # Runs the program on $work/input, RUNS times, and leaves its output in $work/replies; the least
-# seconds are then in `taken`, the most KiB in `peak`.
+# seconds are then in `taken`, the most KiB in `peak`, the least of a processor in `processor`.
 measure() { # [RUNS]
-    read -r taken peak < <(
+    read -r taken peak processor < <(
         python3 bench/measure.py "$program" "$work/input" "$work/replies" "${1:-1}"
     )
 }

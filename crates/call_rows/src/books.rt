@@ -9,7 +9,8 @@ use hose_proto::read_reply;
 use std::alloc::Global;
 use std::test::Fail;
 
-fn name(word: &str) -> Result<Name, Fail> {
+/// The name that this word is.
+pub fn name(word: &str) -> Result<Name, Fail> {
     Ok(Name::read(word.as_bytes()).ok_or("no name")?)
 }
 
@@ -31,8 +32,8 @@ fn release(customer: &str, id: u64) -> Result<Entry, Fail> {
     Ok(Entry::Release { customer, id })
 }
 
-// The book of a star at an epoch.
-fn book_at(alloc: Global, epoch: u64) -> Result<Book, Fail>
+/// The book of a star at an epoch.
+pub fn book_at(alloc: Global, epoch: u64) -> Result<Book, Fail>
     requires { epoch ≤ MOST_EPOCH }
 {
     Ok(Book::at(alloc, network(alloc, STAR)?, epoch)?)

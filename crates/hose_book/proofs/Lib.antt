@@ -1,5 +1,6 @@
 pub mod Ids
 pub mod Judging
 pub mod Loads
+pub mod Moving
 pub mod Releasing
 pub mod Reserved

@@ -1,5 +1,5 @@
 -- What comes of an entry that is sound: it is entered, or what keeps the book elsewhere failed.
-use Rattle.std.specs.Prelude.{◌≡◌, None, []}
+use Rattle.std.specs.Prelude.{◌≡◌, []}
 use Rattle.hose_io.specs.Frame.{Frame, Rose, Stays}
 use Rattle.hose_graph.specs.declared.entry.Entry.{Entry}
 use Rattle.hose_law.specs.History.{next_book}

@@ -35,7 +35,7 @@ impl Book {
         let _ends = hose.ends();
         add_amounts(&mut self.loads, amounts.pairs());
         self.epoch += 1;
-        self.live.push_reserved(Vpn {
+        self.live.push(Vpn {
             id: self.epoch,
             customer,
             hose,
@@ -62,8 +62,9 @@ impl Book {
         ensures network { self.new.network ≡ self.old.network }
         ensures book { self.new.book ≡ next_book self.old.book (Entry.Release customer.now id) }
     {
-        let vpn = self.live.remove(place);
+        let vpn = &self.live.as_slice()[place];
         subtract_amounts(&mut self.loads, vpn.amounts.pairs());
+        self.live.remove(place);
         self.epoch += 1;
     }
 }

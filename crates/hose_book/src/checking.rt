@@ -49,7 +49,7 @@ impl Book {
         if self.epoch == MOST_EPOCH {
             return Err(BookRefusal::Spent);
         }
-        if self.live.len() >= MOST_LIVE {
+        if self.live.as_slice().len() >= MOST_LIVE {
             return Err(BookRefusal::Full);
         }
         if !is_reservation(&self.topology, hose, amounts) {

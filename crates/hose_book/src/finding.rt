@@ -18,7 +18,7 @@ impl Book {
         let Some(place) = self.place_of(customer, id) else {
             return None;
         };
-        Some(&self.live[place])
+        Some(&self.live.as_slice()[place])
     }
 
     /// Its place among the live, whose ids rise.
@@ -27,10 +27,11 @@ impl Book {
             (IsLiveVpn self.now.book customer.now id)) }
         ensures none { IfNone result (¬ HasVpn self.now.book customer.now id) }
     {
-        let Some(place) = place_of_id(&self.live, id) else {
+        let live = self.live.as_slice();
+        let Some(place) = place_of_id(live, id) else {
             return None;
         };
-        let vpn = &self.live[place];
+        let vpn = &live[place];
         if vpn.customer != *customer {
             return None;
         }

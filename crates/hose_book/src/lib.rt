@@ -26,16 +26,19 @@ mod changing;
 mod checking;
 mod committed;
 mod finding;
+mod live_vpns;
 
+use crate::live_vpns::LiveVpns;
 pub use books::{Books, Plain};
 pub use checking::BookRefusal;
 pub use committed::Committed;
-use hose_graph::{MOST_EPOCH, MOST_LIVE, Topology, Vpn};
+use hose_graph::{MOST_EPOCH, Topology, Vpn};
 use std::alloc::{AllocError, Global};
 use std::marker::Model;
 
 /// A network with its live VPNs, in the order of their admission, and the sum of what they reserve
-/// on each link. No link is ever oversold.
+/// on each link. No link is ever oversold. At most 256 VPNs that were released keep their memory,
+/// until a later release.
 ///
 /// A contract sees it as the network and its book.
 #[derive(Drop)]
@@ -43,29 +46,26 @@ pub struct Book {
     topology: Topology,
     epoch: u64,
     loads: Vec<u64>,
-    live: Vec<Vpn>,
+    live: LiveVpns,
 }
 
 impl Model for Book {
-    ghost use Rattle.std.specs.Prelude.{◌≤◌, length, vec_capacity, All};
+    ghost use Rattle.std.specs.Prelude.{◌≤◌, All};
     ghost use Rattle.hose_graph.specs.Network.{IsNetwork};
     ghost use Rattle.hose_book.specs.Ledger.{Ledger, AreKeptLoads, IsKept};
-    ghost use Rattle.hose_law.specs.History.{last_epoch, most_live};
+    ghost use Rattle.hose_law.specs.History.{last_epoch};
     ghost use Rattle.hose_law.specs.Live.{HasRisingIds};
 
     ghost Value = { Ledger };
 
     ghost view = { λ b.
-        record { network = b.topology; book = record { epoch = b.epoch; live = b.live.items } } };
+        record { network = b.topology; book = record { epoch = b.epoch; live = b.live } } };
 
-    // There is room for all VPNs that may be live.
     ghost invariant = { λ b. IsNetwork b.topology
-        × AreKeptLoads b.topology (record { epoch = b.epoch; live = b.live.items }) b.loads.items
+        × AreKeptLoads b.topology (record { epoch = b.epoch; live = b.live }) b.loads.items
         × (b.epoch ≤ last_epoch)
-        × (length b.live.items ≤ most_live)
-        × (most_live ≤ vec_capacity b.live)
-        × HasRisingIds 0 (record { epoch = b.epoch; live = b.live.items })
-        × All (IsKept b.topology) b.live.items };
+        × HasRisingIds 0 (record { epoch = b.epoch; live = b.live })
+        × All (IsKept b.topology) b.live };
 }
 
 impl Book {
@@ -85,7 +85,7 @@ impl Book {
             (λ book. book ≡ record { network = topology; book = opening_book epoch }) }
     {
         let loads = Vec::from_elem(alloc, 0, topology.links() as usize)?;
-        let live = Vec::with_capacity(alloc, MOST_LIVE)?;
+        let live = LiveVpns::new(alloc)?;
         Ok(Book {
             topology,
             epoch,
@@ -124,6 +124,6 @@ impl Book {
         ensures value { result.now ≡ self.now.book.live }
         ensures rise { Rise result.now }
     {
-        &self.live
+        self.live.as_slice()
     }
 }

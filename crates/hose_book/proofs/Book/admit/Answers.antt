@@ -1,5 +1,5 @@
 use Rattle.std.proofs.Common.{◌≡◌, ℕ, ◌+◌, ◌<◌, List, ◌++◌, length, get_or, take, drop, All, sym, ap, subst, arith}
-use Rattle.std.proofs.lemmas.List.{take_at, length_push}
+use Rattle.std.proofs.lemmas.List.{take_at}
 use Rattle.std.proofs.lemmas.List.Elements.{All-push}
 use Rattle.hose_graph.specs.declared.vpn.Vpn.{Vpn}
 use Rattle.hose_graph.specs.declared.entry.Entry.TheVariants.{Admit}
@@ -17,7 +17,7 @@ pub add_amounts-requires-clause-links : goal.add_amounts-requires-clause-links
 add_amounts-requires-clause-links c = λ k d inside.
     let network = c.self.inside.topology in
     let entry = Admit c.args.customer c.args.hose c.args.amounts in
-    let sound : IsSoundAt network (record { epoch = c.self.inside.epoch; live = c.self.inside.live.items }) entry =
+    let sound : IsSoundAt network (record { epoch = c.self.inside.epoch; live = c.self.inside.live }) entry =
     subst (λ (s : Ledger). IsSoundAt s.network s.book entry) (sym c.self.view_is) c.requires in
     let links = reserved_links network c.self.invariant.0 _ c.args.hose c.args.amounts sound.2.on_tree in
     let link : (get_or c.args.amounts k d).0 < length network.links = links k d (omega (arith, inside, ap length c.pairs.ensures.value)) in
@@ -32,7 +32,7 @@ add_amounts-requires-clause-links c = λ k d inside.
 pub add_amounts-requires-clause-fits : goal.add_amounts-requires-clause-fits
 add_amounts-requires-clause-fits c = λ l inside.
     let network = c.self.inside.topology in
-    let book : Book = record { epoch = c.self.inside.epoch; live = c.self.inside.live.items } in
+    let book : Book = record { epoch = c.self.inside.epoch; live = c.self.inside.live } in
     let entry = Admit c.args.customer c.args.hose c.args.amounts in
     let sound : IsSoundAt network book entry = subst (λ (s : Ledger). IsSoundAt s.network s.book entry) (sym c.self.view_is) c.requires in
     let kept : NoneOversold network (next_book book entry) = entry_keeps network book entry sound c.self.invariant.1.none_oversold in
@@ -51,7 +51,7 @@ add_amounts-requires-clause-fits c = λ l inside.
 pub invariant_of-self : goal.invariant_of-self
 invariant_of-self c =
     let network = c.self.inside.topology in
-    let book : Book = record { epoch = c.self.inside.epoch; live = c.self.inside.live.items } in
+    let book : Book = record { epoch = c.self.inside.epoch; live = c.self.inside.live } in
     let entry = Admit c.args.customer c.args.hose c.args.amounts in
     let sound : IsSoundAt network book entry = subst (λ (s : Ledger). IsSoundAt s.network s.book entry) (sym c.self.view_is) c.requires in
     let kept : NoneOversold network (next_book book entry) = entry_keeps network book entry sound c.self.invariant.1.none_oversold in
@@ -61,8 +61,8 @@ invariant_of-self c =
     let long : length new ≡ length network.links = omega (arith, c.add_amounts.auto.loads, ap length loads_is, old.places) in
     let taken : take c.self.inside.loads.len (new ++ drop (length new) c.self.inside.loads.items) ≡ new =
     take_at new (drop (length new) c.self.inside.loads.items) c.self.inside.loads.len (omega (arith, long, old.places, c.self.inside.loads.ok.0)) in
-    let next_is : next_book book entry ≡ record { epoch = c.self.inside.epoch + 1; live = c.push_reserved.new.self.items } =
-    ap (λ (live : List Vpn). record { epoch = c.self.inside.epoch + 1; live = live }) (sym c.push_reserved.ensures.items) in
+    let next_is : next_book book entry ≡ record { epoch = c.self.inside.epoch + 1; live = c.push.new.self } =
+    ap (λ (live : List Vpn). record { epoch = c.self.inside.epoch + 1; live = live }) (sym c.push.ensures) in
     let vpn : Vpn = record { id = c.self.inside.epoch + 1; customer = c.args.customer; hose = c.args.hose; amounts = c.args.amounts } in
     let is_kept : IsKept network vpn = record {
       nodes = reserved_nodes network c.self.invariant.0 _ c.args.hose c.args.amounts sound.2.on_tree;
@@ -84,8 +84,6 @@ invariant_of-self c =
       subst (λ (b : Book). AreKeptLoads network b (take c.self.inside.loads.len (new ++ drop (length new) c.self.inside.loads.items))) next_is
           (subst (AreKeptLoads network (next_book book entry)) (sym taken) loads),
       omega (arith, sound.0),
-      omega (arith, sound.1, ap length c.push_reserved.ensures.items, length_push c.self.inside.live.items (record { id = c.self.inside.epoch + 1; customer = c.args.customer; hose = c.args.hose; amounts = c.args.amounts })),
-      omega (arith, c.self.invariant.4, c.push_reserved.ensures.capacity),
-      subst (HasRisingIds 0) next_is (rising_next 0 book entry c.self.invariant.5),
-      subst (All (IsKept network)) (sym c.push_reserved.ensures.items) (All-push (IsKept network) book.live vpn c.self.invariant.6 is_kept),
+      subst (HasRisingIds 0) next_is (rising_next 0 book entry c.self.invariant.3),
+      subst (All (IsKept network)) (sym c.push.ensures) (All-push (IsKept network) book.live vpn c.self.invariant.4 is_kept),
     )

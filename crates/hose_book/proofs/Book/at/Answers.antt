@@ -11,8 +11,8 @@ use Rattle.hose_book.proofs.Book.at.Goals as goal
 pub invariant_of-result : goal.invariant_of-result
 invariant_of-result c =
     let zeros : c.in_ok-loads.loads.items ≡ replicate c.links.result 0 = c.in_ok-loads.ensures.items_if_clones_equal (λ y same. same) in
-    let no_load : (l : ℕ) → load_of (record { epoch = c.args.epoch; live = c.in_ok-live.live.items }) l ≡ 0 =
-    λ l. ap (λ (live : List Vpn). load_of (record { epoch = c.args.epoch; live = live }) l) c.in_ok-live.ensures.items in (
+    let no_load : (l : ℕ) → load_of (record { epoch = c.args.epoch; live = c.in_ok-live.live }) l ≡ 0 =
+    λ l. ap (λ (live : List Vpn). load_of (record { epoch = c.args.epoch; live = live }) l) c.in_ok-live.ensures in (
       c.links.ensures.network,
       record {
         places = omega (arith, ap length zeros, length-replicate {A = ℕ} c.links.result 0, c.links.ensures.count);
@@ -20,8 +20,6 @@ invariant_of-result c =
         none_oversold = λ l. omega (arith, no_load l);
       },
       omega arith,
-      omega (arith, ap length c.in_ok-live.ensures.items),
-      omega (arith, c.in_ok-live.ensures.capacity),
-      subst (λ (live : List Vpn). HasRisingIds 0 (record { epoch = c.args.epoch; live = live })) (sym c.in_ok-live.ensures.items) (none_rise c.args.epoch),
-      subst (All (IsKept c.args.topology)) (sym c.in_ok-live.ensures.items) (All-nil (IsKept c.args.topology)),
+      subst (λ (live : List Vpn). HasRisingIds 0 (record { epoch = c.args.epoch; live = live })) (sym c.in_ok-live.ensures) (none_rise c.args.epoch),
+      subst (All (IsKept c.args.topology)) (sym c.in_ok-live.ensures) (All-nil (IsKept c.args.topology)),
     )

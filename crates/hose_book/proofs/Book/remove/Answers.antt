@@ -1,15 +1,14 @@
 use Rattle.std.proofs.Common.{◌≡◌, ◌+◌, ◌<◌, ◌≤◌, ◌++◌, ℕ, List, length, get_or, take, drop, All, sym, ap, ◌∙◌, subst, arith}
 use Rattle.std.proofs.lemmas.List.{take_at}
-use Rattle.std.proofs.lemmas.List.Edits.{length-remove}
 use Rattle.hose_graph.specs.declared.vpn.Vpn.{Vpn}
 use Rattle.hose_graph.specs.declared.entry.Entry.TheVariants.{Release}
-use Rattle.hose_law.specs.Book.{Book, amount_on, load_of}
+use Rattle.hose_law.specs.Book.{Book, IsLiveVpn, amount_on, load_of}
 use Rattle.hose_law.specs.History.{last_epoch, next_book}
 use Rattle.hose_law.specs.Live.{HasRisingIds}
 use Rattle.hose_law.proofs.LiveIds.{rising_next}
 use Rattle.hose_law.proofs.Sold.{NoneOversold, entry_keeps}
 use Rattle.hose_book.specs.Ledger.{Ledger, AreKeptLoads, IsKept}
-use Rattle.hose_book.proofs.Releasing.{Taken, kept_left, taken_in}
+use Rattle.hose_book.proofs.Releasing.{Taken, kept_left, taken_in, within}
 use Rattle.hose_book.proofs.Book.remove.Goals as goal
 
 pub subtract_amounts-requires-clause-links : goal.subtract_amounts-requires-clause-links
@@ -17,10 +16,10 @@ subtract_amounts-requires-clause-links c = λ k d inside.
     let network = c.self.inside.topology in
     let customer = c.args.customer.now in
     let id = c.args.id in
-    let vpn = c.remove-vpn.result in
-    let book : Book = record { epoch = c.self.inside.epoch; live = c.self.inside.live.items } in
-    let out : Taken book customer id c.args.place vpn = taken_in c.args.self.now network book customer id c.args.place vpn c.self.view_is c.self.invariant.5.rise c.requires.there c.remove-vpn.ensures.value in
-    let kept : IsKept network vpn = subst (IsKept network) (sym c.remove-vpn.ensures.value) (c.self.invariant.6 c.args.place vpn out.inside) in
+    let vpn = c.index-as_slice-place.result in
+    let book : Book = record { epoch = c.self.inside.epoch; live = c.self.inside.live } in
+    let out : Taken book customer id c.args.place vpn = taken_in c.args.self.now network book customer id c.args.place vpn c.self.view_is c.self.invariant.3.rise c.requires.there (c.index-as_slice-place.is ∙ ap (λ (live : List Vpn). get_or live c.args.place c.index-as_slice-place.result) c.as_slice.ensures.value) in
+    let kept : IsKept network vpn = subst (IsKept network) (sym (c.index-as_slice-place.is ∙ ap (λ (live : List Vpn). get_or live c.args.place c.index-as_slice-place.result) c.as_slice.ensures.value)) (c.self.invariant.4 c.args.place vpn out.inside) in
     omega (
       arith,
       kept.links k d (omega (arith, inside, ap length c.pairs.ensures.value)),
@@ -34,9 +33,9 @@ subtract_amounts-requires-clause-held c = λ l inside.
     let network = c.self.inside.topology in
     let customer = c.args.customer.now in
     let id = c.args.id in
-    let vpn = c.remove-vpn.result in
-    let book : Book = record { epoch = c.self.inside.epoch; live = c.self.inside.live.items } in
-    let out : Taken book customer id c.args.place vpn = taken_in c.args.self.now network book customer id c.args.place vpn c.self.view_is c.self.invariant.5.rise c.requires.there c.remove-vpn.ensures.value in
+    let vpn = c.index-as_slice-place.result in
+    let book : Book = record { epoch = c.self.inside.epoch; live = c.self.inside.live } in
+    let out : Taken book customer id c.args.place vpn = taken_in c.args.self.now network book customer id c.args.place vpn c.self.view_is c.self.invariant.3.rise c.requires.there (c.index-as_slice-place.is ∙ ap (λ (live : List Vpn). get_or live c.args.place c.index-as_slice-place.result) c.as_slice.ensures.value) in
     let loads_is = c.deref_mut.ensures.value in
     omega (
       arith,
@@ -52,10 +51,10 @@ invariant_of-self c =
     let customer = c.args.customer.now in
     let id = c.args.id in
     let entry = Release customer id in
-    let book : Book = record { epoch = c.self.inside.epoch; live = c.self.inside.live.items } in
-    let out : Taken book customer id c.args.place c.remove-vpn.result = taken_in c.args.self.now c.self.inside.topology book customer id c.args.place c.remove-vpn.result c.self.view_is c.self.invariant.5.rise c.requires.there c.remove-vpn.ensures.value in
-    let next : Book = record { epoch = book.epoch + 1; live = c.remove-vpn.new.self.items } in
-    let next_is : next_book book entry ≡ next = out.released ∙ ap (λ (live : List Vpn). record { epoch = book.epoch + 1; live = live }) (sym c.remove-vpn.ensures.items) in
+    let book : Book = record { epoch = c.self.inside.epoch; live = c.self.inside.live } in
+    let out : Taken book customer id c.args.place c.index-as_slice-place.result = taken_in c.args.self.now c.self.inside.topology book customer id c.args.place c.index-as_slice-place.result c.self.view_is c.self.invariant.3.rise c.requires.there (c.index-as_slice-place.is ∙ ap (λ (live : List Vpn). get_or live c.args.place c.index-as_slice-place.result) c.as_slice.ensures.value) in
+    let next : Book = record { epoch = book.epoch + 1; live = c.remove.new.self } in
+    let next_is : next_book book entry ≡ next = out.released ∙ ap (λ (live : List Vpn). record { epoch = book.epoch + 1; live = live }) (sym c.remove.ensures) in
     let old = c.self.invariant.1 in
     let loads_is = c.deref_mut.ensures.value in
     let new = c.subtract_amounts.new.loads in
@@ -63,7 +62,7 @@ invariant_of-self c =
     let whole : take c.self.inside.loads.len (new ++ drop (length new) c.self.inside.loads.items) ≡ new =
     take_at new (drop (length new) c.self.inside.loads.items) c.self.inside.loads.len (omega (arith, long, old.places, c.self.inside.loads.ok.0)) in
     let epoch : book.epoch + 1 ≤ last_epoch = omega (arith, c.requires.epoch, ap (λ (s : Ledger). s.book.epoch) c.self.view_is) in
-    let kept : NoneOversold network (next_book book entry) = entry_keeps network book entry (omega (arith, epoch), (c.remove-vpn.result, out.is)) old.none_oversold in
+    let kept : NoneOversold network (next_book book entry) = entry_keeps network book entry (omega (arith, epoch), (c.index-as_slice-place.result, out.is)) old.none_oversold in
     let each : (l : ℕ) → l < length network.links → get_or new l 0 ≡ load_of (next_book book entry) l = λ l inside.
     omega (
       arith,
@@ -78,18 +77,21 @@ invariant_of-self c =
       subst (λ (b : Book). AreKeptLoads network b (take c.self.inside.loads.len (new ++ drop (length new) c.self.inside.loads.items))) next_is
           (subst (AreKeptLoads network (next_book book entry)) (sym whole) loads),
       epoch,
-      omega (arith, c.self.invariant.3, ap length c.remove-vpn.ensures.items, length-remove book.live c.args.place out.inside),
-      omega (arith, c.self.invariant.4, c.remove-vpn.ensures.capacity),
-      subst (HasRisingIds 0) next_is (rising_next 0 book entry c.self.invariant.5),
-      subst (λ (b : Book). All (IsKept network) b.live) next_is (kept_left network book customer id c.self.invariant.6),
+      subst (HasRisingIds 0) next_is (rising_next 0 book entry c.self.invariant.3),
+      subst (λ (b : Book). All (IsKept network) b.live) next_is (kept_left network book customer id c.self.invariant.4),
     )
 
 pub returns-clause-book : goal.returns-clause-book
 returns-clause-book c =
     let customer = c.args.customer.now in
     let id = c.args.id in
-    let book : Book = record { epoch = c.self.inside.epoch; live = c.self.inside.live.items } in
-    let out : Taken book customer id c.args.place c.remove-vpn.result = taken_in c.args.self.now c.self.inside.topology book customer id c.args.place c.remove-vpn.result c.self.view_is c.self.invariant.5.rise c.requires.there c.remove-vpn.ensures.value in
-    ap (λ (live : List Vpn). record { epoch = book.epoch + 1; live = live }) c.remove-vpn.ensures.items
+    let book : Book = record { epoch = c.self.inside.epoch; live = c.self.inside.live } in
+    let out : Taken book customer id c.args.place c.index-as_slice-place.result = taken_in c.args.self.now c.self.inside.topology book customer id c.args.place c.index-as_slice-place.result c.self.view_is c.self.invariant.3.rise c.requires.there (c.index-as_slice-place.is ∙ ap (λ (live : List Vpn). get_or live c.args.place c.index-as_slice-place.result) c.as_slice.ensures.value) in
+    ap (λ (live : List Vpn). record { epoch = book.epoch + 1; live = live }) c.remove.ensures
     ∙ sym out.released
     ∙ ap (λ (s : Ledger). next_book s.book (Release customer id)) c.self.view_is
+
+pub remove-requires : goal.remove-requires
+remove-requires c =
+    let customer = c.args.customer.now in
+    omega (arith, within c.args.self.now.book.live c.args.place (IsLiveVpn c.args.self.now.book customer c.args.id) c.requires.there, ap (λ (s : Ledger). length s.book.live) c.self.view_is)
