@@ -4,8 +4,9 @@
 The networks have up to 9 nodes. The planner here shares no code with the crates and follows the
 rules word by word; it is tried on rows worked out by hand first. On a third as many smaller
 networks the cost of an admission is that of a search by force: the least over all trees of the
-links allowed, with the least amounts that carry each matrix within the rates. Prints how many
-networks, commands and replies of each kind agreed, and the seconds of both; or the first
+links allowed, with the least amounts that carry each matrix within the rates. In some scripts
+quotes are asked for and seldom taken, so that a customer comes to hold as many as one may. Prints
+how many networks, commands and replies of each kind agreed, and the seconds of both; or the first
 difference, with the input up to it, and ends with status 1.
 
 usage: bench/compare_planner.py [PROGRAM [NETWORKS [SEED]]]
@@ -21,8 +22,9 @@ from collections import Counter
 from itertools import combinations, product, zip_longest
 from typing import NamedTuple
 
-COMMANDS = 60  # of each network
+COMMANDS = 80  # of each network
 CUSTOMERS = ("acme", "zeta")
+QUOTES = 16  # that a customer holds at most
 SECONDS = 60  # that the program has for one network
 
 
@@ -44,6 +46,15 @@ class Vpn(NamedTuple):
     hose: list  # of (node, rate), ascending
     plan: list  # of (link, amount), ascending
     cost: int
+
+
+class Quote(NamedTuple):
+    hose: list
+    epoch: int  # at which it was made
+    kind: str  # of its plan
+    plan: list
+    cost: int
+    grounds: object  # at that epoch
 
 
 # ---- The planner.
@@ -175,6 +186,14 @@ def decide(network, loads, hose):
     return "second", second
 
 
+def grounds(network, loads, hose):
+    """Whether the first plan exists and fits, and the safe links where it does not."""
+    first = canonical_plan(network, set(range(len(network.links))), hose)
+    if first is not None and fits(network, loads, first):
+        return True, None
+    return False, safe_links(network, loads, hose)
+
+
 # ---- The search by force.
 
 
@@ -231,6 +250,7 @@ class Server:
         self.by_force = by_force
         self.epoch = 0
         self.live = {}  # VPNs by their numbers
+        self.quotes = {customer: {} for customer in CUSTOMERS}  # those held, by their numbers
         self.kinds = Counter()
 
     def loads(self):
@@ -243,36 +263,74 @@ class Server:
     def ends_text(self, hose):
         return " ".join(f"{self.network.nodes[node]}:{rate}" for node, rate in hose)
 
+    def refused(self, command, side):
+        self.kinds[f"{command}, refused"] += 1
+        names = " ".join(self.network.nodes[node] for node in side)
+        return f"refused at {self.epoch} side {names}"
+
+    def cost(self, hose, kind, plan):
+        """What the plan costs, or by force what none costs less than."""
+        if not self.by_force:
+            return plan_cost(self.network, plan)
+        self.kinds["least cost by force"] += 1
+        over = allowed_links(self.network, self.loads(), hose, kind)
+        return least_cost(self.network, over, hose)
+
+    def enter(self, customer, hose, plan, cost):
+        self.epoch += 1
+        self.live[self.epoch] = Vpn(customer, hose, plan, cost)
+        return f"admitted {self.epoch} cost {cost} at {self.epoch} links {pairs_text(plan)}"
+
     def admit(self, customer, hose):
         hose = sorted(hose)
-        loads = self.loads()
+        kind, found = decide(self.network, self.loads(), hose)
+        if kind == "refused":
+            return self.refused("admit", found)
+        self.kinds[f"admit, admitted with the {kind} plan"] += 1
+        return self.enter(customer, hose, found, self.cost(hose, kind, found))
+
+    def quote(self, customer, hose):
+        hose = sorted(hose)
+        held, loads = self.quotes[customer], self.loads()
+        free = [number for number in range(1, QUOTES + 1) if number not in held]
+        if not free:
+            self.kinds["quote, too many quotes"] += 1
+            return f"too many quotes at {self.epoch}"
         kind, found = decide(self.network, loads, hose)
         if kind == "refused":
-            self.kinds["refused"] += 1
-            side = " ".join(self.network.nodes[node] for node in found)
-            return f"refused at {self.epoch} side {side}"
-        self.kinds[f"admitted with the {kind} plan"] += 1
-        self.epoch += 1
-        cost = plan_cost(self.network, found)
-        if self.by_force:
-            self.kinds["admitted at the least cost by force"] += 1
-            over = allowed_links(self.network, loads, hose, kind)
-            cost = least_cost(self.network, over, hose)
-        self.live[self.epoch] = Vpn(customer, hose, found, cost)
-        return f"admitted {self.epoch} cost {cost} at {self.epoch} links {pairs_text(found)}"
+            return self.refused("quote", found)
+        self.kinds[f"quote, quoted with the {kind} plan"] += 1
+        cost, rests_on = self.cost(hose, kind, found), grounds(self.network, loads, hose)
+        held[free[0]] = Quote(hose, self.epoch, kind, found, cost, rests_on)
+        return f"quoted {free[0]} cost {cost} at {self.epoch} links {pairs_text(found)}"
+
+    def take(self, customer, number):
+        quote = self.quotes[customer].pop(number, None)
+        if quote is None:
+            self.kinds["take, no quote"] += 1
+            return f"no quote {number} at {self.epoch}"
+        later = "" if quote.epoch == self.epoch else " after other entries"
+        loads = self.loads()
+        if grounds(self.network, loads, quote.hose) != quote.grounds:
+            self.kinds["take, stale"] += 1
+            return f"stale {quote.epoch} {self.epoch}"
+        decision = decide(self.network, loads, quote.hose)
+        assert decision == (quote.kind, quote.plan), "equal grounds, and another decision"
+        self.kinds[f"take, admitted with the {quote.kind} plan{later}"] += 1
+        return self.enter(customer, quote.hose, quote.plan, quote.cost)
 
     def of_customer(self, customer, number):
         vpn = self.live.get(number)
         return vpn if vpn is not None and vpn.customer == customer else None
 
-    def no_vpn(self, number):
-        self.kinds["no vpn"] += 1
+    def no_vpn(self, command, number):
+        self.kinds[f"{command}, no vpn"] += 1
         return f"no vpn {number} at {self.epoch}"
 
     def release(self, customer, number):
         if self.of_customer(customer, number) is None:
-            return self.no_vpn(number)
-        self.kinds["released"] += 1
+            return self.no_vpn("release", number)
+        self.kinds["release, released"] += 1
         self.epoch += 1
         del self.live[number]
         return f"released {number} at {self.epoch}"
@@ -280,16 +338,16 @@ class Server:
     def show(self, customer, number):
         vpn = self.of_customer(customer, number)
         if vpn is None:
-            return self.no_vpn(number)
-        self.kinds["vpn"] += 1
+            return self.no_vpn("show", number)
+        self.kinds["show, vpn"] += 1
         ends, links = self.ends_text(vpn.hose), pairs_text(vpn.plan)
         return f"vpn {number} cost {vpn.cost} at {self.epoch} ends {ends} links {links}"
 
     def link(self, number):
         if number >= len(self.network.links):
-            self.kinds["bad"] += 1
+            self.kinds["link, bad"] += 1
             return "bad 3"
-        self.kinds["link"] += 1
+        self.kinds["link, link"] += 1
         link = self.network.links[number]
         a, b = self.network.nodes[link.a], self.network.nodes[link.b]
         load = self.loads()[number]
@@ -352,16 +410,37 @@ def random_vpn(draw, server):
     return draw.choice(CUSTOMERS), draw.randint(0, server.epoch + 1)
 
 
-def random_command(draw, server, size):
+def random_quote(draw, server):
+    """A customer and a number, mostly those of a quote that is held."""
+    held = [(name, number) for name in CUSTOMERS for number in sorted(server.quotes[name])]
+    if held and draw.random() < 0.8:
+        return draw.choice(held)
+    return draw.choice(CUSTOMERS), draw.randint(0, QUOTES + 1)
+
+
+# How often each command comes beside the others.
+WEIGHTS = {"admit": 10, "quote": 9, "take": 9, "release": 6, "show": 2, "link": 3}
+HOARDING = {"admit": 2, "quote": 40, "take": 2, "release": 2, "show": 1, "link": 1}
+
+
+def random_weights(draw):
+    return HOARDING if draw.random() < 0.1 else WEIGHTS
+
+
+def random_command(draw, server, size, weights):
     """A line, and the reply to it."""
     customer = draw.choice(CUSTOMERS)
-    kind = draw.choices(("admit", "release", "show", "link"), (10, 5, 2, 3))[0]
-    if kind == "admit":
+    kind = draw.choices(list(weights), list(weights.values()))[0]
+    if kind in ("admit", "quote"):
         hose = random_hose(draw, server.network, size)
-        return f"{customer} admit {server.ends_text(hose)}", server.admit(customer, hose)
+        reply = server.admit if kind == "admit" else server.quote
+        return f"{customer} {kind} {server.ends_text(hose)}", reply(customer, hose)
     if kind == "link":
         number = draw.randint(0, len(server.network.links))
         return f"{customer} link {number}", server.link(number)
+    if kind == "take":
+        customer, number = random_quote(draw, server)
+        return f"{customer} take {number}", server.take(customer, number)
     customer, number = random_vpn(draw, server)
     reply = server.release if kind == "release" else server.show
     return f"{customer} {kind} {number}", reply(customer, number)
@@ -398,12 +477,53 @@ HAND = [
 ]
 
 
+AB, BC, FIVE, SIX = [(0, 1), (1, 1)], [(1, 2), (2, 2)], [(0, 5), (1, 5)], [(0, 6), (1, 6)]
+ABOVE = [(0, 11), (1, 11)]
+SCRIPTS = [
+    (STAR, [
+        ("acme", "quote", AB, "quoted 1 cost 3 at 0 links 0:1 1:1"),
+        ("zeta", "admit", BC, "admitted 1 cost 10 at 1 links 1:2 2:2"),
+        ("acme", "take", 1, "admitted 2 cost 3 at 2 links 0:1 1:1"),
+    ]),
+    (STAR, [
+        ("acme", "quote", SIX, "quoted 1 cost 18 at 0 links 0:6 1:6"),
+        ("zeta", "admit", FIVE, "admitted 1 cost 15 at 1 links 0:5 1:5"),
+        ("acme", "take", 1, "stale 0 1"),
+        ("acme", "take", 1, "no quote 1 at 1"),
+        ("acme", "admit", SIX, "refused at 1 side a"),
+    ]),
+    (STAR, [
+        ("acme", "quote", SIX, "quoted 1 cost 18 at 0 links 0:6 1:6"),
+        ("zeta", "admit", FIVE, "admitted 1 cost 15 at 1 links 0:5 1:5"),
+        ("zeta", "release", 1, "released 1 at 2"),
+        ("acme", "take", 1, "admitted 3 cost 18 at 3 links 0:6 1:6"),
+    ]),
+    (detour(10), [
+        ("acme", "admit", [(0, 3), (1, 3)], "admitted 1 cost 3 at 1 links 0:3"),
+        ("acme", "quote", [(0, 3), (1, 3)], "quoted 1 cost 12 at 1 links 1:3 2:3"),
+        ("zeta", "admit", [(0, 8), (2, 8)], "admitted 2 cost 16 at 2 links 1:8"),
+        ("acme", "take", 1, "stale 1 2"),
+    ]),
+    (STAR, [
+        *(("acme", "quote", AB, f"quoted {n} cost 3 at 0 links 0:1 1:1") for n in range(1, 17)),
+        ("acme", "quote", AB, "too many quotes at 0"),
+        ("zeta", "quote", ABOVE, "refused at 0 side a"),
+        ("zeta", "quote", AB, "quoted 1 cost 3 at 0 links 0:1 1:1"),
+    ]),
+]
+
+
 def check_by_hand():
     for network, loads, hose, kind, found, cost in HAND:
         decision = decide(network, loads, hose)
         assert decision == (kind, found), f"{hose} on {network}: {decision}"
         assert kind == "refused" or plan_cost(network, found) == cost, f"the cost of {found}"
-    print(f"by hand: {len(HAND)} decisions")
+    for network, commands in SCRIPTS:
+        server = Server(network)
+        for customer, command, asked, want in commands:
+            reply = getattr(server, command)(customer, asked)
+            assert reply == want, f"{customer} {command} {asked}: {reply} in place of {want}"
+    print(f"by hand: {len(HAND)} decisions, {len(SCRIPTS)} scripts with quotes")
 
 
 # ---- The comparison.
@@ -435,7 +555,8 @@ def compare_network(program, seed, size, by_force, seconds, kinds):
     draw = random.Random(seed)
     start = time.perf_counter()
     server = Server(random_network(draw, size), by_force)
-    script, wanted = zip(*(random_command(draw, server, size) for _ in range(COMMANDS)))
+    weights = random_weights(draw)
+    script, wanted = zip(*(random_command(draw, server, size, weights) for _ in range(COMMANDS)))
     planned = time.perf_counter()
     agrees = compare(program, topology_lines(server.network), list(script), wanted)
     seconds.planner += planned - start

@@ -11,6 +11,8 @@ fn commands_are_read(rt: HostRuntime) -> Result<(), Fail> {
     let star = network(rt.alloc(), STAR)?;
     for (line, want) in [
         ("admit b:4 a:3", "Admit(Hose { ends: [(0, 3), (1, 4)] })"),
+        ("quote b:4 a:3", "Quote(Hose { ends: [(0, 3), (1, 4)] })"),
+        ("take 17", "Take(17)"),
         ("release 17", "Release(17)"),
         ("show 0", "Show(0)"),
         ("link 2", "Link(2)"),
@@ -32,7 +34,7 @@ fn wrong_word(alloc: Global, top: &Topology, line: &str) -> Option<u64> {
 #[test]
 fn the_first_wrong_word_of_a_command_is_told(rt: HostRuntime) -> Result<(), Fail> {
     let star = network(rt.alloc(), STAR)?;
-    for (line, word) in [("fly", 1), ("release", 2), ("link 3", 2)] {
+    for (line, word) in [("fly", 1), ("release", 2), ("take 01", 2), ("link 3", 2)] {
         assert_eq!(rt;
             wrong_word(rt.alloc(), &star, line),
             Some(word),

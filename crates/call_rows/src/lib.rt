@@ -10,6 +10,8 @@ mod books;
 #[cfg(test)]
 mod commands;
 #[cfg(test)]
+mod cores;
+#[cfg(test)]
 mod judging;
 #[cfg(test)]
 mod networks;

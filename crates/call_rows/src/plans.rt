@@ -11,11 +11,14 @@ use crate::reading::{STAR, hose, network};
 use hose_graph::{Amounts, Hose, Row, Topology};
 use hose_links::LinkSet;
 use hose_paths::{PlainRows, RowMaker};
-use hose_plan::{Decision, decide};
+use hose_plan::{Decision, decide, grounds_hold};
 use hose_root::{choose, weight};
 use hose_tree::{Tree, cost, fits, reached, reservations};
 use std::alloc::{AllocError, Global};
 use std::test::Fail;
+
+// Two nodes with a short link, and a way round it.
+const DETOUR: &str = "node a\nnode b\nnode c\nlink a b 4 1\nlink a c 10 2\nlink c b 10 2\nend\n";
 
 // The row of a root over all links.
 pub fn row_from(alloc: Global, top: &Topology, root: u32) -> Result<Row, AllocError>
@@ -213,6 +216,40 @@ fn decisions_beside_loads(rt: HostRuntime) -> Result<(), Fail> {
         ),
     ] {
         assert_eq!(rt; decided(rt.alloc(), &star, &loads, line)?.as_str(), want);
+    }
+    Ok(())
+}
+
+// Whether the grounds of what is decided beside some loads hold beside others.
+fn held(
+    alloc: Global,
+    top: &Topology,
+    loads: &[u64],
+    others: &[u64],
+    line: &str,
+) -> Result<bool, Fail> {
+    let hose = hose(alloc, top, line)?;
+    if !are_carried(top, loads) || !are_carried(top, others) {
+        return Err(Fail::from("no loads"));
+    }
+    match decide(alloc, top, loads, &hose, &mut PlainRows::new())? {
+        Decision::Plan { grounds, .. } => Ok(grounds_hold(top, others, &grounds)),
+        Decision::Refused { .. } => Err(Fail::from("no plan")),
+    }
+}
+
+#[test]
+fn grounds_beside_other_loads(rt: HostRuntime) -> Result<(), Fail> {
+    let detour = network(rt.alloc(), DETOUR)?;
+    for (loads, others, want) in [
+        ([0, 0, 0], [1, 9, 9], true),
+        ([0, 0, 0], [2, 0, 0], false),
+        ([3, 0, 0], [2, 7, 7], true),
+        ([3, 0, 0], [2, 8, 7], false),
+        ([3, 0, 0], [1, 0, 0], false),
+    ] {
+        let holds = held(rt.alloc(), &detour, &loads, &others, "admit a:3 b:3")?;
+        assert_eq!(rt; holds, want);
     }
     Ok(())
 }

@@ -3,6 +3,7 @@ pub mod Ascending
 pub mod Hose
 pub mod Limit
 pub mod Name
+pub mod Naming
 pub mod Network
 pub mod Ranges
 pub mod Row

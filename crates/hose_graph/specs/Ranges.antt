@@ -1,5 +1,5 @@
 -- The ranges of the numbers of an entry, as far as its type leaves them open.
-use Rattle.std.specs.Prelude.{ℕ, ◌<◌, ◌≤◌, List, All, length}
+use Rattle.std.specs.Prelude.{◌<◌, ◌≤◌, List, All, length}
 use Rattle.hose_graph.specs.declared.entry.Entry.{Entry}
 use Rattle.hose_graph.specs.declared.entry.Entry.TheVariants.{Admit, Release}
 use Rattle.hose_graph.specs.declared.limits.TheConstants.{MOST_AMOUNT, MOST_EPOCH, MOST_LINKS, MOST_TREE_LINKS}

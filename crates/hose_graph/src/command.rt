@@ -7,6 +7,10 @@ use crate::hose::Hose;
 pub enum Command {
     /// To admit a network of these endpoints.
     Admit(Hose),
+    /// To plan a network of these endpoints and hold the plan.
+    Quote(Hose),
+    /// To admit the network that is held under this number.
+    Take(u64),
     /// To give up the network of this number.
     Release(u64),
     /// To tell the network of this number.

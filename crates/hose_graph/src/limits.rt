@@ -41,3 +41,6 @@ pub const MOST_AMOUNT: u64 = MOST_ENDS as u64 * MOST_RATE / 2;
 
 /// The greatest distance of two nodes: what a walk costs at most that comes to no node twice.
 pub const MOST_DISTANCE: u64 = MOST_TREE_LINKS as u64 * MOST_COST;
+
+/// The greatest number of quotes that a customer can hold at once, and so of a quote's number.
+pub const MOST_QUOTES: usize = 16;

@@ -12,17 +12,18 @@ use Rattle.std.proofs.lemmas.Option.{slice_get_within}
 use Rattle.hose_graph.specs.Ascending.{firsts}
 use Rattle.hose_graph.specs.Hose.{IsEnd, IsHose}
 use Rattle.hose_graph.specs.Network.{Network, IsNetwork}
+use Rattle.hose_graph.specs.Ranges.{AreInRanges, IsAmount}
 use Rattle.hose_graph.specs.declared.limits.TheConstants.{MOST_AMOUNT, MOST_COST, MOST_RATE, MOST_TREE_LINKS}
 use Rattle.hose_graph.specs.declared.step.Step.{Step}
 use Rattle.hose_law.specs.Plan.{AreNodes, plan_cost}
-use Rattle.hose_law.specs.Tree.{Grow, IsOn, IsTreeReservation, links_of, step_links, new_nodes}
+use Rattle.hose_law.specs.Tree.{Grow, IsOn, IsReservation, IsTreeReservation, growth, links_of, step_links, new_nodes}
 use Rattle.hose_law.specs.Walk.{Joins, cost_of}
 use Rattle.hose_law.proofs.Apart.{apart_links, apart_rising, same_sums}
 use Rattle.hose_law.proofs.Joined.{joined, joins_costs}
 use Rattle.hose_law.proofs.Reservations.{reserved_in_tree, tree_in_reserved}
 use Rattle.hose_law.proofs.TightWays.{in_reverse, from_reverse}
 use Rattle.hose_law.proofs.Trees.{distinct_behind, new_nodes_differ, on_is_node, on_reverse, start_is_not_new, rate_beyond-le}
-use Rattle.hose_graph.proofs.Members.{first_or_rest, none_in_empty}
+use Rattle.hose_graph.proofs.Members.{contains_first, first_or_rest, none_in_empty}
 
 -- the link of a step joins two nodes
 step_joins : (network : Network) (start : ℕ) (steps : List Step) → Grow network start steps → (l : ℕ) → Contains (step_links steps) l → (u : ℕ) × (v : ℕ) × Joins network l u v
@@ -47,6 +48,26 @@ few_steps network is start steps grows =
 ones : (xs : List ℕ) → sum_by (λ x. 1) xs ≡ length xs
 ones [] = refl
 ones (x ∷ xs) = omega (arith, sum_by-cons (λ y. 1) x xs, ones xs)
+
+-- nothing but the start is on a tree without a step
+on_start : (start v : ℕ) → IsOn start [] v → v ≡ start
+on_start start v (inl same) = same
+on_start start v (inr led) = absurd (none_in_empty v led)
+
+-- a hose does not have all its endpoints at one node
+two_nodes : (start : ℕ) (hose : List (ℕ × ℕ)) → IsHose hose → All (λ (end : ℕ × ℕ). IsOn start [] end.0) hose → ⊥
+two_nodes start [] is on = omega (arith, is.counted.enough)
+two_nodes start (one ∷ []) is on = omega (arith, is.counted.enough)
+two_nodes start (one ∷ (other ∷ hose)) is on =
+    let rises : one.0 < other.0 = is.ascending 0 (omega arith) in
+    omega (arith, rises, on_start start one.0 (on 0 one (omega arith)), on_start start other.0 (on 1 one (omega arith)))
+
+-- so a tree that joins a hose has a link, on which it reserves
+some_reserved : (start : ℕ) (steps : List Step) (hose pairs : List (ℕ × ℕ)) → IsHose hose → All (λ (end : ℕ × ℕ). IsOn start steps end.0) hose → IsReservation (growth start steps) hose pairs → 1 ≤ length pairs
+some_reserved start steps hose (pair ∷ pairs) is joins reserves = omega arith
+some_reserved start [] hose [] is joins reserves = absurd (two_nodes start hose is joins)
+some_reserved start (step ∷ steps) hose [] is joins reserves =
+    absurd (none_in_empty step.link (tree_in_reserved (growth start (step ∷ steps)) hose [] reserves step.link (contains_first step.link step.link (step_links steps) refl)))
 
 module _ (network : Network) (is : IsNetwork network) (set : List Bool) (hose pairs : List (ℕ × ℕ)) where
   -- a reserved link joins two nodes
@@ -96,6 +117,21 @@ module _ (network : Network) (is : IsNetwork network) (set : List Bool) (hose pa
           let reserved = (reservation.reserves.each pair.0 pair.1).0 there in
           let total = sum_by-le (λ (end : ℕ × ℕ). end.1) MOST_RATE hose (All-weaker IsEnd (λ (end : ℕ × ℕ). end.1 ≤ MOST_RATE) (λ end within. within.rate.1) hose is_hose.within) in
           omega (arith, reserved.1, rate_beyond-le tree hose pair.0, total, is_hose.counted.few)
+
+  -- What is reserved is in the ranges of an entry's numbers.
+  pub reserved_ranges : IsHose hose → IsTreeReservation network set hose pairs → AreInRanges pairs
+  reserved_ranges is_hose reservation = record {
+    some = some_reserved reservation.tree.start reservation.tree.steps hose pairs is_hose reservation.joins reservation.reserves;
+    few = reserved_few reservation;
+    within = All-weaker (Contains pairs) IsAmount within pairs (All-contains_itself pairs);
+  }
+    where
+      within : (pair : ℕ × ℕ) → Contains pairs pair → IsAmount pair
+      within pair there =
+          let link = All-contains (λ (p : ℕ × ℕ). p.0 < length network.links) pairs pair (reserved_links reservation) there in
+          let least = All-contains (λ (p : ℕ × ℕ). 1 ≤ p.1) pairs pair reservation.some there in
+          let most = All-contains (λ (p : ℕ × ℕ). p.1 ≤ MOST_AMOUNT) pairs pair (reserved_most is_hose reservation) there in
+          record { link = omega (arith, link, is.few_links); amount = (least, most) }
 
   -- So what a reservation costs is far within 64 bits.
   pub cost_bound : IsHose hose → IsTreeReservation network set hose pairs → plan_cost network pairs < 2 ^ 64

@@ -13,6 +13,7 @@ pub mod Joined
 mod LeastRoot
 pub mod LiveIds
 pub mod Lives
+pub mod Numbers
 pub mod PairedOff
 pub mod PlanWeight
 pub mod Releases
@@ -23,6 +24,7 @@ pub mod Rows
 pub mod Scripts
 mod ShortWalks
 pub mod Sold
+pub mod Steps
 pub mod Sums
 mod TightTrees
 pub mod TightWays

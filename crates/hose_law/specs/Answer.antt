@@ -1,11 +1,11 @@
 -- What the sequential book answers to a command, and the steps that this allows.
-use Rattle.std.specs.Prelude.{◌≡◌, ℕ, ◌+◌, ◌<◌, ◌≤◌, List, [], ◌∷◌, ◌++◌, length, None, Some, Option, ⊤}
+use Rattle.std.specs.Prelude.{◌≡◌, ℕ, ◌+◌, ◌<◌, ◌≤◌, List, [], ◌∷◌, ◌++◌, length, take, None, Some, Option, IsSome, ⊤}
 use Rattle.hose_graph.specs.declared.entry.Entry.{Entry}
 use Rattle.hose_graph.specs.declared.entry.Entry.TheVariants.{Admit as AdmitEntry, Release as ReleaseEntry}
 use Rattle.hose_graph.specs.declared.command.Command.{Command}
-use Rattle.hose_graph.specs.declared.command.Command.TheVariants.{Admit, Release, Show, Link}
+use Rattle.hose_graph.specs.declared.command.Command.TheVariants.{Admit, Quote, Take, Release, Show, Link}
 use Rattle.hose_graph.specs.declared.reply.Reply.{Reply}
-use Rattle.hose_graph.specs.declared.reply.Reply.TheVariants.{Admitted, Refused, Full, Spent, Released, NoVpn, Shown, LinkState, Memory}
+use Rattle.hose_graph.specs.declared.reply.Reply.TheVariants.{Admitted, Quoted, Refused, Stale, Full, Spent, Released, NoVpn, NoQuote, TooMany, Shown, LinkState, Disk, Memory}
 use Rattle.hose_graph.specs.declared.vpn.Vpn.{Vpn}
 use Rattle.hose_graph.specs.Amounts.{ReservedLink}
 use Rattle.hose_graph.specs.Hose.{Endpoint}
@@ -13,30 +13,64 @@ use Rattle.hose_graph.specs.Network.{Network}
 use Rattle.hose_law.specs.Plan.{plan_cost}
 use Rattle.hose_law.specs.Room.{room_of}
 use Rattle.hose_law.specs.Book.{Book, IsLiveVpn, HasVpn, load_of}
-use Rattle.hose_law.specs.Decision.{IsPlanned, IsRefused}
+use Rattle.hose_law.specs.Decision.{HaveEqualGrounds, IsPlanned, IsRefused}
 use Rattle.hose_law.specs.History.{book_of, last_epoch, most_live}
+use Rattle.hose_law.specs.Quotes.{Held, HeldQuote, at_number, free_number, with_number}
+
+-- ---- at a book
 
 -- the hose is planned at a book
 abbrev pub HasPlan : Network → Book → List Endpoint → Type 0
 HasPlan network book hose =
     (plan : List ReservedLink) × IsPlanned network (room_of network book) hose plan
 
--- The answer to an admission at a book: the first of refused, spent, full that applies, else
--- admitted. The entry is what joins the history.
-abbrev pub IsAdmitAnswer : Network → Book → List ℕ → List Endpoint → Reply → Option Entry → Type 0
-IsAdmitAnswer network book customer hose (Refused at side) None =
-    (at ≡ book.epoch) × IsRefused network (room_of network book) hose side
-IsAdmitAnswer network book customer hose (Spent at) None =
+-- The answer at a book where a customer's hose has a plan, with which it is to be admitted: the
+-- first of spent, full that applies, else admitted. The entry is what joins the history.
+abbrev pub IsPlannedAnswer : Network → Book → List ℕ → List Endpoint → Reply → Option Entry
+    → Type 0
+IsPlannedAnswer network book customer hose (Spent at) None =
     (at ≡ book.epoch) × (book.epoch ≡ last_epoch) × HasPlan network book hose
-IsAdmitAnswer network book customer hose (Full at) None =
+IsPlannedAnswer network book customer hose (Full at) None =
     (at ≡ book.epoch) × (book.epoch < last_epoch) × (most_live ≤ length book.live)
     × HasPlan network book hose
-IsAdmitAnswer network book customer hose (Admitted id cost at amounts) (Some entry) =
+IsPlannedAnswer network book customer hose (Admitted id cost at amounts) (Some entry) =
     (book.epoch < last_epoch) × (length book.live < most_live)
     × IsPlanned network (room_of network book) hose amounts
     × (id ≡ book.epoch + 1) × (at ≡ book.epoch + 1) × (cost ≡ plan_cost network amounts)
     × (entry ≡ AdmitEntry customer hose amounts)
-IsAdmitAnswer network book customer hose reply entry = ⊥
+IsPlannedAnswer network book customer hose reply entry = ⊥
+
+-- the answer to an admission at a book: refused where the hose has no plan, else as above
+abbrev pub IsAdmitAnswer : Network → Book → List ℕ → List Endpoint → Reply → Option Entry → Type 0
+IsAdmitAnswer network book customer hose (Refused at side) None =
+    (at ≡ book.epoch) × IsRefused network (room_of network book) hose side
+IsAdmitAnswer network book customer hose reply entry =
+    IsPlannedAnswer network book customer hose reply entry
+
+-- The answer to a question for a plan at a book, which is that of a place of the history: the first
+-- of too many, refused that applies, else quoted under the lowest number at which nothing is held,
+-- where the hose and the place are held then.
+abbrev pub IsQuoteAnswer : Network → Book → ℕ → List Endpoint → Held → Reply → Held → Type 0
+IsQuoteAnswer network book place hose held (TooMany at) after =
+    (at ≡ book.epoch) × (free_number held ≡ None) × (after ≡ held)
+IsQuoteAnswer network book place hose held (Refused at side) after =
+    (at ≡ book.epoch) × IsSome (free_number held)
+    × IsRefused network (room_of network book) hose side × (after ≡ held)
+IsQuoteAnswer network book place hose held (Quoted number cost at amounts) after =
+    (at ≡ book.epoch) × (free_number held ≡ Some number)
+    × IsPlanned network (room_of network book) hose amounts × (cost ≡ plan_cost network amounts)
+    × (after ≡ with_number held number (Some (record { hose = hose; place = place })))
+IsQuoteAnswer network book place hose held reply after = ⊥
+
+-- The answer at a book to the taking of a plan that was made at an earlier one: stale where the
+-- grounds of its hose differ at the two. Else the hose is planned as it was, and is to be admitted.
+abbrev pub IsTakingAnswer : Network → Book → Book → List ℕ → List Endpoint → Reply → Option Entry
+    → Type 0
+IsTakingAnswer network earlier book customer hose (Stale seen now) None =
+    (seen ≡ earlier.epoch) × (now ≡ book.epoch) × (¬ HaveEqualGrounds network earlier book hose)
+IsTakingAnswer network earlier book customer hose reply entry =
+    HaveEqualGrounds network earlier book hose
+    × IsPlannedAnswer network book customer hose reply entry
 
 -- The answer to a release at a book: the first of no VPN, spent that applies, else released. The
 -- entry is what joins the history.
@@ -66,33 +100,74 @@ IsLinkAnswer book link (LinkState told load at) None =
     (told ≡ link) × (load ≡ load_of book link) × (at ≡ book.epoch)
 IsLinkAnswer book link reply entry = ⊥
 
--- the answer to a customer's command at a book
-abbrev pub IsAnswer : Network → Book → List ℕ → Command → Reply → Option Entry → Type 0
-IsAnswer network book customer (Admit hose) reply entry =
-    IsAdmitAnswer network book customer hose reply entry
-IsAnswer network book customer (Release id) reply entry =
-    IsReleaseAnswer book customer id reply entry
-IsAnswer network book customer (Show id) reply entry =
-    IsShowAnswer network book customer id reply entry
-IsAnswer network book customer (Link link) reply entry = IsLinkAnswer book link reply entry
+-- ---- at a history
+
+-- The answer at a history to the taking of what stands at a number: no quote, or that to the taking
+-- of a plan that was made at the quote's place, which is not held any more then.
+abbrev pub IsTakeAnswer : Network → ℕ → List Entry → List ℕ → ℕ → Held → Option HeldQuote → Reply
+    → Option Entry → Held → Type 0
+IsTakeAnswer network epoch history customer number held None reply entry after =
+    (reply ≡ NoQuote number (book_of epoch history).epoch) × (entry ≡ None) × (after ≡ held)
+IsTakeAnswer network epoch history customer number held (Some quote) reply entry after =
+    IsTakingAnswer network (book_of epoch (take quote.place history)) (book_of epoch history)
+    customer quote.hose reply entry
+    × (after ≡ with_number held number None)
+
+-- The answer at a history to a command of a customer who holds this: the reply, the entry that
+-- joins the history, if there is one, and what the customer holds after it.
+abbrev pub IsAnswer : Network → ℕ → List Entry → List ℕ → Held → Command → Reply → Option Entry
+    → Held → Type 0
+IsAnswer network epoch history customer held (Admit hose) reply entry after =
+    IsAdmitAnswer network (book_of epoch history) customer hose reply entry × (after ≡ held)
+IsAnswer network epoch history customer held (Quote hose) reply entry after =
+    (entry ≡ None)
+    × IsQuoteAnswer network (book_of epoch history) (length history) hose held reply after
+IsAnswer network epoch history customer held (Take number) reply entry after =
+    IsTakeAnswer network epoch history customer number held (at_number held number)
+    reply entry after
+IsAnswer network epoch history customer held (Release id) reply entry after =
+    IsReleaseAnswer (book_of epoch history) customer id reply entry × (after ≡ held)
+IsAnswer network epoch history customer held (Show id) reply entry after =
+    IsShowAnswer network (book_of epoch history) customer id reply entry × (after ≡ held)
+IsAnswer network epoch history customer held (Link link) reply entry after =
+    IsLinkAnswer (book_of epoch history) link reply entry × (after ≡ held)
+
+-- ---- steps
 
 -- a history with an entry, if there is one
 abbrev pub with_entry : List Entry → Option Entry → List Entry
 with_entry history None = history
 with_entry history (Some entry) = history ++ entry ∷ []
 
--- Want of memory may be answered to an admission, to a release, and to a question after a VPN that
--- is there. What is reserved on a link, and that there is no such VPN, is told in any case.
-abbrev pub MayWantMemory : Book → List ℕ → Command → Type 0
-MayWantMemory book customer (Admit hose) = ⊤
-MayWantMemory book customer (Release id) = ⊤
-MayWantMemory book customer (Show id) = HasVpn book customer id
-MayWantMemory book customer (Link link) = ⊥
+-- Want of memory comes first at an admission and a release. It comes after too many quotes, after
+-- no quote to be taken, and after no VPN to be told; what is reserved on a link is told in any case.
+abbrev pub MayWantMemory : Book → List ℕ → Held → Command → Type 0
+MayWantMemory book customer held (Admit hose) = ⊤
+MayWantMemory book customer held (Quote hose) = IsSome (free_number held)
+MayWantMemory book customer held (Take number) = IsSome (at_number held number)
+MayWantMemory book customer held (Release id) = ⊤
+MayWantMemory book customer held (Show id) = HasVpn book customer id
+MayWantMemory book customer held (Link link) = ⊥
 
--- A step at a history: the answer, with its entry added; or want of memory, which changes nothing.
-abbrev pub IsStep : Network → ℕ → List Entry → List ℕ → Command → Reply → List Entry → Type 0
-IsStep network epoch history customer command Memory next =
-    MayWantMemory (book_of epoch history) customer command × (next ≡ history)
-IsStep network epoch history customer command reply next =
-    (entry : Option Entry) × IsAnswer network (book_of epoch history) customer command reply entry
+-- A step at a history, whose answer has this entry: the answer, with its entry added; or the disk
+-- failed to keep the entry, which is not added; or want of memory, which changes nothing.
+abbrev pub IsStepOf : Network → ℕ → List Entry → List ℕ → Held → Command → Reply → Option Entry
+    → List Entry → Held → Type 0
+IsStepOf network epoch history customer held command Memory entry next after =
+    MayWantMemory (book_of epoch history) customer held command
+    × (entry ≡ None) × (next ≡ history) × (after ≡ held)
+IsStepOf network epoch history customer held command (Disk at) entry next after =
+    (at ≡ (book_of epoch history).epoch) × IsSome entry
+    × ((reply : Reply)
+    × IsAnswer network epoch history customer held command reply entry after)
+    × (next ≡ history)
+IsStepOf network epoch history customer held command reply entry next after =
+    IsAnswer network epoch history customer held command reply entry after
     × (next ≡ with_entry history entry)
+
+-- a step at a history
+abbrev pub IsStep : Network → ℕ → List Entry → List ℕ → Held → Command → Reply → List Entry → Held
+    → Type 0
+IsStep network epoch history customer held command reply next after =
+    (entry : Option Entry)
+    × IsStepOf network epoch history customer held command reply entry next after

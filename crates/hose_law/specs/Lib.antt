@@ -9,6 +9,7 @@ pub mod History
 pub mod Live
 pub mod Matrix
 pub mod Plan
+pub mod Quotes
 pub mod Room
 pub mod Route
 pub mod Row

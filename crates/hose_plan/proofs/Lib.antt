@@ -1,3 +1,4 @@
 pub mod Deciding
+pub mod EqualGrounds
 pub mod Rooted
 pub mod Weights

@@ -25,6 +25,13 @@ pub record AreGroundsOf (network : Network) (room : Room) (hose : List Endpoint)
   pub half : grounds.half ≡ half_rate hose
   pub rests_on : AreGrounds network room hose grounds.first_fits grounds.safe
 
+-- these are the grounds of some hose at some room in which the first plan may be made over all
+-- links
+abbrev pub AreMade : Network → Grounds → Type 0
+AreMade network grounds =
+    (hose : List Endpoint) × (room : Room) × (room.links ≡ all_links network)
+    × AreGroundsOf network room hose grounds
+
 -- the links over which grounds allow a plan: those of the first plan where it fits, else the safe
 -- ones
 abbrev pub allowed_links : Room → Grounds → List Bool

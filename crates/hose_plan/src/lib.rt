@@ -1,5 +1,5 @@
 //! The planner: whether a hose is admitted beside the loads that a network carries, with which plan
-//! and at which cost, and on which grounds.
+//! and at which cost, and on which grounds; and whether the grounds still hold beside other loads.
 //!
 //! ```
 //! match decide(alloc, &top, &loads, &hose, &mut PlainRows::new())? {
@@ -11,7 +11,9 @@
 
 mod canonical;
 mod decision;
+mod holding;
 mod root;
 mod safe;
 
 pub use decision::{Decision, Grounds, decide};
+pub use holding::grounds_hold;

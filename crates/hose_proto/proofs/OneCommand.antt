@@ -6,10 +6,10 @@ use Rattle.hose_words.proofs.Passing.{Passes, pass_branch, pass_finish, pass_lis
 use Rattle.hose_graph.specs.Hose.{IsHose}
 use Rattle.hose_graph.specs.Network.{Network, IsNetwork}
 use Rattle.hose_graph.specs.declared.command.Command.{Command}
-use Rattle.hose_graph.specs.declared.command.Command.TheVariants.{Admit, Release, Show, Link}
+use Rattle.hose_graph.specs.declared.command.Command.TheVariants.{Admit, Quote, Take, Release, Show, Link}
 use Rattle.std.proofs.lemmas.List.Sorted.{length_permutation}
-use Rattle.hose_proto.specs.Command.{IsCommand, command_form, command_grammar}
-use Rattle.hose_proto.specs.Reading.{AsksOf}
+use Rattle.hose_proto.specs.Command.{AreEndsOf, IsCommand, command_form, command_grammar, ends_form}
+use Rattle.hose_graph.specs.Naming.{AsksOf}
 use Rattle.hose_proto.specs.declared.fault.ReadFault.{ReadFault}
 use Rattle.hose_proto.specs.declared.fault.ReadFault.TheVariants as fault
 use Rattle.hose_proto.specs.declared.verb.Verb.{Verb}
@@ -24,6 +24,8 @@ use Rattle.hose_proto.proofs.Words.{links_apart, verb_of, verbs_apart}
 -- the command by its first word, with its endpoints in the order of the words
 abbrev command_by : Network → Verb → List (List ℕ) → Command
 command_by network verb.Admit words = Admit (map (end_spelled network) (drop 1 words))
+command_by network verb.Quote words = Quote (map (end_spelled network) (drop 1 words))
+command_by network verb.Take words = Take (told words 1)
 command_by network verb.Release words = Release (told words 1)
 command_by network verb.Show words = Show (told words 1)
 command_by network verb.Link words = Link (told words 1)
@@ -34,6 +36,8 @@ command_of network words = command_by network (verb_of (get_or words 0 [])) word
 -- the one command is the other but for the order of endpoints
 abbrev IsOrdered : Command → Command → Type 0
 IsOrdered (Admit ends) command = (hose : List (ℕ × ℕ)) × (command ≡ Admit hose) × IsPermutation ends hose × IsHose hose
+IsOrdered (Quote ends) command = (hose : List (ℕ × ℕ)) × (command ≡ Quote hose) × IsPermutation ends hose × IsHose hose
+IsOrdered (Take quote) command = command ≡ Take quote
 IsOrdered (Release id) command = command ≡ Release id
 IsOrdered (Show id) command = command ≡ Show id
 IsOrdered (Link link) command = command ≡ Link link
@@ -42,18 +46,30 @@ IsOrdered (Link link) command = command ≡ Link link
 ordered_unique : (command one other : Command) → IsOrdered command one → IsOrdered command other → one ≡ other
 ordered_unique (Admit ends) one other (hose, is, moved, sound) (hose', is', moved', sound') =
     is ∙ ap Admit (one_hose ends hose hose' moved moved' sound sound') ∙ sym is'
+ordered_unique (Quote ends) one other (hose, is, moved, sound) (hose', is', moved', sound') =
+    is ∙ ap Quote (one_hose ends hose hose' moved moved' sound sound') ∙ sym is'
+ordered_unique (Take quote) one other is is' = is ∙ sym is'
 ordered_unique (Release id) one other is is' = is ∙ sym is'
 ordered_unique (Show id) one other is is' = is ∙ sym is'
 ordered_unique (Link link) one other is is' = is ∙ sym is'
 
 module _ (network : Network) (is : IsNetwork network) where
+  -- endpoints are found again from their words
+  ends_found : (words : List (List ℕ)) (hose : List (ℕ × ℕ)) (are : AreEndsOf network words hose) → map (end_spelled network) words ≡ are.ends
+  ends_found words hose are =
+      let new = ends_of_hose network are.ends hose are.same_ends are.is_hose in
+      ap (map (end_spelled network)) are.spelled ∙ ends_back network is are.ends (λ k d below. record { is_end = new.within k d below; is_node = new.nodes k d below })
+
   -- words that ask for a command lead back to it
   command_back : (words : List (List ℕ)) (command : Command) → IsCommand network words command → IsOrdered (command_of network words) command
-  command_back words (Admit hose) (ends, cut, moved, sound) =
-      let are = ends_of_hose network ends hose moved sound in
-      let back = ends_back network is ends (λ k d below. record { is_end = are.within k d below; is_node = are.nodes k d below }) in
+  command_back words (Admit hose) (ends, cut, are) =
       subst (λ w. IsOrdered (command_of network w) (Admit hose)) (sym cut)
-      (subst (λ (e : List (ℕ × ℕ)). IsOrdered (Admit e) (Admit hose)) (sym back) (hose, refl, moved, sound.is_hose))
+      (subst (λ (e : List (ℕ × ℕ)). IsOrdered (Admit e) (Admit hose)) (sym (ends_found ends hose are)) (hose, refl, are.same_ends, are.is_hose.is_hose))
+  command_back words (Quote hose) (ends, cut, are) =
+      subst (λ w. IsOrdered (command_of network w) (Quote hose)) (sym cut)
+      (subst (λ (e : List (ℕ × ℕ)). IsOrdered (Quote e) (Quote hose)) (sym (ends_found ends hose are)) (hose, refl, are.same_ends, are.is_hose.is_hose))
+  command_back words (Take quote) (cut, within) =
+      subst (λ w. IsOrdered (command_of network w) (Take quote)) (sym cut) (ap Take (sym (number_back quote (omega (arith, within)))))
   command_back words (Release id) (cut, within) =
       subst (λ w. IsOrdered (command_of network w) (Release id)) (sym cut) (ap Release (sym (number_back id (omega (arith, within)))))
   command_back words (Show id) (cut, within) =
@@ -63,10 +79,18 @@ module _ (network : Network) (is : IsNetwork network) where
 
   -- ---- a command is not wrong
 
+  pass_ends : (words : List (List ℕ)) (hose : List (ℕ × ℕ)) → AreEndsOf network words hose → Passes (ends_form network) words
+  pass_ends words hose are =
+      subst (Passes (ends_form network)) (sym are.spelled)
+      (pass_list (new_ends_closed network) (omega (arith, are.is_hose.is_hose.counted.enough, length_permutation are.ends hose are.same_ends)) (ends_of_hose network are.ends hose are.same_ends are.is_hose))
+
   pass_command : (words : List (List ℕ)) (command : Command) → IsCommand network words command → Passes (command_form network) words
-  pass_command words (Admit hose) (ends, cut, moved, sound) =
-      subst (Passes (command_form network)) (sym cut)
-      (pass_branch verb.Admit tt verbs_apart (pass_list (new_ends_closed network) (omega (arith, sound.is_hose.counted.enough, length_permutation ends hose moved)) (ends_of_hose network ends hose moved sound)))
+  pass_command words (Admit hose) (ends, cut, are) =
+      subst (Passes (command_form network)) (sym cut) (pass_branch verb.Admit tt verbs_apart (pass_ends ends hose are))
+  pass_command words (Quote hose) (ends, cut, are) =
+      subst (Passes (command_form network)) (sym cut) (pass_branch verb.Quote tt verbs_apart (pass_ends ends hose are))
+  pass_command words (Take quote) (cut, within) =
+      subst (Passes (command_form network)) (sym cut) (pass_branch verb.Take tt verbs_apart (pass_place (quote, refl, within) pass_finish))
   pass_command words (Release id) (cut, within) =
       subst (Passes (command_form network)) (sym cut) (pass_branch verb.Release tt verbs_apart (pass_place (id, refl, within) pass_finish))
   pass_command words (Show id) (cut, within) =
@@ -94,10 +118,12 @@ asked_for network words (Err fault.Memory) is ok bad command asks = inr refl
 
 -- ---- what a command names
 
--- the nodes and the link that a command names are the network's
+-- the nodes and the link that a command names are the network's, and a number to be released is one that there can be
 asks_of : (network : Network) (words : List (List ℕ)) (command : Command) → IsCommand network words command → AsksOf network command
-asks_of network words (Admit hose) (ends, cut, moved, sound) = sound.nodes
-asks_of network words (Release id) asks = tt
+asks_of network words (Admit hose) (ends, cut, are) = are.is_hose.nodes
+asks_of network words (Quote hose) (ends, cut, are) = are.is_hose.nodes
+asks_of network words (Take quote) asks = tt
+asks_of network words (Release id) asks = asks.1.1
 asks_of network words (Show id) asks = tt
 asks_of network words (Link link) (cut, within) = within
 

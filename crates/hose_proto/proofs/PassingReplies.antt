@@ -14,7 +14,7 @@ use Rattle.hose_graph.specs.declared.reply.Reply.TheVariants.{Welcome, Admitted,
 use Rattle.hose_proto.specs.Places.{IsHoseOf, end_word}
 use Rattle.hose_proto.specs.Reading.{IsFaultOf}
 use Rattle.hose_proto.specs.ReplyGrammar.{AreEnds, at_form, id_form, amounts_form, hose_form, priced_form, reply_form, reply_grammar}
-use Rattle.hose_proto.specs.ReplyText.{NamesPlaces}
+use Rattle.hose_graph.specs.Naming.{NamesPlaces}
 use Rattle.hose_proto.specs.ReplyWords.{AreAmounts, IsOfKind, IsReply, pair_word, link_words, priced_words, reply_words}
 use Rattle.hose_proto.specs.declared.fault.ReadFault.{ReadFault}
 use Rattle.hose_proto.specs.declared.fault.ReadFault.TheVariants as fault

@@ -82,6 +82,8 @@ verb_of word = choice_of verb_word VERBS verb.Link word
 
 pub verb_of-word : (one : Verb) → verb_of (verb_word one) ≡ one
 verb_of-word verb.Admit = refl
+verb_of-word verb.Quote = refl
+verb_of-word verb.Take = refl
 verb_of-word verb.Release = refl
 verb_of-word verb.Show = refl
 verb_of-word verb.Link = refl
@@ -92,9 +94,11 @@ verbs_apart = apart_by verb_of (λ one _. verb_of-word one)
 -- where none of the first words is a word, it is that of no command
 pub every_verb : (P : Verb → Type 0) → All P VERBS → (one : Verb) → P one
 every_verb P all verb.Admit = all 0 verb.Link (omega arith)
-every_verb P all verb.Release = all 1 verb.Link (omega arith)
-every_verb P all verb.Show = all 2 verb.Link (omega arith)
-every_verb P all verb.Link = all 3 verb.Link (omega arith)
+every_verb P all verb.Quote = all 1 verb.Link (omega arith)
+every_verb P all verb.Take = all 2 verb.Link (omega arith)
+every_verb P all verb.Release = all 3 verb.Link (omega arith)
+every_verb P all verb.Show = all 4 verb.Link (omega arith)
+every_verb P all verb.Link = all 5 verb.Link (omega arith)
 
 pub links_apart : (network : Network) → IsNetwork network → AreApart (IsLinkOf network) decimal
 links_apart network is = record { apart = λ one other below below' same. decimal_injective one other (omega (arith, below, is.few_links)) (omega (arith, below', is.few_links)) same }

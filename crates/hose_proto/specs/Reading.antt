@@ -1,5 +1,5 @@
 -- What is read of the words of commands and replies.
-use Rattle.std.specs.Prelude.{◌≡◌, ℕ, ◌+◌, ◌<◌, ◌≤◌, List, [], ◌∷◌, ◌++◌, ⊤, All, Any, codes, length}
+use Rattle.std.specs.Prelude.{◌≡◌, ℕ, ◌+◌, ◌<◌, ◌≤◌, List, [], ◌∷◌, ◌++◌, Any, codes, length}
 use Rattle.std.specs.List.Sorted.{IsStrictlyIncreasing}
 use Rattle.hose_words.specs.Cursor.{Position, IsWrong}
 use Rattle.hose_words.specs.Form.{Form, Fits64}
@@ -8,18 +8,10 @@ use Rattle.hose_graph.specs.Amounts.{ReservedLink, amount_of, link_of}
 use Rattle.hose_graph.specs.Ascending.{firsts}
 use Rattle.hose_graph.specs.Hose.{IsEnd, Endpoint, node_of}
 use Rattle.hose_graph.specs.Network.{Network, IsLinkOf, IsNodeOf}
-use Rattle.hose_graph.specs.declared.command.Command.{Command}
-use Rattle.hose_graph.specs.declared.command.Command.TheVariants.{Admit, Link}
 use Rattle.hose_graph.specs.declared.limits.TheConstants.{LEAST_ENDS, MOST_ENDS}
 use Rattle.hose_proto.specs.Places.{end_word}
 use Rattle.hose_proto.specs.declared.fault.ReadFault.{ReadFault}
 use Rattle.hose_proto.specs.declared.fault.ReadFault.TheVariants.{Bad}
-
--- each node and each link that the command names is one of the network
-abbrev pub AsksOf : Network → Command → Type 0
-AsksOf network (Admit hose) = All (λ end. IsNodeOf network (node_of end)) hose
-AsksOf network (Link link) = IsLinkOf network link
-AsksOf network _ = ⊤
 
 -- A word that is told is the first of those to come that a form does not allow. Want of memory
 -- tells nothing of them.

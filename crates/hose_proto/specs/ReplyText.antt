@@ -1,9 +1,9 @@
 -- The texts of replies.
-use Rattle.std.specs.Prelude.{ℕ, List, [], ◌∷◌, ◌++◌, ⊤, All, Option, None, Some, codes, decimal, slice_get}
+use Rattle.std.specs.Prelude.{ℕ, List, [], ◌∷◌, ◌++◌, Option, None, Some, codes, decimal, slice_get}
 use Rattle.std.specs.List.{flat_map}
 use Rattle.hose_graph.specs.Amounts.{ReservedLink, amount_of, link_of}
 use Rattle.hose_graph.specs.Hose.{Endpoint, node_of, rate_of}
-use Rattle.hose_graph.specs.Network.{Network, IsLinkOf, IsNodeOf, name_of}
+use Rattle.hose_graph.specs.Network.{Network, name_of}
 use Rattle.hose_graph.specs.declared.link.Link.{Link}
 use Rattle.hose_graph.specs.declared.reply.Reply.{Reply}
 use Rattle.hose_graph.specs.declared.reply.Reply.TheVariants.{Welcome, Admitted, Quoted, Refused, Stale, Released, NoVpn, NoQuote, TooMany, Shown, LinkState, Full, Spent, Disk, Memory, Bad, Long, Bye}
@@ -26,14 +26,6 @@ link_text network None = []
 link_text network (Some link) =
     node_text network link.a ++ node_text network link.b
     ++ codes " capacity " ++ decimal link.capacity ++ codes " cost " ++ decimal link.cost
-
--- each node and each link that the reply names is one of the network
-abbrev pub NamesPlaces : Network → Reply → Type 0
-NamesPlaces network (Refused at side) = All (IsNodeOf network) side
-NamesPlaces network (Shown id cost at hose amounts) =
-    All (λ end. IsNodeOf network (node_of end)) hose
-NamesPlaces network (LinkState link load at) = IsLinkOf network link
-NamesPlaces network _ = ⊤
 
 -- a cost, an epoch, and links with their amounts
 abbrev pub priced_text : ℕ → ℕ → List ReservedLink → List ℕ

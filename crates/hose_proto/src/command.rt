@@ -1,5 +1,5 @@
 // Commands read from words.
-ghost use Rattle.std.specs.Prelude.{◌≡◌, ◌⊎◌, ℕ, ◌+◌, ◌≤◌, ◌↔◌, [], ◌∷◌, codes, decimal, length, drop, Ok, Err, IfOk, IfErr, IfSome, IfNone, IsTrue, Any};
+ghost use Rattle.std.specs.Prelude.{◌≡◌, ◌⊎◌, ℕ, ◌+◌, ◌≤◌, ◌↔◌, [], ◌∷◌, decimal, length, drop, Ok, Err, IfOk, IfErr, IfSome, IfNone, IsTrue, Any};
 ghost use Rattle.hose_words.specs.Cursor.{Took, IsWrong, MissesItem};
 ghost use Rattle.hose_words.specs.Form.{IsChoice};
 ghost use Rattle.hose_words.specs.Grammar.{IsFirst, IsFirstNotAllowed};
@@ -7,10 +7,10 @@ ghost use Rattle.hose_words.specs.Words.{words_of};
 ghost use Rattle.hose_graph.specs.Hose.{Endpoint, node_of};
 ghost use Rattle.hose_graph.specs.Network.{IsNetwork, IsLinkOf};
 ghost use Rattle.hose_graph.specs.declared.command.Command.{Command};
-ghost use Rattle.hose_graph.specs.declared.command.Command.TheVariants.{Admit};
-ghost use Rattle.hose_proto.specs.Command.{IsId, IsCommand, TakesMemory, command_form, command_grammar, ends_form, verb_form, sole_link_form, verb_word, vpn_form};
+ghost use Rattle.hose_proto.specs.Command.{AreEndsOf, IsId, IsCommand, TakesMemory, command_form, command_grammar, ends_form, verb_form, sole_id_form, sole_link_form, verb_word};
 ghost use Rattle.hose_proto.specs.Places.{end_word};
-ghost use Rattle.hose_proto.specs.Reading.{AsksOf, IsFaultOf, IsNewEnd};
+ghost use Rattle.hose_proto.specs.Reading.{IsFaultOf, IsNewEnd};
+ghost use Rattle.hose_graph.specs.Naming.{AsksOf};
 
 use crate::fault::ReadFault;
 use crate::places::{endpoint, read_link_number};
@@ -21,8 +21,8 @@ use std::alloc::Global;
 
 /// The command that the words of a line after its first `from` ask for.
 ///
-/// The endpoints of an admission may stand in any order. A word that is not allowed is told by its
-/// number in the line.
+/// The endpoints of an admission or of a quote may stand in any order. A word that is not allowed
+/// is told by its number in the line.
 pub fn read_command(
     alloc: Global,
     top: &Topology,
@@ -100,17 +100,19 @@ fn read_after(
 {
     match verb {
         Verb::Admit => Ok(Command::Admit(read_hose(alloc, top, words)?)),
+        Verb::Quote => Ok(Command::Quote(read_hose(alloc, top, words)?)),
+        Verb::Take => Ok(Command::Take(read_id(words)?)),
         Verb::Release => Ok(Command::Release(read_id(words)?)),
         Verb::Show => Ok(Command::Show(read_id(words)?)),
         Verb::Link => Ok(Command::Link(read_link(top, words)?)),
     }
 }
 
-// The number of a VPN that stands alone after a command's first word.
+// The number of a VPN or of a quote that stands alone after a command's first word.
 fn read_id(words: &mut Cursor<'_>) -> Result<u64, WrongWord>
     ensures ok { IfOk result (λ id. words.old.left ≡ decimal id ∷ []) }
     ensures is_id { IfOk result IsId }
-    ensures wrong { IfErr result (λ wrong. IsWrong vpn_form words.old wrong.number) }
+    ensures wrong { IfErr result (λ wrong. IsWrong sole_id_form words.old wrong.number) }
 {
     let id = words.number_within(0, MOST_EPOCH)?;
     words.finish()?;
@@ -133,8 +135,7 @@ fn read_link(top: &Topology, words: &mut Cursor<'_>) -> Result<u32, WrongWord>
 // The hose of the endpoints that are left.
 fn read_hose(alloc: Global, top: &Topology, words: &mut Cursor<'_>) -> Result<Hose, ReadFault>
     requires { IsNetwork top.now }
-    ensures ok { IfOk result
-        (λ hose. IsCommand top.now (codes "admit" ∷ words.old.left) (Admit hose)) }
+    ensures ok { IfOk result (AreEndsOf top.now words.old.left) }
     ensures bad { IfErr result (IsFaultOf (ends_form top.now) words.old) }
 {
     let mut ends = Vec::new(alloc);

@@ -8,7 +8,7 @@ ghost use Rattle.hose_graph.specs.Network.{Network, IsNetwork, name_of};
 ghost use Rattle.hose_graph.specs.declared.reply.Reply.{Reply};
 ghost use Rattle.hose_proto.specs.Reading.{IsFaultOf};
 ghost use Rattle.hose_proto.specs.ReplyGrammar.{HasLists, at_form, cost_form, id_form, priced_form, side_form, shown_form, load_form, link_form, head_word, missing_word, head_form, reply_form, reply_grammar};
-ghost use Rattle.hose_proto.specs.ReplyText.{NamesPlaces};
+ghost use Rattle.hose_graph.specs.Naming.{NamesPlaces};
 ghost use Rattle.hose_proto.specs.ReplyWords.{AreAmounts, IsReply, cost_words, link_words, priced_words};
 
 use crate::fault::ReadFault;

@@ -7,7 +7,8 @@ ghost use Rattle.hose_io.specs.Writing.{IsPut};
 ghost use Rattle.hose_graph.specs.Hose.{node_of};
 ghost use Rattle.hose_graph.specs.Network.{IsLinkOf, IsNodeOf};
 ghost use Rattle.hose_graph.specs.declared.reply.Reply.TheVariants.{LinkState};
-ghost use Rattle.hose_proto.specs.ReplyText.{NamesPlaces, line_of, reply_text, priced_text, pair_text, node_text, end_text, link_text};
+ghost use Rattle.hose_proto.specs.ReplyText.{line_of, reply_text, priced_text, pair_text, node_text, end_text, link_text};
+ghost use Rattle.hose_graph.specs.Naming.{NamesPlaces};
 ghost use Rattle.hose_proto.specs.ReplyWords.{IsOfKind, IsReply};
 ghost use Rattle.hose_words.specs.Words.{words_of};
 

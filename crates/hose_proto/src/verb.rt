@@ -8,12 +8,21 @@ use hose_words::Keyword;
 #[derive(Clone, Copy, Debug)]
 pub(crate) enum Verb {
     Admit,
+    Quote,
+    Take,
     Release,
     Show,
     Link,
 }
 
-const VERBS: [Verb; 4] = [Verb::Admit, Verb::Release, Verb::Show, Verb::Link];
+const VERBS: [Verb; 6] = [
+    Verb::Admit,
+    Verb::Quote,
+    Verb::Take,
+    Verb::Release,
+    Verb::Show,
+    Verb::Link,
+];
 
 impl Keyword for Verb {
     ghost word_of = { verb_word };
@@ -34,6 +43,8 @@ impl Verb {
     {
         match self {
             Verb::Admit => b"admit",
+            Verb::Quote => b"quote",
+            Verb::Take => b"take",
             Verb::Release => b"release",
             Verb::Show => b"show",
             Verb::Link => b"link",

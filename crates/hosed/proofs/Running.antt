@@ -1,5 +1,5 @@
 -- A run as a whole, from its topology and the turns behind it.
-use Rattle.std.proofs.Common.{◌≡◌, ◌≢◌, ◌∙◌, ℕ, List, [], ◌++◌, Option, Some, None, Result, Ok, Err, inl, inr, refl, ap, subst}
+use Rattle.std.proofs.Common.{◌≡◌, ◌≢◌, ◌∙◌, ℕ, List, [], ◌++◌, Option, Some, None, Result, Ok, Err, inl, inr, refl, ap, subst, arith}
 use Rattle.hose_io.specs.Stream.{Stream, Grows}
 use Rattle.hose_io.specs.declared.source.Source.{Ghosts}
 use Rattle.hose_words.specs.Lines.{Reader, StopsAfterLines}
@@ -13,7 +13,8 @@ use Rattle.hose_law.specs.Script.{ReadLine}
 use Rattle.hose_law.proofs.Cheapest.{decided_cheapest}
 use Rattle.hose_law.proofs.Lives.{live_held, stays_live}
 use Rattle.hose_law.proofs.Sold.{sold}
-use Rattle.hose_io.specs.Frame.{Rose}
+use Rattle.hose_io.specs.Frame.{Frame, Rose}
+use Rattle.hose_book.specs.Commit.{unfailing}
 use Rattle.hose_io.specs.declared.sink.Sink.{Ghosts as SinkGhosts}
 use Rattle.hosed.specs.RunOutcome.{RunLeaves}
 use Rattle.hosed.specs.Fault.{of_topology}
@@ -48,13 +49,13 @@ wrong_told source start last line word empty wrong none =
     ))
 
 -- a network was read, and then lines were answered; what `stops` says behind the topology it says of the whole input
-pub has_run : {S : Type 0} (source : Ghosts S) (start middle last : Reader S) (network : Network) → IsNetwork network → (stops : List ℕ → List ℕ → List ℕ → Type 0) (puts : List Reply → Type 0) → start.pending ≡ []
+pub has_run : {S : Type 0} (source : Ghosts S) (start middle last : Reader S) (network : Network) (before after : Frame) → ¬ Rose before after → IsNetwork network → (stops : List ℕ → List ℕ → List ℕ → Type 0) (puts : List Reply → Type 0) → start.pending ≡ []
     → WhereTold (source.content start.source) (source.content middle.source) (λ input left. IsTopologyText (start.pending ++ input) network (middle.pending ++ left))
     → ReadsOn source start middle
     → WhereTold (source.content start.source) (source.content middle.source) (λ input left. (behind rest : List ℕ) → stops (middle.pending ++ left) behind rest → stops (start.pending ++ input) behind rest)
-    → (served : ServesUpTo source middle last network stops puts)
+    → (served : ServesUpTo source middle last network before after stops puts)
     → HasRun (source.content start.source) (source.content last.source) network served.lines served.replies stops
-has_run source start middle last network is stops puts empty text reads joins served = record {
+has_run source start middle last network before after held is stops puts empty text reads joins served = record {
   history = served.answered.history;
   text = WhereTold-then (source.content start.source) (source.content middle.source) (source.content last.source) reads.takes.0 _ _ _ reads.takes.1
       (WhereTold-both (source.content start.source) (source.content middle.source) _ _ text joins) served.said
@@ -65,7 +66,9 @@ has_run source start middle last network is stops puts empty text reads joins se
         said.1,
         subst (λ (p : List ℕ). stops (p ++ a) said.0 c) empty (told.1 said.0 c said.2),
       ));
+  left = served.answered.left;
   script = served.answered.script;
+  disk = served.answered.disk held;
   decided = served.answered.decided;
   none_oversold = λ place l. sold network 0 served.answered.history place l served.answered.decided.sound;
   held = live_held 0 served.answered.history;
@@ -85,8 +88,8 @@ run_of old new network lines replies before after is one run out = record {
   alone = λ without. WhereTold-map old new _ _ (WhereTold-both old new _ _ one run.text)
       (λ input left both output right.
       let text = both.1 in
-      right_alone network input text.0 output lines replies run.history is both.0 text.2
-      (subst (SayLines network text.0 lines) text.4.0 text.3) run.script without right);
+      right_alone network input text.0 output lines replies run.history run.left is both.0 text.2
+      (subst (SayLines network text.0 lines) text.4.0 text.3) run.script (record { memory = without; disk = run.disk }) right);
 }
 
 -- up to a reply that was cut off
@@ -100,6 +103,10 @@ cut_of old new network lines replies before after run cuts = record {
   run = subst (λ (r : List Reply). HasRun old new network lines r IsLeftOver) cuts.2 run;
   out = cuts.3;
 }
+
+-- a count that never rises has not risen
+pub never_rose : ¬ Rose unfailing unfailing
+never_rose rose = omega (arith, rose)
 
 -- ---- what a run leaves
 
@@ -123,7 +130,7 @@ leaves_topology {S = S} T source sink start last output Memory wrong stopped rea
     (inl (ap (λ (reader : Reader S). reader.source) (memory refl)), unfailed (λ is. absurd (cc is)), refl)
 
 -- where a topology was read, and then lines were answered
-module _ {S O : Type 0} (source : Ghosts S) (sink : SinkGhosts O) (start middle last : Reader S) (network : Network) (output output' : O) (is : IsNetwork network) (empty : start.pending ≡ [])
+module _ {S O : Type 0} (source : Ghosts S) (sink : SinkGhosts O) (start middle last : Reader S) (network : Network) (before after : Frame) (undisturbed : ¬ Rose before after) (output output' : O) (is : IsNetwork network) (empty : start.pending ≡ [])
     (text : WhereTold (source.content start.source) (source.content middle.source) (λ input left. IsTopologyText (start.pending ++ input) network (middle.pending ++ left)))
     (one : WhereTold (source.content start.source) (source.content middle.source) (λ input left. OneText (start.pending ++ input) network (middle.pending ++ left)))
     (reads : ReadsOn source start middle) (none : middle.fault ≡ None) (more : ReadsOn source middle last) where
@@ -147,7 +154,7 @@ module _ {S O : Type 0} (source : Ghosts S) (sink : SinkGhosts O) (start middle 
         lines = lines;
       })
 
-  run_until : (fault : LineFault) → ServesUntil source sink middle last output output' network fault
+  run_until : (fault : LineFault) → ServesUntil source sink middle last output output' network before after fault
       → IsRunUpTo fault (source.content start.source) (source.content last.source) (sink.content output) (sink.content output')
   run_until fault served =
       let joins = WhereTold-map (source.content start.source) (source.content middle.source) _
@@ -158,14 +165,14 @@ module _ {S O : Type 0} (source : Ghosts S) (sink : SinkGhosts O) (start middle 
         network = network;
         lines = served.serves.lines;
         replies = served.serves.replies;
-        run = has_run source start middle last network is (StopsAfterLines fault) _ empty text reads joins served.serves;
+        run = has_run source start middle last network before after undisturbed is (StopsAfterLines fault) _ empty text reads joins served.serves;
         out = served.serves.out;
       }
 
-  pub leaves_served : {T : Type 0} (done : Result T Fault) → Serves source sink middle last output output' network done → RunLeaves source sink start.source last.source output output' done
+  pub leaves_served : {T : Type 0} (done : Result T Fault) → Serves source sink middle last output output' network before after done → RunLeaves source sink start.source last.source output output' done
   leaves_served (Ok value) served = (
     run_of (source.content start.source) (source.content last.source) network served.0.lines served.0.replies (sink.content output) (sink.content output') is (one_input served.3)
-        (has_run source start middle last network is IsAllTaken _ empty text reads (whatever_before (IsAllTaken [])) served.0) served.0.out,
+        (has_run source start middle last network before after undisturbed is IsAllTaken _ empty text reads (whatever_before (IsAllTaken [])) served.0) served.0.out,
     held_over (λ read. absurd (cc (served.1, read))),
     served.2,
   )
@@ -176,7 +183,7 @@ module _ {S O : Type 0} (source : Ghosts S) (sink : SinkGhosts O) (start middle 
   leaves_served (Err fault.TooLong) served = (inr (run_until line.TooLong served, served.held), held_over (λ read. absurd (cc (served.kept, read))))
   leaves_served (Err fault.Write) served = (
     cut_of (source.content start.source) (source.content last.source) network served.0.lines served.0.replies (sink.content output) (sink.content output')
-        (has_run source start middle last network is IsLeftOver _ empty text reads (whatever_before (IsLeftOver [])) served.0) served.0.out,
+        (has_run source start middle last network before after undisturbed is IsLeftOver _ empty text reads (whatever_before (IsLeftOver [])) served.0) served.0.out,
     held_over (λ read. absurd (cc (served.1, read))),
     served.2,
   )

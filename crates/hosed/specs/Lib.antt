@@ -1,4 +1,3 @@
-pub mod Answering
 pub mod Ending
 pub mod Fault
 pub mod ProgramWords

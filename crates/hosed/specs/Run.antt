@@ -11,7 +11,8 @@ use Rattle.hose_law.specs.Book.{IsOversold}
 use Rattle.hose_law.specs.Cheapest.{AreCheapest}
 use Rattle.hose_law.specs.History.{book_of, IsDecided}
 use Rattle.hose_law.specs.Live.{AreLiveHeld, StaysLive}
-use Rattle.hose_law.specs.Script.{ReadLine, IsScript, WithoutMemory}
+use Rattle.hose_law.specs.Quotes.{Holdings, nothing_held}
+use Rattle.hose_law.specs.Script.{ReadLine, IsScript, WithoutDisk, WithoutMemory}
 use Rattle.hose_topo.specs.TopologyText.{IsTopologyText, IsWrongAt}
 use Rattle.hose_words.specs.Reading.{WhereTold}
 use Rattle.hosed.specs.Ending.{GrowsShort}
@@ -19,7 +20,8 @@ use Rattle.hose_proto.specs.ReplyText.{line_of, reply_text}
 use Rattle.hosed.specs.Serving.{IsAllTaken, IsLeftOver, SayLines, texts_of}
 
 -- This output is right for this input: the input is the text of a network and then lines, the
--- output is the replies of their script, and none is for want of memory.
+-- output is the replies of their script, none of which is for want of memory or for a failure of a
+-- disk.
 pub record IsRightFor (input output : List ℕ) : Type 0 where
   pub network : Network
   pub rest : List ℕ
@@ -28,14 +30,17 @@ pub record IsRightFor (input output : List ℕ) : Type 0 where
   pub history : List Entry
   pub topology : IsTopologyText input network rest
   pub said : SayLines network rest lines []
-  pub script : IsScript network 0 [] lines replies history
-  pub without : WithoutMemory replies
+  pub left : Holdings
+  pub script : IsScript network 0 [] nothing_held lines replies history left
+  pub memory : WithoutMemory replies
+  pub disk : WithoutDisk replies
   pub out : output ≡ texts_of network replies
 
 -- The input is the text of a network and then lines that were answered: the replies are those of
--- the script of the lines from the empty history, and that history is decided from its start. At
--- each place of it no link is oversold, and exactly those VPNs are live that were admitted before
--- it and not released since, each as it was admitted. What each admission reserves carries every
+-- the script of the lines from the empty history, where no customer holds a quote, and none is for
+-- a failure of a disk. The history that it leads to is decided from its start. At each place of it
+-- no link is oversold, and exactly those VPNs are live that were admitted before it and not
+-- released since, each as it was admitted. What each admission reserves carries every
 -- matrix within the rates of its hose, and no tree over the links allowed at the book before it
 -- carries them at less cost. `stops` says how the input stands to what comes after the lines and to
 -- what is left.
@@ -45,7 +50,9 @@ pub record HasRun (old new : Option Stream) (network : Network) (lines : List Re
   pub text : WhereTold old new (λ input left. (lines_text rest : List ℕ)
       × IsTopologyText input network lines_text × SayLines network lines_text lines rest
       × stops input rest left)
-  pub script : IsScript network 0 [] lines replies history
+  pub left : Holdings
+  pub script : IsScript network 0 [] nothing_held lines replies history left
+  pub disk : WithoutDisk replies
   pub decided : IsDecided network 0 0 history
   pub none_oversold : (place l : ℕ) → ¬ IsOversold network (book_of 0 (take place history)) l
   pub held : (place : ℕ) → place ≤ length history → AreLiveHeld 0 history place

@@ -1,7 +1,7 @@
 -- What the lines after a topology say, and what is answered to them.
 use Rattle.std.specs.Prelude.{◌≡◌, ◌≢◌, ℕ, ◌+◌, ◌<◌, ◌≤◌, Bool, true, false, IsFalse, List, [], ◌∷◌, ◌++◌, length, Option, None, Some, Result, Ok, Err, ⊤}
 use Rattle.std.specs.List.{before_first, after_first, flat_map}
-use Rattle.hose_io.specs.Frame.{Rose}
+use Rattle.hose_io.specs.Frame.{Frame, Rose, Stays}
 use Rattle.hose_io.specs.Stream.{Grows}
 use Rattle.hose_io.specs.Writing.{GrowsInPart}
 use Rattle.hose_io.specs.declared.sink.Sink.{Ghosts as SinkGhosts}
@@ -16,17 +16,18 @@ use Rattle.hose_words.specs.declared.lines.Line.{Line}
 use Rattle.hose_words.specs.declared.lines.Line.TheVariants as line
 use Rattle.hose_graph.specs.declared.entry.Entry.{Entry}
 use Rattle.hose_graph.specs.declared.reply.Reply.{Reply}
-use Rattle.hose_graph.specs.declared.reply.Reply.TheVariants.{Memory, Bad, Long}
 use Rattle.hose_graph.specs.Network.{Network}
-use Rattle.hose_law.specs.Book.{Book}
-use Rattle.hose_law.specs.History.{book_of, IsDecided}
-use Rattle.hose_law.specs.Script.{ReadLine, IsScript}
+use Rattle.hose_law.specs.History.{IsDecided}
+use Rattle.hose_law.specs.Quotes.{Holdings, nothing_held}
+use Rattle.hose_law.specs.Script.{ReadLine, IsFixedReply, IsScript, WithoutDisk}
 use Rattle.hose_law.specs.Script.ReadLine.{Asks, IsBad, IsLong, Unread}
 use Rattle.hosed.specs.ScriptLine.{IsAsking, WantsMemory, script_grammar}
 use Rattle.hosed.specs.Ending.{GrowsShort}
 use Rattle.hose_proto.specs.ReplyText.{line_of, reply_text}
-use Rattle.hose_book.specs.Ledger.{Ledger}
-use Rattle.hosed.specs.Answering.{Answers}
+use Rattle.hose_book.specs.Commit.{IsMet}
+use Rattle.hose_book.specs.declared.books.Books.{Ghosts as BooksGhosts}
+use Rattle.hose_core.specs.Holding.{State}
+use Rattle.hose_core.specs.Stepping.{FitsHistory, Steps, committed_of}
 use Rattle.hose_words.specs.Reading.{WhereTold}
 use Rattle.hosed.specs.declared.fault.Fault.{Fault}
 use Rattle.hosed.specs.declared.fault.Fault.TheVariants as fault
@@ -76,48 +77,51 @@ pub data SayOneThingEach (network : Network) : List ℕ → List ℕ → Type 0 
       → SaysOneThing network (before_first is_line_feed rest)
       → SayOneThingEach network text (after_first is_line_feed rest)
 
--- The ledger answered a line: a command with its answer, and any other line with the reply that
--- stands for it, which changes nothing.
-abbrev pub AnswersLine : Ledger → ReadLine → Reply → Book → Type 0
-AnswersLine old (Asks customer command) reply new = Answers old customer command reply new
-AnswersLine old (IsBad word) reply new = (reply ≡ Bad word) × (new ≡ old.book)
-AnswersLine old IsLong reply new = (reply ≡ Long) × (new ≡ old.book)
-AnswersLine old Unread reply new = (reply ≡ Memory) × (new ≡ old.book)
+-- A core answered a line: a command by a step at each history that the core fits, and any other
+-- line with the reply that stands for it, which changes nothing. A failure of a disk raised the
+-- count of the books.
+abbrev pub AnswersLine : {K R : Type 0} → BooksGhosts K R → State K → State K → ReadLine → Reply
+    → Type 0
+AnswersLine books old new (Asks customer command) answer =
+    Steps books old new customer command answer
+    × ((books.ledger new.books).network ≡ (books.ledger old.books).network)
+    × IsMet (books.frame old.books) (committed_of answer) (books.frame new.books)
+AnswersLine books old new line answer = IsFixedReply line answer × (new ≡ old)
 
 -- the texts of replies, a line each
 abbrev pub texts_of : Network → List Reply → List ℕ
 texts_of network replies = flat_map (λ reply. line_of (reply_text network reply)) replies
 
 -- Lines that were answered from the empty history on: the replies are those of a script, whose
--- history is decided and led to this book.
-pub record AreAnswered (network : Network) (lines : List ReadLine) (replies : List Reply)
-    (book : Book) : Type 0 where
+-- history is decided. A failure of a disk was told only where the count of the books rose.
+pub record AreAnswered (network : Network) (before after : Frame) (lines : List ReadLine)
+    (replies : List Reply) : Type 0 where
   pub history : List Entry
-  pub script : IsScript network 0 [] lines replies history
+  pub left : Holdings
+  pub script : IsScript network 0 [] nothing_held lines replies history left
   pub decided : IsDecided network 0 0 history
-  pub is_book : book ≡ book_of 0 history
+  pub stays : Stays before after
+  pub disk : ¬ Rose before after → WithoutDisk replies
 
 -- A turn: the first line that was to come was read and answered, and it says one thing. `puts` says
 -- how much is out of the line of its reply.
-pub record TakesTurn {S : Type 0} (source : Ghosts S) (old new : Reader S) (ledger : Ledger)
-    (book : Book) (puts : List ℕ → Type 0) : Type 0 where
+pub record TakesTurn {S : Type 0} (source : Ghosts S) (old new : Reader S) (network : Network)
+    (Answers : ReadLine → Reply → Type 0) (puts : List ℕ → Type 0) : Type 0 where
   pub said : ReadLine
   pub reply : Reply
   pub line : WhereTold (source.content old.source) (source.content new.source) (λ was now.
       (old.pending ++ was ≢ [])
-      × Says ledger.network (before_first is_line_feed (old.pending ++ was)) said
-      × SaysOneThing ledger.network (before_first is_line_feed (old.pending ++ was))
+      × Says network (before_first is_line_feed (old.pending ++ was)) said
+      × SaysOneThing network (before_first is_line_feed (old.pending ++ was))
       × (new.pending ++ now ≡ after_first is_line_feed (old.pending ++ was)))
-  pub answers : AnswersLine ledger said reply book
-  pub out : puts (line_of (reply_text ledger.network reply))
+  pub answers : Answers said reply
+  pub out : puts (line_of (reply_text network reply))
   pub progress : length new.pending + old.taken < length old.pending + new.taken
 
--- No line was to come, so nothing was done.
-pub record IsOver {S : Type 0} (source : Ghosts S) (old new : Reader S) (ledger : Ledger)
-    (book : Book) : Type 0 where
+-- No line was to come.
+pub record IsOver {S : Type 0} (source : Ghosts S) (old new : Reader S) : Type 0 where
   pub ended : WhereTold (source.content old.source) (source.content new.source) (λ was now.
       (old.pending ++ was ≡ []) × (new.pending ++ now ≡ []))
-  pub same_book : book ≡ ledger.book
 
 -- Reading met a fault before the next line ended and before the source did.
 pub record StopsReading {S : Type 0} (source : Ghosts S) (old new : Reader S)
@@ -129,35 +133,43 @@ pub record StopsReading {S : Type 0} (source : Ghosts S) (old new : Reader S)
 
 -- What the next line comes to: it has its reply; or there is none; or reading met a fault, and
 -- nothing is out; or the output failed in the reply.
-abbrev pub ServesLine : {S O : Type 0} → Ghosts S → SinkGhosts O → Reader S → Reader S → O → O
-    → Ledger → Book → Result Bool Fault → Type 0
-ServesLine source sink old new output output' ledger book (Ok true) =
-    TakesTurn source old new ledger book (Grows (sink.content output) (sink.content output'))
+abbrev pub ServesLine : {S O K R : Type 0} → Ghosts S → SinkGhosts O → BooksGhosts K R → Reader S
+    → Reader S → O → O → State K → State K → Result Bool Fault → Type 0
+ServesLine source sink books old new output output' core core' (Ok true) =
+    TakesTurn source old new (books.ledger core.books).network (AnswersLine books core core')
+    (Grows (sink.content output) (sink.content output'))
     × (new.fault ≡ None) × (sink.frame output' ≡ sink.frame output)
-ServesLine source sink old new output output' ledger book (Ok false) =
-    IsOver source old new ledger book × (new.fault ≡ None) × (output' ≡ output)
-ServesLine source sink old new output output' ledger book (Err fault.Read) =
+ServesLine source sink books old new output output' core core' (Ok false) =
+    IsOver source old new × (new.fault ≡ None) × (output' ≡ output) × (core' ≡ core)
+ServesLine source sink books old new output output' core core' (Err fault.Read) =
     StopsReading source old new line_fault.Read
     × Rose (source.frame old.source) (source.frame new.source) × (output' ≡ output)
-ServesLine source sink old new output output' ledger book (Err fault.TooLong) =
-    StopsReading source old new line_fault.TooLong × (output' ≡ output)
-ServesLine source sink old new output output' ledger book (Err fault.Write) =
-    TakesTurn source old new ledger book (GrowsInPart (sink.content output) (sink.content output'))
+    × (core' ≡ core)
+ServesLine source sink books old new output output' core core' (Err fault.TooLong) =
+    StopsReading source old new line_fault.TooLong × (output' ≡ output) × (core' ≡ core)
+ServesLine source sink books old new output output' core core' (Err fault.Write) =
+    TakesTurn source old new (books.ledger core.books).network (AnswersLine books core core')
+    (GrowsInPart (sink.content output) (sink.content output'))
     × (new.fault ≡ None) × Rose (sink.frame output) (sink.frame output')
-ServesLine source sink old new output output' ledger book (Err _) = ⊥
+ServesLine source sink books old new output output' core core' (Err _) = ⊥
 
 -- Turns from the empty history on: lines that were to come were read and answered, each by a reply
 -- that is out, and each says one thing.
-pub record HasServed {S : Type 0} (source : Ghosts S) (start now : Reader S) (network : Network)
-    (book : Book) (before after : Option (List ℕ)) : Type 0 where
+pub record HasServed {S K R : Type 0} (source : Ghosts S) (books : BooksGhosts K R)
+    (start now : Reader S) (first core : State K) (before after : Option (List ℕ)) : Type 0 where
   pub lines : List ReadLine
   pub replies : List Reply
   pub said : WhereTold (source.content start.source) (source.content now.source) (λ was left.
-      SayLines network (start.pending ++ was) lines (now.pending ++ left))
+      SayLines (books.ledger first.books).network (start.pending ++ was) lines
+      (now.pending ++ left))
   pub alone : WhereTold (source.content start.source) (source.content now.source) (λ was left.
-      SayOneThingEach network (start.pending ++ was) (now.pending ++ left))
-  pub answered : AreAnswered network lines replies book
-  pub out : Grows before after (texts_of network replies)
+      SayOneThingEach (books.ledger first.books).network (start.pending ++ was)
+      (now.pending ++ left))
+  pub answered : AreAnswered (books.ledger first.books).network (books.frame first.books)
+      (books.frame core.books) lines replies
+  pub fits : FitsHistory books core 0 answered.history answered.left
+  pub network : (books.ledger core.books).network ≡ (books.ledger first.books).network
+  pub out : Grows before after (texts_of (books.ledger first.books).network replies)
 
 -- nothing comes after the lines of a text, and nothing is left
 abbrev pub IsAllTaken : List ℕ → List ℕ → List ℕ → Type 0
@@ -173,25 +185,25 @@ CutsLast network before after replies =
     (whole : List Reply) × (reply : Reply) × (replies ≡ whole ++ reply ∷ [])
     × GrowsShort before after (texts_of network whole) (line_of (reply_text network reply))
 
--- Lines that were to come were answered from the empty history on. `stops` says how the text that
--- was to come stands to what comes after them and to what the source has left, and `puts` how much
--- is out of the replies.
+-- Lines that were to come were answered from the empty history on, while the books' frame went from
+-- the one to the other. `stops` says how the text that was to come stands to what comes after them
+-- and to what the source has left, and `puts` how much is out of the replies.
 pub record ServesUpTo {S : Type 0} (source : Ghosts S) (start now : Reader S) (network : Network)
-    (stops : List ℕ → List ℕ → List ℕ → Type 0) (puts : List Reply → Type 0) : Type 0 where
+    (before after : Frame) (stops : List ℕ → List ℕ → List ℕ → Type 0)
+    (puts : List Reply → Type 0) : Type 0 where
   pub lines : List ReadLine
   pub replies : List Reply
-  pub book : Book
   pub said : WhereTold (source.content start.source) (source.content now.source) (λ was left.
       (rest : List ℕ) × SayLines network (start.pending ++ was) lines rest
       × stops (start.pending ++ was) rest left)
-  pub answered : AreAnswered network lines replies book
+  pub answered : AreAnswered network before after lines replies
   pub out : puts replies
 
 -- Lines that were to come were answered, until reading met a fault.
 pub record ServesUntil {S O : Type 0} (source : Ghosts S) (sink : SinkGhosts O)
-    (start last : Reader S) (output output' : O) (network : Network)
+    (start last : Reader S) (output output' : O) (network : Network) (before after : Frame)
     (fault : LineFault) : Type 0 where
-  pub serves : ServesUpTo source start last network (StopsAfterLines fault)
+  pub serves : ServesUpTo source start last network before after (StopsAfterLines fault)
       (λ replies. Grows (sink.content output) (sink.content output') (texts_of network replies))
   pub before_end : IsFalse start.ended
   pub kept : last.fault ≡ Some fault
@@ -200,20 +212,20 @@ pub record ServesUntil {S O : Type 0} (source : Ghosts S) (sink : SinkGhosts O)
 -- What answering all lines comes to: each has its reply and says one thing, and no more is to come;
 -- or reading met a fault, or the output failed in a reply.
 abbrev pub Serves : {S O T : Type 0} → Ghosts S → SinkGhosts O → Reader S → Reader S → O → O
-    → Network → Result T Fault → Type 0
-Serves source sink start last output output' network (Ok _) =
-    ServesUpTo source start last network IsAllTaken
+    → Network → Frame → Frame → Result T Fault → Type 0
+Serves source sink start last output output' network before after (Ok _) =
+    ServesUpTo source start last network before after IsAllTaken
     (λ replies. Grows (sink.content output) (sink.content output') (texts_of network replies))
     × (last.fault ≡ None) × (sink.frame output' ≡ sink.frame output)
     × WhereTold (source.content start.source) (source.content last.source) (λ was _.
     SayOneThingEach network (start.pending ++ was) [])
-Serves source sink start last output output' network (Err fault.Read) =
-    ServesUntil source sink start last output output' network line_fault.Read
+Serves source sink start last output output' network before after (Err fault.Read) =
+    ServesUntil source sink start last output output' network before after line_fault.Read
     × Rose (source.frame start.source) (source.frame last.source)
-Serves source sink start last output output' network (Err fault.TooLong) =
-    ServesUntil source sink start last output output' network line_fault.TooLong
-Serves source sink start last output output' network (Err fault.Write) =
-    ServesUpTo source start last network IsLeftOver
+Serves source sink start last output output' network before after (Err fault.TooLong) =
+    ServesUntil source sink start last output output' network before after line_fault.TooLong
+Serves source sink start last output output' network before after (Err fault.Write) =
+    ServesUpTo source start last network before after IsLeftOver
     (CutsLast network (sink.content output) (sink.content output'))
     × (last.fault ≡ None) × Rose (sink.frame output) (sink.frame output')
-Serves source sink start last output output' network (Err _) = ⊥
+Serves source sink start last output output' network before after (Err _) = ⊥

@@ -21,7 +21,6 @@ ghost use Rattle.hosed.specs.Fault.{last_line};
 ghost use Rattle.hosed.specs.ProgramWords.{AreRunWords, IsFirstWrong};
 ghost use Rattle.hosed.specs.RunOutcome.{RunOutcome};
 
-mod answering;
 mod fault;
 mod run;
 mod script_line;

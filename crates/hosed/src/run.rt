@@ -2,20 +2,22 @@
 ghost use Rattle.std.specs.Prelude.{◌≡◌, ◌↔◌, ◌+◌, [], ◌^◌, ◌<◌, ◌≤◌, ℕ, List, length, None, Err};
 ghost use Rattle.hose_io.specs.Frame.{Stays};
 ghost use Rattle.hose_io.specs.Stream.{Gives};
-ghost use Rattle.hose_law.specs.History.{opening_book};
+ghost use Rattle.hose_law.specs.Quotes.{nothing_held};
 ghost use Rattle.hose_law.specs.Script.{ReadLine};
 ghost use Rattle.hose_words.specs.Lines.{Shows};
 ghost use Rattle.hose_words.specs.Reading.{ReadsOn};
-ghost use Rattle.hose_proto.specs.ReplyText.{NamesPlaces};
+ghost use Rattle.hose_graph.specs.Naming.{NamesPlaces};
+ghost use Rattle.hose_core.specs.Stepping.{FitsHistory};
 ghost use Rattle.hosed.specs.RunOutcome.{RunLeaves};
 ghost use Rattle.hosed.specs.Serving.{SaysOneThing, SaysRead, AnswersLine, Serves, ServesLine};
 
-use crate::answering;
 use crate::fault::Fault;
 use crate::script_line::read_line;
-use hose_book::Book;
+use hose_book::{Book, Books, Plain};
+use hose_core::Core;
 use hose_graph::Reply;
 use hose_io::{Sink, Source};
+use hose_paths::PlainRows;
 use hose_proto::{ReadFault, put_reply};
 use hose_topo::read;
 use hose_words::{INPUT_LIMIT, Line, LineReader};
@@ -54,42 +56,43 @@ fn run_lines<S: Source, O: Sink>(
     ensures output { Stays (O.frame output.old) (O.frame output.new) }
 {
     let topology = read(alloc, lines)?;
-    let mut book = Book::new(alloc, topology)?;
-    serve(alloc, &mut book, lines, output)
+    let book = Book::new(alloc, topology)?;
+    let mut core = Core::new(alloc, Plain { book });
+    serve(alloc, &mut core, lines, output)
 }
 
 // Answers all lines that are to come.
-fn serve<S: Source, O: Sink>(
+fn serve<S: Source, O: Sink, K: Books + Drop>(
     alloc: Global,
-    book: &mut Book,
+    core: &mut Core<K>,
     lines: &mut LineReader<S>,
     output: &mut O,
 ) -> Result<(), Fault>
-    requires opening { book.old.book ≡ opening_book 0 }
+    requires opening { FitsHistory K.Books core.old 0 [] nothing_held }
     requires limit { lines.old.taken ≤ INPUT_LIMIT + 1 }
     requires no_fault { lines.old.fault ≡ None }
     ensures serves { Serves S.Source O.Sink lines.old lines.new output.old output.new
-        book.old.network result }
+        (K.ledger core.old.books).network (K.frame core.old.books) (K.frame core.new.books)
+        result }
     ensures too_long { (result ≡ Err Fault.TooLong) ↔ (INPUT_LIMIT < lines.new.taken) }
     ensures reads_on { ReadsOn S.Source lines.old lines.new }
     ensures limit { lines.new.taken ≤ INPUT_LIMIT + 1 }
     ensures output { Stays (O.frame output.old) (O.frame output.new) }
 {
-    while serve_line(alloc, book, lines, output)? {}
+    while serve_line(alloc, core, lines, output)? {}
     Ok(())
 }
 
 // Answers the next line, and says whether there was one.
-fn serve_line<S: Source, O: Sink>(
+fn serve_line<S: Source, O: Sink, K: Books + Drop>(
     alloc: Global,
-    book: &mut Book,
+    core: &mut Core<K>,
     lines: &mut LineReader<S>,
     output: &mut O,
 ) -> Result<bool, Fault>
     requires no_fault { lines.old.fault ≡ None }
-    ensures network { book.new.network ≡ book.old.network }
-    ensures serves { ServesLine S.Source O.Sink lines.old lines.new output.old output.new
-        book.old book.new.book result }
+    ensures serves { ServesLine S.Source O.Sink K.Books lines.old lines.new output.old output.new
+        core.old core.new result }
     ensures too_long { (result ≡ Err Fault.TooLong) ↔ (INPUT_LIMIT < lines.new.taken) }
     ensures reads_on { ReadsOn S.Source lines.old lines.new }
     ensures limit { lines.new.taken ≤ INPUT_LIMIT + 1 }
@@ -98,26 +101,30 @@ fn serve_line<S: Source, O: Sink>(
     let Some(line) = lines.next()? else {
         return Ok(false);
     };
-    let reply = answer(alloc, book, line);
-    put_reply(output, book.topology(), &reply)?;
+    let reply = answer(alloc, core, line);
+    put_reply(output, core.books().book().topology(), &reply)?;
     Ok(true)
 }
 
 // The reply to a line.
-fn answer(alloc: Global, book: &mut Book, line: Line<'_>) -> Reply
-    ensures network { book.new.network ≡ book.old.network }
-    ensures names { NamesPlaces book.old.network result }
-    ensures answers { (said : ReadLine) × SaysRead book.old.network line.entry said
-        × AnswersLine book.old said result book.new.book }
+fn answer<K: Books + Drop>(alloc: Global, core: &mut Core<K>, line: Line<'_>) -> Reply
+    ensures network { (K.ledger core.new.books).network ≡ (K.ledger core.old.books).network }
+    ensures names { NamesPlaces (K.ledger core.old.books).network result }
+    ensures answers { (said : ReadLine)
+        × SaysRead (K.ledger core.old.books).network line.entry said
+        × AnswersLine K.Books core.old core.new said result }
     // The line, whatever its bytes are, could not have been read as another thing.
     ensures alone { (bytes : List ℕ) → Shows line.entry bytes
-        → SaysOneThing book.old.network bytes }
+        → SaysOneThing (K.ledger core.old.books).network bytes }
 {
     let Line::Text(text) = line else {
         return Reply::Long;
     };
-    match read_line(alloc, book.topology(), text) {
-        Ok(asked) => answering::answer(book, alloc, asked.0, asked.1),
+    match read_line(alloc, core.books().book().topology(), text) {
+        Ok(asked) => {
+            let customer = asked.0;
+            core.step(alloc, &customer, asked.1, &mut PlainRows::new())
+        }
         Err(ReadFault::Bad { word }) => Reply::Bad { word },
         Err(ReadFault::Memory) => Reply::Memory,
     }

@@ -4,7 +4,7 @@ ghost use Rattle.hose_words.specs.Cursor.{Misses, Took};
 ghost use Rattle.hose_words.specs.Grammar.{IsFirstNotAllowed};
 ghost use Rattle.hose_words.specs.Words.{words_of};
 ghost use Rattle.hose_graph.specs.Name.{IsName};
-ghost use Rattle.hose_proto.specs.Reading.{AsksOf};
+ghost use Rattle.hose_graph.specs.Naming.{AsksOf};
 ghost use Rattle.hosed.specs.ScriptLine.{IsAsking, WantsMemory, script_grammar};
 ghost use Rattle.hosed.specs.Serving.{SaysOneThing};
 

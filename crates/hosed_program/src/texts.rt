@@ -12,14 +12,20 @@ each command of a customer:
     link A B CAPACITY LENGTH [COST]     the next link, between two nodes named before
     end                                 the end of the topology
     CUSTOMER admit NAME:RATE ..         2 to 64 endpoints
+    CUSTOMER quote NAME:RATE ..         the same, held under a number and not reserved
+    CUSTOMER take Q                     admits what was quoted
     CUSTOMER release ID
     CUSTOMER show ID
     CUSTOMER link L
 
-and writes one line for each of the last four:
+and writes one line for each of the last six:
 
     admitted ID cost C at N links L:R ..
+    quoted Q cost C at N links L:R ..
     refused at N side NAME ..
+    stale S N                           quoted at the epoch S, and what decided has changed since
+    no quote Q at N
+    too many quotes at N                the customer holds 16
     released ID at N
     no vpn ID at N
     vpn ID cost C at N ends NAME:RATE .. links L:R ..
@@ -33,6 +39,7 @@ epoch   how many admissions and releases there have been
 N       the epoch at which the reply holds: after an admission or a release, its own
 L       a link by its number; links and nodes count from 0, in the topology's order
 load    what is reserved on a link, of all VPNs together
+Q       a quote of the customer by its number, 1 to 16
 side    the nodes that the lowest endpoint reaches over links with half of the rates free
 
 A name is 1 to 16 of a to z, 0 to 9 and -. A capacity is 1 to 1,000,000,000; a length, a cost and

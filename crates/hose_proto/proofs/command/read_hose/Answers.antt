@@ -1,4 +1,4 @@
-use Rattle.std.proofs.Common.{◌≡◌, ◌∙◌, ℕ, ◌≤◌, List, ◌++◌, ◌∷◌, [], ap, append-nil, codes, length, map, sym, subst}
+use Rattle.std.proofs.Common.{◌≡◌, ◌∙◌, ℕ, ◌≤◌, List, ◌++◌, ◌∷◌, [], ap, append-nil, length, map, sym, subst}
 use Rattle.std.specs.List.Sorted.{IsPermutation}
 use Rattle.std.proofs.lemmas.List.{map-append}
 use Rattle.hose_words.specs.Cursor.{MissesItem}
@@ -52,4 +52,4 @@ returns-clause-ok c =
     let moved = subst (λ others. IsPermutation others c.in_ok-hose.hose) c.deref-2.ensures.value c.in_ok-hose.ensures.same_ends in
     let words : c.args.words.now.left ≡ map (end_word network) items =
     c.loop-ends.invariant.listing.took.cut ∙ ap (λ rest. map (end_word network) items ++ rest) ended.0 ∙ append-nil (map (end_word network) items) in
-    (items, ap (λ rest. codes "admit" ∷ rest) words, moved, hose_made network items c.in_ok-hose.hose c.loop-ends.invariant.ends moved c.in_ok-hose.ensures.hose)
+    record { ends = items; spelled = words; same_ends = moved; is_hose = hose_made network items c.in_ok-hose.hose c.loop-ends.invariant.ends moved c.in_ok-hose.ensures.hose }

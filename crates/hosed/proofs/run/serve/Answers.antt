@@ -1,20 +1,17 @@
 use Rattle.std.specs.Prelude.{⊤}
-use Rattle.std.proofs.Common.{◌≡◌, Ok, Err, true, false, refl, sym, ◌∙◌, ap, subst}
+use Rattle.std.proofs.Common.{◌≡◌, Ok, Err, refl, ◌∙◌, ap, subst}
 use Rattle.std.proofs.lemmas.Result.{err_from_is_err_and}
-use Rattle.hose_law.specs.Book.{Book}
-use Rattle.hosed.specs.Serving.{HasServed}
 use Rattle.hose_words.proofs.OnReading.{ReadsOn-start, ReadsOn-then}
-use Rattle.hosed.proofs.Turns.{as_line, nothing_served, serves_all, serves_fault, served_more}
+use Rattle.hosed.specs.Serving.{ServesLine}
+use Rattle.hosed.proofs.Turns.{nothing_served, serves_all, serves_fault, served_more}
 use Rattle.hosed.proofs.run.serve.Goals as goal
 
 pub loop-init : goal.loop-init
 loop-init g c =
     let lines = c.args.lines.now in
-    let content = g.O.Sink.content c.args.output.now in
     record {
-      served = subst (λ (b : Book). HasServed g.S.Source lines lines c.args.book.now.network b content content) (sym c.requires.opening) (nothing_served g.S.Source lines c.args.book.now.network content);
+      served = nothing_served g.S.Source g.K.Books lines c.args.core.now (g.O.Sink.content c.args.output.now) c.requires.opening;
       reads = ReadsOn-start g.S.Source lines;
-      network = refl;
       none = c.requires.no_fault;
       limit = c.requires.limit;
       held = refl;
@@ -22,14 +19,12 @@ loop-init g c =
 
 pub loop-preserved : goal.loop-preserved
 loop-preserved g c =
-    let network = c.args.book.now.network in
     let before = c.loop.invariant in
-    let next = c.serve_line.new.book.book in
-    let line = as_line g.S.Source g.O.Sink c.loop.lines c.serve_line.new.lines c.loop.output c.serve_line.new.output c.loop.book next network c.serve_line.result (Ok true) before.network (c.in_ok-serve_line.was ∙ ap Ok c.if-branch.true) c.serve_line.ensures.serves in
+    let served = c.serve_line.ensures.serves in
+    let line = subst (ServesLine g.S.Source g.O.Sink g.K.Books c.loop.lines c.serve_line.new.lines c.loop.output c.serve_line.new.output c.loop.core c.serve_line.new.core) (c.in_ok-serve_line.was ∙ ap Ok c.if-branch.true) served in
     record {
-      served = served_more g.S.Source c.args.lines.now c.loop.lines c.serve_line.new.lines network c.loop.book.book next _ _ _ before.served before.reads line.0;
+      served = served_more g.S.Source g.K.Books c.args.lines.now c.loop.lines c.serve_line.new.lines c.args.core.now c.loop.core c.serve_line.new.core _ _ _ before.served before.reads line.0;
       reads = ReadsOn-then g.S.Source c.args.lines.now c.loop.lines c.serve_line.new.lines before.reads c.serve_line.ensures.reads_on;
-      network = c.serve_line.ensures.network ∙ before.network;
       none = line.1;
       limit = c.serve_line.ensures.limit;
       held = line.2 ∙ before.held;
@@ -37,23 +32,19 @@ loop-preserved g c =
 
 pub returns-in_err-serve_line-clause-serves : goal.returns-in_err-serve_line-clause-serves
 returns-in_err-serve_line-clause-serves g c =
-    let network = c.args.book.now.network in
     let before = c.loop.invariant in
     let fault = c.in_err-serve_line.field-0.0 in
-    let next = c.serve_line.new.book.book in
-    let line = as_line g.S.Source g.O.Sink c.loop.lines c.serve_line.new.lines c.loop.output c.serve_line.new.output c.loop.book next network c.serve_line.result (Err fault) before.network c.in_err-serve_line.was c.serve_line.ensures.serves in
+    let line = subst (ServesLine g.S.Source g.O.Sink g.K.Books c.loop.lines c.serve_line.new.lines c.loop.output c.serve_line.new.output c.loop.core c.serve_line.new.core) c.in_err-serve_line.was c.serve_line.ensures.serves in
     let told = err_from_is_err_and c.from_residual.result c.from_residual.ensures.1 in
     let is : c.from_residual.result ≡ Err fault = told.1 ∙ ap Err told.2 in
-    rw is (serves_fault g.S.Source g.O.Sink c.args.lines.now c.loop.lines c.serve_line.new.lines network c.loop.book.book next c.args.output.now c.loop.output c.serve_line.new.output
+    rw is (serves_fault g.S.Source g.O.Sink g.K.Books c.args.lines.now c.loop.lines c.serve_line.new.lines c.args.core.now c.loop.core c.serve_line.new.core c.args.output.now c.loop.output c.serve_line.new.output
     before.served before.reads before.none before.held ⊤ fault line)
 
 pub returns-clause-serves : goal.returns-clause-serves
 returns-clause-serves g c =
-    let network = c.args.book.now.network in
     let before = c.loop.invariant in
-    let next = c.serve_line.new.book.book in
-    let line = as_line g.S.Source g.O.Sink c.loop.lines c.serve_line.new.lines c.loop.output c.serve_line.new.output c.loop.book next network c.serve_line.result (Ok false) before.network (c.in_ok-serve_line.was ∙ ap Ok c.if-branch.false) c.serve_line.ensures.serves in
-    serves_all g.S.Source g.O.Sink c.args.lines.now c.loop.lines c.serve_line.new.lines network c.loop.book.book next c.args.output.now c.loop.output c.serve_line.new.output
+    let line = subst (ServesLine g.S.Source g.O.Sink g.K.Books c.loop.lines c.serve_line.new.lines c.loop.output c.serve_line.new.output c.loop.core c.serve_line.new.core) (c.in_ok-serve_line.was ∙ ap Ok c.if-branch.false) c.serve_line.ensures.serves in
+    serves_all g.S.Source g.O.Sink g.K.Books c.args.lines.now c.loop.lines c.serve_line.new.lines c.args.core.now c.loop.core c.serve_line.new.core c.args.output.now c.loop.output c.serve_line.new.output
     before.served before.reads before.none before.held ⊤ tt line
 
 pub returns-in_err-serve_line-clause-reads_on : goal.returns-in_err-serve_line-clause-reads_on

@@ -5,9 +5,8 @@ use Rattle.hosed.proofs.run.serve.Given as goal
 
 abbrev pub invariant-loop : goal.invariant-loop
 invariant-loop g l = record {
-  served : HasServed g.S.Source l.fn.lines l.lines l.fn.book.network l.book.book (g.O.Sink.content l.fn.output) (g.O.Sink.content l.output);
+  served : HasServed g.S.Source g.K.Books l.fn.lines l.lines l.fn.core l.core (g.O.Sink.content l.fn.output) (g.O.Sink.content l.output);
   reads : ReadsOn g.S.Source l.fn.lines l.lines;
-  network : l.book.network ≡ l.fn.book.network;
   none : l.lines.fault ≡ None;
   limit : l.lines.taken ≤ 2 ^ 30 + 1;
   held : g.O.Sink.frame l.output ≡ g.O.Sink.frame l.fn.output;

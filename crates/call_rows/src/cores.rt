@@ -1,0 +1,221 @@
+// Books with the quotes of their customers: what commands are answered, and what is held.
+ghost use Rattle.std.specs.Prelude.{◌≡◌, ◌≤◌, IfOk};
+ghost use Rattle.hose_graph.specs.declared.limits.TheConstants.{MOST_EPOCH};
+ghost use Rattle.hose_graph.specs.Hose.{IsHose};
+ghost use Rattle.hose_graph.specs.Network.{IsNetwork};
+ghost use Rattle.hose_law.specs.Plan.{AreNodes};
+ghost use Rattle.hose_law.specs.Room.{room_of};
+ghost use Rattle.hose_plan.specs.Planning.{IsDecision, IsSoundDecision};
+ghost use Rattle.hose_core.specs.Holding.{IsMade};
+
+use crate::books::{book_at, name};
+use crate::reading::{debugged, hose};
+use hose_book::{Book, Books, Plain};
+use hose_core::{Core, Quote, Quotes, admit_now, claim_release, claim_take, release_now, take_now};
+use hose_graph::{Amounts, Hose, MOST_EPOCH, MOST_QUOTES};
+use hose_links::LinkSet;
+use hose_paths::PlainRows;
+use hose_plan::{Decision, Grounds, decide};
+use hose_proto::read_command;
+use std::alloc::{AllocError, Global};
+use std::test::Fail;
+
+// The core of a star's book in memory, at an epoch.
+fn core_at(alloc: Global, epoch: u64) -> Result<Core<Plain>, Fail>
+    requires { epoch ≤ MOST_EPOCH }
+{
+    let book = book_at(alloc, epoch)?;
+    Ok(Core::new(alloc, Plain { book }))
+}
+
+// What acme's command is answered.
+fn answered(alloc: Global, core: &mut Core<Plain>, line: &str) -> Result<String, Fail> {
+    let top = core.books().book().topology();
+    let command = read_command(alloc, top, line.as_bytes(), 0)?;
+    let reply = core.step(alloc, &name("acme")?, command, &mut PlainRows::new());
+    Ok(debugged(alloc, &reply)?)
+}
+
+#[test]
+fn commands_at_the_first_epoch(rt: HostRuntime) -> Result<(), Fail> {
+    let mut core = core_at(rt.alloc(), 0)?;
+    for (line, want) in [
+        (
+            "quote a:1 b:1",
+            "Quoted { quote: 1, cost: 3, at: 0, amounts: Amounts { pairs: [(0, 1), (1, 1)] } }",
+        ),
+        ("take 2", "NoQuote { quote: 2, at: 0 }"),
+    ] {
+        assert_eq!(rt; answered(rt.alloc(), &mut core, line)?.as_str(), want);
+    }
+    let mut books = core.into_books();
+    assert_eq!(rt;
+        admitted(rt.alloc(), &mut books, "admit a:3 b:4 c:5")?.as_str(),
+        "Admitted { id: 1, cost: 26, at: 1, \
+            amounts: Amounts { pairs: [(0, 3), (1, 4), (2, 5)] } }"
+    );
+    Ok(())
+}
+
+// What an admission for acme is answered.
+fn admitted(alloc: Global, books: &mut Plain, line: &str) -> Result<String, Fail>
+    ensures { books.new.book.network ≡ books.old.book.network }
+{
+    let hose = hose(alloc, books.book().topology(), line)?;
+    let reply = admit_now(alloc, books, &name("acme")?, hose, &mut PlainRows::new());
+    Ok(debugged(alloc, &reply)?)
+}
+
+// What is decided of a hose at a book.
+fn decided(alloc: Global, book: &Book, hose: &Hose) -> Result<Decision, AllocError>
+    requires { AreNodes book.now.network hose.now }
+    ensures decision { IfOk result
+        (IsDecision book.now.network (room_of book.now.network book.now.book) hose.now) }
+    ensures sound { IfOk result
+        (IsSoundDecision book.now.network (room_of book.now.network book.now.book) hose.now) }
+    ensures hose { IfOk result (λ _. IsHose hose.now) }
+    ensures network { IsNetwork book.now.network }
+{
+    let (top, loads) = (book.topology(), book.loads());
+    decide(alloc, top, loads, hose, &mut PlainRows::new())
+}
+
+// What is planned of a hose at a book.
+fn planned(alloc: Global, book: &Book, line: &str) -> Result<Quote, Fail>
+    ensures { IfOk result (IsMade book.now.network) }
+{
+    let hose = hose(alloc, book.topology(), line)?;
+    let decision = decided(alloc, book, &hose)?;
+    match decision {
+        Decision::Plan {
+            grounds,
+            amounts,
+            cost,
+        } => Ok(Quote {
+            hose,
+            seen: book.epoch(),
+            cost,
+            amounts,
+            grounds,
+        }),
+        Decision::Refused { .. } => Err(Fail::from("no plan")),
+    }
+}
+
+// What acme's take is answered.
+fn taken(alloc: Global, books: &mut Plain, quote: &Quote) -> Result<String, Fail>
+    requires { IsMade books.old.book.network quote.now }
+{
+    let claim = claim_take(alloc, &name("acme")?, quote)?;
+    Ok(debugged(alloc, &take_now(books, quote, claim))?)
+}
+
+#[test]
+fn a_take_after_another_entry(rt: HostRuntime) -> Result<(), Fail> {
+    let mut books = Plain {
+        book: book_at(rt.alloc(), 0)?,
+    };
+    let quote = planned(rt.alloc(), books.book(), "admit a:1 b:1")?;
+    assert_eq!(rt;
+        admitted(rt.alloc(), &mut books, "admit b:2 c:2")?.as_str(),
+        "Admitted { id: 1, cost: 10, at: 1, amounts: Amounts { pairs: [(1, 2), (2, 2)] } }"
+    );
+    assert_eq!(rt;
+        taken(rt.alloc(), &mut books, &quote)?.as_str(),
+        "Admitted { id: 2, cost: 3, at: 2, amounts: Amounts { pairs: [(0, 1), (1, 1)] } }"
+    );
+    Ok(())
+}
+
+#[test]
+fn commands_at_the_last_epoch(rt: HostRuntime) -> Result<(), Fail> {
+    let mut core = core_at(rt.alloc(), MOST_EPOCH)?;
+    for (line, want) in [
+        ("admit a:1 b:1", "Spent { at: 4000000000 }"),
+        (
+            "quote a:1 b:1",
+            "Quoted { quote: 1, cost: 3, at: 4000000000, \
+                amounts: Amounts { pairs: [(0, 1), (1, 1)] } }",
+        ),
+        ("take 1", "Spent { at: 4000000000 }"),
+        ("take 1", "NoQuote { quote: 1, at: 4000000000 }"),
+        ("release 1", "NoVpn { id: 1, at: 4000000000 }"),
+    ] {
+        assert_eq!(rt; answered(rt.alloc(), &mut core, line)?.as_str(), want);
+    }
+    Ok(())
+}
+
+// What acme's release of a VPN is answered.
+fn released(alloc: Global, books: &mut Plain, id: u64) -> Result<String, Fail>
+    requires { id ≤ MOST_EPOCH }
+{
+    let claim = claim_release(alloc, &name("acme")?, id)?;
+    Ok(debugged(alloc, &release_now(books, claim))?)
+}
+
+#[test]
+fn a_release_at_an_empty_book(rt: HostRuntime) -> Result<(), Fail> {
+    let mut books = Plain {
+        book: book_at(rt.alloc(), 0)?,
+    };
+    assert_eq!(rt;
+        released(rt.alloc(), &mut books, 1)?.as_str(),
+        "NoVpn { id: 1, at: 0 }"
+    );
+    Ok(())
+}
+
+// A quote that tells the epoch at which it was made.
+fn quote_of(alloc: Global, seen: u64) -> Result<Quote, Fail> {
+    Ok(Quote {
+        hose: Hose::build(alloc, &[(0, 1), (1, 1)])?,
+        seen,
+        cost: 3,
+        amounts: Amounts::build(alloc, &[(0, 1), (1, 1)])?,
+        grounds: Grounds {
+            first: None,
+            half: 1,
+            first_fits: false,
+            safe: LinkSet::new(alloc, 3)?,
+        },
+    })
+}
+
+// Holds a quote that tells its number.
+fn put(alloc: Global, quotes: &mut Quotes, number: u64) -> Result<(), Fail> {
+    if number < 1 || number > MOST_QUOTES as u64 || quotes.held(number).is_some() {
+        return Err(Fail::from("no free number"));
+    }
+    quotes.put(number, quote_of(alloc, number)?);
+    Ok(())
+}
+
+// What is held under the first, the last and the numbers beside them, and the lowest free number.
+fn state(alloc: Global, quotes: &Quotes) -> Result<String, AllocError> {
+    let held = [0, 1, 2, 16, 17].map(|number| quotes.held(number).map(|quote| quote.seen));
+    format!(in alloc; "{held:?} {:?}", quotes.free())
+}
+
+#[test]
+fn quotes_at_the_first_and_the_last_number(rt: HostRuntime) -> Result<(), Fail> {
+    let mut quotes = Quotes::new();
+    put(rt.alloc(), &mut quotes, 1)?;
+    put(rt.alloc(), &mut quotes, 16)?;
+    assert_eq!(rt;
+        state(rt.alloc(), &quotes)?.as_str(),
+        "[None, Some(1), None, Some(16), None] Some(2)"
+    );
+    for number in 2..16 {
+        put(rt.alloc(), &mut quotes, number)?;
+    }
+    assert_eq!(rt; quotes.free(), None);
+    quotes.clear(16);
+    assert_eq!(rt; quotes.free(), Some(16));
+    quotes.clear(1);
+    assert_eq!(rt;
+        state(rt.alloc(), &quotes)?.as_str(),
+        "[None, None, Some(2), None, None] Some(1)"
+    );
+    Ok(())
+}

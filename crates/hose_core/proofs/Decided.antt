@@ -1,0 +1,90 @@
+-- What was decided of a hose at a ledger, and what becomes of it.
+use Rattle.std.proofs.Common.{◌≡◌, ℕ, List, Option, None, Some, Result, Ok, Err, IfOk, inl, refl, ap, subst}
+use Rattle.hose_graph.specs.Hose.{IsHose}
+use Rattle.hose_graph.specs.Network.{IsNetwork, Network}
+use Rattle.hose_graph.specs.declared.command.Command.TheVariants as command
+use Rattle.hose_graph.specs.declared.entry.Entry.{Entry}
+use Rattle.hose_graph.specs.declared.reply.Reply.{Reply}
+use Rattle.hose_graph.specs.declared.reply.Reply.TheVariants as reply
+use Rattle.hose_law.specs.Answer.{IsAdmitAnswer, IsPlannedAnswer}
+use Rattle.hose_law.specs.Book.{Book}
+use Rattle.hose_law.specs.Decision.{IsRefused}
+use Rattle.hose_law.specs.History.{book_of}
+use Rattle.hose_law.specs.Quotes.{Held}
+use Rattle.hose_law.specs.Room.{room_of}
+use Rattle.hose_law.proofs.Bounds.{reserved_ranges}
+use Rattle.hose_plan.specs.Planning.{IsDecision, IsSoundDecision, NamesNodes}
+use Rattle.hose_plan.specs.declared.decision.Decision.{Decision}
+use Rattle.hose_plan.specs.declared.decision.Decision.TheVariants.{Plan, Refused}
+use Rattle.hose_book.specs.declared.books.Books.{Ghosts}
+use Rattle.hose_book.specs.Ledger.{Ledger}
+use Rattle.hose_plan.specs.declared.decision.Grounds.{Grounds}
+use Rattle.hose_core.specs.Claiming.{HasRanges, IsDecisionAt}
+use Rattle.hose_core.specs.Holding.{IsMadeAt}
+use Rattle.hose_core.specs.Stepping.{AnswersBy, HasStepped}
+use Rattle.hose_core.proofs.Stepped.{stepped_by}
+
+-- the amounts of a sound decision are in their ranges
+ranges_of : (network : Network) → IsNetwork network → (book : Book) (hose : List (ℕ × ℕ)) → IsHose hose → (decision : Decision) → IsSoundDecision network (room_of network book) hose decision → HasRanges decision
+ranges_of network is book hose is_hose (Plan grounds amounts cost) sound = reserved_ranges network is (room_of network book).links hose amounts is_hose sound.on_tree
+ranges_of network is book hose is_hose (Refused side) sound = tt
+
+-- what is known of a decision, in one
+pub decision_at : {E : Type 0} (here ledger : Ledger) (hose : List (ℕ × ℕ)) (result : Result Decision E) → here ≡ ledger → IsNetwork here.network
+    → IfOk result (IsDecision here.network (room_of here.network here.book) hose) → IfOk result (IsSoundDecision here.network (room_of here.network here.book) hose)
+    → IfOk result (NamesNodes here.network) → IfOk result (λ _. IsHose hose) → IfOk result (IsDecisionAt ledger hose)
+decision_at here ledger hose (Err error) same is decision sound names is_hose = tt
+decision_at here ledger hose (Ok decided) same is decision sound names is_hose =
+    subst (λ (l : Ledger). IsDecisionAt l hose decided) same (record {
+      is_hose = is_hose;
+      is = decision;
+      sound = sound;
+      ranges = ranges_of here.network is here.book hose is_hose decided sound;
+      names = names;
+    })
+
+-- ---- an admission at once
+
+-- a hose that has a plan is answered so
+admit_of : (network : Network) (book : Book) (customer : List ℕ) (hose : List (ℕ × ℕ)) (given : Reply) (entry : Option Entry) → IsPlannedAnswer network book customer hose given entry → IsAdmitAnswer network book customer hose given entry
+admit_of network book customer hose (reply.Spent at) None answer = answer
+admit_of network book customer hose (reply.Full at) None answer = answer
+admit_of network book customer hose (reply.Admitted id cost at amounts) (Some entry) answer = answer
+admit_of network book customer hose given entry answer = absurd answer
+
+module _ {K R : Type 0} (books : Ghosts K R) (old new : K) (epoch : ℕ) (history : List Entry) (customer : List ℕ) (held : Held) (hose : List (ℕ × ℕ)) (here : (books.ledger old).book ≡ book_of epoch history) where
+  abbrev network : Network
+  network = (books.ledger old).network
+
+  abbrev Stepped : Reply → Type 0
+  Stepped answer = HasStepped books old new epoch history customer held (command.Admit hose) answer
+
+  admits : (Is : Reply → Option Entry → Type 0) → ((given : Reply) (entry : Option Entry) → Is given entry → IsAdmitAnswer network (books.ledger old).book customer hose given entry) → (answer : Reply)
+      → AnswersBy books old new Is answer → Stepped answer
+  admits Is are answer by = stepped_by books old new epoch history customer held held (command.Admit hose) answer Is here
+      (λ given entry is. (subst (λ (b : Book). IsAdmitAnswer network b customer hose given entry) here (are given entry is), refl)) by
+
+  -- a planned hose was answered
+  pub admit_step : (answer : Reply) → AnswersBy books old new (IsPlannedAnswer network (books.ledger old).book customer hose) answer → Stepped answer
+  admit_step answer by = admits (IsPlannedAnswer network (books.ledger old).book customer hose) (admit_of network (books.ledger old).book customer hose) answer by
+
+  -- a hose was refused
+  pub refuse_step : (at : ℕ) (side : List ℕ) → at ≡ (books.ledger old).book.epoch → IsRefused network (room_of network (books.ledger old).book) hose side → new ≡ old → Stepped (reply.Refused at side)
+  refuse_step at side is refused same = admits (IsAdmitAnswer network (books.ledger old).book customer hose) (λ given entry answer. answer) (reply.Refused at side) (record {
+    given = reply.Refused at side;
+    entry = None;
+    is = (is, refused);
+    sound = tt;
+    goes = same;
+    told = inl (refl, ap (λ (k : K). (books.ledger k).book) same);
+  })
+
+-- ---- a quote
+
+-- a plan that was decided, with the epoch of its book, is a quote that was made there
+pub made_of : (ledger old : Ledger) → ledger ≡ old → (hose amounts : List (ℕ × ℕ)) (cost at : ℕ) (grounds : Grounds) (decision : Decision) → decision ≡ Plan grounds amounts cost → IsDecisionAt ledger hose decision → at ≡ ledger.book.epoch
+    → IsMadeAt old.network old.book (record { hose = hose; seen = at; cost = cost; amounts = amounts; grounds = grounds })
+made_of ledger old same hose amounts cost at grounds decision is decided here =
+    let plan = subst (IsDecisionAt ledger hose) is decided in
+    subst (λ (l : Ledger). IsMadeAt l.network l.book (record { hose = hose; seen = at; cost = cost; amounts = amounts; grounds = grounds })) same
+    (record { is_hose = plan.is_hose; ranges = plan.ranges; seen = here; decision = plan.is })

@@ -1,0 +1,9 @@
+mod Customers
+mod Decided
+mod HeldQuotes
+mod Memory
+mod PlannedEntries
+mod ReleasedEntries
+mod Stepped
+mod SteppedOn
+mod TakenQuotes

@@ -1,0 +1,104 @@
+-- What becomes of an entry whose hose was planned.
+use Rattle.std.proofs.Common.{◌≡◌, ◌+◌, ◌<◌, ◌≤◌, ℕ, Bool, List, Option, None, Some, length, inl, inr, refl, sym, ap, subst, ◌∙◌}
+use Rattle.hose_graph.specs.declared.entry.Entry.{Entry}
+use Rattle.hose_graph.specs.declared.reply.Reply.{Reply}
+use Rattle.hose_graph.specs.declared.reply.Reply.TheVariants as reply
+use Rattle.hose_graph.specs.Network.{IsNetwork, Network}
+use Rattle.hose_law.specs.Answer.{IsPlannedAnswer}
+use Rattle.hose_law.specs.Cheapest.{IsCheapest}
+use Rattle.hose_law.specs.Decision.{IsAllowed, IsPlanned}
+use Rattle.hose_law.specs.Room.{room_of}
+use Rattle.hose_law.proofs.Cheapest.{canonical_cheapest}
+use Rattle.hose_law.specs.Book.{Book}
+use Rattle.hose_law.specs.History.{IsSoundAt, last_epoch, most_live}
+use Rattle.hose_law.specs.Plan.{plan_cost}
+use Rattle.hose_book.specs.declared.books.Books.{Ghosts}
+use Rattle.hose_book.specs.declared.committed.Committed.TheVariants.{Done, Disk}
+use Rattle.hose_book.specs.Commit.{Commits}
+use Rattle.hose_book.specs.Ledger.{Ledger}
+use Rattle.hose_core.specs.Claiming.{IsPlannedEntry}
+use Rattle.hose_core.specs.Stepping.{AdmitsCheapest, AnswersBy}
+
+module _ {K R : Type 0} (books : Ghosts K R) (old new : K) (customer : List ℕ) (hose plan : List (ℕ × ℕ)) (entry : Entry)
+    (planned : IsPlannedEntry (books.ledger old) customer hose plan entry) where
+  abbrev ledger : Ledger
+  ledger = books.ledger old
+
+  abbrev book : Book
+  book = ledger.book
+
+  abbrev Is : Reply → Option Entry → Type 0
+  Is = IsPlannedAnswer ledger.network book customer hose
+
+  -- the entry is sound where an epoch and room are left
+  pub sound_entry : book.epoch < last_epoch → length book.live < most_live → IsSoundAt ledger.network book entry
+  sound_entry epoch room = subst (IsSoundAt ledger.network book) (sym planned.admits) (epoch, room, planned.sound)
+
+  pub spent_answers : (at : ℕ) → at ≡ book.epoch → at ≡ last_epoch → new ≡ old → AnswersBy books old new Is (reply.Spent at)
+  spent_answers at here last same = record {
+    given = reply.Spent at;
+    entry = None;
+    is = (here, sym here ∙ last, (plan, planned.planned));
+    sound = tt;
+    goes = same;
+    told = inl (refl, ap (λ (k : K). (books.ledger k).book) same);
+  }
+
+  pub full_answers : (at : ℕ) → at ≡ book.epoch → book.epoch < last_epoch → most_live ≤ length book.live → new ≡ old → AnswersBy books old new Is (reply.Full at)
+  full_answers at here epoch full same = record {
+    given = reply.Full at;
+    entry = None;
+    is = (here, epoch, full, (plan, planned.planned));
+    sound = tt;
+    goes = same;
+    told = inl (refl, ap (λ (k : K). (books.ledger k).book) same);
+  }
+
+  module _ (epoch : book.epoch < last_epoch) (room : length book.live < most_live) (at cost : ℕ) (here : at ≡ book.epoch) (costs : cost ≡ plan_cost ledger.network plan) where
+    abbrev admitted : Reply
+    admitted = reply.Admitted (at + 1) cost (at + 1) plan
+
+    is_admitted : Is admitted (Some entry)
+    is_admitted = (epoch, room, planned.planned, ap (λ n. n + 1) here, ap (λ n. n + 1) here, costs, planned.admits)
+
+    pub admitted_answers : books.went old entry Done new → Commits ledger entry Done (books.ledger new) → AnswersBy books old new Is admitted
+    admitted_answers went commits = record {
+      given = admitted;
+      entry = Some entry;
+      is = is_admitted;
+      sound = sound_entry epoch room;
+      goes = went;
+      told = inl (refl, ap (λ (l : Ledger). l.book) commits);
+    }
+
+    pub failed_answers : books.went old entry Disk new → Commits ledger entry Disk (books.ledger new) → AnswersBy books old new Is (reply.Disk at)
+    failed_answers went commits = record {
+      given = admitted;
+      entry = Some entry;
+      is = is_admitted;
+      sound = sound_entry epoch room;
+      goes = went;
+      told = inr (ap reply.Disk here, refl, ap (λ (l : Ledger). l.book) commits);
+    }
+
+-- What is planned at a book is a cheapest way to carry the hose over the links that are allowed there.
+planned_cheapest : (network : Network) → IsNetwork network → (book : Book) (hose plan : List (ℕ × ℕ)) → IsPlanned network (room_of network book) hose plan
+    → (set : List Bool) × IsAllowed network (room_of network book) hose set × IsCheapest network set hose plan
+planned_cheapest network is _ hose plan planned = (planned.0, planned.1.allowed, canonical_cheapest network is planned.0 hose plan planned.1.is_plan)
+
+module _ {K R : Type 0} (books : Ghosts K R) (old new : K) (customer : List ℕ) (hose : List (ℕ × ℕ)) (is : IsNetwork (books.ledger old).network) where
+  abbrev was : Ledger
+  was = books.ledger old
+
+  admitted_planned : (id cost at : ℕ) (plan : List (ℕ × ℕ)) (given : Reply) (entry : Option Entry) → reply.Admitted id cost at plan ≡ given → IsPlannedAnswer was.network was.book customer hose given entry
+      → IsPlanned was.network (room_of was.network was.book) hose plan
+  admitted_planned id cost at plan given None same answer = absurd (subst (λ (r : Reply). IsPlannedAnswer was.network was.book customer hose r None) (sym same) answer)
+  admitted_planned id cost at plan given (Some entry) same answer = (subst (λ (r : Reply). IsPlannedAnswer was.network was.book customer hose r (Some entry)) (sym same) answer).2
+
+  -- so is what an answer admits
+  pub admits_cheapest : (answer : Reply) → AnswersBy books old new (IsPlannedAnswer was.network was.book customer hose) answer → AdmitsCheapest was.network was.book hose answer
+  admits_cheapest (reply.Admitted id cost at plan) by = elim by.told [
+    | inl told ↦ planned_cheapest was.network is was.book hose plan (admitted_planned id cost at plan by.given by.entry told.0 by.is)
+    | inr told ↦ absurd (cc told.0)
+  ]
+  admits_cheapest answer by = tt

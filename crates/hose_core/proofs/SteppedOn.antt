@@ -1,0 +1,238 @@
+-- A core that answered a command goes on: it fits what the step leads to.
+use Rattle.std.proofs.Common.{◌≡◌, ◌≢◌, ◌⊎◌, ◌∙◌, ◌≤◌, ℕ, List, Option, None, Some, IsSome, length, inl, inr, refl, sym, ap, subst, arith}
+use Rattle.std.specs.Prelude.{⊤}
+use Rattle.std.proofs.lemmas.List.{take_all}
+use Rattle.hose_graph.specs.Network.{Network}
+use Rattle.hose_graph.specs.declared.command.Command.{Command}
+use Rattle.hose_graph.specs.declared.command.Command.TheVariants as command
+use Rattle.hose_graph.specs.declared.entry.Entry.{Entry}
+use Rattle.hose_graph.specs.declared.reply.Reply.{Reply}
+use Rattle.hose_graph.specs.declared.reply.Reply.TheVariants as reply
+use Rattle.hose_law.specs.Answer.{IsAnswer, IsLinkAnswer, IsStepOf, IsShowAnswer, IsTakeAnswer, MayWantMemory}
+use Rattle.hose_law.specs.Book.{Book, HasVpn}
+use Rattle.hose_law.specs.Decision.{IsPlanned, IsRefused}
+use Rattle.hose_law.specs.History.{book_of}
+use Rattle.hose_law.specs.Quotes.{Held, HeldQuote, Holdings, at_number, free_number, with_held, with_number}
+use Rattle.hose_law.specs.Room.{room_of}
+use Rattle.hose_law.proofs.Numbers.{some_at}
+use Rattle.hose_law.proofs.Steps.{IsAnswered, IsIdle, step_cases}
+use Rattle.hose_plan.specs.Planning.{allowed_links}
+use Rattle.hose_book.specs.declared.books.Books.{Ghosts}
+use Rattle.hose_book.specs.Ledger.{Ledger}
+use Rattle.hose_core.specs.Holding.{AreHeld, HoldsNow, IsMadeAt, IsQuoteOf, State, quotes_in}
+use Rattle.hose_core.specs.Stepping.{FitsHistory, HasStepped, StepsOn}
+use Rattle.hose_core.specs.Telling.{IsShown}
+use Rattle.hose_core.specs.declared.quotes.Quote.{Quote}
+use Rattle.hose_core.proofs.Customers.{holds_same}
+use Rattle.hose_core.proofs.HeldQuotes.{IsFront, free_alike, front_same, front_with, held_longer, held_now, held_with, none_alike, some_alike}
+
+-- ---- one step
+
+module _ {K R : Type 0} (books : Ghosts K R) (old new : K) (epoch : ℕ) (history : List Entry) (customer : List ℕ) (held : Held) (asked : Command) (answer : Reply)
+    (stepped : HasStepped books old new epoch history customer held asked answer) where
+  abbrev Cases : Type 0
+  Cases = IsIdle (books.ledger old).network epoch history customer held answer stepped.entry stepped.next stepped.after
+      ⊎ IsAnswered (books.ledger old).network epoch history customer held asked stepped.entry stepped.next stepped.after
+
+  cases : Cases
+  cases = step_cases (books.ledger old).network epoch history customer held asked answer stepped.entry stepped.next stepped.after stepped.step
+
+  -- a history begins what its step leads to
+  pub front_of : IsFront history stepped.next
+  front_of = at cases
+    where
+      at : Cases → IsFront history stepped.next
+      at (inl idle) = front_same history stepped.next idle.stays
+      at (inr answered) = elim answered.goes [
+        | inl stays ↦ front_same history stepped.next stays
+        | inr goes ↦ front_with history stepped.next stepped.entry goes
+      ]
+
+-- a command that leaves what is held
+abbrev pub IsKeeping : Command → Type 0
+IsKeeping (command.Quote hose) = ⊥
+IsKeeping (command.Take number) = ⊥
+IsKeeping _ = ⊤
+
+-- its answer leaves what is held
+answer_keeps : (network : Network) (epoch : ℕ) (history : List Entry) (customer : List ℕ) (held after : Held) (asked : Command) (given : Reply) (entry : Option Entry) → IsKeeping asked
+    → IsAnswer network epoch history customer held asked given entry after → after ≡ held
+answer_keeps network epoch history customer held after (command.Admit hose) given entry keeping answer = answer.1
+answer_keeps network epoch history customer held after (command.Quote hose) given entry keeping answer = absurd keeping
+answer_keeps network epoch history customer held after (command.Take number) given entry keeping answer = absurd keeping
+answer_keeps network epoch history customer held after (command.Release id) given entry keeping answer = answer.1
+answer_keeps network epoch history customer held after (command.Show id) given entry keeping answer = answer.1
+answer_keeps network epoch history customer held after (command.Link link) given entry keeping answer = answer.1
+
+-- ---- what the core holds then
+
+module _ {K R : Type 0} (books : Ghosts K R) (old new : State K) (epoch : ℕ) (history : List Entry) (holdings : Holdings) (customer : List ℕ) (fits : FitsHistory books old epoch history holdings)
+    (same : (books.ledger new.books).network ≡ (books.ledger old.books).network) where
+  abbrev network : Network
+  network = (books.ledger old.books).network
+
+  abbrev held : Held
+  held = holdings customer
+
+  abbrev Stepped : Command → Reply → Type 0
+  Stepped asked answer = HasStepped books old.books new.books epoch history customer held asked answer
+
+  abbrev On : Command → Reply → Type 0
+  On asked answer = StepsOn books old new epoch history holdings customer asked answer
+
+  -- a customer's quotes are others now
+  pub changes_on : (asked : Command) (answer : Reply) (stepped : Stepped asked answer) (quotes : List (Option Quote)) → HoldsNow old.sessions customer quotes new.sessions
+      → AreHeld network epoch stepped.next stepped.after quotes → On asked answer
+  changes_on asked answer stepped quotes holds one = record {
+    stepped = stepped;
+    fits = record {
+      book = stepped.book;
+      held = subst (λ (n : Network). (name : List ℕ) → AreHeld n epoch stepped.next (with_held holdings customer stepped.after name) (quotes_in new.sessions name)) (sym same)
+          (held_now network epoch stepped.next holdings stepped.after old.sessions new.sessions customer quotes holds one
+          (λ name. held_longer network epoch history stepped.next (front_of books old.books new.books epoch history customer held asked answer stepped) (holdings name) (quotes_in old.sessions name) (fits.held name)));
+    };
+  }
+
+  -- the quotes are as before
+  pub stays_on : (asked : Command) (answer : Reply) (stepped : Stepped asked answer) → stepped.after ≡ held → new.sessions ≡ old.sessions → On asked answer
+  stays_on asked answer stepped keeps sessions =
+      let quotes : List (Option Quote) = quotes_in old.sessions customer in
+      let holds = subst (HoldsNow old.sessions customer quotes) (sym sessions) (holds_same old.sessions customer quotes refl) in
+      let longer = held_longer network epoch history stepped.next (front_of books old.books new.books epoch history customer held asked answer stepped) held quotes (fits.held customer) in
+      changes_on asked answer stepped quotes holds (subst (λ (h : Held). AreHeld network epoch stepped.next h quotes) (sym keeps) longer)
+
+  pub keeps_on : (asked : Command) (answer : Reply) → IsKeeping asked → Stepped asked answer → new.sessions ≡ old.sessions → On asked answer
+  keeps_on asked answer keeping stepped sessions = stays_on asked answer stepped (at (cases books old.books new.books epoch history customer held asked answer stepped)) sessions
+    where
+      at : Cases books old.books new.books epoch history customer held asked answer stepped → stepped.after ≡ held
+      at (inl idle) = idle.keeps
+      at (inr answered) = answer_keeps network epoch history customer held stepped.after asked answered.given stepped.entry keeping answered.is
+
+  -- the quote under a number is taken
+  pub taken_on : (number : ℕ) (quote : Quote) (answer : Reply) → at_number (quotes_in old.sessions customer) number ≡ Some quote → answer ≢ reply.Memory → Stepped (command.Take number) answer
+      → HoldsNow old.sessions customer (with_number (quotes_in old.sessions customer) number None) new.sessions → On (command.Take number) answer
+  taken_on number quote answer there told stepped holds =
+      let quotes : List (Option Quote) = quotes_in old.sessions customer in
+      let one = some_alike network epoch history held quotes (fits.held customer) number quote there in
+      let range = some_at quotes number quote there in
+      let longer = held_longer network epoch history stepped.next (front_of books old.books new.books epoch history customer held (command.Take number) answer stepped) (with_number held number None) (with_number quotes number None)
+      (held_with network epoch history held quotes (fits.held customer) number None None range.0 range.1 refl) in
+      changes_on (command.Take number) answer stepped (with_number quotes number None) holds
+      (subst (λ (h : Held). AreHeld network epoch stepped.next h (with_number quotes number None)) (sym (at one.0 one.1 (cases books old.books new.books epoch history customer held (command.Take number) answer stepped))) longer)
+    where
+      taken : (found : Option HeldQuote) (one : HeldQuote) (given : Reply) → found ≡ Some one → IsTakeAnswer network epoch history customer number held found given stepped.entry stepped.after → stepped.after ≡ with_number held number None
+      taken None one given is answered = absurd (cc is)
+      taken (Some found) one given is answered = answered.1
+
+      at : (one : HeldQuote) → at_number held number ≡ Some one → Cases books old.books new.books epoch history customer held (command.Take number) answer stepped → stepped.after ≡ with_number held number None
+      at one is (inl idle) = absurd (told idle.tells)
+      at one is (inr answered) = taken (at_number held number) one answered.given is answered.is
+
+-- ---- steps that leave the books
+
+module _ {K R : Type 0} (books : Ghosts K R) (old : State K) (epoch : ℕ) (history : List Entry) (holdings : Holdings) (customer : List ℕ) (fits : FitsHistory books old epoch history holdings) where
+  abbrev was : Ledger
+  was = books.ledger old.books
+
+  abbrev mine : Held
+  mine = holdings customer
+
+  abbrev quotes : List (Option Quote)
+  quotes = quotes_in old.sessions customer
+
+  abbrev Stays : Command → Reply → Type 0
+  Stays asked answer = StepsOn books old old epoch history holdings customer asked answer
+
+  -- an answer without an entry, which leaves what is held
+  told_on : (asked : Command) (answer : Reply) → IsStepOf was.network epoch history customer mine asked answer None history mine → Stays asked answer
+  told_on asked answer step = stays_on books old old epoch history holdings customer fits refl asked answer (record {
+    entry = None;
+    next = history;
+    after = mine;
+    step = step;
+    sound = tt;
+    goes = refl;
+    book = fits.book;
+  }) refl refl
+
+  -- want of memory
+  pub memory_on : (asked : Command) → MayWantMemory (book_of epoch history) customer mine asked → Stays asked reply.Memory
+  memory_on asked may = told_on asked reply.Memory (may, refl, refl, refl)
+
+  here : (at : ℕ) → at ≡ was.book.epoch → at ≡ (book_of epoch history).epoch
+  here at is = is ∙ ap (λ (b : Book). b.epoch) fits.book
+
+  -- no number is free
+  pub too_many_on : (hose : List (ℕ × ℕ)) (at : ℕ) → at ≡ was.book.epoch → free_number quotes ≡ None → Stays (command.Quote hose) (reply.TooMany at)
+  too_many_on hose at is none =
+      told_on (command.Quote hose) (reply.TooMany at) ((refl, (here at is, free_alike was.network epoch history mine quotes (fits.held customer) ∙ none, refl)), refl)
+
+  some_free : (number : ℕ) → free_number quotes ≡ Some number → free_number mine ≡ Some number
+  some_free number free = free_alike was.network epoch history mine quotes (fits.held customer) ∙ free
+
+  -- the hose is refused
+  pub refused_on : (hose : List (ℕ × ℕ)) (number at : ℕ) (side : List ℕ) → at ≡ was.book.epoch → free_number quotes ≡ Some number → IsRefused was.network (room_of was.network was.book) hose side
+      → Stays (command.Quote hose) (reply.Refused at side)
+  refused_on hose number at side is free refused =
+      let refuses = subst (λ (b : Book). IsRefused was.network (room_of was.network b) hose side) fits.book refused in
+      let some : IsSome (free_number mine) = subst IsSome (sym (some_free number free)) refl in
+      told_on (command.Quote hose) (reply.Refused at side) ((refl, (here at is, some, refuses, refl)), refl)
+
+  pub quote_memory_on : (hose : List (ℕ × ℕ)) (number : ℕ) → free_number quotes ≡ Some number → Stays (command.Quote hose) reply.Memory
+  quote_memory_on hose number free = memory_on (command.Quote hose) (subst IsSome (sym (some_free number free)) refl)
+
+  -- nothing stands at the number
+  pub no_quote_on : (number at : ℕ) → at ≡ was.book.epoch → at_number quotes number ≡ None → Stays (command.Take number) (reply.NoQuote number at)
+  no_quote_on number at is none =
+      let answer = subst (λ (found : Option HeldQuote). IsTakeAnswer was.network epoch history customer number mine found (reply.NoQuote number at) None mine)
+      (sym (none_alike was.network epoch history mine quotes (fits.held customer) number none)) (ap (reply.NoQuote number) (here at is), refl, refl) in
+      told_on (command.Take number) (reply.NoQuote number at) (answer, refl)
+
+  pub take_memory_on : (number : ℕ) (quote : Quote) → at_number quotes number ≡ Some quote → Stays (command.Take number) reply.Memory
+  take_memory_on number quote there =
+      let one = some_alike was.network epoch history mine quotes (fits.held customer) number quote there in
+      memory_on (command.Take number) (subst IsSome (sym one.1) refl)
+
+  -- a VPN is told
+  pub show_on : (id : ℕ) (answer : Reply) → IsShown was customer id answer → Stays (command.Show id) answer
+  show_on id reply.Memory shown = memory_on (command.Show id) (subst (λ (b : Book). HasVpn b customer id) fits.book shown)
+  show_on id (reply.NoVpn told at) shown = told_on (command.Show id) (reply.NoVpn told at) ((subst (λ (b : Book). (told ≡ id) × (at ≡ b.epoch) × (HasVpn b customer id → ⊥)) fits.book shown, refl), refl)
+  show_on id (reply.Shown told cost at hose amounts) shown =
+      told_on (command.Show id) (reply.Shown told cost at hose amounts) ((subst (λ (b : Book). IsShowAnswer was.network b customer id (reply.Shown told cost at hose amounts) None) fits.book shown, refl), refl)
+  show_on id answer shown = absurd shown
+
+  -- a link is told
+  pub link_on : (link : ℕ) (answer : Reply) → IsLinkAnswer was.book link answer None → Stays (command.Link link) answer
+  link_on link (reply.LinkState told load at) shown =
+      told_on (command.Link link) (reply.LinkState told load at) ((subst (λ (b : Book). IsLinkAnswer b link (reply.LinkState told load at) None) fits.book shown, refl), refl)
+  link_on link answer shown = absurd shown
+
+  -- ---- a quote that is put
+
+  pub quoted_on : (new : State K) (number : ℕ) (quote : Quote) → 1 ≤ number → number ≤ length quotes → free_number quotes ≡ Some number → IsMadeAt was.network was.book quote → new.books ≡ old.books
+      → HoldsNow old.sessions customer (with_number quotes number (Some quote)) new.sessions
+      → StepsOn books old new epoch history holdings customer (command.Quote quote.hose) (reply.Quoted number quote.cost quote.seen quote.amounts)
+  quoted_on new number quote some most free made same holds =
+      let one : HeldQuote = record { hose = quote.hose; place = length history } in
+      let made_here = subst (λ (b : Book). IsMadeAt was.network b quote) fits.book made in
+      let made_there = subst (λ (h : List Entry). IsMadeAt was.network (book_of epoch h) quote) (sym (take_all (length history) history (omega arith))) made_here in
+      let of : IsQuoteOf was.network epoch history one quote = record { there = omega arith; hose = refl; made = made_there } in
+      let planned : IsPlanned was.network (room_of was.network (book_of epoch history)) quote.hose quote.amounts = (allowed_links (room_of was.network (book_of epoch history)) quote.grounds, made_here.decision.0) in
+      let stepped : HasStepped books old.books new.books epoch history customer mine (command.Quote quote.hose) (reply.Quoted number quote.cost quote.seen quote.amounts) = record {
+        entry = None;
+        next = history;
+        after = with_number mine number (Some one);
+        step = ((refl, (made_here.seen, some_free number free, planned, made_here.decision.1, refl)), refl);
+        sound = tt;
+        goes = same;
+        book = ap (λ (k : K). (books.ledger k).book) same ∙ fits.book;
+      } in
+      changes_on books old new epoch history holdings customer fits (ap (λ (k : K). (books.ledger k).network) same) (command.Quote quote.hose) (reply.Quoted number quote.cost quote.seen quote.amounts) stepped
+      (with_number quotes number (Some quote)) holds (held_with was.network epoch history mine quotes (fits.held customer) number (Some one) (Some quote) some most (quote, refl, of))
+
+-- What is shown of a core by its fields is shown of it.
+pub of_fields : {K R : Type 0} (books : Ghosts K R) (fields old new : State K) (epoch : ℕ) (history : List Entry) (holdings : Holdings) (customer : List ℕ) (asked : Command) (answer : Reply) → fields ≡ old
+    → (FitsHistory books fields epoch history holdings → StepsOn books fields new epoch history holdings customer asked answer)
+    → FitsHistory books old epoch history holdings → StepsOn books old new epoch history holdings customer asked answer
+of_fields {K = K} books fields old new epoch history holdings customer asked answer same on =
+    subst (λ (s : State K). FitsHistory books s epoch history holdings → StepsOn books s new epoch history holdings customer asked answer) same on

@@ -1,0 +1,4 @@
+pub mod Claiming
+pub mod Holding
+pub mod Stepping
+pub mod Telling

@@ -1,0 +1,95 @@
+-- One command, one step: what a call does to books and to the quotes of customers.
+use Rattle.std.specs.Prelude.{◌≡◌, ◌⊎◌, ℕ, Bool, List, Option, None, Some, IsSome, ⊤}
+use Rattle.hose_graph.specs.Hose.{Endpoint}
+use Rattle.hose_graph.specs.Network.{Network}
+use Rattle.hose_graph.specs.declared.command.Command.{Command}
+use Rattle.hose_graph.specs.declared.entry.Entry.{Entry}
+use Rattle.hose_graph.specs.declared.reply.Reply.{Reply}
+use Rattle.hose_graph.specs.declared.reply.Reply.TheVariants as reply
+use Rattle.hose_law.specs.Answer.{IsStepOf}
+use Rattle.hose_law.specs.Book.{Book}
+use Rattle.hose_law.specs.Cheapest.{IsCheapest}
+use Rattle.hose_law.specs.Decision.{IsAllowed}
+use Rattle.hose_law.specs.History.{IsSoundWith, book_of, next_book}
+use Rattle.hose_law.specs.Quotes.{Held, Holdings, with_held}
+use Rattle.hose_law.specs.Room.{room_of}
+use Rattle.hose_book.specs.declared.books.Books.{Ghosts}
+use Rattle.hose_book.specs.declared.committed.Committed.{Committed}
+use Rattle.hose_book.specs.declared.committed.Committed.TheVariants.{Done, Disk}
+use Rattle.hose_core.specs.Holding.{AreHeld, State, quotes_of}
+
+-- what the commit of a command's entry answered, by the reply
+abbrev pub committed_of : Reply → Committed
+committed_of (reply.Disk at) = Disk
+committed_of _ = Done
+
+-- the books are as before where a command has no entry, and else one commit took them on
+abbrev pub Goes : {K R : Type 0} → Ghosts K R → K → Reply → Option Entry → K → Type 0
+Goes books old answer None new = new ≡ old
+Goes books old answer (Some entry) new = books.went old entry (committed_of answer) new
+
+-- the book after an entry, if there is one
+abbrev pub book_with : Book → Option Entry → Book
+book_with book None = book
+book_with book (Some entry) = next_book book entry
+
+-- The reply is the answer, and the book is the one after its entry; or the disk failed to keep the
+-- entry, and the book is as before.
+abbrev pub IsToldAs : Reply → Option Entry → Reply → Book → Book → Type 0
+IsToldAs given entry answer old new = ((answer ≡ given) × (new ≡ book_with old entry))
+    ⊎ ((answer ≡ reply.Disk old.epoch) × IsSome entry × (new ≡ old))
+
+-- Books answered a command that has these answers, each a reply and an entry or none.
+pub record AnswersBy {K R : Type 0} (books : Ghosts K R) (old new : K)
+    (Is : Reply → Option Entry → Type 0) (answer : Reply) : Type 0 where
+  pub given : Reply
+  pub entry : Option Entry
+  pub is : Is given entry
+  pub sound : IsSoundWith (books.ledger old).network (books.ledger old).book entry
+  pub goes : Goes books old answer entry new
+  pub told : IsToldAs given entry answer (books.ledger old).book (books.ledger new).book
+
+-- What an admission reserves is a cheapest way to carry the hose over the links that are allowed at
+-- a book.
+abbrev pub AdmitsCheapest : Network → Book → List Endpoint → Reply → Type 0
+AdmitsCheapest network book hose (reply.Admitted id cost at amounts) =
+    (set : List Bool) × IsAllowed network (room_of network book) hose set
+    × IsCheapest network set hose amounts
+AdmitsCheapest network book hose answer = ⊤
+
+-- A command of a customer who holds this was answered by a step at a history, whose entry is sound
+-- there, and what the step leads to is the book now.
+pub record HasStepped {K R : Type 0} (books : Ghosts K R) (old new : K) (epoch : ℕ)
+    (history : List Entry) (customer : List ℕ) (held : Held) (command : Command)
+    (answer : Reply) : Type 0 where
+  pub entry : Option Entry
+  pub next : List Entry
+  pub after : Held
+  pub step : IsStepOf (books.ledger old).network epoch history customer held command answer
+      entry next after
+  pub sound : IsSoundWith (books.ledger old).network (book_of epoch history) entry
+  pub goes : Goes books old answer entry new
+  pub book : (books.ledger new).book ≡ book_of epoch next
+
+-- the core's book is that of a history, and its quotes are those that are held there
+pub record FitsHistory {K R : Type 0} (books : Ghosts K R) (state : State K) (epoch : ℕ)
+    (history : List Entry) (holdings : Holdings) : Type 0 where
+  pub book : (books.ledger state.books).book ≡ book_of epoch history
+  pub held : (customer : List ℕ) → AreHeld (books.ledger state.books).network epoch history
+      (holdings customer) (quotes_of state customer)
+
+-- A core that fits a history answered a command by a step there, and fits what the step leads to.
+pub record StepsOn {K R : Type 0} (books : Ghosts K R) (old new : State K) (epoch : ℕ)
+    (history : List Entry) (holdings : Holdings) (customer : List ℕ) (command : Command)
+    (answer : Reply) : Type 0 where
+  pub stepped : HasStepped books old.books new.books epoch history customer (holdings customer)
+      command answer
+  pub fits : FitsHistory books new epoch stepped.next
+      (with_held holdings customer stepped.after)
+
+-- A core answered a command by a step at each history that it fits.
+abbrev pub Steps : {K R : Type 0} → Ghosts K R → State K → State K → List ℕ → Command → Reply
+    → Type 0
+Steps books old new customer command answer = (epoch : ℕ) (history : List Entry)
+    (holdings : Holdings) → FitsHistory books old epoch history holdings
+    → StepsOn books old new epoch history holdings customer command answer

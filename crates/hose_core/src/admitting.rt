@@ -1,0 +1,94 @@
+// Admitting a hose at once.
+ghost use Rattle.std.specs.Prelude.{◌≡◌, ℕ, List};
+ghost use Rattle.hose_graph.specs.Naming.{NamesPlaces};
+ghost use Rattle.hose_graph.specs.Network.{IsNetwork};
+ghost use Rattle.hose_graph.specs.Ranges.{AreInRanges};
+ghost use Rattle.hose_graph.specs.declared.command.Command.{Command};
+ghost use Rattle.hose_graph.specs.declared.entry.Entry.{Entry};
+ghost use Rattle.hose_law.specs.Decision.{CanBeReserved, IsPlanned};
+ghost use Rattle.hose_law.specs.History.{book_of};
+ghost use Rattle.hose_law.specs.Plan.{AreNodes, plan_cost};
+ghost use Rattle.hose_law.specs.Quotes.{Held};
+ghost use Rattle.hose_law.specs.Room.{room_of};
+ghost use Rattle.hose_book.specs.Commit.{IsMet};
+ghost use Rattle.hose_core.specs.Stepping.{AdmitsCheapest, HasStepped, committed_of};
+
+use crate::deciding::decide_now;
+use crate::entering::enter_planned;
+use hose_book::Books;
+use hose_graph::{Amounts, Entry, Hose, Name, Reply};
+use hose_paths::RowMaker;
+use hose_plan::Decision;
+use std::alloc::Global;
+
+/// Plans a hose and admits it with its plan: `Admitted`, `Refused`, `Spent`, `Full`, `Disk` or
+/// `Memory`. Its endpoints are nodes of the network.
+pub fn admit_now<K: Books, R: RowMaker>(
+    alloc: Global,
+    books: &mut K,
+    customer: &Name,
+    hose: Hose,
+    rows: &mut R,
+) -> Reply
+    requires { AreNodes (K.ledger books.old).network hose }
+    ensures step { (epoch : ℕ) (history : List Entry) (held : Held)
+        → (K.ledger books.old).book ≡ book_of epoch history
+        → HasStepped K.Books books.old books.new epoch history customer.now held
+        (Command.Admit hose) result }
+    ensures cheapest { AdmitsCheapest (K.ledger books.old).network (K.ledger books.old).book
+        hose result }
+    ensures network { (K.ledger books.new).network ≡ (K.ledger books.old).network }
+    ensures met { IsMet (K.frame books.old) (committed_of result) (K.frame books.new) }
+    ensures names { NamesPlaces (K.ledger books.old).network result }
+{
+    match decide_now(alloc, books, &hose, rows) {
+        Err(_) => Reply::Memory,
+        Ok(Decision::Refused { side }) => Reply::Refused {
+            at: books.book().epoch(),
+            side,
+        },
+        Ok(Decision::Plan { amounts, cost, .. }) => {
+            admit_planned(alloc, books, customer, hose, amounts, cost)
+        }
+    }
+}
+
+// Admits a hose with its plan and what that costs.
+fn admit_planned<K: Books>(
+    alloc: Global,
+    books: &mut K,
+    customer: &Name,
+    hose: Hose,
+    amounts: Amounts,
+    cost: u64,
+) -> Reply
+    requires network { IsNetwork (K.ledger books.old).network }
+    requires planned { IsPlanned (K.ledger books.old).network
+        (room_of (K.ledger books.old).network (K.ledger books.old).book) hose amounts }
+    requires sound { CanBeReserved (K.ledger books.old).network
+        (room_of (K.ledger books.old).network (K.ledger books.old).book) hose amounts }
+    requires ranges { AreInRanges amounts }
+    requires cost { cost ≡ plan_cost (K.ledger books.old).network amounts }
+    ensures step { (epoch : ℕ) (history : List Entry) (held : Held)
+        → (K.ledger books.old).book ≡ book_of epoch history
+        → HasStepped K.Books books.old books.new epoch history customer.now held
+        (Command.Admit hose) result }
+    ensures cheapest { AdmitsCheapest (K.ledger books.old).network (K.ledger books.old).book
+        hose result }
+    ensures network { (K.ledger books.new).network ≡ (K.ledger books.old).network }
+    ensures met { IsMet (K.frame books.old) (committed_of result) (K.frame books.new) }
+    ensures names { NamesPlaces (K.ledger books.old).network result }
+{
+    let Ok(told) = amounts.copy(alloc) else {
+        return Reply::Memory;
+    };
+    let entry = Entry::Admit {
+        customer: *customer,
+        hose,
+        amounts,
+    };
+    let Ok(ready) = K::prepare(alloc, &entry) else {
+        return Reply::Memory;
+    };
+    enter_planned(books, entry, ready, told, cost)
+}

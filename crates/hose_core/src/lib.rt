@@ -1,0 +1,29 @@
+//! A book with the quotes of its customers: each command is one step of the sequential book, at the
+//! history that the book stands for.
+//!
+//! ```
+//! let mut core = Core::new(alloc, Plain { book: Book::new(alloc, topology)? });
+//! let reply = core.step(alloc, &customer, Command::Quote(hose), &mut PlainRows::new());
+//! ```
+//!
+//! `admit_now`, `take_now` and `release_now` do the same to books that are kept by others, as under
+//! a lock: a take and a release take no memory there, since all of it is in their claim.
+#![tactic(auto)]
+
+mod admitting;
+mod claim;
+mod deciding;
+mod entering;
+mod quotes;
+mod releasing;
+mod sessions;
+mod stepping;
+mod taking;
+mod telling;
+
+pub use admitting::admit_now;
+pub use claim::{Claim, claim_release, claim_take};
+pub use quotes::{Quote, Quotes};
+pub use releasing::release_now;
+pub use stepping::Core;
+pub use taking::take_now;

@@ -1,0 +1,87 @@
+// The quotes of all customers.
+ghost use Rattle.std.specs.Prelude.{◌≡◌, ◌≤◌, ℕ, List, IfNone, IfSome, None, OnErr, OnOk, Some};
+ghost use Rattle.hose_graph.specs.declared.limits.TheConstants.{MOST_QUOTES};
+ghost use Rattle.hose_law.specs.Quotes.{at_number, free_number, none_held, with_number};
+ghost use Rattle.hose_core.specs.Holding.{HoldsNow, quotes_in};
+
+use crate::quotes::{Quote, Quotes};
+use hose_graph::Name;
+use std::alloc::{AllocError, Global};
+use std::collections::BTreeMap;
+use std::marker::Model;
+
+/// The quotes of each customer who has been quoted.
+#[derive(Drop)]
+pub struct Sessions {
+    by_customer: BTreeMap<Name, Quotes>,
+}
+
+impl Model for Sessions {
+    ghost use Rattle.hose_core.specs.Holding.{Quoted};
+
+    ghost Value = { Quoted };
+
+    ghost view = { λ sessions. sessions.by_customer.entries };
+}
+
+impl Sessions {
+    /// No customer holds a quote.
+    pub fn new(alloc: Global) -> Sessions
+        ensures { (customer : List ℕ) → quotes_in result customer ≡ none_held }
+    {
+        Sessions {
+            by_customer: BTreeMap::new(alloc),
+        }
+    }
+
+    /// The quote that a customer holds under a number.
+    pub fn held(&self, customer: &Name, number: u64) -> Option<&Quote>
+        ensures some { IfSome result
+            (λ quote. at_number (quotes_in self.now customer.now) number ≡ Some quote.now) }
+        ensures none { IfNone result
+            (at_number (quotes_in self.now customer.now) number ≡ None) }
+    {
+        self.by_customer.get(customer)?.held(number)
+    }
+
+    /// The lowest number under which a customer holds no quote.
+    pub fn free(&self, customer: &Name) -> Option<u64>
+        ensures lowest { result ≡ free_number (quotes_in self.now customer.now) }
+        ensures range { IfSome result (λ number. (1 ≤ number) × (number ≤ MOST_QUOTES)) }
+    {
+        match self.by_customer.get(customer) {
+            Some(quotes) => quotes.free(),
+            None => Quotes::new().free(),
+        }
+    }
+
+    /// Holds a quote for a customer under a number of 1 to 16 under which the customer holds none.
+    pub fn put(&mut self, customer: &Name, number: u64, quote: Quote) -> Result<(), AllocError>
+        requires range { (1 ≤ number) × (number ≤ MOST_QUOTES) }
+        requires empty { at_number (quotes_in self.old customer.now) number ≡ None }
+        ensures ok { OnOk result (HoldsNow self.old customer.now
+            (with_number (quotes_in self.old customer.now) number (Some quote)) self.new) }
+        ensures err { OnErr result (self.new ≡ self.old) }
+    {
+        if let Some(quotes) = self.by_customer.get_mut(customer) {
+            quotes.put(number, quote);
+            return Ok(());
+        }
+        let mut quotes = Quotes::new();
+        quotes.put(number, quote);
+        self.by_customer.insert(*customer, quotes)?;
+        Ok(())
+    }
+
+    /// Holds none for a customer under a number of 1 to 16 from then on.
+    pub fn clear(&mut self, customer: &Name, number: u64)
+        requires { (1 ≤ number) × (number ≤ MOST_QUOTES) }
+        ensures { HoldsNow self.old customer.now
+            (with_number (quotes_in self.old customer.now) number None) self.new }
+    {
+        let Some(quotes) = self.by_customer.get_mut(customer) else {
+            return;
+        };
+        quotes.clear(number);
+    }
+}

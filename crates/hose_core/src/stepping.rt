@@ -1,0 +1,246 @@
+// A book with the quotes of its customers.
+ghost use Rattle.std.specs.Prelude.{◌≡◌, ℕ, ◌≤◌, List, Some};
+ghost use Rattle.hose_graph.specs.Naming.{AsksOf, NamesPlaces};
+ghost use Rattle.hose_graph.specs.Network.{IsLinkOf};
+ghost use Rattle.hose_graph.specs.declared.command.Command.{Command};
+ghost use Rattle.hose_graph.specs.declared.entry.Entry.{Entry};
+ghost use Rattle.hose_graph.specs.declared.limits.TheConstants.{MOST_EPOCH, MOST_QUOTES};
+ghost use Rattle.hose_law.specs.History.{book_of};
+ghost use Rattle.hose_law.specs.Plan.{AreNodes};
+ghost use Rattle.hose_law.specs.Quotes.{free_number, nothing_held};
+ghost use Rattle.hose_book.specs.Commit.{IsMet};
+ghost use Rattle.hose_book.specs.declared.committed.Committed.{Committed};
+ghost use Rattle.hose_core.specs.Holding.{IsMadeAt, quotes_of};
+ghost use Rattle.hose_core.specs.Stepping.{FitsHistory, Steps, committed_of};
+
+use crate::admitting::admit_now;
+use crate::claim::{claim_release, claim_take};
+use crate::deciding::decide_now;
+use crate::quotes::Quote;
+use crate::releasing::release_now;
+use crate::sessions::Sessions;
+use crate::taking::take_now;
+use crate::telling::{link_state, show};
+use hose_book::Books;
+use hose_graph::{Command, Hose, Name, Reply};
+use hose_paths::RowMaker;
+use hose_plan::Decision;
+use std::alloc::Global;
+use std::marker::Model;
+
+/// A book that takes entries, with the quotes that each customer holds.
+///
+/// A contract sees it as its books and the quotes of its customers.
+#[derive(Drop)]
+pub struct Core<K: Books + Drop> {
+    books: K,
+    sessions: Sessions,
+}
+
+impl<K: Books + Drop> Model for Core<K> {
+    ghost use Rattle.std.specs.Prelude.{ℕ, List};
+    ghost use Rattle.hose_core.specs.Holding.{AreKept, State, quotes_in};
+
+    ghost Value = { State K };
+
+    ghost view = { λ core. record { books = core.books; sessions = core.sessions } };
+
+    // What is held was decided on this network.
+    ghost invariant = { λ core. (customer : List ℕ)
+        → AreKept (K.ledger core.books).network (quotes_in core.sessions customer) };
+}
+
+impl<K: Books + Drop> Core<K> {
+    /// No customer holds a quote. What is quoted takes its memory from the allocator.
+    pub fn new(alloc: Global, books: K) -> Core<K>
+        ensures books { result.books ≡ books }
+        ensures fits { (epoch : ℕ) (history : List Entry)
+            → (K.ledger books).book ≡ book_of epoch history
+            → FitsHistory K.Books result epoch history nothing_held }
+    {
+        Core {
+            books,
+            sessions: Sessions::new(alloc),
+        }
+    }
+
+    /// The books.
+    pub fn books(&self) -> &K
+        ensures { result.now ≡ self.now.books }
+    {
+        &self.books
+    }
+
+    /// The books, and the quotes are given up.
+    pub fn into_books(self) -> K
+        ensures { result ≡ self.books }
+    {
+        self.books
+    }
+
+    /// The reply to a customer's command. The nodes and links that it names are those of the
+    /// network, and a number to be released is at most 4,000,000,000.
+    pub fn step<R: RowMaker>(
+        &mut self,
+        alloc: Global,
+        customer: &Name,
+        command: Command,
+        rows: &mut R,
+    ) -> Reply
+        requires { AsksOf (K.ledger self.old.books).network command }
+        ensures step { Steps K.Books self.old self.new customer.now command result }
+        ensures network { (K.ledger self.new.books).network ≡ (K.ledger self.old.books).network }
+        ensures met { IsMet (K.frame self.old.books) (committed_of result)
+            (K.frame self.new.books) }
+        ensures names { NamesPlaces (K.ledger self.old.books).network result }
+    {
+        match command {
+            Command::Admit(hose) => self.admit(alloc, customer, hose, rows),
+            Command::Quote(hose) => self.quote(alloc, customer, hose, rows),
+            Command::Take(number) => self.take(alloc, customer, number),
+            Command::Release(id) => self.release(alloc, customer, id),
+            Command::Show(id) => self.show(alloc, customer, id),
+            Command::Link(link) => self.link(link),
+        }
+    }
+
+    // Admits a hose at once.
+    fn admit<R: RowMaker>(
+        &mut self,
+        alloc: Global,
+        customer: &Name,
+        hose: Hose,
+        rows: &mut R,
+    ) -> Reply
+        requires { AreNodes (K.ledger self.old.books).network hose }
+        ensures step { Steps K.Books self.old self.new customer.now (Command.Admit hose) result }
+        ensures network { (K.ledger self.new.books).network ≡ (K.ledger self.old.books).network }
+        ensures met { IsMet (K.frame self.old.books) (committed_of result)
+            (K.frame self.new.books) }
+        ensures names { NamesPlaces (K.ledger self.old.books).network result }
+    {
+        admit_now(alloc, &mut self.books, customer, hose, rows)
+    }
+
+    // Plans a hose and holds the plan under the customer's lowest free number.
+    fn quote<R: RowMaker>(
+        &mut self,
+        alloc: Global,
+        customer: &Name,
+        hose: Hose,
+        rows: &mut R,
+    ) -> Reply
+        requires { AreNodes (K.ledger self.old.books).network hose }
+        ensures step { Steps K.Books self.old self.new customer.now (Command.Quote hose) result }
+        ensures books { self.new.books ≡ self.old.books }
+        ensures met { committed_of result ≡ Committed.Done }
+        ensures names { NamesPlaces (K.ledger self.old.books).network result }
+    {
+        let at = self.books.book().epoch();
+        let Some(number) = self.sessions.free(customer) else {
+            return Reply::TooMany { at };
+        };
+        match decide_now(alloc, &self.books, &hose, rows) {
+            Err(_) => Reply::Memory,
+            Ok(Decision::Refused { side }) => Reply::Refused { at, side },
+            Ok(
+                Decision::Plan {
+                    grounds,
+                    amounts,
+                    cost,
+                },
+            ) => {
+                let quote = Quote {
+                    hose,
+                    seen: at,
+                    cost,
+                    amounts,
+                    grounds,
+                };
+                self.hold(alloc, customer, number, quote)
+            }
+        }
+    }
+
+    // Holds a quote under a number, and tells it.
+    fn hold(&mut self, alloc: Global, customer: &Name, number: u64, quote: Quote) -> Reply
+        requires range { (1 ≤ number) × (number ≤ MOST_QUOTES) }
+        requires free { free_number (quotes_of self.old customer.now) ≡ Some number }
+        requires made { IsMadeAt (K.ledger self.old.books).network
+            (K.ledger self.old.books).book quote }
+        ensures step { Steps K.Books self.old self.new customer.now
+            (Command.Quote quote.hose) result }
+        ensures books { self.new.books ≡ self.old.books }
+        ensures met { committed_of result ≡ Committed.Done }
+        ensures names { NamesPlaces (K.ledger self.old.books).network result }
+    {
+        let (at, cost) = (quote.seen, quote.cost);
+        let Ok(amounts) = quote.amounts.copy(alloc) else {
+            return Reply::Memory;
+        };
+        let Ok(()) = self.sessions.put(customer, number, quote) else {
+            return Reply::Memory;
+        };
+        Reply::Quoted {
+            quote: number,
+            cost,
+            at,
+            amounts,
+        }
+    }
+
+    // Takes the quote under a number.
+    fn take(&mut self, alloc: Global, customer: &Name, number: u64) -> Reply
+        ensures step { Steps K.Books self.old self.new customer.now (Command.Take number) result }
+        ensures network { (K.ledger self.new.books).network ≡ (K.ledger self.old.books).network }
+        ensures met { IsMet (K.frame self.old.books) (committed_of result)
+            (K.frame self.new.books) }
+        ensures names { NamesPlaces (K.ledger self.old.books).network result }
+    {
+        let Some(quote) = self.sessions.held(customer, number) else {
+            let at = self.books.book().epoch();
+            return Reply::NoQuote { quote: number, at };
+        };
+        let Ok(claim) = claim_take(alloc, customer, quote) else {
+            return Reply::Memory;
+        };
+        let reply = take_now(&mut self.books, quote, claim);
+        self.sessions.clear(customer, number);
+        reply
+    }
+
+    // Gives up the VPN of a number.
+    fn release(&mut self, alloc: Global, customer: &Name, id: u64) -> Reply
+        requires { id ≤ MOST_EPOCH }
+        ensures step { Steps K.Books self.old self.new customer.now (Command.Release id) result }
+        ensures network { (K.ledger self.new.books).network ≡ (K.ledger self.old.books).network }
+        ensures met { IsMet (K.frame self.old.books) (committed_of result)
+            (K.frame self.new.books) }
+        ensures names { NamesPlaces (K.ledger self.old.books).network result }
+    {
+        let Ok(claim) = claim_release(alloc, customer, id) else {
+            return Reply::Memory;
+        };
+        release_now(&mut self.books, claim)
+    }
+
+    // Tells the VPN of a number.
+    fn show(&self, alloc: Global, customer: &Name, id: u64) -> Reply
+        ensures step { Steps K.Books self.now self.now customer.now (Command.Show id) result }
+        ensures met { committed_of result ≡ Committed.Done }
+        ensures names { NamesPlaces (K.ledger self.now.books).network result }
+    {
+        show(self.books.book(), alloc, customer, id)
+    }
+
+    // Tells a link.
+    fn link(&self, link: u32) -> Reply
+        requires { IsLinkOf (K.ledger self.now.books).network link }
+        ensures step { (customer : List ℕ)
+            → Steps K.Books self.now self.now customer (Command.Link link) result }
+        ensures met { committed_of result ≡ Committed.Done }
+        ensures names { NamesPlaces (K.ledger self.now.books).network result }
+    {
+        link_state(self.books.book(), link)
+    }
+}

@@ -1,0 +1,64 @@
+// Taking what was quoted.
+ghost use Rattle.std.specs.Prelude.{◌≡◌, ◌≢◌, ◌↔◌, ℕ, List, Some, IsTrue};
+ghost use Rattle.hose_graph.specs.Naming.{NamesPlaces};
+ghost use Rattle.hose_graph.specs.Network.{IsNetwork};
+ghost use Rattle.hose_graph.specs.declared.command.Command.{Command};
+ghost use Rattle.hose_graph.specs.declared.entry.Entry.{Entry};
+ghost use Rattle.hose_law.specs.Book.{Book};
+ghost use Rattle.hose_law.specs.Decision.{HaveEqualGrounds};
+ghost use Rattle.hose_law.specs.History.{book_of};
+ghost use Rattle.hose_law.specs.Quotes.{Held, HeldQuote, at_number};
+ghost use Rattle.hose_book.specs.Commit.{IsMet};
+ghost use Rattle.hose_core.specs.Claiming.{IsClaimOf};
+ghost use Rattle.hose_core.specs.Holding.{IsMade, IsMadeAt, IsQuoteOf};
+ghost use Rattle.hose_core.specs.Stepping.{AdmitsCheapest, HasStepped, committed_of};
+
+use crate::claim::Claim;
+use crate::entering::enter_planned;
+use crate::quotes::Quote;
+use hose_book::Books;
+use hose_graph::Reply;
+use hose_plan::grounds_hold;
+
+/// Admits what was quoted, where the grounds of the quote are as they were: `Admitted`, `Stale`,
+/// `Spent`, `Full` or `Disk`. It takes no memory, and plans nothing.
+pub fn take_now<K: Books>(books: &mut K, quote: &Quote, claim: Claim<K>) -> Reply
+    requires made { IsMade (K.ledger books.old).network quote.now }
+    requires claim { (customer : List ℕ) × IsClaimOf K.Books claim customer quote.now }
+    ensures step { (customer : List ℕ) (epoch number : ℕ) (history : List Entry) (held : Held)
+        (one : HeldQuote) → IsClaimOf K.Books claim customer quote.now
+        → (K.ledger books.old).book ≡ book_of epoch history
+        → at_number held number ≡ Some one
+        → IsQuoteOf (K.ledger books.old).network epoch history one quote.now
+        → HasStepped K.Books books.old books.new epoch history customer held
+        (Command.Take number) result }
+    ensures cheapest { AdmitsCheapest (K.ledger books.old).network (K.ledger books.old).book
+        quote.now.hose result }
+    ensures network { (K.ledger books.new).network ≡ (K.ledger books.old).network }
+    ensures met { IsMet (K.frame books.old) (committed_of result) (K.frame books.new) }
+    ensures names { NamesPlaces (K.ledger books.old).network result }
+    ensures memory { result ≢ Reply.Memory }
+{
+    let Claim { entry, ready, told } = claim;
+    let Some(told) = told else {
+        unreachable!();
+    };
+    if !still_holds(books.book(), quote) {
+        return Reply::Stale {
+            seen: quote.seen,
+            now: books.book().epoch(),
+        };
+    }
+    enter_planned(books, entry, ready, told, quote.cost)
+}
+
+// Whether the grounds of a quote hold at a book.
+fn still_holds(book: &hose_book::Book, quote: &Quote) -> bool
+    requires { IsMade book.now.network quote.now }
+    ensures holds { (earlier : Book) → IsMadeAt book.now.network earlier quote.now
+        → (IsTrue result
+        ↔ HaveEqualGrounds book.now.network earlier book.now.book quote.now.hose) }
+    ensures network { IsNetwork book.now.network }
+{
+    grounds_hold(book.topology(), book.loads(), &quote.grounds)
+}

@@ -1,0 +1,166 @@
+-- Grounds that hold at another room: there the hose has the same plan.
+use Rattle.std.proofs.Common.{◌≡◌, ◌∙◌, ℕ, ◌<◌, Bool, true, false, List, Option, None, Some, length, refl, sym, ap, subst, inl, inr, arith}
+use Rattle.std.specs.List.{All, Contains}
+use Rattle.std.specs.Option.{IfSome}
+use Rattle.std.specs.Prelude.{◌↔◌, ◌&&◌, IsSomeAnd, IsTrue, nat_le, slice_index, slice_index_or}
+use Rattle.std.proofs.lemmas.Bool.{cases_lt, false≢true}
+use Rattle.std.proofs.lemmas.List.{get_or-replicate, get_or_past, length-replicate}
+use Rattle.std.proofs.lemmas.List.Elements.{All-contains, All-contains_itself, All-weaker}
+use Rattle.std.proofs.lemmas.List.FromFn.{fill_by_all, get_or-map-range_with_len, length-map-range_with_len}
+use Rattle.hose_graph.specs.Hose.{IsHose}
+use Rattle.hose_graph.specs.Network.{Network, IsNetwork}
+use Rattle.hose_law.specs.Book.{Book}
+use Rattle.hose_law.specs.CanonicalPlan.{IsCanonicalPlan}
+use Rattle.hose_law.specs.Decision.{AreGrounds, CanBeReserved, Fits, HasFirstFit, HaveEqualGrounds, IsPlanned}
+use Rattle.hose_law.specs.Room.{Room, free_rates, half_rate, room_of, safe_links}
+use Rattle.hose_law.specs.Tree.{links_of}
+use Rattle.hose_law.specs.Walk.{IsIn, all_links}
+use Rattle.hose_law.proofs.CanonicalPlans.{canonical_unique, planned_sound, same_planned}
+use Rattle.hose_tree.specs.Amounts.{AreOnLinks}
+use Rattle.hose_plan.specs.declared.decision.Grounds.{Grounds}
+use Rattle.hose_plan.specs.Planning.{AreGroundsOf, AreMade, room_beside}
+use Rattle.hose_plan.specs.Rooting.{IsPlanOver}
+use Rattle.hose_plan.proofs.Deciding.{none_fits}
+
+-- ---- what grounds speak of
+
+-- a link of a set has a place in it
+in_below : (set : List Bool) (l : ℕ) → IsIn set l → l < length set
+in_below set l is = elim (cases_lt l (length set)) [
+  | inl below ↦ below
+  | inr past ↦ absurd (false≢true (sym (get_or_past set l false (omega (arith, past))) ∙ is))
+]
+
+-- a plan reserves on links of its set
+plan_below : (network : Network) (set : List Bool) (hose plan : List (ℕ × ℕ)) → IsCanonicalPlan network set hose plan → All (λ (pair : ℕ × ℕ). pair.0 < length set) plan
+plan_below network set hose plan is =
+    All-weaker (Contains plan) (λ (pair : ℕ × ℕ). pair.0 < length set)
+    (λ pair there. in_below set pair.0 (All-contains (IsIn set) (links_of is.tree) pair.0 is.is_canonical.over ((is.reserves.each pair.0 pair.1).0 there).0)) plan (All-contains_itself plan)
+
+first_below : (network : Network) (set : List Bool) (hose : List (ℕ × ℕ)) (first : Option (List (ℕ × ℕ))) → IsPlanOver network set hose first
+    → IfSome first (All (λ (pair : ℕ × ℕ). pair.0 < length set))
+first_below network set hose None none = tt
+first_below network set hose (Some plan) is = plan_below network set hose plan is
+
+pub first_on_links : (network : Network) (grounds : Grounds) → AreMade network grounds → IfSome grounds.first (AreOnLinks network)
+first_on_links network grounds (hose, room, over, are) =
+    subst (λ (n : ℕ). IfSome grounds.first (All (λ (pair : ℕ × ℕ). pair.0 < n))) (ap length over ∙ length-replicate (length network.links) true)
+    (first_below network room.links hose grounds.first are.first)
+
+places_of : (network : Network) (room : Room) (hose : List (ℕ × ℕ)) → room.links ≡ all_links network → (fits : Bool) (safe : List Bool) → AreGrounds network room hose fits safe
+    → length safe ≡ length network.links
+places_of network room hose over true safe are = ap length are.1 ∙ length-replicate (length network.links) false
+places_of network room hose over false safe are =
+    ap length are.1 ∙ length-map-range_with_len _ 0 (length room.links) ∙ ap length over ∙ length-replicate (length network.links) true
+
+pub safe_places : (network : Network) (grounds : Grounds) → AreMade network grounds → length grounds.safe ≡ length network.links
+safe_places network grounds (hose, room, over, are) = places_of network room hose over grounds.first_fits grounds.safe are.rests_on
+
+-- ---- grounds at another room
+
+-- a first plan that is known fits just where one does
+first_fit : (network : Network) → IsNetwork network → (room : Room) (hose : List (ℕ × ℕ)) (first : Option (List (ℕ × ℕ))) → IsPlanOver network room.links hose first
+    → IsSomeAnd first (Fits room.free) ↔ HasFirstFit network room hose
+first_fit network is room hose None none = (λ no. absurd no, λ has. none_fits network room hose none has)
+first_fit network is room hose (Some plan) is_plan = (
+  λ fits. (plan, record { is_plan = is_plan; fits = fits }),
+  λ has. subst (Fits room.free) (canonical_unique network is room.links hose has.0 plan has.1.is_plan is_plan) has.1.fits,
+)
+
+-- ---- the safe links at another room
+
+module _ (network : Network) (loads : List ℕ) (hose : List (ℕ × ℕ)) where
+  abbrev free : List ℕ
+  free = free_rates network loads
+
+  abbrev is_safe : ℕ → Bool
+  is_safe l = slice_index_or (all_links network) l false && nat_le (half_rate hose) (slice_index free l)
+
+  -- of all links those are safe that have half of the rates free
+  safe_is : (l : ℕ) → l < length network.links → is_safe l ≡ nat_le (half_rate hose) (slice_index free l)
+  safe_is l below = ap (λ (b : Bool). b && nat_le (half_rate hose) (slice_index free l)) (get_or-replicate (length network.links) l true false below)
+
+  -- a set that has each link just where half of the rates is free there is that of the safe links
+  pub safe_from : (half : ℕ) (safe : List Bool) → half ≡ half_rate hose → length safe ≡ length network.links
+      → ((l : ℕ) → l < length network.links → slice_index_or safe l false ≡ nat_le half (slice_index free l)) → safe ≡ safe_links (room_beside network loads) hose
+  safe_from half safe halves places each =
+      let long : length (all_links network) ≡ length network.links = length-replicate (length network.links) true in
+      fill_by_all is_safe safe (length (all_links network)) false (places ∙ sym long)
+      (λ l below.
+      let inside : l < length network.links = omega (arith, below, long) in
+      each l inside ∙ ap (λ (n : ℕ). nat_le n (slice_index free l)) halves ∙ sym (safe_is l inside))
+
+  -- and that set has each link so
+  pub safe_at : (half : ℕ) (safe : List Bool) → half ≡ half_rate hose → safe ≡ safe_links (room_beside network loads) hose
+      → (l : ℕ) → l < length network.links → slice_index_or safe l false ≡ nat_le half (slice_index free l)
+  safe_at half safe halves same l inside =
+      let long : length (all_links network) ≡ length network.links = length-replicate (length network.links) true in
+      ap (λ (set : List Bool). slice_index_or set l false) same
+      ∙ get_or-map-range_with_len is_safe 0 (length (all_links network)) l l false (omega (arith, inside, long)) (omega arith)
+      ∙ safe_is l inside ∙ ap (λ (n : ℕ). nat_le n (slice_index free l)) (sym halves)
+
+-- ---- grounds beside loads
+
+module _ (network : Network) (is : IsNetwork network) (loads : List ℕ) (earlier : Room) (over : earlier.links ≡ all_links network) (hose : List (ℕ × ℕ)) (grounds : Grounds)
+    (are : AreGroundsOf network earlier hose grounds) where
+  abbrev here : Room
+  here = room_beside network loads
+
+  -- the first plan is the same, as it is made over the same links
+  first_here : IsPlanOver network here.links hose grounds.first
+  first_here = subst (λ (set : List Bool). IsPlanOver network set hose grounds.first) over are.first
+
+  fit_here : IsSomeAnd grounds.first (Fits here.free) ↔ HasFirstFit network here hose
+  fit_here = first_fit network is here hose grounds.first first_here
+
+  rests : (fits : Bool) → fits ≡ grounds.first_fits → AreGrounds network here hose fits grounds.safe → AreGroundsOf network here hose grounds
+  rests fits same on = record { first = first_here; half = are.half; rests_on = subst (λ (b : Bool). AreGrounds network here hose b grounds.safe) same on }
+
+  -- whether the first plan fits is the same where the grounds are
+  pub same_fit : (fits : Bool) → IsTrue fits ↔ IsSomeAnd grounds.first (Fits here.free) → AreGroundsOf network here hose grounds → fits ≡ grounds.first_fits
+  same_fit fits tells still = at fits grounds.first_fits refl tells still.rests_on
+    where
+      at : (fits wanted : Bool) → wanted ≡ grounds.first_fits → IsTrue fits ↔ IsSomeAnd grounds.first (Fits here.free) → AreGrounds network here hose wanted grounds.safe → fits ≡ wanted
+      at true true _ tells on = refl
+      at false false _ tells on = refl
+      at true false _ tells on = absurd (on.0 (fit_here.0 (tells.0 refl)))
+      at false true _ tells on = absurd (false≢true (tells.1 (fit_here.1 on.0)))
+
+  -- where it does not fit, as it did not, the grounds are the same just where the safe links are
+  pub safe_as_before : (fits safe : Bool) → IsTrue fits ↔ IsSomeAnd grounds.first (Fits here.free) → fits ≡ grounds.first_fits → grounds.first_fits ≡ false
+      → IsTrue safe ↔ (grounds.safe ≡ safe_links here hose) → IsTrue safe ↔ AreGroundsOf network here hose grounds
+  safe_as_before fits safe tells same unfit set =
+      let now : fits ≡ false = same ∙ unfit in (
+        λ holds. rests false (sym unfit) (λ has. false≢true (sym now ∙ tells.1 (fit_here.1 has)), set.0 holds),
+        λ still. set.1 (subst (λ (b : Bool). AreGrounds network here hose b grounds.safe) unfit still.rests_on).1,
+      )
+
+-- ---- grounds at two books
+
+-- the grounds of a hose at a room are equal in any telling
+grounds_unique : (network : Network) (room : Room) (hose : List (ℕ × ℕ)) (fits other : Bool) (safe more : List Bool) → AreGrounds network room hose fits safe
+    → AreGrounds network room hose other more → (fits ≡ other) × (safe ≡ more)
+grounds_unique network room hose true true safe more one two = (refl, one.1 ∙ sym two.1)
+grounds_unique network room hose false false safe more one two = (refl, one.1 ∙ sym two.1)
+grounds_unique network room hose true false safe more one two = absurd (two.0 one.0)
+grounds_unique network room hose false true safe more one two = absurd (one.0 two.0)
+
+-- grounds of a hose at a book are its grounds at another just where the two books give it equal ones
+pub equal_grounds : (network : Network) (earlier now : Book) (hose : List (ℕ × ℕ)) (grounds : Grounds) → AreGroundsOf network (room_of network earlier) hose grounds
+    → AreGroundsOf network (room_of network now) hose grounds ↔ HaveEqualGrounds network earlier now hose
+equal_grounds network earlier now hose grounds are = (
+  λ still. record { fits = grounds.first_fits; safe = grounds.safe; here = are.rests_on; there = still.rests_on },
+  λ equal.
+      let same = grounds_unique network (room_of network earlier) hose equal.fits grounds.first_fits equal.safe grounds.safe equal.here are.rests_on in
+      let fits = subst (λ (b : Bool). AreGrounds network (room_of network now) hose b equal.safe) same.0 equal.there in
+      record { first = are.first; half = are.half; rests_on = subst (AreGrounds network (room_of network now) hose grounds.first_fits) same.1 fits },
+)
+
+-- A plan of a hose at a book is its plan at each other at which its grounds are equal, and can be reserved there.
+pub planned_here : (network : Network) → IsNetwork network → (earlier now : Book) (hose plan : List (ℕ × ℕ)) → IsHose hose → HaveEqualGrounds network earlier now hose
+    → IsPlanned network (room_of network earlier) hose plan → IsPlanned network (room_of network now) hose plan × CanBeReserved network (room_of network now) hose plan
+planned_here network is earlier now hose plan is_hose equal planned =
+    let one = room_of network earlier in
+    let two = room_of network now in
+    let here = same_planned network one two refl hose equal.fits equal.safe equal.here equal.there planned.0 plan planned.1 in
+    ((planned.0, here), planned_sound network is two hose planned.0 plan is_hose here)

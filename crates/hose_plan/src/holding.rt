@@ -1,0 +1,79 @@
+// Whether the grounds of a decision still hold.
+ghost use Rattle.std.specs.Prelude.{◌≡◌, ◌↔◌, List, IfSome, IsSomeAnd, IsTrue, length};
+ghost use Rattle.hose_graph.specs.Hose.{Endpoint};
+ghost use Rattle.hose_law.specs.Book.{Book, loads_of};
+ghost use Rattle.hose_law.specs.Decision.{Fits, HaveEqualGrounds};
+ghost use Rattle.hose_law.specs.Room.{Room, free_rates, half_rate, room_of, safe_links};
+ghost use Rattle.hose_law.specs.Walk.{all_links};
+ghost use Rattle.hose_plan.specs.Planning.{AreGroundsOf, AreMade, room_beside};
+ghost use Rattle.hose_tree.specs.Amounts.{AreCarried, AreOnLinks};
+
+use crate::decision::Grounds;
+use hose_graph::{Amounts, Topology};
+use hose_links::LinkSet;
+use hose_tree::{fits, free_rate};
+
+/// Whether the grounds of the hose beside these loads equal the given ones, which are those of a
+/// decision on it beside others: then the decision is the same too. There is a load for each link
+/// of the topology, at most its capacity.
+pub fn grounds_hold(top: &Topology, loads: &[u64], grounds: &Grounds) -> bool
+    requires loads { AreCarried top.now loads.now }
+    requires made { AreMade top.now grounds.now }
+    ensures rooms { (hose : List Endpoint) (earlier : Room) → earlier.links ≡ all_links top.now
+        → AreGroundsOf top.now earlier hose grounds.now
+        → (IsTrue result
+        ↔ AreGroundsOf top.now (room_beside top.now loads.now) hose grounds.now) }
+    ensures books { (hose : List Endpoint) (earlier now : Book) → loads.now ≡ loads_of top.now now
+        → AreGroundsOf top.now (room_of top.now earlier) hose grounds.now
+        → (IsTrue result ↔ HaveEqualGrounds top.now earlier now hose) }
+{
+    are_grounds(top, loads, grounds)
+}
+
+// The same of rooms.
+fn are_grounds(top: &Topology, loads: &[u64], grounds: &Grounds) -> bool
+    requires loads { AreCarried top.now loads.now }
+    requires made { AreMade top.now grounds.now }
+    ensures { (hose : List Endpoint) (earlier : Room) → earlier.links ≡ all_links top.now
+        → AreGroundsOf top.now earlier hose grounds.now
+        → (IsTrue result
+        ↔ AreGroundsOf top.now (room_beside top.now loads.now) hose grounds.now) }
+{
+    // The call tells the proof what holds of each network: that a hose has one plan over its links.
+    let _nodes = top.nodes();
+    if first_fits(top, loads, &grounds.first) != grounds.first_fits {
+        return false;
+    }
+    if grounds.first_fits {
+        return true;
+    }
+    are_safe(top, loads, grounds.half, &grounds.safe)
+}
+
+// Whether there is a first plan, and it fits.
+fn first_fits(top: &Topology, loads: &[u64], first: &Option<Amounts>) -> bool
+    requires loads { AreCarried top.now loads.now }
+    requires links { IfSome first.now (AreOnLinks top.now) }
+    ensures { IsTrue result ↔ IsSomeAnd first.now (Fits (free_rates top.now loads.now)) }
+{
+    match first {
+        Some(first) => fits(top, loads, first),
+        None => false,
+    }
+}
+
+// Whether the links that have this much free are those of the set.
+fn are_safe(top: &Topology, loads: &[u64], half: u64, safe: &LinkSet) -> bool
+    requires loads { AreCarried top.now loads.now }
+    requires places { length safe.now ≡ length top.now.links }
+    ensures { (hose : List Endpoint) → half ≡ half_rate hose
+        → (IsTrue result ↔ (safe.now ≡ safe_links (room_beside top.now loads.now) hose)) }
+{
+    for link in 0..top.links() {
+        let has_half = half <= free_rate(top, loads, link);
+        if has_half != safe.has(link) {
+            return false;
+        }
+    }
+    true
+}
