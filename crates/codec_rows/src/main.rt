@@ -2,15 +2,20 @@
 //!
 //! It prints that all are, or the first that are not. With the word `entries` it reads and spells a
 //! million entries instead, and with `copies` it copies as many spellings, so that `bench/codec.sh`
-//! can compare the two.
+//! can compare the two. With `appends`, `readings` and `digests` it makes a journal of 20,000
+//! entries in memory, and with the last two reads it or makes the digest of its bytes 2,000 times,
+//! for `bench/journal.sh`.
 #![tactic(auto)]
 
 mod draws;
+mod journals;
 
 use draws::Draws;
 use hose_codec::{CodecFault, decode, encode};
+use journals::{appended_bytes, digested_bytes, read_bytes};
 use std::alloc::{AllocError, Global};
 use std::env::Env;
+use std::fmt::Display;
 use std::io;
 use std::process::ExitCode;
 
@@ -40,6 +45,12 @@ fn main(rt: HostRuntime) -> ExitCode {
         tell_bytes(&rt, spelled_bytes(rt.alloc()))
     } else if word == b"copies".as_slice() {
         tell_bytes(&rt, copied_bytes(rt.alloc()))
+    } else if word == b"appends".as_slice() {
+        tell_bytes(&rt, appended_bytes(rt.alloc()))
+    } else if word == b"readings".as_slice() {
+        tell_bytes(&rt, read_bytes(rt.alloc()))
+    } else if word == b"digests".as_slice() {
+        tell_bytes(&rt, digested_bytes(rt.alloc()))
     } else {
         tell_first(&rt, first_changed(rt.alloc()))
     };
@@ -49,7 +60,7 @@ fn main(rt: HostRuntime) -> ExitCode {
     }
 }
 
-fn tell_bytes(rt: &impl Print, bytes: Result<u64, CodecFault>) -> io::Result<()> {
+fn tell_bytes<E: Display + Drop>(rt: &impl Print, bytes: Result<u64, E>) -> io::Result<()> {
     match bytes {
         Ok(bytes) => println!(rt; "{bytes} bytes"),
         Err(fault) => println!(rt; "{fault}"),

@@ -101,7 +101,7 @@ module _ {D : Type 0} (disk : Ghosts D) where
   head_refused old now piece end digest (Damaged at) same front (inl (headless, zero_at)) =
       along _ _ _ (sym same) (each (disk.content now) _ _ (λ bytes is. inl (subst IsHeadless (sym (front_more (held piece) bytes is)) (headless_more (held piece) (drop PIECE_BYTES bytes) headless), zero_at)) (front_told now piece end front))
   head_refused old now piece end digest (Damaged at) same front (inr (unmarked, one_at)) =
-      along _ _ _ (sym same) (each (disk.content now) _ _ (λ bytes is. inr (inl (subst IsUnmarked (sym (front_more (held piece) bytes is)) (unmarked_more (held piece) (drop PIECE_BYTES bytes) unmarked), one_at))) (front_told now piece end front))
+      along _ _ _ (sym same) (each (disk.content now) _ _ (λ bytes is. inr (subst IsUnmarked (sym (front_more (held piece) bytes is)) (unmarked_more (held piece) (drop PIECE_BYTES bytes) unmarked), one_at)) (front_told now piece end front))
   head_refused old now piece end digest (Other kept given) same front (other, given_is) = (
     given_is,
     along _ _ _ (sym same) (each (disk.content now) _ _ (λ bytes is. subst (IsOther digest kept) (sym (front_more (held piece) bytes is)) (other_more digest kept (held piece) (drop PIECE_BYTES bytes) other)) (front_told now piece end front)),

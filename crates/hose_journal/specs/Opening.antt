@@ -4,7 +4,7 @@ use Rattle.hose_io.specs.Frame.{Stays}
 use Rattle.hose_disk.specs.Disk.{object_frame}
 use Rattle.hose_disk.specs.declared.disk.Disk.{Ghosts}
 use Rattle.hose_journal.specs.Entries.{IsListOf, Means}
-use Rattle.hose_journal.specs.Image.{IsUnbegun, IsHeadless, IsUnmarked, IsOther, head, other, damaged}
+use Rattle.hose_journal.specs.Image.{IsUnbegun, IsHeadless, IsUnmarked, IsOther, head, other}
 use Rattle.hose_journal.specs.Moments.{TellsAsBefore}
 use Rattle.hose_journal.specs.Reading.{IsPiece, HasFailed}
 use Rattle.hose_journal.specs.declared.fault.JournalFault.{JournalFault}
@@ -36,11 +36,14 @@ pub record IsHeadOf (digest front : List ℕ) : Type 0 where
   pub some : 1 ≤ length rest
   pub is : front ≡ head digest ++ rest
 
+-- No head stands at the front: its first gate is not open, or another mark follows.
+abbrev pub HasNoHead : List ℕ → ℕ → Type 0
+HasNoHead front at = (IsHeadless front × (at ≡ 0)) ⊎ (IsUnmarked front × (at ≡ 1))
+
 -- what is found at the front of a journal that was begun
 abbrev pub HasHead : List ℕ → List ℕ → Result Unit JournalFault → Type 0
 HasHead front digest (Ok unit) = IsHeadOf digest front
-HasHead front digest (Err (Damaged at)) =
-    (IsHeadless front × (at ≡ 0)) ⊎ (IsUnmarked front × (at ≡ 1))
+HasHead front digest (Err (Damaged at)) = HasNoHead front at
 HasHead front digest (Err (Other kept given)) = IsOther digest kept front × (given ≡ digest)
 HasHead front digest (Err Disk) = ⊥
 HasHead front digest (Err Memory) = ⊥
@@ -48,7 +51,7 @@ HasHead front digest (Err Memory) = ⊥
 -- Why a journal is not opened. A fault of the disk has raised its count.
 abbrev pub IsRefused : {D : Type 0} → Ghosts D → D → D → List ℕ → JournalFault → Type 0
 IsRefused disk old new digest (Damaged at) =
-    IfSome (disk.content old) (λ bytes. Means digest bytes (damaged at))
+    IfSome (disk.content old) (λ bytes. HasNoHead bytes at)
 IsRefused disk old new digest (Other kept given) = (given ≡ digest)
     × IfSome (disk.content old) (λ bytes. Means digest bytes (other kept))
 IsRefused disk old new digest Disk = HasFailed disk old new
