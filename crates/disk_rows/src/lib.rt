@@ -1,4 +1,5 @@
-//! Rows on journals and what they stand on: the spelling of entries, and disks that fail and stop.
+//! Rows on journals and what they stand on: the spelling of entries, disks that fail and
+//! stop, and stores.
 //!
 //! Spellings are written by hand, after the format. What a stop may leave is worked out by hand,
 //! and by a plain model that tries every content of a small disk.
@@ -12,3 +13,5 @@ mod images;
 mod journals;
 #[cfg(test)]
 mod spellings;
+#[cfg(test)]
+mod stores;

@@ -1,0 +1,6 @@
+pub mod Commits
+pub mod Histories
+pub mod OneMeaning
+pub mod Openings
+pub mod Readings
+pub mod Standing

@@ -1,0 +1,185 @@
+-- What an opening makes of the images of a disk, and of what it holds.
+use Rattle.std.proofs.Common.{◌≡◌, inl, inr, ⊎_elim, ℕ, ◌≤◌, List, [], length, get_or, take, drop, false, Option, None, Some, IfSome, IsTrue, is_some, refl, sym, ap, ◌∙◌, subst, arith, length-append}
+use Rattle.hose_io.proofs.Frames.{Rose-later}
+use Rattle.hose_graph.specs.Network.{Network}
+use Rattle.hose_graph.specs.declared.entry.Entry.{Entry}
+use Rattle.hose_law.specs.History.{opening_book}
+use Rattle.hose_book.specs.Ledger.{Ledger}
+use Rattle.hose_disk.specs.Disk.{object_frame}
+use Rattle.hose_disk.specs.declared.disk.Disk.{Ghosts}
+use Rattle.hose_journal.specs.declared.layout.TheConstants.{DIGEST_BYTES}
+use Rattle.hose_journal.specs.declared.fault.JournalFault.{JournalFault}
+use Rattle.hose_journal.specs.declared.fault.JournalFault.TheVariants as journal
+use Rattle.hose_journal.specs.declared.journal.Journal.{Journal}
+use Rattle.hose_journal.specs.declared.reading.Reading.{Reading}
+use Rattle.hose_journal.specs.Entries.{entries_format, front_of, IsListOf}
+use Rattle.hose_journal.specs.Image.{AreItems, IsClosed, IsOther, IsUnbegun, head, damaged}
+use Rattle.hose_journal.specs.Journal.{Stands}
+use Rattle.hose_journal.specs.Moments.{LeavesOnly}
+use Rattle.hose_journal.specs.Opening.{HasNoHead, IsOpened, KeepsDisk, KeepsList, IsRefused as IsRefusedThere}
+use Rattle.hose_journal.specs.Reading.{OnlyRead, Reads}
+use Rattle.hose_journal.proofs.OneList.{one_list}
+use Rattle.hose_journal.proofs.Runs.{started, joined, weaker, now_too}
+use Rattle.hose_store.specs.declared.fault.StoreFault.{StoreFault}
+use Rattle.hose_store.specs.declared.fault.StoreFault.TheVariants as store
+use Rattle.hose_store.specs.Faults.{store_fault}
+use Rattle.hose_store.specs.Opening.{IsOpenedOn, IsRecovering, IsRefused, IsStopped, IsUnchanged}
+use Rattle.hose_store.specs.Recovery.{digest_of, sound_format, IsHistoryOf, IsRecoveredAs}
+use Rattle.hose_store.specs.Store.{HasHistory}
+use Rattle.hose_store.proofs.Commits.{has_history}
+use Rattle.hose_store.proofs.Histories.{amid_none, front_same, sound_items}
+use Rattle.hose_store.proofs.Readings.{not_empty, told_each}
+
+-- ---- what was begun
+
+head_begun : (bytes : List ℕ) (at : ℕ) → HasNoHead bytes at → ¬ IsUnbegun bytes
+head_begun bytes at (inl (headless, zero_at)) (inl short) = omega (arith, headless.long, short)
+head_begun bytes at (inl (headless, zero_at)) (inr (long, shut)) = omega (arith, headless.long, long)
+head_begun bytes at (inr (unmarked, one_at)) (inl short) = omega (arith, unmarked.long, short)
+head_begun bytes at (inr (unmarked, one_at)) (inr (long, shut)) = shut unmarked.begun
+
+pub other_begun : (digest kept bytes : List ℕ) → IsOther digest kept bytes → ¬ IsUnbegun bytes
+other_begun digest kept bytes is (inl short) = omega (arith, short, is.some, is.size, ap length is.is, length-append (head kept) is.rest)
+other_begun digest kept bytes is (inr (long, shut)) = shut (ap (λ (l : List ℕ). get_or l 0 0) is.is)
+
+-- what is damaged is no journal without an entry
+pub damaged_not_empty : (top : Network) (bytes : List ℕ) (at : ℕ) → length (digest_of top) ≡ DIGEST_BYTES → IsRecoveredAs top bytes (damaged at) → ¬ IsListOf (digest_of top) [] bytes
+damaged_not_empty top bytes at size (inl (headless, zero_at)) (inl (unbegun, none)) = head_begun bytes 0 (inl (headless, refl)) unbegun
+damaged_not_empty top bytes at size (inl (headless, zero_at)) (inr list) = headless.shut (ap (λ (l : List ℕ). get_or l 0 0) list.closed.is)
+damaged_not_empty top bytes at size (inr (inl (unmarked, one_at))) (inl (unbegun, none)) = head_begun bytes 1 (inr (unmarked, refl)) unbegun
+damaged_not_empty top bytes at size (inr (inl (unmarked, one_at))) (inr list) = unmarked.differs (ap (λ (l : List ℕ). take 5 (drop 1 l)) list.closed.is)
+damaged_not_empty top bytes at size (inr (inr (items, broken))) list = not_empty (sound_format top) (digest_of top) bytes broken.rest items size broken.is list
+
+none_of : (content : Option (List ℕ)) → is_some content ≡ false → content ≡ None
+none_of None untold = refl
+none_of (Some bytes) untold = absurd cc
+
+clash : (content : Option (List ℕ)) (bytes : List ℕ) (P : List ℕ → Type 0) → content ≡ Some bytes → IfSome content P → IfSome content (λ found. ¬ P found) → ⊥
+clash None bytes P same p not = absurd cc
+clash (Some found) bytes P same p not = not p
+
+-- What is read of a disk after its opening was so before it, where it is so of no journal without an entry.
+kept_from : (was now : Option (List ℕ)) (digest : List ℕ) (P : List ℕ → Type 0) → is_some now ≡ is_some was → KeepsList was now digest → ((bytes : List ℕ) → P bytes → ¬ IsListOf digest [] bytes) → IfSome now P → IfSome was P
+kept_from None now digest P tells keeps not p = tt
+kept_from (Some was) None digest P tells keeps not p = absurd cc
+kept_from (Some was) (Some now) digest P tells (inl same) not p = subst (λ (content : Option (List ℕ)). IfSome content P) same p
+kept_from (Some was) (Some now) digest P tells (inr (unbegun, list)) not p = absurd (not now p list)
+
+closed_history : (network : Network) (history : List Entry) (bytes : List ℕ) → AreItems (sound_format network) [] history → IsClosed (front_of (digest_of network) history) bytes → IsHistoryOf network history bytes
+closed_history network history bytes sound closed = inr (record { are = sound; closed = subst (λ (l : List ℕ). IsClosed l bytes) (sym (front_same network (digest_of network) history)) closed })
+
+-- the history that was read is that of the disk before its opening
+history_from : (network : Network) (history : List Entry) (was now : Option (List ℕ)) → length (digest_of network) ≡ DIGEST_BYTES → is_some now ≡ is_some was → KeepsList was now (digest_of network)
+    → AreItems (sound_format network) [] history → AreItems entries_format [] history → IfSome now (IsClosed (front_of (digest_of network) history)) → IfSome was (IsHistoryOf network history)
+history_from network history None now size tells keeps sound are closed = tt
+history_from network history (Some was) None size tells keeps sound are closed = absurd cc
+history_from network history (Some was) (Some now) size tells (inl same) sound are closed =
+    subst (λ (content : Option (List ℕ)). IfSome content (IsHistoryOf network history)) same (closed_history network history now sound closed)
+history_from network history (Some was) (Some now) size tells (inr (unbegun, list)) sound are closed =
+    inl (unbegun, one_list (digest_of network) now history [] size (inr (record { are = are; closed = closed })) list)
+
+module _ {D : Type 0} (disk : Ghosts D) where
+  -- ---- moments
+
+  -- only reads follow the opening of a journal
+  pub opened_then : (old mid new : D) (digest : List ℕ) → ((t : ℕ) (image : List ℕ) → t ≤ disk.moment mid → disk.may_leave mid image → disk.left_since mid t image)
+      → LeavesOnly disk old mid (IsOpened disk old digest) → OnlyRead disk mid new → LeavesOnly disk old new (IsOpened disk old digest)
+  opened_then old mid new digest counts run only =
+      joined disk old mid new (IsOpened disk old digest) run
+      (weaker disk mid new (disk.may_leave mid) (IsOpened disk old digest) (now_too disk old mid (IsOpened disk old digest) counts run) only.run)
+
+  unchanged_by : (old new : D) (digest : List ℕ) (content : Option (List ℕ)) → disk.content old ≡ content → ((t : ℕ) (image : List ℕ) → disk.content new ≡ None → disk.left_since new t image → ⊥)
+      → is_some (disk.content new) ≡ is_some (disk.content old) → LeavesOnly disk old new (IsOpened disk old digest) → IfSome (disk.content old) (λ bytes. ¬ IsUnbegun bytes) → IsUnchanged disk old new
+  unchanged_by old new digest None same untold tells run begun =
+      let none = none_of (disk.content new) (tells ∙ ap is_some same) in
+      record {
+        later = run.later;
+        each = λ image left. absurd (untold (disk.moment old) image none left);
+        before = λ t image le left. absurd (untold t image none left);
+        keeps = run.keeps;
+      }
+  unchanged_by old new digest (Some bytes) same untold tells run begun =
+      weaker disk old new (IsOpened disk old digest) (disk.may_leave old) (λ image. ⊎_elim (λ was. was) (λ empty. absurd (clash (disk.content old) bytes IsUnbegun same empty.0 begun))) run
+
+  -- nothing was changed of a journal that was begun
+  unchanged : (old new : D) (digest : List ℕ) → ((t : ℕ) (image : List ℕ) → disk.content new ≡ None → disk.left_since new t image → ⊥)
+      → is_some (disk.content new) ≡ is_some (disk.content old) → LeavesOnly disk old new (IsOpened disk old digest) → IfSome (disk.content old) (λ bytes. ¬ IsUnbegun bytes) → IsUnchanged disk old new
+  unchanged old new digest untold tells run begun = unchanged_by old new digest (disk.content old) refl untold tells run begun
+
+  -- ---- refusals
+
+  pub wanting : (old : D) → ((image : List ℕ) → disk.left_since old (disk.moment old) image → disk.may_leave old image) → IsUnchanged disk old old
+  wanting old only_now = started disk old (disk.may_leave old) only_now (λ image is. is)
+
+  -- the journal was not opened
+  pub refused_head : (old new : D) (top : Network) (fault : JournalFault) → ((image : List ℕ) → disk.left_since old (disk.moment old) image → disk.may_leave old image)
+      → ((t : ℕ) (image : List ℕ) → disk.content new ≡ None → disk.left_since new t image → ⊥) → KeepsDisk disk old new
+      → LeavesOnly disk old new (IsOpened disk old (digest_of top)) → IsRefusedThere disk old new (digest_of top) fault → IsRefused disk old new top (store_fault fault)
+  refused_head old new top journal.Disk only_now untold keeps run refused = refused
+  refused_head old new top (journal.Other kept given) only_now untold keeps run refused = (
+    unchanged old new (digest_of top) untold keeps.tells run (told_each (disk.content old) _ (λ bytes. ¬ IsUnbegun bytes) (λ bytes is. other_begun (digest_of top) kept bytes is) refused.1),
+    refused.0,
+    refused.1,
+  )
+  refused_head old new top (journal.Damaged at) only_now untold keeps run refused = (
+    unchanged old new (digest_of top) untold keeps.tells run (told_each (disk.content old) _ (λ bytes. ¬ IsUnbegun bytes) (λ bytes is. head_begun bytes at is) refused),
+    told_each (disk.content old) (λ bytes. HasNoHead bytes at) (λ bytes. IsRecoveredAs top bytes (damaged at)) (λ bytes. ⊎_elim (λ headless. inl headless) (λ unmarked. inr (inl unmarked))) refused,
+  )
+  refused_head old new top journal.Memory only_now untold keeps run refused = subst (λ (now : D). IsUnchanged disk old now) (sym refused) (wanting old only_now)
+
+  -- its entries were read no further
+  pub refused_entries : (old mid new : D) (top : Network) (fault : StoreFault) → length (digest_of top) ≡ DIGEST_BYTES → ((t : ℕ) (image : List ℕ) → disk.content new ≡ None → disk.left_since new t image → ⊥)
+      → KeepsDisk disk old mid → KeepsList (disk.content old) (disk.content mid) (digest_of top) → disk.content new ≡ disk.content mid
+      → LeavesOnly disk old new (IsOpened disk old (digest_of top)) → IsStopped disk mid new top fault → IsRefused disk old new top fault
+  refused_entries old mid new top store.Disk size untold keeps list same run stopped =
+      record { rose = Rose-later (object_frame (disk.frame old)) (object_frame (disk.frame mid)) (object_frame (disk.frame new)) keeps.stays stopped.rose; told = stopped.told }
+  refused_entries old mid new top (store.Other kept given) size untold keeps list same run stopped = absurd stopped
+  refused_entries old mid new top (store.Damaged at) size untold keeps list same run stopped =
+      let digest = digest_of top in
+      let told = kept_from (disk.content old) (disk.content mid) digest (λ bytes. IsRecoveredAs top bytes (damaged at)) keeps.tells list (λ bytes is. damaged_not_empty top bytes at size is) stopped in (
+        unchanged old new digest untold (ap is_some same ∙ keeps.tells) run
+            (told_each (disk.content old) (λ bytes. IsRecoveredAs top bytes (damaged at)) (λ bytes. ¬ IsUnbegun bytes) (λ bytes is unbegun. damaged_not_empty top bytes at size is (inl (unbegun, refl))) told),
+        told,
+      )
+  refused_entries old mid new top store.Memory size untold keeps list same run stopped =
+      let digest = digest_of top in
+      let told = kept_from (disk.content old) (disk.content mid) digest (λ bytes. ¬ IsListOf digest [] bytes) keeps.tells list (λ bytes not. not) stopped in
+      unchanged old new digest untold (ap is_some same ∙ keeps.tells) run
+      (told_each (disk.content old) (λ bytes. ¬ IsListOf digest [] bytes) (λ bytes. ¬ IsUnbegun bytes) (λ bytes not unbegun. not (inl (unbegun, refl))) told)
+
+  -- ---- the store that is opened
+
+  -- before the first entry
+  pub first_recovering : (ledger : Ledger) (top : Network) (reading : Reading D) → ledger ≡ record { network = top; book = opening_book 0 } → Reads disk reading (digest_of top) [] → reading.fault ≡ None → IsRecovering disk ledger reading
+  first_recovering ledger top reading is reads fault = record {
+    entries = [];
+    reads = subst (λ (network : Network). Reads disk reading (digest_of network) []) (sym (ap (λ (l : Ledger). l.network) is)) reads;
+    sound = tt;
+    book = ap (λ (l : Ledger). l.book) is;
+    fault = fault;
+  }
+
+  -- after the last one
+  pub has_recovered : (ledger : Ledger) (reading : Reading D) (journal : Journal D) (recovering : IsRecovering disk ledger reading)
+      → ((digest : List ℕ) (entries : List Entry) → Reads disk reading digest entries → Stands disk journal (record { digest = digest; entries = entries; doubt = None }))
+      → HasHistory disk (record { ledger = ledger; journal = journal }) recovering.entries None
+  has_recovered ledger reading journal recovering stands =
+      has_history disk (record { ledger = ledger; journal = journal }) recovering.entries None recovering.book (sound_items ledger.network recovering.entries recovering.sound) tt
+      (stands (digest_of ledger.network) recovering.entries recovering.reads)
+
+  pub opened_on : (old mid : D) (ledger : Ledger) (reading : Reading D) (journal : Journal D) (recovering : IsRecovering disk ledger reading) → is_some (disk.content mid) ≡ is_some (disk.content old)
+      → KeepsList (disk.content old) (disk.content mid) (digest_of ledger.network) → disk.content reading.disk ≡ disk.content mid → IsTrue reading.closed
+      → ((digest : List ℕ) (entries : List Entry) → Reads disk reading digest entries → Stands disk journal (record { digest = digest; entries = entries; doubt = None }))
+      → IsOpenedOn disk old ledger.network (record { ledger = ledger; journal = journal })
+  opened_on old mid ledger reading journal recovering tells list same closed stands =
+      let network = ledger.network in
+      let reads = recovering.reads in
+      let has = has_recovered ledger reading journal recovering stands in
+      let told = subst (λ (content : Option (List ℕ)). IfSome content (IsClosed (front_of (digest_of network) recovering.entries))) same (reads.closed closed) in
+      record {
+        history = recovering.entries;
+        network = refl;
+        has = has;
+        read = history_from network recovering.entries (disk.content old) (disk.content mid) reads.size tells list recovering.sound reads.are told;
+        images = λ image is. amid_none network recovering.entries image (has.images image is);
+      }

@@ -1,0 +1,88 @@
+use Rattle.std.proofs.Common.{◌≡◌, ◌∙◌, List, ℕ, [], sym, ap, subst, None}
+use Rattle.hose_graph.specs.Network.{Network}
+use Rattle.hose_book.specs.Ledger.{Ledger}
+use Rattle.hose_journal.specs.Moments.{LeavesOnly}
+use Rattle.hose_journal.specs.Opening.{IsOpened, KeepsList, IsRefused as IsRefusedThere}
+use Rattle.hose_journal.specs.Reading.{Reads}
+use Rattle.hose_store.specs.declared.fault.StoreFault.{StoreFault}
+use Rattle.hose_store.specs.Opening.{IsOpenedOn, IsRefused, IsStopped}
+use Rattle.hose_store.specs.Recovery.{digest_of}
+use Rattle.hose_store.proofs.Histories.{is_digest}
+use Rattle.hose_store.proofs.Openings.{first_recovering, has_recovered, opened_on, opened_then, refused_entries, refused_head}
+use Rattle.hose_store.proofs.store.Store.open.Goals as goal
+
+pub returns-in-Err-clause-any_moment : goal.returns-in-Err-clause-any_moment
+returns-in-Err-clause-any_moment g c =
+    let is = is_digest c.args.top c.digest-digest.result c.digest-digest.ensures in
+    subst (λ (digest : List ℕ). LeavesOnly g.D.Disk c.args.disk c.in-Err.refused.1 (IsOpened g.D.Disk c.args.disk digest)) is c.in-Err.ensures.any_moment
+
+pub returns-in-Err-clause-refused : goal.returns-in-Err-clause-refused
+returns-in-Err-clause-refused g c =
+    let disk = g.D.Disk in
+    let old = c.args.disk in
+    let new = c.in-Err.refused.1 in
+    let is = is_digest c.args.top c.digest-digest.result c.digest-digest.ensures in
+    let run = subst (λ (digest : List ℕ). LeavesOnly disk old new (IsOpened disk old digest)) is c.in-Err.ensures.any_moment in
+    let refused = subst (λ (digest : List ℕ). IsRefusedThere disk old new digest c.in-Err.refused.0) is c.in-Err.ensures.refused in
+    subst (λ (fault : StoreFault). IsRefused disk old new c.args.top fault) (sym c.from.ensures)
+    (refused_head disk old new c.args.top c.in-Err.refused.0 (g.met.D.Disk.only_now old) (g.met.D.Disk.untold new) c.in-Err.ensures.keeps run refused)
+
+pub recover-requires : goal.recover-requires
+recover-requires g c =
+    let top = c.args.top in
+    let is = is_digest top c.digest-digest.result c.digest-digest.ensures in
+    first_recovering g.D.Disk c.in-Ok.book top c.in-Ok-open.reading c.in-Ok.ensures
+    (subst (λ (digest : List ℕ). Reads g.D.Disk c.in-Ok-open.reading digest []) is c.in-Ok-open.ensures.reads) c.in-Ok-open.ensures.fault
+
+pub invariant_of-result : goal.invariant_of-result
+invariant_of-result g c =
+    let recovering = c.in-Ok-recover.ensures.recovered in
+    (recovering.entries, None, has_recovered g.D.Disk c.recover.new.book c.recover.new.reading c.finish.result recovering c.finish.ensures.stands)
+
+pub returns-in-Ok-recover-clause-any_moment : goal.returns-in-Ok-recover-clause-any_moment
+returns-in-Ok-recover-clause-any_moment g c =
+    let disk = g.D.Disk in
+    let old = c.args.disk in
+    let mid = c.in-Ok-open.reading.disk in
+    let is = is_digest c.args.top c.digest-digest.result c.digest-digest.ensures in
+    let run = subst (λ (digest : List ℕ). LeavesOnly disk old mid (IsOpened disk old digest)) is c.in-Ok-open.ensures.any_moment in
+    subst (λ (new : g.row.D.Denot). LeavesOnly disk old new (IsOpened disk old (digest_of c.args.top))) (sym c.finish.ensures.disk)
+    (opened_then disk old mid c.recover.new.reading.disk (digest_of c.args.top) (g.met.D.Disk.counts_now mid) run c.recover.ensures.only)
+
+pub returns-in-Ok-recover-clause-opened : goal.returns-in-Ok-recover-clause-opened
+returns-in-Ok-recover-clause-opened g c =
+    let disk = g.D.Disk in
+    let old = c.args.disk in
+    let mid = c.in-Ok-open.reading.disk in
+    let book = c.recover.new.book in
+    let is = is_digest c.args.top c.digest-digest.result c.digest-digest.ensures in
+    let network : book.network ≡ c.args.top = c.recover.ensures.network ∙ ap (λ (l : Ledger). l.network) c.in-Ok.ensures in
+    let list = subst (λ (digest : List ℕ). KeepsList (disk.content old) (disk.content mid) digest) (is ∙ ap digest_of (sym network)) c.in-Ok-open.ensures.list in
+    subst (λ (top : Network). IsOpenedOn disk old top (record { ledger = book; journal = c.finish.result })) network
+    (opened_on disk old mid book c.recover.new.reading c.finish.result c.in-Ok-recover.ensures.recovered c.in-Ok-open.ensures.keeps.tells list c.recover.ensures.only.same c.in-Ok-recover.ensures.closed c.finish.ensures.stands)
+
+pub returns-in-Err-recover-clause-any_moment : goal.returns-in-Err-recover-clause-any_moment
+returns-in-Err-recover-clause-any_moment g c =
+    let disk = g.D.Disk in
+    let old = c.args.disk in
+    let mid = c.in-Ok-open.reading.disk in
+    let is = is_digest c.args.top c.digest-digest.result c.digest-digest.ensures in
+    let run = subst (λ (digest : List ℕ). LeavesOnly disk old mid (IsOpened disk old digest)) is c.in-Ok-open.ensures.any_moment in
+    subst (λ (new : g.row.D.Denot). LeavesOnly disk old new (IsOpened disk old (digest_of c.args.top))) (sym c.stop.ensures)
+    (opened_then disk old mid c.recover.new.reading.disk (digest_of c.args.top) (g.met.D.Disk.counts_now mid) run c.recover.ensures.only)
+
+pub returns-in-Err-recover-clause-refused : goal.returns-in-Err-recover-clause-refused
+returns-in-Err-recover-clause-refused g c =
+    let disk = g.D.Disk in
+    let old = c.args.disk in
+    let mid = c.in-Ok-open.reading.disk in
+    let new = c.recover.new.reading.disk in
+    let top = c.args.top in
+    let is = is_digest top c.digest-digest.result c.digest-digest.ensures in
+    let run = subst (λ (digest : List ℕ). LeavesOnly disk old mid (IsOpened disk old digest)) is c.in-Ok-open.ensures.any_moment in
+    let later = opened_then disk old mid new (digest_of top) (g.met.D.Disk.counts_now mid) run c.recover.ensures.only in
+    let list = subst (λ (digest : List ℕ). KeepsList (disk.content old) (disk.content mid) digest) is c.in-Ok-open.ensures.list in
+    let reads = subst (λ (digest : List ℕ). Reads disk c.in-Ok-open.reading digest []) is c.in-Ok-open.ensures.reads in
+    let stopped = subst (λ (network : Network). IsStopped disk mid new network c.in-Err-recover.fault) (ap (λ (l : Ledger). l.network) c.in-Ok.ensures) c.in-Err-recover.ensures.stopped in
+    subst (λ (last : g.row.D.Denot). IsRefused disk old last top c.in-Err-recover.fault) (sym c.stop.ensures)
+    (refused_entries disk old mid new top c.in-Err-recover.fault reads.size (g.met.D.Disk.untold new) c.in-Ok-open.ensures.keeps list c.recover.ensures.only.same later stopped)

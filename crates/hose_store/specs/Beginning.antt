@@ -1,0 +1,83 @@
+-- What a store stands for since its opening. The kind of the entries that were added, as sound or
+-- decided, and the images that the disk had at its opening are parameters.
+use Rattle.std.specs.Prelude.{◌≡◌, ◌⊎◌, ℕ, zero, suc, ◌≤◌, Bool, List, [], ◌∷◌, ◌++◌, length, Option, IfSome, is_some, ⊤}
+use mathlib.Core.List.{IsPrefix}
+use Rattle.hose_graph.specs.Network.{Network}
+use Rattle.hose_graph.specs.declared.entry.Entry.{Entry}
+use Rattle.hose_law.specs.Book.{Book}
+use Rattle.hose_law.specs.History.{book_of, next_book, opening_book}
+use Rattle.hose_book.specs.declared.committed.Committed.{Committed}
+use Rattle.hose_book.specs.declared.committed.Committed.TheVariants.{Done, Disk}
+use Rattle.hose_disk.specs.declared.disk.Disk.{Ghosts}
+use Rattle.hose_store.specs.Commit.{Went}
+use Rattle.hose_store.specs.Recovery.{IsHistoryOf}
+use Rattle.hose_store.specs.Store.{Kept, HasHistory}
+
+-- what an entry may be at a book of a network
+abbrev pub EntryKind : Type 1
+EntryKind = Network → Book → Entry → Type 0
+
+-- each entry from a place on is of this kind at the book of the entries before it
+abbrev pub AreFrom : EntryKind → Network → Book → ℕ → List Entry → Type 0
+AreFrom Kind network book place [] = ⊤
+AreFrom Kind network book zero (entry ∷ entries) =
+    Kind network book entry × AreFrom Kind network (next_book book entry) zero entries
+AreFrom Kind network book (suc place) (entry ∷ entries) =
+    AreFrom Kind network (next_book book entry) place entries
+
+-- what is fixed when a store is opened: the history that it had then, its network, the moment of
+-- the opening, and whether the disk tells its content
+pub record Beginning : Type 0 where
+  pub since : List Entry
+  pub network : Network
+  pub moment : ℕ
+  pub tells : Bool
+
+-- The image stands for a part of the history from its beginning, with all that there was at the
+-- opening; or for such a part and one entry more, which is of this kind there.
+abbrev pub IsPartOf : EntryKind → Beginning → List Entry → List ℕ → Type 0
+IsPartOf Kind beginning history image =
+    (part : List Entry) × IsPrefix beginning.since part × IsPrefix part history
+    × (IsHistoryOf beginning.network part image
+    ⊎ ((entry : Entry) × Kind beginning.network (book_of 0 part) entry
+    × IsHistoryOf beginning.network (part ++ entry ∷ []) image))
+
+-- The store stands for the history: it has it, with one entry in doubt at most; what was added
+-- since the opening is of this kind; and at each moment since then each image stands for a part of
+-- the history, for such a part and one entry more, or is one that the disk had.
+pub record StandsFor {D : Type 0} (disk : Ghosts D) (Kind : EntryKind) (Had : List ℕ → Type 0)
+    (beginning : Beginning) (history : List Entry) (store : Kept D) : Type 0 where
+  pub doubt : Option Entry
+  pub network : store.ledger.network ≡ beginning.network
+  pub has : HasHistory disk store history doubt
+  pub since : IsPrefix beginning.since history
+  pub added : AreFrom Kind beginning.network (opening_book 0) (length beginning.since) history
+  pub doubtful : IfSome doubt (Kind beginning.network (book_of 0 history))
+  pub later : beginning.moment ≤ disk.moment store.journal.disk
+  pub moments : (image : List ℕ) → disk.left_since store.journal.disk beginning.moment image
+      → IsPartOf Kind beginning history image ⊎ Had image
+  pub tells : is_some (disk.content store.journal.disk) ≡ beginning.tells
+
+-- the history after a commit
+abbrev pub history_after : List Entry → Entry → Committed → List Entry
+history_after history entry Done = history ++ entry ∷ []
+history_after history entry Disk = history
+
+-- ---- runs
+
+-- a commit: its entry, and what came of it
+abbrev pub Step : Type 0
+Step = Entry × Committed
+
+-- the entries that were entered
+abbrev pub entered : List Step → List Entry
+entered [] = []
+entered ((entry, Done) ∷ steps) = entry ∷ entered steps
+entered ((entry, Disk) ∷ steps) = entered steps
+
+-- commits one after another, each of an entry that is of this kind at its book
+abbrev pub IsRun : {D : Type 0} → Ghosts D → EntryKind → Kept D → List Step → Kept D → Type 0
+IsRun disk Kind old [] new = new ≡ old
+IsRun {D} disk Kind old ((entry, result) ∷ steps) new =
+    Kind old.ledger.network old.ledger.book entry
+    × ((mid : Kept D) × Went disk old entry result mid × IsRun disk Kind mid steps new)

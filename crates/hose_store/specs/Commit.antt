@@ -1,0 +1,36 @@
+-- What a commit makes of a store, and what a run of commits does.
+use Rattle.std.specs.Prelude.{◌≡◌, ◌⊎◌, Bool, false, true, List, [], ◌∷◌, ◌++◌, Option, Some, None}
+use Rattle.hose_graph.specs.declared.entry.Entry.{Entry}
+use Rattle.hose_book.specs.Commit.{Commits}
+use Rattle.hose_book.specs.declared.committed.Committed.{Committed}
+use Rattle.hose_book.specs.declared.committed.Committed.TheVariants.{Done, Disk}
+use Rattle.hose_disk.specs.declared.disk.Disk.{Ghosts}
+use Rattle.hose_journal.specs.Moments.{LeavesOnly, TellsAsBefore}
+use Rattle.hose_store.specs.Store.{Kept, HasHistory, IsAmid}
+
+-- The store has the history with the entry; or that of before, and in doubt is the entry that was,
+-- none, or this one.
+abbrev pub IsLeft : {D : Type 0} → Ghosts D → List Entry → Option Entry → Entry → Committed
+    → Kept D → Type 0
+IsLeft disk history doubt entry Done new = HasHistory disk new (history ++ entry ∷ []) None
+IsLeft disk history doubt entry Disk new = HasHistory disk new history doubt
+    ⊎ (HasHistory disk new history None ⊎ HasHistory disk new history (Some entry))
+
+-- the disk failed
+abbrev pub is_disk : Committed → Bool
+is_disk Done = false
+is_disk Disk = true
+
+-- For every history that the store had: at each moment each image stands for it, or for it and one
+-- entry more, the one in doubt or this one; and what the store has now.
+pub record Went {D : Type 0} (disk : Ghosts D) (old : Kept D) (entry : Entry) (result : Committed)
+    (new : Kept D) : Type 0 where
+  pub commits : Commits old.ledger entry result new.ledger
+  pub any_moment : (history : List Entry) (doubt : Option Entry) → HasHistory disk old history doubt
+      → LeavesOnly disk old.journal.disk new.journal.disk
+      (IsAmid old.ledger.network history doubt (Some entry))
+  pub left : (history : List Entry) (doubt : Option Entry) → HasHistory disk old history doubt
+      → IsLeft disk history doubt entry result new
+  pub tells : TellsAsBefore disk old.journal.disk new.journal.disk
+  pub opened : (disk.frame new.journal.disk).opened ≡ (disk.frame old.journal.disk).opened
+  pub told : (disk.frame new.journal.disk).has_failed ≡ is_disk result

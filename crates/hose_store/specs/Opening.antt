@@ -1,0 +1,64 @@
+-- What the opening of a store finds, and what it leaves.
+use Rattle.std.specs.Prelude.{◌≡◌, ℕ, List, [], Option, None, IfSome}
+use Rattle.hose_graph.specs.Network.{Network}
+use Rattle.hose_graph.specs.declared.entry.Entry.{Entry}
+use Rattle.hose_law.specs.History.{book_of}
+use Rattle.hose_book.specs.Ledger.{Ledger}
+use Rattle.hose_disk.specs.declared.disk.Disk.{Ghosts}
+use Rattle.hose_journal.specs.Entries.{IsListOf}
+use Rattle.hose_journal.specs.Image.{AreItems, other, damaged}
+use Rattle.hose_journal.specs.Moments.{Images, LeavesOnly}
+use Rattle.hose_journal.specs.Reading.{HasFailed, Reads}
+use Rattle.hose_journal.specs.declared.reading.Reading.{Reading}
+use Rattle.hose_store.specs.Recovery.{digest_of, sound_format, IsHistoryOf, IsRecoveredAs}
+use Rattle.hose_store.specs.Store.{Kept, HasHistory}
+use Rattle.hose_store.specs.declared.fault.StoreFault.{StoreFault}
+use Rattle.hose_store.specs.declared.fault.StoreFault.TheVariants.{Disk, Other, Damaged, Memory}
+
+-- The store has the history for which the disk stood as it was read, and each image now stands for
+-- it.
+pub record IsOpenedOn {D : Type 0} (disk : Ghosts D) (old : D) (top : Network) (store : Kept D) :
+    Type 0 where
+  pub history : List Entry
+  pub network : store.ledger.network ≡ top
+  pub has : HasHistory disk store history None
+  pub read : IfSome (disk.content old) (IsHistoryOf top history)
+  pub images : Images disk store.journal.disk (IsHistoryOf top history)
+
+-- nothing on the disk was changed: at every moment a stop leaves what it might have left before
+abbrev pub IsUnchanged : {D : Type 0} → Ghosts D → D → D → Type 0
+IsUnchanged disk old new = LeavesOnly disk old new (disk.may_leave old)
+
+-- Why a store is not opened: the disk failed; or it is unchanged and, as it was read, had the
+-- journal of another topology or was damaged, or memory was wanting.
+abbrev pub IsRefused : {D : Type 0} → Ghosts D → D → D → Network → StoreFault → Type 0
+IsRefused disk old new top Disk = HasFailed disk old new
+IsRefused disk old new top (Other kept given) = IsUnchanged disk old new
+    × (given ≡ digest_of top)
+    × IfSome (disk.content old) (λ bytes. IsRecoveredAs top bytes (other kept))
+IsRefused disk old new top (Damaged at) = IsUnchanged disk old new
+    × IfSome (disk.content old) (λ bytes. IsRecoveredAs top bytes (damaged at))
+IsRefused disk old new top Memory = IsUnchanged disk old new
+
+-- ---- reading the entries
+
+-- the reading has given entries that are sound, and the book is that of them
+pub record IsRecovering {D : Type 0} (disk : Ghosts D) (ledger : Ledger) (reading : Reading D) :
+    Type 0 where
+  pub entries : List Entry
+  pub reads : Reads disk reading (digest_of ledger.network) entries
+  pub sound : AreItems (sound_format ledger.network) [] entries
+  pub book : ledger.book ≡ book_of 0 entries
+  pub fault : reading.fault ≡ None
+
+-- The disk holds something else than a journal without an entry.
+abbrev pub IsNotEmpty : Network → Option (List ℕ) → Type 0
+IsNotEmpty top content = IfSome content (λ bytes. ¬ IsListOf (digest_of top) [] bytes)
+
+-- why the entries are read no further
+abbrev pub IsStopped : {D : Type 0} → Ghosts D → D → D → Network → StoreFault → Type 0
+IsStopped disk old new top Disk = HasFailed disk old new
+IsStopped disk old new top (Damaged at) =
+    IfSome (disk.content old) (λ bytes. IsRecoveredAs top bytes (damaged at))
+IsStopped disk old new top Memory = IsNotEmpty top (disk.content old)
+IsStopped disk old new top (Other kept given) = ⊥

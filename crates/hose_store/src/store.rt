@@ -1,0 +1,126 @@
+// The book on a disk.
+ghost use Rattle.std.specs.Prelude.{◌≡◌, List, Option, None, IfErr, IfOk, MatchResult, OnOk};
+ghost use Rattle.hose_io.specs.Frame.{Frame};
+ghost use Rattle.hose_graph.specs.declared.entry.Entry.{Entry};
+ghost use Rattle.hose_disk.specs.Disk.{IsCalled, object_frame};
+ghost use Rattle.hose_journal.specs.Journal.{IsReady};
+ghost use Rattle.hose_journal.specs.Moments.{Images, LeavesOnly, TellsAsBefore};
+ghost use Rattle.hose_journal.specs.Opening.{IsOpened, KeepsDisk};
+ghost use Rattle.hose_store.specs.Commit.{Went};
+ghost use Rattle.hose_store.specs.Opening.{IsOpenedOn, IsRefused};
+ghost use Rattle.hose_store.specs.Recovery.{digest_of, IsHistoryOf};
+ghost use Rattle.hose_store.specs.Store.{HasHistory, IsAmid};
+
+use crate::closing::settle_or_sync;
+use crate::committing::add;
+use crate::fault::StoreFault;
+use crate::recovery::recover;
+use hose_book::{Book, Books, Committed};
+use hose_disk::{Disk, Failed};
+use hose_graph::{Entry, Topology};
+use hose_journal::{Journal, Ready, open, ready};
+use hose_topo::digest;
+use std::alloc::{AllocError, Global};
+use std::marker::Model;
+
+/// A book that is kept in a journal on a disk.
+///
+/// A contract sees it as the network with its book, and the journal.
+#[derive(Drop)]
+pub struct Store<D: Disk> {
+    book: Book,
+    journal: Journal<D>,
+}
+
+impl<D: Disk> Model for Store<D> {
+    ghost use Rattle.std.specs.Prelude.{List, Option};
+    ghost use Rattle.hose_graph.specs.declared.entry.Entry.{Entry};
+    ghost use Rattle.hose_store.specs.Store.{Kept, HasHistory};
+
+    ghost Value = { Kept D };
+
+    ghost view = { λ store. record { ledger = store.book; journal = store.journal } };
+
+    ghost invariant = { λ store. (history : List Entry) × (doubt : Option Entry)
+        × HasHistory D.Disk (record { ledger = store.book; journal = store.journal })
+        history doubt };
+}
+
+impl<D: Disk> Store<D> {
+    /// Opens the store on a disk. Where no journal was begun there, it begins one. Where it is
+    /// refused the disk comes back.
+    pub fn open(alloc: Global, disk: D, top: Topology) -> Result<Store<D>, (StoreFault, D)>
+        // At every moment an image is one of before, or a journal without an entry where none was
+        // begun.
+        ensures any_moment { MatchResult result
+            (λ store. LeavesOnly D.Disk disk store.journal.disk
+            (IsOpened D.Disk disk (digest_of top)))
+            (λ refused. LeavesOnly D.Disk disk refused.1
+            (IsOpened D.Disk disk (digest_of top))) }
+        ensures opened { IfOk result (IsOpenedOn D.Disk disk top) }
+        ensures refused { IfErr result (λ refused.
+            IsRefused D.Disk disk refused.1 top refused.0) }
+        ensures keeps { MatchResult result
+            (λ store. KeepsDisk D.Disk disk store.journal.disk)
+            (λ refused. KeepsDisk D.Disk disk refused.1) }
+    {
+        let digest = digest(&top);
+        let Ok(mut book) = Book::new(alloc, top) else {
+            return Err((StoreFault::Memory, disk));
+        };
+        let mut reading = match open(alloc, disk, digest) {
+            Ok(reading) => reading,
+            Err(refused) => return Err((StoreFault::from(refused.0), refused.1)),
+        };
+        match recover(&mut book, &mut reading) {
+            Ok(()) => Ok(Store {
+                book,
+                journal: reading.finish(),
+            }),
+            Err(fault) => Err((fault, reading.stop())),
+        }
+    }
+
+    /// Revokes the entry in doubt, or syncs once where none is, and hands back the disk and the
+    /// book.
+    pub fn close(self) -> (Result<(), Failed>, D, Book)
+        ensures book { result.2 ≡ self.ledger }
+        // At every moment each image stands for the history, or for it and the entry in doubt.
+        ensures any_moment { (history : List Entry) → (doubt : Option Entry) →
+            HasHistory D.Disk self history doubt → LeavesOnly D.Disk self.journal.disk result.1
+            (IsAmid self.ledger.network history doubt None) }
+        ensures closed { OnOk result.0 ((history : List Entry) → (doubt : Option Entry) →
+            HasHistory D.Disk self history doubt →
+            Images D.Disk result.1 (IsHistoryOf self.ledger.network history)) }
+        ensures tells { TellsAsBefore D.Disk self.journal.disk result.1 }
+        ensures call { IsCalled (D.frame self.journal.disk) (D.frame result.1) result.0 }
+    {
+        let Store { book, journal } = self;
+        let (result, disk) = settle_or_sync(journal);
+        (result, disk, book)
+    }
+}
+
+impl<D: Disk> Books for Store<D> {
+    type Ready = Ready;
+
+    ghost ledger = { λ store. store.ledger };
+
+    ghost frame = { λ store. object_frame (D.frame store.journal.disk) };
+
+    ghost fits = { λ ready entry. IsReady entry ready };
+
+    ghost went = { Went D.Disk };
+
+    fn book(&self) -> &Book {
+        &self.book
+    }
+
+    fn prepare(alloc: Global, entry: &Entry) -> Result<Ready, AllocError> {
+        ready(alloc, entry)
+    }
+
+    fn commit(&mut self, entry: Entry, ready: Ready) -> Committed {
+        add(&mut self.book, &mut self.journal, entry, &ready)
+    }
+}
