@@ -1,5 +1,5 @@
 -- What comes of an entry that is sound: it is entered, or what keeps the book elsewhere failed.
-use Rattle.std.specs.Prelude.{◌≡◌, []}
+use Rattle.std.specs.Prelude.{◌≡◌, List, [], ◌∷◌, ◌++◌}
 use Rattle.hose_io.specs.Frame.{Frame, Rose, Stays}
 use Rattle.hose_graph.specs.declared.entry.Entry.{Entry}
 use Rattle.hose_law.specs.History.{next_book}
@@ -21,3 +21,8 @@ IsMet before Disk after = Stays before after × Rose before after
 -- the frame of what never fails
 abbrev pub unfailing : Frame
 unfailing = record { faults = 0; number = 0; loan = [] }
+
+-- the history after a commit of an entry
+abbrev pub history_after : List Entry → Entry → Committed → List Entry
+history_after history entry Done = history ++ entry ∷ []
+history_after history entry Disk = history

@@ -1,6 +1,7 @@
 mod Customers
 mod Decided
 mod HeldQuotes
+mod Leading
 mod Memory
 mod PlannedEntries
 mod ReleasedEntries

@@ -21,6 +21,7 @@ use Rattle.hose_book.specs.declared.books.Books.{Ghosts}
 use Rattle.hose_book.specs.Ledger.{Ledger}
 use Rattle.hose_core.specs.Holding.{AreHeld, HoldsNow, IsMadeAt, IsQuoteOf, State, quotes_in}
 use Rattle.hose_core.specs.Stepping.{FitsHistory, HasStepped, StepsOn}
+use Rattle.hose_core.proofs.Leading.{decided, leads}
 use Rattle.hose_core.specs.Telling.{IsShown}
 use Rattle.hose_core.specs.declared.quotes.Quote.{Quote}
 use Rattle.hose_core.proofs.Customers.{holds_same}
@@ -85,6 +86,8 @@ module _ {K R : Type 0} (books : Ghosts K R) (old new : State K) (epoch : ℕ) (
       → AreHeld network epoch stepped.next stepped.after quotes → On asked answer
   changes_on asked answer stepped quotes holds one = record {
     stepped = stepped;
+    decided = decided network epoch history customer held asked answer stepped.entry stepped.next stepped.after stepped.step stepped.sound;
+    leads = leads network epoch history customer held asked answer stepped.entry stepped.next stepped.after stepped.step;
     fits = record {
       book = stepped.book;
       held = subst (λ (n : Network). (name : List ℕ) → AreHeld n epoch stepped.next (with_held holdings customer stepped.after name) (quotes_in new.sessions name)) (sym same)

@@ -1,5 +1,5 @@
 -- One command, one step: what a call does to books and to the quotes of customers.
-use Rattle.std.specs.Prelude.{◌≡◌, ◌⊎◌, ℕ, Bool, List, Option, None, Some, IsSome, ⊤}
+use Rattle.std.specs.Prelude.{◌≡◌, ◌⊎◌, ℕ, Bool, List, Option, None, Some, IfSome, IsSome, ⊤}
 use Rattle.hose_graph.specs.Hose.{Endpoint}
 use Rattle.hose_graph.specs.Network.{Network}
 use Rattle.hose_graph.specs.declared.command.Command.{Command}
@@ -10,9 +10,10 @@ use Rattle.hose_law.specs.Answer.{IsStepOf}
 use Rattle.hose_law.specs.Book.{Book}
 use Rattle.hose_law.specs.Cheapest.{IsCheapest}
 use Rattle.hose_law.specs.Decision.{IsAllowed}
-use Rattle.hose_law.specs.History.{IsSoundWith, book_of, next_book}
+use Rattle.hose_law.specs.History.{IsDecidedAt, IsSoundWith, book_of, next_book}
 use Rattle.hose_law.specs.Quotes.{Held, Holdings, with_held}
 use Rattle.hose_law.specs.Room.{room_of}
+use Rattle.hose_book.specs.Commit.{history_after}
 use Rattle.hose_book.specs.declared.books.Books.{Ghosts}
 use Rattle.hose_book.specs.declared.committed.Committed.{Committed}
 use Rattle.hose_book.specs.declared.committed.Committed.TheVariants.{Done, Disk}
@@ -27,6 +28,11 @@ committed_of _ = Done
 abbrev pub Goes : {K R : Type 0} → Ghosts K R → K → Reply → Option Entry → K → Type 0
 Goes books old answer None new = new ≡ old
 Goes books old answer (Some entry) new = books.went old entry (committed_of answer) new
+
+-- the history after the commit of an entry, if there is one
+abbrev pub history_with : List Entry → Option Entry → Committed → List Entry
+history_with history None result = history
+history_with history (Some entry) result = history_after history entry result
 
 -- the book after an entry, if there is one
 abbrev pub book_with : Book → Option Entry → Book
@@ -78,12 +84,16 @@ pub record FitsHistory {K R : Type 0} (books : Ghosts K R) (state : State K) (ep
   pub held : (customer : List ℕ) → AreHeld (books.ledger state.books).network epoch history
       (holdings customer) (quotes_of state customer)
 
--- A core that fits a history answered a command by a step there, and fits what the step leads to.
+-- A core that fits a history answered a command by a step there, and fits what the step leads to:
+-- the history with the step's entry, which is decided there, unless what keeps the book failed.
 pub record StepsOn {K R : Type 0} (books : Ghosts K R) (old new : State K) (epoch : ℕ)
     (history : List Entry) (holdings : Holdings) (customer : List ℕ) (command : Command)
     (answer : Reply) : Type 0 where
   pub stepped : HasStepped books old.books new.books epoch history customer (holdings customer)
       command answer
+  pub decided : IfSome stepped.entry
+      (IsDecidedAt (books.ledger old.books).network (book_of epoch history))
+  pub leads : stepped.next ≡ history_with history stepped.entry (committed_of answer)
   pub fits : FitsHistory books new epoch stepped.next
       (with_held holdings customer stepped.after)
 

@@ -5,7 +5,7 @@ use Rattle.hose_graph.specs.declared.command.Command.{Command}
 use Rattle.hose_graph.specs.declared.entry.Entry.{Entry}
 use Rattle.hose_graph.specs.declared.reply.Reply.{Reply}
 use Rattle.hose_law.specs.Book.{Book}
-use Rattle.hose_law.specs.History.{IsDecidedAt}
+use Rattle.hose_law.specs.History.{EntryKind, IsDecidedAt}
 use Rattle.hose_law.specs.Quotes.{Holdings}
 use Rattle.hose_book.specs.declared.books.Books.{Ghosts as BooksGhosts}
 use Rattle.hose_book.specs.declared.committed.Committed.TheVariants.{Done}
@@ -15,7 +15,7 @@ use Rattle.hose_journal.specs.Journal.{IsReady}
 use Rattle.hose_journal.specs.declared.prepared.Ready.{Ready}
 use Rattle.hose_core.specs.Holding.{State}
 use Rattle.hose_core.specs.Stepping.{StepsOn, committed_of}
-use Rattle.hose_store.specs.Beginning.{Beginning, EntryKind, StandsFor}
+use Rattle.hose_store.specs.Beginning.{Beginning, StandsFor}
 use Rattle.hose_store.specs.Commit.{Went}
 use Rattle.hose_store.specs.Store.{HasHistory, Kept}
 

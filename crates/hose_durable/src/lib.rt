@@ -37,11 +37,12 @@ pub fn step<D: Disk + Drop, R: RowMaker, P: Premises>(
     requires { AsksOf core.old.books.ledger.network command }
     // A store that stands for a history, of which each added entry is of a kind that the decided
     // have, stands for the history that the step leads to, and so does what a stop leaves.
-    ensures { IsForDecided P.kind → (beginning : Beginning) → (history : List Entry)
-        → (holdings : Holdings) → StandsFor D.Disk P.kind P.had beginning history core.old.books
+    ensures { IsForDecided P.kind → (beginning : Beginning) → (was : D) → (history : List Entry)
+        → (holdings : Holdings)
+        → StandsFor D.Disk P.kind (D.may_leave was) beginning history core.old.books
         → FitsHistory (store_books D.Disk) core.old 0 history holdings
-        → StepsDurably D.Disk P.kind P.had beginning core.old core.new history holdings customer.now
-        command result }
+        → StepsDurably D.Disk P.kind (D.may_leave was) beginning core.old core.new history holdings
+        customer.now command result }
 {
     law_run::<D, P>();
     core.step(alloc, customer, command, rows)

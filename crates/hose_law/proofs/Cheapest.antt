@@ -16,7 +16,7 @@ use Rattle.hose_law.specs.CanonicalPlan.{IsCanonicalPlan, IsWeight}
 use Rattle.hose_law.specs.Carries.{Carry, amounts_on}
 use Rattle.hose_law.specs.Cheapest.{AreCheapest, HasRootWithin, IsCheapest, amounts_cost}
 use Rattle.hose_law.specs.Book.{Book}
-use Rattle.hose_law.specs.History.{IsDecided, IsDecidedAt, IsDecidedFrom, book_after, next_book, opening_book}
+use Rattle.hose_law.specs.History.{AreFrom, IsDecided, IsDecidedAt, book_after, next_book, opening_book}
 use Rattle.hose_law.specs.Plan.{plan_cost}
 use Rattle.hose_law.specs.Tree.{Growth, IsOn, IsTree, IsTreeOver, links_of, smaller_side, step_links}
 use Rattle.hose_law.specs.Walk.{IsIn, Reaches, cost_of}
@@ -106,15 +106,17 @@ canonical_cheapest network is set hose plan canonical = record {
       ];
 }
 
--- an entry of a history that is decided from its start is decided at the book before it
-decided_at : (network : Network) (book : Book) (entries : List Entry) (entry : Entry) (place : ℕ) → IsDecidedFrom network book zero entries → slice_get entries place ≡ Some entry
+-- an entry of a history that is decided from a place on is decided at the book before it
+decided_at : (network : Network) (book : Book) (entries : List Entry) (entry : Entry) (since place : ℕ) → AreFrom IsDecidedAt network book since entries → since ≤ place → slice_get entries place ≡ Some entry
     → IsDecidedAt network (book_after book (take place entries)) entry
-decided_at network book [] entry place decided there = absurd (omega (arith, slice_get_within [] place entry there))
-decided_at network book (first ∷ rest) entry zero decided there = subst (IsDecidedAt network book) (cc there) decided.0
-decided_at network book (first ∷ rest) entry (suc place) decided there = decided_at network (next_book book first) rest entry place decided.1 there
+decided_at network book [] entry since place decided later there = absurd (omega (arith, slice_get_within [] place entry there))
+decided_at network book (first ∷ rest) entry zero zero decided later there = subst (IsDecidedAt network book) (cc there) decided.0
+decided_at network book (first ∷ rest) entry zero (suc place) decided later there = decided_at network (next_book book first) rest entry zero place decided.1 (omega arith) there
+decided_at network book (first ∷ rest) entry (suc since) zero decided later there = absurd (omega (arith, later))
+decided_at network book (first ∷ rest) entry (suc since) (suc place) decided later there = decided_at network (next_book book first) rest entry since place decided (omega (arith, later)) there
 
--- So each admission of a history that is decided from its start is a cheapest one.
-pub decided_cheapest : (network : Network) → IsNetwork network → (epoch : ℕ) (history : List Entry) → IsDecided network epoch 0 history → AreCheapest network epoch history
-decided_cheapest network is epoch history decided place customer hose amounts there =
-    let at = decided_at network (opening_book epoch) history (Admit customer hose amounts) place decided.decided there in
+-- So each admission from that place on is a cheapest one.
+pub decided_cheapest : (network : Network) → IsNetwork network → (epoch since : ℕ) (history : List Entry) → IsDecided network epoch since history → AreCheapest network epoch since history
+decided_cheapest network is epoch since history decided place customer hose amounts later there =
+    let at = decided_at network (opening_book epoch) history (Admit customer hose amounts) since place decided.decided later there in
     (at.1.0, at.1.1.allowed, canonical_cheapest network is at.1.0 hose amounts at.1.1.is_plan)

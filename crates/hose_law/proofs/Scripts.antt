@@ -1,5 +1,5 @@
 -- Scripts and histories that go on by one line.
-use Rattle.std.proofs.Common.{◌≡◌, ℕ, List, [], ◌∷◌, ◌++◌, Option, None, Some, refl, sym, subst}
+use Rattle.std.proofs.Common.{◌≡◌, ℕ, zero, suc, List, [], ◌∷◌, ◌++◌, length, Option, None, Some, refl, sym, subst}
 use Rattle.hose_graph.specs.declared.entry.Entry.{Entry}
 use Rattle.hose_graph.specs.declared.command.Command.{Command}
 use Rattle.hose_graph.specs.declared.command.Command.TheVariants.{Admit, Quote, Take, Release, Show, Link}
@@ -7,8 +7,8 @@ use Rattle.hose_graph.specs.declared.reply.Reply.{Reply}
 use Rattle.hose_graph.specs.declared.reply.Reply.TheVariants.{Admitted, Released, NoVpn, LinkState}
 use Rattle.hose_graph.specs.Network.{Network}
 use Rattle.hose_law.specs.Book.{Book}
-use Rattle.hose_law.specs.History.{next_book, book_after, book_of, opening_book, IsSoundAt, IsSoundWith, IsDecidedAt, IsSoundFrom, IsDecidedFrom, IsDecided}
-use Rattle.hose_law.specs.Answer.{IsPlannedAnswer, IsAnswer, IsTakeAnswer, with_entry}
+use Rattle.hose_law.specs.History.{AreFrom, EntryKind, next_book, book_after, book_of, opening_book, IsSound, IsSoundAt, IsDecidedAt, IsSoundFrom, IsDecided}
+use Rattle.hose_law.specs.Answer.{IsPlannedAnswer, IsAnswer, IsTakeAnswer}
 use Rattle.hose_law.specs.Quotes.{at_number, Held, HeldQuote, Holdings}
 use Rattle.hose_law.specs.Script.{ReadLine, IsLineStep, IsScript}
 
@@ -17,13 +17,25 @@ pub book_after_push : (book : Book) (entries : List Entry) (entry : Entry) → b
 book_after_push book [] entry = refl
 book_after_push book (first ∷ entries) entry = book_after_push (next_book book first) entries entry
 
-sound_push : (network : Network) (book : Book) (entries : List Entry) (entry : Entry) → IsSoundFrom network book entries → IsSoundAt network (book_after book entries) entry → IsSoundFrom network book (entries ++ entry ∷ [])
+pub sound_push : (network : Network) (book : Book) (entries : List Entry) (entry : Entry) → IsSoundFrom network book entries → IsSoundAt network (book_after book entries) entry → IsSoundFrom network book (entries ++ entry ∷ [])
 sound_push network book [] entry sound at = (at, tt)
 sound_push network book (first ∷ entries) entry sound at = (sound.0, sound_push network (next_book book first) entries entry sound.1 at)
 
-decided_from_push : (network : Network) (book : Book) (entries : List Entry) (entry : Entry) → IsDecidedFrom network book 0 entries → IsDecidedAt network (book_after book entries) entry → IsDecidedFrom network book 0 (entries ++ entry ∷ [])
-decided_from_push network book [] entry decided at = (at, tt)
-decided_from_push network book (first ∷ entries) entry decided at = (decided.0, decided_from_push network (next_book book first) entries entry decided.1 at)
+-- entries of a kind, and one more of it at their book
+pub from_push : (Kind : EntryKind) (network : Network) (book : Book) (since : ℕ) (entries : List Entry) (entry : Entry) → AreFrom Kind network book since entries → Kind network (book_after book entries) entry → AreFrom Kind network book since (entries ++ entry ∷ [])
+from_push Kind network book zero [] entry are at = (at, tt)
+from_push Kind network book (suc since) [] entry are at = tt
+from_push Kind network book zero (first ∷ entries) entry are at = (are.0, from_push Kind network (next_book book first) zero entries entry are.1 at)
+from_push Kind network book (suc since) (first ∷ entries) entry are at = from_push Kind network (next_book book first) since entries entry are at
+
+-- no entry stands from the end on
+pub from_end : (Kind : EntryKind) (network : Network) (book : Book) (entries : List Entry) → AreFrom Kind network book (length entries) entries
+from_end Kind network book [] = tt
+from_end Kind network book (first ∷ entries) = from_end Kind network (next_book book first) entries
+
+-- of a sound history nothing has to be decided from its end on
+pub decided_end : (network : Network) (epoch : ℕ) (history : List Entry) → IsSound network epoch history → IsDecided network epoch (length history) history
+decided_end network epoch history sound = record { sound = sound; decided = from_end IsDecidedAt network (opening_book epoch) history }
 
 -- a sound entry of a hose that is planned is decided
 planned_decided : (network : Network) (book : Book) (customer : List ℕ) (hose : List (ℕ × ℕ)) (reply : Reply) (entry : Entry)
@@ -57,14 +69,12 @@ answer_decided network epoch history customer held after (Show id) reply entry s
 answer_decided network epoch history customer held after (Link link) (LinkState told load at) entry sound answer = absurd answer.0
 answer_decided network epoch history customer held after (Link link) reply entry sound answer = absurd answer.0
 
--- a decided history, and the sound entry of an answer at its end, are a decided history
-pub decided_push : (network : Network) (epoch : ℕ) (history : List Entry) (customer : List ℕ) (held after : Held) (command : Command) (reply : Reply) (entry : Option Entry)
-    → IsDecided network epoch 0 history → IsSoundWith network (book_of epoch history) entry → IsAnswer network epoch history customer held command reply entry after
-    → IsDecided network epoch 0 (with_entry history entry)
-decided_push network epoch history customer held after command reply None decided sound answer = decided
-decided_push network epoch history customer held after command reply (Some entry) decided sound answer = record {
+-- a decided history, and the sound entry of a step at its end, are a decided history
+pub decided_push : (network : Network) (epoch since : ℕ) (history : List Entry) (entry : Entry) → IsDecided network epoch since history → IsDecidedAt network (book_of epoch history) entry → IsSoundAt network (book_of epoch history) entry
+    → IsDecided network epoch since (history ++ entry ∷ [])
+decided_push network epoch since history entry decided at sound = record {
   sound = sound_push network (opening_book epoch) history entry decided.sound sound;
-  decided = decided_from_push network (opening_book epoch) history entry decided.decided (answer_decided network epoch history customer held after command reply entry sound answer);
+  decided = from_push IsDecidedAt network (opening_book epoch) since history entry decided.decided at;
 }
 
 -- a script, and a step of one line more from its last history, are a script

@@ -7,7 +7,9 @@ use Rattle.hose_graph.specs.declared.command.Command.TheVariants.{Admit, Quote, 
 use Rattle.hose_graph.specs.declared.reply.Reply.{Reply}
 use Rattle.hose_graph.specs.declared.reply.Reply.TheVariants.{Welcome, Admitted, Quoted, Refused, Stale, Released, NoVpn, NoQuote, TooMany, Shown, LinkState, Full, Spent, Disk, Memory, Bad, Long, Bye}
 use Rattle.hose_law.specs.Answer.{IsAnswer, IsStepOf, IsTakeAnswer, with_entry}
+use Rattle.hose_law.specs.History.{IsDecidedAt, IsSoundAt, book_of}
 use Rattle.hose_law.specs.Quotes.{Held, HeldQuote, at_number}
+use Rattle.hose_law.proofs.Scripts.{answer_decided}
 
 module _ (network : Network) (epoch : ℕ) (history : List Entry) (customer : List ℕ) (held : Held) where
   taken_without_memory : (number : ℕ) (found : Option HeldQuote) (entry : Option Entry) (after : Held) → IsTakeAnswer network epoch history customer number held found Memory entry after → ⊥
@@ -102,3 +104,23 @@ module _ (network : Network) (epoch : ℕ) (history : List Entry) (customer : Li
   step_cases command (Bad word) entry next after step = inr (record { given = Bad word; is = step.0; goes = inr step.1 })
   step_cases command Long entry next after step = inr (record { given = Long; is = step.0; goes = inr step.1 })
   step_cases command Bye entry next after step = inr (record { given = Bye; is = step.0; goes = inr step.1 })
+
+  -- a step without an entry leads nowhere
+  pub step_stays : (command : Command) (reply : Reply) (next : List Entry) (after : Held) → IsStepOf network epoch history customer held command reply None next after → next ≡ history
+  step_stays command reply next after step = at (step_cases command reply None next after step)
+    where
+      at : IsIdle reply None next after ⊎ IsAnswered command None next after → next ≡ history
+      at (inl idle) = idle.stays
+      at (inr answered) = elim answered.goes [
+        | inl same ↦ same
+        | inr same ↦ same
+      ]
+
+  -- the sound entry of a step is decided
+  pub step_decided : (command : Command) (reply : Reply) (entry : Entry) (next : List Entry) (after : Held) → IsStepOf network epoch history customer held command reply (Some entry) next after
+      → IsSoundAt network (book_of epoch history) entry → IsDecidedAt network (book_of epoch history) entry
+  step_decided command reply entry next after step sound = at (step_cases command reply (Some entry) next after step)
+    where
+      at : IsIdle reply (Some entry) next after ⊎ IsAnswered command (Some entry) next after → IsDecidedAt network (book_of epoch history) entry
+      at (inl idle) = absurd (cc idle.none)
+      at (inr answered) = answer_decided network epoch history customer held after command answered.given entry sound answered.is

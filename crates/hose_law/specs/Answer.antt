@@ -140,7 +140,8 @@ with_entry history None = history
 with_entry history (Some entry) = history ++ entry ∷ []
 
 -- Want of memory comes first at an admission and a release. It comes after too many quotes, after
--- no quote to be taken, and after no VPN to be told; what is reserved on a link is told in any case.
+-- no quote to be taken, and after no VPN to be told. What is reserved on a link is told in any
+-- case.
 abbrev pub MayWantMemory : Book → List ℕ → Held → Command → Type 0
 MayWantMemory book customer held (Admit hose) = ⊤
 MayWantMemory book customer held (Quote hose) = IsSome (free_number held)

@@ -36,12 +36,12 @@ pub record HasRootWithin (network : Network) (set : List Bool) (hose : List Endp
   pub weighs : ¬ ((weight : ℕ) → ¬ IsWeight network set root hose weight)
   pub within : (weight : ℕ) → IsWeight network set root hose weight → weight ≤ most
 
--- Each admission of a history reserves a cheapest way to carry its hose over the links that were
--- allowed at the book before it.
-abbrev pub AreCheapest : Network → ℕ → List Entry → Type 0
-AreCheapest network epoch history =
+-- Each admission of a history from a place on reserves a cheapest way to carry its hose over the
+-- links that were allowed at the book before it.
+abbrev pub AreCheapest : Network → ℕ → ℕ → List Entry → Type 0
+AreCheapest network epoch since history =
     (place : ℕ) (customer : List ℕ) (hose : List Endpoint) (amounts : List ReservedLink)
-    → slice_get history place ≡ Some (Admit customer hose amounts)
+    → since ≤ place → slice_get history place ≡ Some (Admit customer hose amounts)
     → (set : List Bool)
     × IsAllowed network (room_of network (book_of epoch (take place history))) hose set
     × IsCheapest network set hose amounts

@@ -77,15 +77,19 @@ IsSoundFrom network book (entry ∷ entries) =
 abbrev pub IsSound : Network → ℕ → List Entry → Type 0
 IsSound network epoch history = IsSoundFrom network (opening_book epoch) history
 
--- each entry from a place on is decided at the book of the entries before it
-abbrev pub IsDecidedFrom : Network → Book → ℕ → List Entry → Type 0
-IsDecidedFrom network book place [] = ⊤
-IsDecidedFrom network book zero (entry ∷ entries) =
-    IsDecidedAt network book entry × IsDecidedFrom network (next_book book entry) zero entries
-IsDecidedFrom network book (suc place) (entry ∷ entries) =
-    IsDecidedFrom network (next_book book entry) place entries
+-- what an entry may be at a book of a network, as sound or decided
+abbrev pub EntryKind : Type 1
+EntryKind = Network → Book → Entry → Type 0
+
+-- each entry from a place on is of this kind at the book of the entries before it
+abbrev pub AreFrom : EntryKind → Network → Book → ℕ → List Entry → Type 0
+AreFrom Kind network book place [] = ⊤
+AreFrom Kind network book zero (entry ∷ entries) =
+    Kind network book entry × AreFrom Kind network (next_book book entry) zero entries
+AreFrom Kind network book (suc place) (entry ∷ entries) =
+    AreFrom Kind network (next_book book entry) place entries
 
 -- a history is sound, and decided from a place on
 pub record IsDecided (network : Network) (epoch place : ℕ) (history : List Entry) : Type 0 where
   pub sound : IsSound network epoch history
-  pub decided : IsDecidedFrom network (opening_book epoch) place history
+  pub decided : AreFrom IsDecidedAt network (opening_book epoch) place history

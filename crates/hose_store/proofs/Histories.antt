@@ -7,7 +7,7 @@ use Rattle.hose_graph.specs.declared.entry.Entry.TheVariants.{Admit, Release}
 use Rattle.hose_law.specs.Book.{Book}
 use Rattle.hose_law.specs.History.{book_of, book_after, opening_book, next_book, last_epoch, IsSound, IsSoundAt, IsSoundFrom, IsSoundWith}
 use Rattle.hose_law.proofs.LiveIds.{next_epoch}
-use Rattle.hose_law.proofs.Scripts.{book_after_push}
+use Rattle.hose_law.proofs.Scripts.{book_after_push, sound_push}
 use Rattle.hose_topo.specs.Canonical.{canonical_text}
 use Rattle.hose_journal.specs.declared.layout.TheConstants.{OPEN}
 use Rattle.hose_journal.specs.Entries.{record_of, entries_format, front_of, IsListOf}
@@ -40,10 +40,6 @@ sound_epoch network book (Release customer id) sound = sound.0
 pub few_entries : (network : Network) (book : Book) (history : List Entry) (entry : Entry) → book ≡ book_of 0 history → IsSoundAt network book entry → length history < last_epoch
 few_entries network book history entry same sound =
     omega (arith, sound_epoch network book entry sound, ap (λ (b : Book). b.epoch) same, epoch_after (opening_book 0) history)
-
-sound_push : (network : Network) (book : Book) (entries : List Entry) (entry : Entry) → IsSoundFrom network book entries → IsSoundAt network (book_after book entries) entry → IsSoundFrom network book (entries ++ entry ∷ [])
-sound_push network book [] entry sound at = (at, tt)
-sound_push network book (first ∷ entries) entry sound at = (sound.0, sound_push network (next_book book first) entries entry sound.1 at)
 
 -- a sound history, and an entry that is sound at its end
 pub sound_with : (network : Network) (history : List Entry) (entry : Entry) → IsSound network 0 history → IsSoundAt network (book_of 0 history) entry → IsSound network 0 (history ++ entry ∷ [])

@@ -23,11 +23,11 @@ use Rattle.hose_journal.proofs.Runs.{started, joined, weaker, now_too}
 use Rattle.hose_store.specs.declared.fault.StoreFault.{StoreFault}
 use Rattle.hose_store.specs.declared.fault.StoreFault.TheVariants as store
 use Rattle.hose_store.specs.Faults.{store_fault}
-use Rattle.hose_store.specs.Opening.{IsOpenedOn, IsRecovering, IsRefused, IsStopped, IsUnchanged}
+use Rattle.hose_store.specs.Opening.{IsAtOpening, IsOpenedOn, IsRecovering, IsRefused, IsStopped, IsUnchanged}
 use Rattle.hose_store.specs.Recovery.{digest_of, sound_format, IsHistoryOf, IsRecoveredAs}
 use Rattle.hose_store.specs.Store.{HasHistory}
 use Rattle.hose_store.proofs.Commits.{has_history}
-use Rattle.hose_store.proofs.Histories.{amid_none, front_same, sound_items}
+use Rattle.hose_store.proofs.Histories.{amid_none, front_same, history_of_list, sound_items}
 use Rattle.hose_store.proofs.Readings.{not_empty, told_each}
 
 -- ---- what was begun
@@ -183,3 +183,14 @@ module _ {D : Type 0} (disk : Ghosts D) where
         read = history_from network recovering.entries (disk.content old) (disk.content mid) reads.size tells list recovering.sound reads.are told;
         images = λ image is. amid_none network recovering.entries image (has.images image is);
       }
+
+-- ---- images at an opening
+
+unbegun_history : (network : Network) (content : Option (List ℕ)) → IfSome content IsUnbegun → IfSome content (IsHistoryOf network [])
+unbegun_history network None unbegun = tt
+unbegun_history network (Some bytes) unbegun = inl (unbegun, refl)
+
+-- a journal that was begun in an opening stands for what the disk stood for
+pub at_opening : {D : Type 0} (disk : Ghosts D) (old new : D) (network : Network) → LeavesOnly disk old new (IsOpened disk old (digest_of network)) → LeavesOnly disk old new (IsAtOpening disk old network)
+at_opening disk old new network run = weaker disk old new (IsOpened disk old (digest_of network)) (IsAtOpening disk old network)
+    (λ image is. ⊎_elim (λ was. inl was) (λ begun. inr ([], unbegun_history network (disk.content old) begun.0, history_of_list network [] image tt begun.1)) is) run

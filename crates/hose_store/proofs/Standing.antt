@@ -1,47 +1,27 @@
 -- What a store stands for since its opening: at first, after each commit, after a run of them, and once it is closed.
-use Rattle.std.proofs.Common.{◌≡◌, ◌⊎◌, inl, inr, ⊎_elim, ℕ, zero, suc, ◌≤◌, List, [], ◌∷◌, ◌++◌, length, Option, Some, None, IfSome, is_some, refl, sym, ap, ◌∙◌, subst, arith, append_assoc, append-nil}
+use Rattle.std.proofs.Common.{◌≡◌, ◌⊎◌, inl, inr, ⊎_elim, ℕ, ◌≤◌, List, [], ◌∷◌, ◌++◌, length, Option, Some, None, IfSome, is_some, Result, refl, sym, ap, ◌∙◌, subst, arith, append_assoc, append-nil}
+use Rattle.std.proofs.lemmas.Result.{on_ok_weaker}
 use mathlib.Core.List.{IsPrefix}
+use Rattle.hose_io.specs.declared.Failed.{Failed}
 use Rattle.hose_graph.specs.Network.{Network}
 use Rattle.hose_graph.specs.declared.entry.Entry.{Entry}
 use Rattle.hose_law.specs.Book.{Book}
-use Rattle.hose_law.specs.History.{book_of, book_after, next_book, opening_book, IsDecidedAt, IsDecidedFrom}
+use Rattle.hose_law.specs.History.{AreFrom, EntryKind, book_of, opening_book}
+use Rattle.hose_law.proofs.Scripts.{from_end, from_push}
 use Rattle.hose_book.specs.Ledger.{Ledger}
 use Rattle.hose_book.specs.declared.committed.Committed.{Committed}
 use Rattle.hose_book.specs.declared.committed.Committed.TheVariants.{Done, Disk}
 use Rattle.hose_disk.specs.declared.disk.Disk.{Ghosts}
-use Rattle.hose_journal.specs.Entries.{IsListOf}
-use Rattle.hose_journal.specs.Image.{IsUnbegun}
 use Rattle.hose_journal.specs.declared.layout.TheConstants.{DIGEST_BYTES}
 use Rattle.hose_journal.specs.Moments.{LeavesOnly, TellsAsBefore}
-use Rattle.hose_journal.specs.Opening.{IsOpened}
-use Rattle.hose_store.specs.Beginning.{AreFrom, Beginning, EntryKind, IsPartOf, IsRun, StandsFor, Step, entered, history_after}
-use Rattle.hose_store.specs.Commit.{IsLeft, Went}
-use Rattle.hose_store.specs.Opening.{IsOpenedOn}
+use Rattle.hose_book.specs.Commit.{history_after}
+use Rattle.hose_store.specs.Beginning.{Beginning, HasLeft, IsOrOneMore, IsPartOf, IsRun, StandsFor, Step, entered}
+use Rattle.hose_store.specs.Commit.{Closes, IsLeft, Went}
+use Rattle.hose_store.specs.Opening.{IsAtOpening, IsOpenedOn}
 use Rattle.hose_store.specs.Recovery.{IsHistoryOf, digest_of}
 use Rattle.hose_store.specs.Store.{HasHistory, IsAmid, IsHistoryWith, Kept}
 use Rattle.hose_journal.proofs.OneList.{one_list}
-use Rattle.hose_store.proofs.Histories.{epoch_of, history_of_list, list_of_history}
-
--- ---- kinds of entries
-
--- one entry more
-from_push : (Kind : EntryKind) (network : Network) (book : Book) (place : ℕ) (entries : List Entry) (entry : Entry) → AreFrom Kind network book place entries → Kind network (book_after book entries) entry → AreFrom Kind network book place (entries ++ entry ∷ [])
-from_push Kind network book zero [] entry are at = (at, tt)
-from_push Kind network book (suc place) [] entry are at = tt
-from_push Kind network book zero (first ∷ entries) entry are at = (are.0, from_push Kind network (next_book book first) zero entries entry are.1 at)
-from_push Kind network book (suc place) (first ∷ entries) entry are at = from_push Kind network (next_book book first) place entries entry are at
-
--- none yet
-from_end : (Kind : EntryKind) (network : Network) (book : Book) (entries : List Entry) → AreFrom Kind network book (length entries) entries
-from_end Kind network book [] = tt
-from_end Kind network book (first ∷ entries) = from_end Kind network (next_book book first) entries
-
--- entries that are decided where they stand
-pub decided_from : (network : Network) (book : Book) (place : ℕ) (entries : List Entry) → AreFrom IsDecidedAt network book place entries → IsDecidedFrom network book place entries
-decided_from network book zero [] are = tt
-decided_from network book (suc place) [] are = tt
-decided_from network book zero (first ∷ entries) are = (are.0, decided_from network (next_book book first) zero entries are.1)
-decided_from network book (suc place) (first ∷ entries) are = decided_from network (next_book book first) place entries are
+use Rattle.hose_store.proofs.Histories.{epoch_of, list_of_history}
 
 -- ---- parts of a history
 
@@ -83,13 +63,11 @@ module _ {D : Type 0} (disk : Ghosts D) where
     -- ---- the opening
 
     first_image : (history : List Entry) (image : List ℕ) (content : Option (List ℕ)) → history ≡ beginning.since → length (digest_of beginning.network) ≡ DIGEST_BYTES → IfSome content (IsHistoryOf beginning.network history)
-        → (content ≡ None → ⊥) → IfSome content IsUnbegun → IsListOf (digest_of beginning.network) [] image → IsPartOf Kind beginning beginning.since image
-    first_image history image None same size read told unbegun list = absurd (told refl)
-    first_image history image (Some bytes) same size read told unbegun list =
-        let none = one_list (digest_of beginning.network) bytes history [] size (list_of_history beginning.network history bytes read) (inl (unbegun, refl)) in
-        let since : [] ≡ beginning.since = sym none ∙ same in
-        let is = subst (λ (all : List Entry). IsHistoryOf beginning.network all image) since (history_of_list beginning.network [] image tt list) in
-        (beginning.since, ([], append-nil beginning.since), ([], append-nil beginning.since), inl is)
+        → (content ≡ None → ⊥) → (other : List Entry) × IfSome content (IsHistoryOf beginning.network other) × IsHistoryOf beginning.network other image → IsPartOf Kind beginning beginning.since image
+    first_image history image None same size read told stands = absurd (told refl)
+    first_image history image (Some bytes) same size read told stands =
+        let one = one_list (digest_of beginning.network) bytes stands.0 history size (list_of_history beginning.network stands.0 bytes stands.1) (list_of_history beginning.network history bytes read) in
+        (beginning.since, ([], append-nil beginning.since), ([], append-nil beginning.since), inl (subst (λ (all : List Entry). IsHistoryOf beginning.network all image) (one ∙ same) stands.2))
 
     untold_too : (was now : Option (List ℕ)) → is_some now ≡ is_some was → was ≡ None → now ≡ None
     untold_too None None tells none = refl
@@ -98,7 +76,7 @@ module _ {D : Type 0} (disk : Ghosts D) where
 
     -- a store that was opened stands for its history, since that history, and since any moment from which on the disk had just these images
     pub opened_stands : (old : D) (store : Kept D) (opened : IsOpenedOn disk old beginning.network store) → opened.history ≡ beginning.since
-        → LeavesOnly disk old store.journal.disk (IsOpened disk old (digest_of beginning.network)) → is_some (disk.content store.journal.disk) ≡ is_some (disk.content old) → is_some (disk.content old) ≡ beginning.tells
+        → LeavesOnly disk old store.journal.disk (IsAtOpening disk old beginning.network) → is_some (disk.content store.journal.disk) ≡ is_some (disk.content old) → is_some (disk.content old) ≡ beginning.tells
         → ((t : ℕ) (image : List ℕ) → t ≤ disk.moment old → disk.may_leave old image → disk.left_since old t image)
         → ((t : ℕ) (image : List ℕ) → disk.content store.journal.disk ≡ None → disk.left_since store.journal.disk t image → ⊥)
         → beginning.moment ≤ disk.moment old → ((image : List ℕ) → disk.left_since old beginning.moment image → Had image) → Stood beginning.since store
@@ -112,8 +90,8 @@ module _ {D : Type 0} (disk : Ghosts D) where
       later = omega (arith, later, run.later);
       moments = λ image left. ⊎_elim (λ was. inr (had image was))
           (⊎_elim (λ now. inr (had image (counts beginning.moment image later now)))
-          (λ empty. inl (first_image opened.history image (disk.content old) same (subst (λ (network : Network). length (digest_of network) ≡ DIGEST_BYTES) opened.network opened.has.journal.size) opened.read
-          (λ none. untold beginning.moment image (untold_too (disk.content old) (disk.content store.journal.disk) kept none) left) empty.0 empty.1)))
+          (λ stands. inl (first_image opened.history image (disk.content old) same (subst (λ (network : Network). length (digest_of network) ≡ DIGEST_BYTES) opened.network opened.has.journal.size) opened.read
+          (λ none. untold beginning.moment image (untold_too (disk.content old) (disk.content store.journal.disk) kept none) left) stands)))
           (run.before beginning.moment image later left);
       tells = kept ∙ tells;
     }
@@ -170,3 +148,26 @@ module _ {D : Type 0} (disk : Ghosts D) where
     run_stands ((entry, Disk) ∷ steps) old new history stood run =
         let next = commit_stands old run.1.0 history entry Disk stood run.0 run.1.1 in
         run_stands steps run.1.0 new history next run.1.2
+
+    -- ---- closing
+
+    doubt_more : (history : List Entry) (doubt : Option Entry) (image : List ℕ) → IfSome doubt (Kind beginning.network (book_of 0 history)) → IsHistoryWith beginning.network history doubt image → IsOrOneMore Kind beginning.network history image
+    doubt_more history None image at with = absurd with
+    doubt_more history (Some entry) image at with = inr (entry, at, with)
+
+    left_now : (history : List Entry) (doubt : Option Entry) (image : List ℕ) → IfSome doubt (Kind beginning.network (book_of 0 history)) → IsAmid beginning.network history doubt None image → IsOrOneMore Kind beginning.network history image
+    left_now history doubt image at (inl is) = inl is
+    left_now history doubt image at (inr (inl with)) = doubt_more history doubt image at with
+    left_now history doubt image at (inr (inr none)) = absurd none
+
+    -- what is left of the disk
+    pub closed_left : (T : Type 0) (store : Kept D) (left : D) (history : List Entry) (result : Result T Failed) → ((t : ℕ) (image : List ℕ) → t ≤ disk.moment left → disk.may_leave left image → disk.left_since left t image)
+        → Stood history store → Closes disk store left result → HasLeft disk Kind Had beginning history left result
+    closed_left T store left history result counts stood closes =
+        let run = closes.any_moment history stood.doubt stood.has in record {
+          now = λ image now. left_now history stood.doubt image stood.doubtful
+              (subst (λ (network : Network). IsAmid network history stood.doubt None image) stood.network (run.each image (counts (disk.moment store.journal.disk) image run.later now)));
+          closed = on_ok_weaker result
+              (λ images image now. subst (λ (network : Network). IsHistoryOf network history image) stood.network (images history stood.doubt stood.has image now)) closes.closed;
+          moments = moments_after store left history None stood tt run;
+        }

@@ -1,29 +1,18 @@
 -- What a store stands for since its opening. The kind of the entries that were added, as sound or
 -- decided, and the images that the disk had at its opening are parameters.
-use Rattle.std.specs.Prelude.{◌≡◌, ◌⊎◌, ℕ, zero, suc, ◌≤◌, Bool, List, [], ◌∷◌, ◌++◌, length, Option, IfSome, is_some, ⊤}
+use Rattle.std.specs.Prelude.{◌≡◌, ◌⊎◌, ℕ, ◌≤◌, Bool, List, [], ◌∷◌, ◌++◌, length, Option, IfSome, is_some, Result, OnOk, ⊤}
+use Rattle.hose_io.specs.declared.Failed.{Failed}
 use mathlib.Core.List.{IsPrefix}
 use Rattle.hose_graph.specs.Network.{Network}
 use Rattle.hose_graph.specs.declared.entry.Entry.{Entry}
-use Rattle.hose_law.specs.Book.{Book}
-use Rattle.hose_law.specs.History.{book_of, next_book, opening_book}
+use Rattle.hose_law.specs.History.{AreFrom, EntryKind, book_of, opening_book}
 use Rattle.hose_book.specs.declared.committed.Committed.{Committed}
 use Rattle.hose_book.specs.declared.committed.Committed.TheVariants.{Done, Disk}
 use Rattle.hose_disk.specs.declared.disk.Disk.{Ghosts}
+use Rattle.hose_journal.specs.Moments.{Images}
 use Rattle.hose_store.specs.Commit.{Went}
 use Rattle.hose_store.specs.Recovery.{IsHistoryOf}
 use Rattle.hose_store.specs.Store.{Kept, HasHistory}
-
--- what an entry may be at a book of a network
-abbrev pub EntryKind : Type 1
-EntryKind = Network → Book → Entry → Type 0
-
--- each entry from a place on is of this kind at the book of the entries before it
-abbrev pub AreFrom : EntryKind → Network → Book → ℕ → List Entry → Type 0
-AreFrom Kind network book place [] = ⊤
-AreFrom Kind network book zero (entry ∷ entries) =
-    Kind network book entry × AreFrom Kind network (next_book book entry) zero entries
-AreFrom Kind network book (suc place) (entry ∷ entries) =
-    AreFrom Kind network (next_book book entry) place entries
 
 -- what is fixed when a store is opened: the history that it had then, its network, the moment of
 -- the opening, and whether the disk tells its content
@@ -33,14 +22,18 @@ pub record Beginning : Type 0 where
   pub moment : ℕ
   pub tells : Bool
 
+-- the image stands for the history, or for it and one entry more, which is of this kind there
+abbrev pub IsOrOneMore : EntryKind → Network → List Entry → List ℕ → Type 0
+IsOrOneMore Kind network history image = IsHistoryOf network history image
+    ⊎ ((entry : Entry) × Kind network (book_of 0 history) entry
+    × IsHistoryOf network (history ++ entry ∷ []) image)
+
 -- The image stands for a part of the history from its beginning, with all that there was at the
 -- opening; or for such a part and one entry more, which is of this kind there.
 abbrev pub IsPartOf : EntryKind → Beginning → List Entry → List ℕ → Type 0
 IsPartOf Kind beginning history image =
     (part : List Entry) × IsPrefix beginning.since part × IsPrefix part history
-    × (IsHistoryOf beginning.network part image
-    ⊎ ((entry : Entry) × Kind beginning.network (book_of 0 part) entry
-    × IsHistoryOf beginning.network (part ++ entry ∷ []) image))
+    × IsOrOneMore Kind beginning.network part image
 
 -- The store stands for the history: it has it, with one entry in doubt at most; what was added
 -- since the opening is of this kind; and at each moment since then each image stands for a part of
@@ -58,10 +51,16 @@ pub record StandsFor {D : Type 0} (disk : Ghosts D) (Kind : EntryKind) (Had : Li
       → IsPartOf Kind beginning history image ⊎ Had image
   pub tells : is_some (disk.content store.journal.disk) ≡ beginning.tells
 
--- the history after a commit
-abbrev pub history_after : List Entry → Entry → Committed → List Entry
-history_after history entry Done = history ++ entry ∷ []
-history_after history entry Disk = history
+-- What a store that stood for the history has left of its disk, once it is closed: each image now
+-- stands for the history, or for it and one entry more, and for the history alone where closing did
+-- not fail; and so since the opening.
+pub record HasLeft {D T : Type 0} (disk : Ghosts D) (Kind : EntryKind) (Had : List ℕ → Type 0)
+    (beginning : Beginning) (history : List Entry) (left : D) (result : Result T Failed) :
+    Type 0 where
+  pub now : Images disk left (IsOrOneMore Kind beginning.network history)
+  pub closed : OnOk result (Images disk left (IsHistoryOf beginning.network history))
+  pub moments : (image : List ℕ) → disk.left_since left beginning.moment image
+      → IsPartOf Kind beginning history image ⊎ Had image
 
 -- ---- runs
 

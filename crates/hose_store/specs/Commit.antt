@@ -1,11 +1,13 @@
--- What a commit makes of a store, and what a run of commits does.
-use Rattle.std.specs.Prelude.{◌≡◌, ◌⊎◌, Bool, false, true, List, [], ◌∷◌, ◌++◌, Option, Some, None}
+-- What a commit makes of a store, and what closing does.
+use Rattle.std.specs.Prelude.{◌≡◌, ◌⊎◌, Bool, false, true, List, [], ◌∷◌, ◌++◌, Option, Some, None, Result, OnOk}
+use Rattle.hose_io.specs.declared.Failed.{Failed}
 use Rattle.hose_graph.specs.declared.entry.Entry.{Entry}
 use Rattle.hose_book.specs.Commit.{Commits}
 use Rattle.hose_book.specs.declared.committed.Committed.{Committed}
 use Rattle.hose_book.specs.declared.committed.Committed.TheVariants.{Done, Disk}
 use Rattle.hose_disk.specs.declared.disk.Disk.{Ghosts}
-use Rattle.hose_journal.specs.Moments.{LeavesOnly, TellsAsBefore}
+use Rattle.hose_journal.specs.Moments.{Images, LeavesOnly, TellsAsBefore}
+use Rattle.hose_store.specs.Recovery.{IsHistoryOf}
 use Rattle.hose_store.specs.Store.{Kept, HasHistory, IsAmid}
 
 -- The store has the history with the entry; or that of before, and in doubt is the entry that was,
@@ -34,3 +36,14 @@ pub record Went {D : Type 0} (disk : Ghosts D) (old : Kept D) (entry : Entry) (r
   pub tells : TellsAsBefore disk old.journal.disk new.journal.disk
   pub opened : (disk.frame new.journal.disk).opened ≡ (disk.frame old.journal.disk).opened
   pub told : (disk.frame new.journal.disk).has_failed ≡ is_disk result
+
+-- For every history that the store had: at each moment of closing each image stands for it, or for
+-- it and the entry in doubt; and for it alone after a success.
+pub record Closes {D T : Type 0} (disk : Ghosts D) (old : Kept D) (left : D)
+    (result : Result T Failed) : Type 0 where
+  pub any_moment : (history : List Entry) (doubt : Option Entry) → HasHistory disk old history doubt
+      → LeavesOnly disk old.journal.disk left (IsAmid old.ledger.network history doubt None)
+  pub closed : OnOk result ((history : List Entry) (doubt : Option Entry)
+      → HasHistory disk old history doubt
+      → Images disk left (IsHistoryOf old.ledger.network history))
+  pub tells : TellsAsBefore disk old.journal.disk left

@@ -1,5 +1,5 @@
 -- What the opening of a store finds, and what it leaves.
-use Rattle.std.specs.Prelude.{◌≡◌, ℕ, List, [], Option, None, IfSome}
+use Rattle.std.specs.Prelude.{◌≡◌, ◌⊎◌, ℕ, List, [], Option, None, IfSome}
 use Rattle.hose_graph.specs.Network.{Network}
 use Rattle.hose_graph.specs.declared.entry.Entry.{Entry}
 use Rattle.hose_law.specs.History.{book_of}
@@ -24,6 +24,13 @@ pub record IsOpenedOn {D : Type 0} (disk : Ghosts D) (old : D) (top : Network) (
   pub has : HasHistory disk store history None
   pub read : IfSome (disk.content old) (IsHistoryOf top history)
   pub images : Images disk store.journal.disk (IsHistoryOf top history)
+
+-- An image at some moment of an opening: one of before, or one that stands for the history for which
+-- the disk stood as it was read.
+abbrev pub IsAtOpening : {D : Type 0} → Ghosts D → D → Network → List ℕ → Type 0
+IsAtOpening disk old top image = disk.may_leave old image
+    ⊎ ((history : List Entry) × IfSome (disk.content old) (IsHistoryOf top history)
+    × IsHistoryOf top history image)
 
 -- nothing on the disk was changed: at every moment a stop leaves what it might have left before
 abbrev pub IsUnchanged : {D : Type 0} → Ghosts D → D → D → Type 0

@@ -1,14 +1,15 @@
 // What is true of every image of a disk, and of every run of commits.
-ghost use Rattle.std.specs.Prelude.{◌≡◌, ◌≤◌, ◌++◌, List, ℕ, is_some};
+ghost use Rattle.std.specs.Prelude.{◌≡◌, ◌≤◌, ◌++◌, List, ℕ, Result, is_some, ⊤};
+ghost use Rattle.hose_io.specs.declared.Failed.{Failed};
 ghost use Rattle.hose_graph.specs.Network.{Network};
 ghost use Rattle.hose_graph.specs.declared.entry.Entry.{Entry};
 ghost use Rattle.hose_law.specs.Book.{Book};
 ghost use Rattle.hose_journal.specs.Image.{Meaning};
 ghost use Rattle.hose_journal.specs.Moments.{LeavesOnly, TellsAsBefore};
-ghost use Rattle.hose_journal.specs.Opening.{IsOpened};
-ghost use Rattle.hose_store.specs.Beginning.{Beginning, IsRun, StandsFor, Step, entered};
-ghost use Rattle.hose_store.specs.Opening.{IsOpenedOn};
-ghost use Rattle.hose_store.specs.Recovery.{IsRecoveredAs, digest_of};
+ghost use Rattle.hose_store.specs.Beginning.{Beginning, HasLeft, IsRun, StandsFor, Step, entered};
+ghost use Rattle.hose_store.specs.Commit.{Closes};
+ghost use Rattle.hose_store.specs.Opening.{IsAtOpening, IsOpenedOn};
+ghost use Rattle.hose_store.specs.Recovery.{IsRecoveredAs};
 ghost use Rattle.hose_store.specs.Store.{Kept};
 
 use hose_disk::Disk;
@@ -25,33 +26,40 @@ pub fn law_one_meaning(top: &Topology)
     let _digest = digest(top);
 }
 
-/// What is fixed in the law of runs: what an entry may be at a book of a network, as sound or
-/// decided, and the images that the disk had at the opening.
+/// What is fixed in the laws of runs: what an entry may be at a book of a network, as sound or
+/// decided.
 pub trait Premises {
     ghost kind: { Network → Book → Entry → Type 0 };
-
-    ghost had: { List ℕ → Type 0 };
 }
 
-/// A store that was opened stands for the history that it has, since that history and since any
-/// moment from which on the disk had just these images.
+/// A store that was opened stands for the history that it has, since that history, and since any
+/// moment from which on the disk had just the images that it had once, as `was`.
 pub fn law_opened<D: Disk, P: Premises>()
-    ensures { (beginning : Beginning) → (old : D) → (store : Kept D) →
+    ensures { (beginning : Beginning) → (was old : D) → (store : Kept D) →
         (opened : IsOpenedOn D.Disk old beginning.network store) →
         opened.history ≡ beginning.since →
-        LeavesOnly D.Disk old store.journal.disk
-        (IsOpened D.Disk old (digest_of beginning.network)) →
+        LeavesOnly D.Disk old store.journal.disk (IsAtOpening D.Disk old beginning.network) →
         TellsAsBefore D.Disk old store.journal.disk →
         is_some (D.content old) ≡ beginning.tells → beginning.moment ≤ D.moment old →
-        ((image : List ℕ) → D.left_since old beginning.moment image → P.had image) →
-        StandsFor D.Disk P.kind P.had beginning beginning.since store }
+        ((image : List ℕ) → D.left_since old beginning.moment image → D.may_leave was image) →
+        StandsFor D.Disk P.kind (D.may_leave was) beginning beginning.since store }
 {}
 
 /// A store that stands for a history stands for it with the entries that were entered, after any
 /// run of commits of entries of this kind, whichever of them the disk refused.
 pub fn law_run<D: Disk, P: Premises>()
-    ensures { (beginning : Beginning) → (history : List Entry) → (steps : List Step) →
-        (old new : Kept D) → StandsFor D.Disk P.kind P.had beginning history old →
+    ensures { (beginning : Beginning) → (was : D) → (history : List Entry) → (steps : List Step) →
+        (old new : Kept D) →
+        StandsFor D.Disk P.kind (D.may_leave was) beginning history old →
         IsRun D.Disk P.kind old steps new →
-        StandsFor D.Disk P.kind P.had beginning (history ++ entered steps) new }
+        StandsFor D.Disk P.kind (D.may_leave was) beginning (history ++ entered steps) new }
+{}
+
+/// What a store that stands for a history leaves of its disk, once it is closed.
+pub fn law_closed<D: Disk, P: Premises>()
+    ensures { (beginning : Beginning) → (was left : D) → (history : List Entry) →
+        (store : Kept D) → (result : Result ⊤ Failed) →
+        StandsFor D.Disk P.kind (D.may_leave was) beginning history store →
+        Closes D.Disk store left result →
+        HasLeft D.Disk P.kind (D.may_leave was) beginning history left result }
 {}

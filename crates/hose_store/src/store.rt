@@ -1,15 +1,13 @@
 // The book on a disk.
-ghost use Rattle.std.specs.Prelude.{◌≡◌, List, Option, None, IfErr, IfOk, MatchResult, OnOk};
+ghost use Rattle.std.specs.Prelude.{◌≡◌, IfErr, IfOk, MatchResult};
 ghost use Rattle.hose_io.specs.Frame.{Frame};
 ghost use Rattle.hose_graph.specs.declared.entry.Entry.{Entry};
 ghost use Rattle.hose_disk.specs.Disk.{IsCalled, object_frame};
 ghost use Rattle.hose_journal.specs.Journal.{IsReady};
-ghost use Rattle.hose_journal.specs.Moments.{Images, LeavesOnly, TellsAsBefore};
-ghost use Rattle.hose_journal.specs.Opening.{IsOpened, KeepsDisk};
-ghost use Rattle.hose_store.specs.Commit.{Went};
-ghost use Rattle.hose_store.specs.Opening.{IsOpenedOn, IsRefused};
-ghost use Rattle.hose_store.specs.Recovery.{digest_of, IsHistoryOf};
-ghost use Rattle.hose_store.specs.Store.{HasHistory, IsAmid};
+ghost use Rattle.hose_journal.specs.Moments.{LeavesOnly};
+ghost use Rattle.hose_journal.specs.Opening.{KeepsDisk};
+ghost use Rattle.hose_store.specs.Commit.{Closes, Went};
+ghost use Rattle.hose_store.specs.Opening.{IsAtOpening, IsOpenedOn, IsRefused};
 
 use crate::closing::settle_or_sync;
 use crate::committing::add;
@@ -50,13 +48,10 @@ impl<D: Disk> Store<D> {
     /// Opens the store on a disk. Where no journal was begun there, it begins one. Where it is
     /// refused the disk comes back.
     pub fn open(alloc: Global, disk: D, top: Topology) -> Result<Store<D>, (StoreFault, D)>
-        // At every moment an image is one of before, or a journal without an entry where none was
-        // begun.
+        // At every moment an image is one of before, or stands for what the disk stood for.
         ensures any_moment { MatchResult result
-            (λ store. LeavesOnly D.Disk disk store.journal.disk
-            (IsOpened D.Disk disk (digest_of top)))
-            (λ refused. LeavesOnly D.Disk disk refused.1
-            (IsOpened D.Disk disk (digest_of top))) }
+            (λ store. LeavesOnly D.Disk disk store.journal.disk (IsAtOpening D.Disk disk top))
+            (λ refused. LeavesOnly D.Disk disk refused.1 (IsAtOpening D.Disk disk top)) }
         ensures opened { IfOk result (IsOpenedOn D.Disk disk top) }
         ensures refused { IfErr result (λ refused.
             IsRefused D.Disk disk refused.1 top refused.0) }
@@ -85,14 +80,7 @@ impl<D: Disk> Store<D> {
     /// book.
     pub fn close(self) -> (Result<(), Failed>, D, Book)
         ensures book { result.2 ≡ self.ledger }
-        // At every moment each image stands for the history, or for it and the entry in doubt.
-        ensures any_moment { (history : List Entry) → (doubt : Option Entry) →
-            HasHistory D.Disk self history doubt → LeavesOnly D.Disk self.journal.disk result.1
-            (IsAmid self.ledger.network history doubt None) }
-        ensures closed { OnOk result.0 ((history : List Entry) → (doubt : Option Entry) →
-            HasHistory D.Disk self history doubt →
-            Images D.Disk result.1 (IsHistoryOf self.ledger.network history)) }
-        ensures tells { TellsAsBefore D.Disk self.journal.disk result.1 }
+        ensures closes { Closes D.Disk self result.1 result.0 }
         ensures call { IsCalled (D.frame self.journal.disk) (D.frame result.1) result.0 }
     {
         let Store { book, journal } = self;

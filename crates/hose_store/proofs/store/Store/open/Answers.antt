@@ -5,16 +5,17 @@ use Rattle.hose_journal.specs.Moments.{LeavesOnly}
 use Rattle.hose_journal.specs.Opening.{IsOpened, KeepsList, IsRefused as IsRefusedThere}
 use Rattle.hose_journal.specs.Reading.{Reads}
 use Rattle.hose_store.specs.declared.fault.StoreFault.{StoreFault}
-use Rattle.hose_store.specs.Opening.{IsOpenedOn, IsRefused, IsStopped}
+use Rattle.hose_store.specs.Opening.{IsAtOpening, IsOpenedOn, IsRefused, IsStopped}
 use Rattle.hose_store.specs.Recovery.{digest_of}
 use Rattle.hose_store.proofs.Histories.{is_digest}
-use Rattle.hose_store.proofs.Openings.{first_recovering, has_recovered, opened_on, opened_then, refused_entries, refused_head}
+use Rattle.hose_store.proofs.Openings.{at_opening, first_recovering, has_recovered, opened_on, opened_then, refused_entries, refused_head}
 use Rattle.hose_store.proofs.store.Store.open.Goals as goal
 
 pub returns-in-Err-clause-any_moment : goal.returns-in-Err-clause-any_moment
 returns-in-Err-clause-any_moment g c =
     let is = is_digest c.args.top c.digest-digest.result c.digest-digest.ensures in
-    subst (λ (digest : List ℕ). LeavesOnly g.D.Disk c.args.disk c.in-Err.refused.1 (IsOpened g.D.Disk c.args.disk digest)) is c.in-Err.ensures.any_moment
+    at_opening g.D.Disk c.args.disk c.in-Err.refused.1 c.args.top
+    (subst (λ (digest : List ℕ). LeavesOnly g.D.Disk c.args.disk c.in-Err.refused.1 (IsOpened g.D.Disk c.args.disk digest)) is c.in-Err.ensures.any_moment)
 
 pub returns-in-Err-clause-refused : goal.returns-in-Err-clause-refused
 returns-in-Err-clause-refused g c =
@@ -46,8 +47,8 @@ returns-in-Ok-recover-clause-any_moment g c =
     let mid = c.in-Ok-open.reading.disk in
     let is = is_digest c.args.top c.digest-digest.result c.digest-digest.ensures in
     let run = subst (λ (digest : List ℕ). LeavesOnly disk old mid (IsOpened disk old digest)) is c.in-Ok-open.ensures.any_moment in
-    subst (λ (new : g.row.D.Denot). LeavesOnly disk old new (IsOpened disk old (digest_of c.args.top))) (sym c.finish.ensures.disk)
-    (opened_then disk old mid c.recover.new.reading.disk (digest_of c.args.top) (g.met.D.Disk.counts_now mid) run c.recover.ensures.only)
+    subst (λ (new : g.row.D.Denot). LeavesOnly disk old new (IsAtOpening disk old c.args.top)) (sym c.finish.ensures.disk)
+    (at_opening disk old c.recover.new.reading.disk c.args.top (opened_then disk old mid c.recover.new.reading.disk (digest_of c.args.top) (g.met.D.Disk.counts_now mid) run c.recover.ensures.only))
 
 pub returns-in-Ok-recover-clause-opened : goal.returns-in-Ok-recover-clause-opened
 returns-in-Ok-recover-clause-opened g c =
@@ -68,8 +69,8 @@ returns-in-Err-recover-clause-any_moment g c =
     let mid = c.in-Ok-open.reading.disk in
     let is = is_digest c.args.top c.digest-digest.result c.digest-digest.ensures in
     let run = subst (λ (digest : List ℕ). LeavesOnly disk old mid (IsOpened disk old digest)) is c.in-Ok-open.ensures.any_moment in
-    subst (λ (new : g.row.D.Denot). LeavesOnly disk old new (IsOpened disk old (digest_of c.args.top))) (sym c.stop.ensures)
-    (opened_then disk old mid c.recover.new.reading.disk (digest_of c.args.top) (g.met.D.Disk.counts_now mid) run c.recover.ensures.only)
+    subst (λ (new : g.row.D.Denot). LeavesOnly disk old new (IsAtOpening disk old c.args.top)) (sym c.stop.ensures)
+    (at_opening disk old c.recover.new.reading.disk c.args.top (opened_then disk old mid c.recover.new.reading.disk (digest_of c.args.top) (g.met.D.Disk.counts_now mid) run c.recover.ensures.only))
 
 pub returns-in-Err-recover-clause-refused : goal.returns-in-Err-recover-clause-refused
 returns-in-Err-recover-clause-refused g c =
