@@ -1,3 +1,4 @@
+pub mod Cabinet
 pub mod Disk
 pub mod Images
 pub mod MemState

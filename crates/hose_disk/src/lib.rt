@@ -10,12 +10,14 @@
 //! ```
 #![tactic(auto)]
 
+mod cabinet;
 mod call;
 mod disk;
 mod mem_disk;
 mod pick;
 mod recording;
 
+pub use cabinet::Cabinet;
 pub use call::DiskCall;
 pub use disk::Disk;
 pub use hose_io::Failed;
