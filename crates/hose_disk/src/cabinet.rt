@@ -68,5 +68,6 @@ pub trait Cabinet: Drop {
         ensures others { IfSome (frame self.old).out (λ name. (other : List ℕ) → other ≢ name →
             held self.new other ≡ held self.old other) }
         ensures texts { text self.new ≡ text self.old }
+        ensures never_falls { (frame self.old).faults ≤ (frame self.new).faults }
         ensures call { frame self.new ≡ after_back (Self.Disk.frame disk) (frame self.old) };
 }
