@@ -1,3 +1,5 @@
+pub mod Cabinet
+pub mod CabinetState
 pub mod Disk
 pub mod Images
 pub mod MemState

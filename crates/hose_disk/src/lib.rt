@@ -10,14 +10,20 @@
 //! ```
 #![tactic(auto)]
 
+mod cabinet;
 mod call;
 mod disk;
+mod mem_cabinet;
 mod mem_disk;
+mod named;
 mod pick;
 mod recording;
+mod shelf;
 
+pub use cabinet::Cabinet;
 pub use call::DiskCall;
 pub use disk::Disk;
 pub use hose_io::Failed;
+pub use mem_cabinet::MemCabinet;
 pub use mem_disk::MemDisk;
 pub use pick::Pick;

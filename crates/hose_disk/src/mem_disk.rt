@@ -2,6 +2,7 @@
 ghost use Rattle.std.specs.Prelude.{◌≡◌, ◌+◌, ◌<◌, ◌≤◌, ◌^◌, ℕ, ◌∷◌, ◌++◌, [], true, false, IfOk, OnOk, OnErr, length, take};
 ghost use Rattle.hose_io.specs.Count.{one_more};
 ghost use Rattle.hose_io.specs.Frame.{Rose};
+ghost use Rattle.hose_disk.specs.CabinetState.{reopened};
 ghost use Rattle.hose_disk.specs.Disk.{IsCalled, IsOverwritten, Torn, IsCut, IsTaken, IsReadAt, Told, StepsTo, NoneNew, Only, Elapses, object_frame};
 ghost use Rattle.hose_disk.specs.Images.{IsImage, calls_at, idle, wrote, tried_write, cut_to, tried_cut, synced};
 ghost use Rattle.hose_disk.specs.MemState.{of_kind, with_kind, fresh_disk, frame_of, content_of, moment_of, image_of, left_since_of, IsMemCall};
@@ -113,6 +114,24 @@ impl MemDisk {
             starved: 0,
             has_failed: false,
         })
+    }
+
+    /// Whether its last call failed.
+    pub(crate) fn has_failed(&self) -> bool
+        ensures { result ≡ self.now.has_failed }
+    {
+        self.has_failed
+    }
+
+    /// The same disk, opened now: it has failed in no call yet.
+    pub(crate) fn opened_again(mut self) -> MemDisk
+        ensures { result ≡ reopened self }
+    {
+        self.opened = self.made.calls();
+        self.faults = 0;
+        self.starved = 0;
+        self.has_failed = false;
+        self
     }
 
     // Counts a call that was to fail.
@@ -316,8 +335,8 @@ impl Disk for MemDisk {
     }
 }
 
-// IsReadAt from a place what there is room for.
-fn read(bytes: &[u8], at: usize, into: &mut [u8]) -> usize
+/// Reads from a place what there is room for.
+pub(crate) fn read(bytes: &[u8], at: usize, into: &mut [u8]) -> usize
     ensures room { result ≤ length into.new }
     ensures read { IsReadAt at (length into.old) bytes.now (take result into.new) }
 {

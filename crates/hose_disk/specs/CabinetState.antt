@@ -1,0 +1,141 @@
+-- What contracts see of a cabinet in memory, and what each of its calls does to that.
+use Rattle.std.specs.Prelude.{◌≡◌, ◌⊎◌, ℕ, List, [], ◌∷◌, length, true, false, if◌then◌else◌, Option, Some, None, Result, Ok, Err, Contains, remove, slice_index_or}
+use Rattle.std.specs.Str.{bytes_eq}
+use Rattle.hose_io.specs.Count.{one_more}
+use Rattle.hose_io.specs.FailingCalls.{later_calls}
+use Rattle.hose_io.specs.declared.Failed.{Failed}
+use Rattle.hose_disk.specs.Cabinet.{CabinetFrame, absent_after}
+use Rattle.hose_disk.specs.MemState.{MemState, fresh_disk}
+
+-- ---- named items
+
+-- an item and its name
+pub record NamedItem (A : Type 0) : Type 0 where
+  pub name : List ℕ
+  pub item : A
+
+-- the first item of a name
+abbrev pub item_of : {A : Type 0} → List ℕ → List (NamedItem A) → Option A
+item_of name [] = None
+item_of name (first ∷ others) =
+    if bytes_eq first.name name then Some first.item else item_of name others
+
+-- the items without the first of a name
+abbrev pub without : {A : Type 0} → List ℕ → List (NamedItem A) → List (NamedItem A)
+without name [] = []
+without name (first ∷ others) =
+    if bytes_eq first.name name then others else first ∷ without name others
+
+-- The first item of a name stands at this place.
+pub record IsPlaceOf {A : Type 0} (name : List ℕ) (items : List (NamedItem A)) (place : ℕ) :
+    Type 0 where
+  pub found : (other : NamedItem A) →
+      item_of name items ≡ Some (slice_index_or items place other).item
+  pub left : without name items ≡ remove items place
+
+-- ---- disks
+
+-- the disks that are there, and the name of the one that is out
+pub record ShelfState : Type 0 where
+  pub disks : List (NamedItem MemState)
+  pub out : Option (List ℕ)
+
+-- an empty disk, where there is none
+abbrev pub or_empty : Option MemState → MemState
+or_empty None = fresh_disk []
+or_empty (Some disk) = disk
+
+-- a disk that is opened again: it has failed in no call, and it was opened now
+abbrev pub reopened : MemState → MemState
+reopened disk = record disk {
+  opened = length disk.made.calls;
+  faults = 0;
+  starved = 0;
+  has_failed = false;
+}
+
+-- the shelf after the disk of a name was taken out
+abbrev pub after_taking : List ℕ → ShelfState → ShelfState
+after_taking name shelf = record { disks = without name shelf.disks; out = Some name }
+
+-- the shelf after the disk of a name was put back
+abbrev pub after_putting : List ℕ → MemState → ShelfState → ShelfState
+after_putting name disk shelf = record {
+  disks = record { name = name; item = disk } ∷ shelf.disks;
+  out = None;
+}
+
+-- ---- cabinets
+
+-- its texts, its disks, its faults, those of them that were want of memory, the texts that were
+-- asked for and are not there, the count of the disk that was put back last, and the calls of
+-- `text` and `disk` that are to fail
+pub record CabinetState : Type 0 where
+  pub texts : List (NamedItem (List ℕ))
+  pub shelf : ShelfState
+  pub faults : ℕ
+  pub starved : ℕ
+  pub absent : ℕ
+  pub returned : ℕ
+  pub failing : List ℕ
+
+-- its frame
+abbrev pub cabinet_frame : CabinetState → CabinetFrame
+cabinet_frame cabinet = record {
+  faults = cabinet.faults;
+  absent = cabinet.absent;
+  returned = cabinet.returned;
+  out = cabinet.shelf.out;
+  tells = true;
+}
+
+-- the text of a name
+abbrev pub text_of : CabinetState → List ℕ → Option (List ℕ)
+text_of cabinet name = item_of name cabinet.texts
+
+-- the disk of a name, empty where the name is new; the one that is out is not here
+abbrev pub held_where : Option (List ℕ) → List ℕ → Option MemState → Option MemState
+held_where None name found = Some (or_empty found)
+held_where (Some out) name found = if bytes_eq out name then None else Some (or_empty found)
+
+abbrev pub held_of : CabinetState → List ℕ → Option MemState
+held_of cabinet name = held_where cabinet.shelf.out name (item_of name cabinet.shelf.disks)
+
+-- ---- what its calls do
+
+-- after a call that was done
+abbrev pub after_done : CabinetState → CabinetState
+after_done cabinet = record cabinet { failing = later_calls cabinet.failing }
+
+-- after a call that failed: it was to fail, or asked for a text that is not there
+abbrev pub after_fault : CabinetState → CabinetState
+after_fault cabinet = record (after_done cabinet) { faults = one_more cabinet.faults }
+
+-- after a call that found no memory
+abbrev pub after_starving : CabinetState → CabinetState
+after_starving cabinet = record (after_fault cabinet) { starved = one_more cabinet.starved }
+
+-- after a call of `text` that failed
+abbrev pub after_refusal : List ℕ → CabinetState → CabinetState
+after_refusal name cabinet = record (after_fault cabinet) {
+  absent = absent_after (text_of cabinet name) cabinet.absent;
+}
+
+-- A call of `disk` gives the disk of the name, opened again, where it is not to fail; or it found
+-- no memory.
+abbrev pub IsMemOpening : List ℕ → CabinetState → CabinetState → Result MemState Failed → Type 0
+IsMemOpening name old new (Ok disk) =
+    (¬ Contains old.failing 1)
+    × (disk ≡ reopened (or_empty (item_of name old.shelf.disks)))
+    × (new ≡ record (after_done old) { shelf = after_taking name old.shelf })
+IsMemOpening name old new (Err failed) =
+    ((¬ Contains old.failing 1) × (new ≡ after_starving old))
+    ⊎ (Contains old.failing 1 × (new ≡ after_fault old))
+
+-- after a disk was put back under a name
+abbrev pub after_return : List ℕ → MemState → CabinetState → CabinetState
+after_return name disk cabinet = record cabinet {
+  shelf = after_putting name disk cabinet.shelf;
+  faults = if disk.has_failed then one_more cabinet.faults else cabinet.faults;
+  returned = disk.faults;
+}

@@ -1,0 +1,253 @@
+// A cabinet in memory, whose disks keep records of their calls.
+ghost use Rattle.std.specs.Prelude.{◌≡◌, ◌≢◌, ◌⊎◌, ◌↔◌, ◌-◌, ◌<◌, ◌≤◌, ℕ, List, [], ◌∷◌, ◌++◌, None, Some, true, false, Contains, IfNone, IfOk, IfSome, IsErr, IsFalse, IsSome, IsTrue, MatchResult, OnErr, OnOk, length, min};
+ghost use Rattle.hose_io.specs.Count.{one_more};
+ghost use Rattle.hose_io.specs.Frame.{Rose};
+ghost use Rattle.hose_disk.specs.Cabinet.{Has, IsDiskCall, IsTextAt, IsTextCall, absent_after, after_back, object_of, opened_at, where_told};
+ghost use Rattle.hose_disk.specs.CabinetState.{IsMemOpening, after_done, after_refusal, after_return, cabinet_frame, held_of, item_of, text_of};
+ghost use Rattle.hose_disk.specs.Disk.{NoneNew};
+ghost use Rattle.hose_disk.specs.MemState.{content_of, frame_of, image_of, moment_of};
+
+use crate::cabinet::Cabinet;
+use crate::mem_disk::{MemDisk, read};
+use crate::named::{Named, place_of};
+use crate::shelf::Shelf;
+use hose_io::{Failed, FailingCalls};
+use std::alloc::{AllocError, Global};
+use std::marker::Model;
+
+#[derive(Debug, Drop)]
+struct Text {
+    bytes: Vec<u8>,
+}
+
+impl Model for Text {
+    ghost use Rattle.std.specs.Prelude.{List, ℕ};
+
+    ghost Value = { List ℕ };
+
+    ghost view = { λ text. text.bytes.items };
+}
+
+/// A cabinet in memory. A call of `text` or `disk` fails where it was told to, where it asks for a
+/// text that is not there, and where no memory is left.
+#[derive(Debug, Drop)]
+pub struct MemCabinet {
+    texts: Vec<Named<Text>>,
+    shelf: Shelf,
+    faults: u64,
+    starved: u64,
+    absent: u64,
+    returned: u64,
+    failing: FailingCalls,
+}
+
+impl Model for MemCabinet {
+    ghost use Rattle.hose_disk.specs.CabinetState.{CabinetState};
+
+    ghost Value = { CabinetState };
+
+    ghost view = { λ cabinet. record {
+      texts = cabinet.texts.items;
+      shelf = cabinet.shelf;
+      faults = cabinet.faults;
+      starved = cabinet.starved;
+      absent = cabinet.absent;
+      returned = cabinet.returned;
+      failing = cabinet.failing;
+    } };
+}
+
+impl MemCabinet {
+    /// A cabinet of one disk under a name, and of no text.
+    pub fn of(alloc: Global, name: &[u8], disk: MemDisk) -> Result<MemCabinet, AllocError>
+        ensures { IfOk result (λ cabinet. cabinet ≡ record {
+          texts = [];
+          shelf = record { disks = record { name = name.now; item = disk } ∷ []; out = None };
+          faults = 0;
+          starved = 0;
+          absent = 0;
+          returned = 0;
+          failing = [];
+        }) }
+    {
+        Ok(MemCabinet {
+            texts: Vec::new(alloc),
+            shelf: Shelf::of(alloc, name, disk)?,
+            faults: 0,
+            starved: 0,
+            absent: 0,
+            returned: 0,
+            failing: FailingCalls::new(alloc),
+        })
+    }
+
+    /// Adds a text under a name, in place of one that is there.
+    pub fn add_text(&mut self, alloc: Global, name: &[u8], bytes: &[u8]) -> Result<(), AllocError>
+        ensures ok { OnOk result (self.new ≡ record self.old {
+          texts = record { name = name.now; item = bytes.now } ∷ self.old.texts;
+        }) }
+        ensures err { OnErr result (self.new ≡ self.old) }
+    {
+        let name = Vec::from_slice(alloc, name)?;
+        let item = Text {
+            bytes: Vec::from_slice(alloc, bytes)?,
+        };
+        self.texts.insert(0, Named { name, item })?;
+        Ok(())
+    }
+
+    /// The `nth` call of `text` and `disk` together from now on, counted from 1, is to fail.
+    pub fn fail(&mut self, _alloc: Global, nth: u64) -> Result<(), AllocError>
+        ensures ok { OnOk result
+            (self.new ≡ record self.old { failing = self.old.failing ++ nth ∷ [] }) }
+        ensures err { OnErr result (self.new ≡ self.old) }
+    {
+        self.failing.add(nth)
+    }
+
+    /// How many calls have failed, those among them that were the last call of a disk that was
+    /// put back.
+    pub fn faults(&self) -> u64
+        ensures { result ≡ self.now.faults }
+    {
+        self.faults
+    }
+
+    /// How many of the failed calls found no memory.
+    pub fn starved(&self) -> u64
+        ensures { result ≡ self.now.starved }
+    {
+        self.starved
+    }
+
+    // Counts a call that failed.
+    fn fault(&mut self) -> Failed
+        ensures after { self.new ≡ record self.old { faults = one_more self.old.faults } }
+        ensures rose { Rose
+            (object_of (cabinet_frame self.old)) (object_of (cabinet_frame self.new)) }
+        ensures never_falls { self.old.faults ≤ self.new.faults }
+    {
+        self.faults = self.faults.saturating_add(1);
+        Failed
+    }
+
+    // Counts a call that found no memory.
+    fn starve(&mut self) -> Failed
+        ensures after { self.new ≡ record self.old {
+          faults = one_more self.old.faults;
+          starved = one_more self.old.starved;
+        } }
+        ensures rose { Rose
+            (object_of (cabinet_frame self.old)) (object_of (cabinet_frame self.new)) }
+        ensures never_falls { self.old.faults ≤ self.new.faults }
+    {
+        self.starved = self.starved.saturating_add(1);
+        self.fault()
+    }
+}
+
+impl Cabinet for MemCabinet {
+    ghost use Rattle.hose_disk.specs.CabinetState.{cabinet_frame, held_of, text_of};
+
+    type Disk = MemDisk;
+
+    ghost frame = { cabinet_frame };
+
+    ghost text = { text_of };
+
+    ghost held = { held_of };
+
+    fn text(&mut self, name: &str, from: u64, into: &mut [u8]) -> Result<usize, Failed>
+        requires { 0 < length into.old }
+        ensures room { IfOk result (λ count. count ≤ length into.new) }
+        ensures read { IfOk result (λ count. Has true (text_of self.old name.now)
+            (λ bytes. IsTextAt from count bytes into.new)) }
+        ensures refused { IsTrue true → text_of self.old name.now ≡ None → IsErr result }
+        ensures absent { IsTrue true → self.new.absent
+            ≡ absent_after (text_of self.old name.now) self.old.absent }
+        ensures texts { text_of self.new ≡ text_of self.old }
+        ensures disks { held_of self.new ≡ held_of self.old }
+        ensures call { IsTextCall (cabinet_frame self.old) (cabinet_frame self.new) result }
+
+        ensures fails { IsErr result
+            ↔ (Contains self.old.failing 1 ⊎ (text_of self.old name.now ≡ None)) }
+        ensures amount { IfOk result (λ count. Has true (text_of self.old name.now)
+            (λ bytes. count ≡ min (length into.old) (length bytes - from))) }
+        ensures after { MatchResult result
+            (λ _. self.new ≡ after_done self.old)
+            (λ _. self.new ≡ after_refusal name.now self.old) }
+    {
+        let read = read_text(&self.texts, name.as_bytes(), from as usize, into);
+        let fails = self.failing.next();
+        let Some(count) = read else {
+            self.absent = self.absent.saturating_add(1);
+            return Err(self.fault());
+        };
+        if fails {
+            return Err(self.fault());
+        }
+        Ok(count)
+    }
+
+    fn disk(&mut self, name: &str) -> Result<MemDisk, Failed>
+        requires { self.old.shelf.out ≡ None }
+        ensures opened { IfOk result (λ disk. frame_of disk ≡ opened_at (moment_of disk)) }
+        ensures content { IfOk result (λ disk. Has true (held_of self.old name.now)
+            (λ was. content_of disk ≡ content_of was)) }
+        ensures images { IfOk result (λ disk. Has true (held_of self.old name.now)
+            (λ was. NoneNew (image_of was) (image_of disk))) }
+        ensures untold { IfOk result (λ disk. IsFalse true → content_of disk ≡ None) }
+        ensures texts { text_of self.new ≡ text_of self.old }
+        ensures others { (other : List ℕ) → other ≢ name.now →
+            held_of self.new other ≡ held_of self.old other }
+        ensures same { OnErr result (held_of self.new ≡ held_of self.old) }
+        ensures call { IsDiskCall name.now
+            (cabinet_frame self.old) (cabinet_frame self.new) result }
+
+        ensures exact { IsMemOpening name.now self.old self.new result }
+    {
+        if self.failing.next() {
+            return Err(self.fault());
+        }
+        match self.shelf.take_out(name.as_bytes()) {
+            Ok(disk) => Ok(disk.opened_again()),
+            Err(_) => Err(self.starve()),
+        }
+    }
+
+    fn back(&mut self, disk: MemDisk)
+        requires { IsSome self.old.shelf.out }
+        ensures held { IfSome self.old.shelf.out
+            (λ name. held_of self.new name ≡ where_told true disk) }
+        ensures others { IfSome self.old.shelf.out (λ name. (other : List ℕ) → other ≢ name →
+            held_of self.new other ≡ held_of self.old other) }
+        ensures texts { text_of self.new ≡ text_of self.old }
+        ensures never_falls { self.old.faults ≤ self.new.faults }
+        ensures call { cabinet_frame self.new
+            ≡ after_back (frame_of disk) (cabinet_frame self.old) }
+
+        ensures exact { IfSome self.old.shelf.out
+            (λ name. self.new ≡ after_return name disk self.old) }
+    {
+        self.returned = disk.faults();
+        if disk.has_failed() {
+            self.fault();
+        }
+        self.shelf.put_back(disk);
+    }
+}
+
+// Reads a text from a place, where there is one of the name.
+fn read_text(texts: &[Named<Text>], name: &[u8], from: usize, into: &mut [u8]) -> Option<usize>
+    requires { 0 < length into.old }
+    ensures none { IfNone result (item_of name.now texts.now ≡ None) }
+    ensures room { IfSome result (λ count. count ≤ length into.new) }
+    ensures read { IfSome result (λ count. Has true (item_of name.now texts.now)
+        (λ bytes. IsTextAt from count bytes into.new
+        × (count ≡ min (length into.old) (length bytes - from)))) }
+{
+    let place = place_of(texts, name)?;
+    let named = &texts[place];
+    let text = &named.item;
+    Some(read(&text.bytes, from, into))
+}
