@@ -7,26 +7,13 @@ use Rattle.hose_graph.specs.declared.reply.Reply.{Reply}
 use Rattle.hose_law.specs.Book.{Book}
 use Rattle.hose_law.specs.History.{EntryKind, IsDecidedAt}
 use Rattle.hose_law.specs.Quotes.{Holdings}
-use Rattle.hose_book.specs.declared.books.Books.{Ghosts as BooksGhosts}
 use Rattle.hose_book.specs.declared.committed.Committed.TheVariants.{Done}
-use Rattle.hose_disk.specs.Disk.{object_frame}
 use Rattle.hose_disk.specs.declared.disk.Disk.{Ghosts}
-use Rattle.hose_journal.specs.Journal.{IsReady}
-use Rattle.hose_journal.specs.declared.prepared.Ready.{Ready}
 use Rattle.hose_core.specs.Holding.{State}
 use Rattle.hose_core.specs.Stepping.{StepsOn, committed_of}
 use Rattle.hose_store.specs.Beginning.{Beginning, StandsFor}
-use Rattle.hose_store.specs.Commit.{Went}
+use Rattle.hose_store.specs.Commit.{store_books}
 use Rattle.hose_store.specs.Store.{HasHistory, Kept}
-
--- a store as books
-abbrev pub store_books : {D : Type 0} → Ghosts D → BooksGhosts (Kept D) Ready
-store_books disk = record {
-  ledger = λ store. store.ledger;
-  frame = λ store. object_frame (disk.frame store.journal.disk);
-  fits = λ ready entry. IsReady entry ready;
-  went = Went disk;
-}
 
 -- each entry that is decided at a book is of this kind there
 abbrev pub IsForDecided : EntryKind → Type 0

@@ -16,7 +16,8 @@ ghost use Rattle.hose_graph.specs.declared.entry.Entry.{Entry};
 ghost use Rattle.hose_law.specs.Quotes.{Holdings};
 ghost use Rattle.hose_core.specs.Stepping.{FitsHistory};
 ghost use Rattle.hose_store.specs.Beginning.{Beginning, StandsFor};
-ghost use Rattle.hose_durable.specs.Durable.{IsForDecided, StepsDurably, store_books};
+ghost use Rattle.hose_store.specs.Commit.{store_books};
+ghost use Rattle.hose_durable.specs.Durable.{IsForDecided, StepsDurably};
 
 use hose_core::Core;
 use hose_disk::Disk;

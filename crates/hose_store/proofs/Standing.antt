@@ -15,8 +15,9 @@ use Rattle.hose_disk.specs.declared.disk.Disk.{Ghosts}
 use Rattle.hose_journal.specs.declared.layout.TheConstants.{DIGEST_BYTES}
 use Rattle.hose_journal.specs.Moments.{LeavesOnly, TellsAsBefore}
 use Rattle.hose_book.specs.Commit.{history_after}
-use Rattle.hose_store.specs.Beginning.{Beginning, HasLeft, IsOrOneMore, IsPartOf, IsRun, StandsFor, Step, entered}
-use Rattle.hose_store.specs.Commit.{Closes, IsLeft, Went}
+use Rattle.hose_book.specs.GoingOn.{GoesOn, none_yet, entry_more}
+use Rattle.hose_store.specs.Beginning.{Beginning, HasLeft, IsOrOneMore, IsPartOf, StandsFor}
+use Rattle.hose_store.specs.Commit.{Closes, IsLeft, Went, store_books}
 use Rattle.hose_store.specs.Opening.{IsAtOpening, IsOpenedOn}
 use Rattle.hose_store.specs.Recovery.{IsHistoryOf, digest_of}
 use Rattle.hose_store.specs.Store.{HasHistory, IsAmid, IsHistoryWith, Kept}
@@ -129,25 +130,11 @@ module _ {D : Type 0} (disk : Ghosts D) where
         (went.left history stood.doubt stood.has) (prefix_more beginning.since history (entry ∷ []) stood.since) added tt (part_more Kind beginning history (entry ∷ []))
     by_result old new history entry Disk stood at went = fails old new history entry stood at went (went.left history stood.doubt stood.has)
 
-    -- the kind of an entry at a store's book
-    kind_at : (old : Kept D) (history : List Entry) (entry : Entry) → Stood history old → Kind old.ledger.network old.ledger.book entry → Kind beginning.network (book_of 0 history) entry
-    kind_at old history entry stood at =
-        subst (λ (network : Network). Kind network (book_of 0 history) entry) stood.network (subst (λ (book : Book). Kind old.ledger.network book entry) stood.has.book at)
-
-    -- one commit
-    pub commit_stands : (old new : Kept D) (history : List Entry) (entry : Entry) (result : Committed) → Stood history old → Kind old.ledger.network old.ledger.book entry → Went disk old entry result new → Stood (history_after history entry result) new
-    commit_stands old new history entry result stood at went = by_result old new history entry result stood (kind_at old history entry stood at) went
-
     -- a run of commits
-    pub run_stands : (steps : List Step) (old new : Kept D) (history : List Entry) → Stood history old → IsRun disk Kind old steps new → Stood (history ++ entered steps) new
-    run_stands [] old new history stood same =
-        subst (λ (all : List Entry). Stood all new) (sym (append-nil history)) (subst (λ (store : Kept D). Stood history store) (sym same) stood)
-    run_stands ((entry, Done) ∷ steps) old new history stood run =
-        let next = commit_stands old run.1.0 history entry Done stood run.0 run.1.1 in
-        subst (λ (all : List Entry). Stood all new) (append_assoc history (entry ∷ []) (entered steps)) (run_stands steps run.1.0 new (history ++ entry ∷ []) next run.1.2)
-    run_stands ((entry, Disk) ∷ steps) old new history stood run =
-        let next = commit_stands old run.1.0 history entry Disk stood run.0 run.1.1 in
-        run_stands steps run.1.0 new history next run.1.2
+    pub run_stands : (first : List Entry) (old : Kept D) (last : List Entry) (new : Kept D) → Stood first old → GoesOn (store_books disk) Kind beginning.network first old last new → Stood last new
+    run_stands first old last new stood none_yet = stood
+    run_stands first old last new stood (entry_more entry result before at went) =
+        by_result _ new _ entry result (run_stands first old _ _ stood before) at went
 
     -- ---- closing
 

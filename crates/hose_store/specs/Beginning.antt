@@ -1,16 +1,13 @@
 -- What a store stands for since its opening. The kind of the entries that were added, as sound or
 -- decided, and the images that the disk had at its opening are parameters.
-use Rattle.std.specs.Prelude.{◌≡◌, ◌⊎◌, ℕ, ◌≤◌, Bool, List, [], ◌∷◌, ◌++◌, length, Option, IfSome, is_some, Result, OnOk, ⊤}
+use Rattle.std.specs.Prelude.{◌≡◌, ◌⊎◌, ℕ, ◌≤◌, Bool, List, [], ◌∷◌, ◌++◌, length, Option, IfSome, is_some, Result, OnOk}
 use Rattle.hose_io.specs.declared.Failed.{Failed}
 use mathlib.Core.List.{IsPrefix}
 use Rattle.hose_graph.specs.Network.{Network}
 use Rattle.hose_graph.specs.declared.entry.Entry.{Entry}
 use Rattle.hose_law.specs.History.{AreFrom, EntryKind, book_of, opening_book}
-use Rattle.hose_book.specs.declared.committed.Committed.{Committed}
-use Rattle.hose_book.specs.declared.committed.Committed.TheVariants.{Done, Disk}
 use Rattle.hose_disk.specs.declared.disk.Disk.{Ghosts}
 use Rattle.hose_journal.specs.Moments.{Images}
-use Rattle.hose_store.specs.Commit.{Went}
 use Rattle.hose_store.specs.Recovery.{IsHistoryOf}
 use Rattle.hose_store.specs.Store.{Kept, HasHistory}
 
@@ -61,22 +58,3 @@ pub record HasLeft {D T : Type 0} (disk : Ghosts D) (Kind : EntryKind) (Had : Li
   pub closed : OnOk result (Images disk left (IsHistoryOf beginning.network history))
   pub moments : (image : List ℕ) → disk.left_since left beginning.moment image
       → IsPartOf Kind beginning history image ⊎ Had image
-
--- ---- runs
-
--- a commit: its entry, and what came of it
-abbrev pub Step : Type 0
-Step = Entry × Committed
-
--- the entries that were entered
-abbrev pub entered : List Step → List Entry
-entered [] = []
-entered ((entry, Done) ∷ steps) = entry ∷ entered steps
-entered ((entry, Disk) ∷ steps) = entered steps
-
--- commits one after another, each of an entry that is of this kind at its book
-abbrev pub IsRun : {D : Type 0} → Ghosts D → EntryKind → Kept D → List Step → Kept D → Type 0
-IsRun disk Kind old [] new = new ≡ old
-IsRun {D} disk Kind old ((entry, result) ∷ steps) new =
-    Kind old.ledger.network old.ledger.book entry
-    × ((mid : Kept D) × Went disk old entry result mid × IsRun disk Kind mid steps new)

@@ -5,7 +5,11 @@ use Rattle.hose_graph.specs.declared.entry.Entry.{Entry}
 use Rattle.hose_book.specs.Commit.{Commits}
 use Rattle.hose_book.specs.declared.committed.Committed.{Committed}
 use Rattle.hose_book.specs.declared.committed.Committed.TheVariants.{Done, Disk}
+use Rattle.hose_book.specs.declared.books.Books.{Ghosts as BooksGhosts}
+use Rattle.hose_disk.specs.Disk.{object_frame}
 use Rattle.hose_disk.specs.declared.disk.Disk.{Ghosts}
+use Rattle.hose_journal.specs.Journal.{IsReady}
+use Rattle.hose_journal.specs.declared.prepared.Ready.{Ready}
 use Rattle.hose_journal.specs.Moments.{Images, LeavesOnly, TellsAsBefore}
 use Rattle.hose_store.specs.Recovery.{IsHistoryOf}
 use Rattle.hose_store.specs.Store.{Kept, HasHistory, IsAmid}
@@ -47,3 +51,12 @@ pub record Closes {D T : Type 0} (disk : Ghosts D) (old : Kept D) (left : D)
       → HasHistory disk old history doubt
       → Images disk left (IsHistoryOf old.ledger.network history))
   pub tells : TellsAsBefore disk old.journal.disk left
+
+-- a store as books
+abbrev pub store_books : {D : Type 0} → Ghosts D → BooksGhosts (Kept D) Ready
+store_books disk = record {
+  ledger = λ store. store.ledger;
+  frame = λ store. object_frame (disk.frame store.journal.disk);
+  fits = λ ready entry. IsReady entry ready;
+  went = Went disk;
+}

@@ -1,13 +1,14 @@
 // What is true of every image of a disk, and of every run of commits.
-ghost use Rattle.std.specs.Prelude.{◌≡◌, ◌≤◌, ◌++◌, List, ℕ, Result, is_some, ⊤};
+ghost use Rattle.std.specs.Prelude.{◌≡◌, ◌≤◌, List, ℕ, Result, is_some, ⊤};
 ghost use Rattle.hose_io.specs.declared.Failed.{Failed};
 ghost use Rattle.hose_graph.specs.Network.{Network};
 ghost use Rattle.hose_graph.specs.declared.entry.Entry.{Entry};
 ghost use Rattle.hose_law.specs.Book.{Book};
 ghost use Rattle.hose_journal.specs.Image.{Meaning};
 ghost use Rattle.hose_journal.specs.Moments.{LeavesOnly, TellsAsBefore};
-ghost use Rattle.hose_store.specs.Beginning.{Beginning, HasLeft, IsRun, StandsFor, Step, entered};
-ghost use Rattle.hose_store.specs.Commit.{Closes};
+ghost use Rattle.hose_book.specs.GoingOn.{GoesOn};
+ghost use Rattle.hose_store.specs.Beginning.{Beginning, HasLeft, StandsFor};
+ghost use Rattle.hose_store.specs.Commit.{Closes, store_books};
 ghost use Rattle.hose_store.specs.Opening.{IsAtOpening, IsOpenedOn};
 ghost use Rattle.hose_store.specs.Recovery.{IsRecoveredAs};
 ghost use Rattle.hose_store.specs.Store.{Kept};
@@ -45,14 +46,14 @@ pub fn law_opened<D: Disk, P: Premises>()
         StandsFor D.Disk P.kind (D.may_leave was) beginning beginning.since store }
 {}
 
-/// A store that stands for a history stands for it with the entries that were entered, after any
-/// run of commits of entries of this kind, whichever of them the disk refused.
+/// A store that stands for a history stands for the one that any run of commits of entries of this
+/// kind leads to, whichever of them the disk refused.
 pub fn law_run<D: Disk, P: Premises>()
-    ensures { (beginning : Beginning) → (was : D) → (history : List Entry) → (steps : List Step) →
+    ensures { (beginning : Beginning) → (was : D) → (first last : List Entry) →
         (old new : Kept D) →
-        StandsFor D.Disk P.kind (D.may_leave was) beginning history old →
-        IsRun D.Disk P.kind old steps new →
-        StandsFor D.Disk P.kind (D.may_leave was) beginning (history ++ entered steps) new }
+        StandsFor D.Disk P.kind (D.may_leave was) beginning first old →
+        GoesOn (store_books D.Disk) P.kind beginning.network first old last new →
+        StandsFor D.Disk P.kind (D.may_leave was) beginning last new }
 {}
 
 /// What a store that stands for a history leaves of its disk, once it is closed.

@@ -15,7 +15,7 @@ use Rattle.hose_law.specs.Script.{ReadLine}
 use Rattle.hose_law.specs.Script.ReadLine.{Asks, IsBad, IsLong, Unread}
 use Rattle.hose_proto.specs.Command.{IsCommand, command_form, command_grammar}
 use Rattle.hosed.specs.ScriptLine.{IsAsking, script_grammar}
-use Rattle.hosed.specs.Serving.{Says, IsRead, SaysOneThing, SayLines, no_line, one_more as one_line, SayOneThingEach, none_yet, line_more}
+use Rattle.hosed.specs.Serving.{Says, IsRead, SaysOneThing, SayLines, no_line, one_more as one_line, SayOneThingEach, none_said, line_more}
 
 -- ---- one line
 
@@ -97,7 +97,7 @@ data OneThingEach (network : Network) : List ℕ → Type 0 where
   first_line : {text : List ℕ} → SaysOneThing network (before_first is_line_feed text) → OneThingEach network (after_first is_line_feed text) → OneThingEach network text
 
 each_from_first : {network : Network} {text rest : List ℕ} → SayOneThingEach network text rest → OneThingEach network rest → OneThingEach network text
-each_from_first none_yet each = each
+each_from_first none_said each = each
 each_from_first (line_more before some alone) each = each_from_first before (first_line alone each)
 
 first_alone : {network : Network} {text : List ℕ} → text ≢ [] → OneThingEach network text → SaysOneThing network (before_first is_line_feed text) × OneThingEach network (after_first is_line_feed text)

@@ -1,9 +1,9 @@
 -- Turns, one after another.
-use Rattle.std.proofs.Common.{◌≡◌, ◌≢◌, ◌⊎◌, inl, inr, ℕ, List, [], ◌∷◌, ◌++◌, Option, None, Some, Ok, Err, false, refl, sym, ◌∙◌, ap, subst, arith, length, length-append, take, append-nil}
+use Rattle.std.proofs.Common.{◌≡◌, ◌≢◌, ◌⊎◌, inl, inr, ⊎_elim, ℕ, ◌+◌, ◌-◌, ◌^◌, ◌≤◌, List, [], ◌∷◌, ◌++◌, Option, None, Some, Ok, Err, false, refl, sym, ◌∙◌, ap, subst, arith, length, length-append, take, append-nil, append_assoc}
 use Rattle.std.proofs.lemmas.List.{nil_from_length}
-use Rattle.std.proofs.lemmas.List.Elements.{All-nil, All-push}
 use Rattle.std.specs.Prelude.{IfSome, ⊤}
 use Rattle.std.specs.List.{before_first, after_first}
+use mathlib.Core.List.{IsPrefix}
 use Rattle.std.proofs.lemmas.Grind.{flat_map-append}
 use Rattle.hose_io.specs.Stream.{Stream, Grows}
 use Rattle.hose_io.proofs.Streams.{Grows-nil, Grows-append}
@@ -25,24 +25,26 @@ use Rattle.hose_graph.specs.declared.command.Command.{Command}
 use Rattle.hose_graph.specs.declared.reply.Reply.{Reply}
 use Rattle.hose_graph.specs.declared.reply.Reply.TheVariants.{Welcome, Admitted, Quoted, Refused, Stale, Released, NoVpn, NoQuote, TooMany, Shown, LinkState, Full, Spent, Disk, Memory, Bad, Long, Bye}
 use Rattle.hose_graph.specs.Network.{Network}
-use Rattle.hose_law.specs.History.{book_of, IsDecided, IsSoundWith}
+use Rattle.hose_law.specs.History.{book_of, IsDecided, IsDecidedAt, IsSound, IsSoundAt, IsSoundWith}
 use Rattle.hose_law.specs.Answer.{IsStepOf}
-use Rattle.hose_law.specs.Quotes.{Held, nothing_held, with_held}
-use Rattle.hose_law.proofs.Scripts.{decided_push, script_push}
-use Rattle.hose_law.proofs.Steps.{IsAnswered, IsIdle, step_cases}
-use Rattle.hose_law.specs.Script.{ReadLine, IsForDisk, IsLineStep, WithoutDisk}
+use Rattle.hose_law.specs.Quotes.{nothing_held, with_held}
+use Rattle.hose_law.proofs.Scripts.{decided_end, decided_push, script_push}
+use Rattle.hose_law.specs.Script.{ReadLine, IsLineStep}
 use Rattle.hose_law.specs.Script.ReadLine.{Asks, IsBad, IsLong, Unread}
 use Rattle.hosed.specs.ScriptLine.{IsAsking, WantsMemory, script_grammar}
 use Rattle.hose_words.specs.Reading.{WhereTold, ReadsOn}
 use Rattle.hose_proto.specs.ReplyText.{line_of, reply_text}
 use Rattle.hose_io.specs.Frame.{Frame, Rose, Stays}
-use Rattle.hose_io.proofs.Frames.{Rose-before, Rose-later, Stays-next, Stays-none, Stays-same}
+use Rattle.hose_io.proofs.Frames.{Stays-next, Stays-none, Stays-same}
 use Rattle.hosed.specs.Fault.{of_line}
-use Rattle.hose_book.specs.Commit.{IsMet}
+use Rattle.hose_book.specs.Commit.{IsMet, history_after}
+use Rattle.hose_book.specs.GoingOn.{GoesOn, none_yet, entry_more}
+use Rattle.hose_book.specs.declared.committed.Committed.{Committed}
+use Rattle.hose_book.specs.declared.committed.Committed.TheVariants.{Done, Disk as Failing}
 use Rattle.hose_book.specs.declared.books.Books.{Ghosts as BooksGhosts}
 use Rattle.hose_core.specs.Holding.{State}
-use Rattle.hose_core.specs.Stepping.{FitsHistory, committed_of}
-use Rattle.hosed.specs.Serving.{Says, SaysOneThing, SaysRead, SayLines, no_line, one_more, SayOneThingEach, none_yet, line_more, AnswersLine, AreAnswered, CutsLast, HasServed, IsAllTaken, IsLeftOver, IsOver, StopsReading, Serves, ServesLine, ServesUntil, ServesUpTo, TakesTurn, texts_of}
+use Rattle.hose_core.specs.Stepping.{FitsHistory, Goes, committed_of, history_with}
+use Rattle.hosed.specs.Serving.{Says, SaysOneThing, SaysRead, SayLines, no_line, one_more, SayOneThingEach, none_said, line_more, TellsDisks, disks_in, one_if_disk, AnswersLine, AreAnswered, CutsLast, HasServed, IsAllTaken, IsLeftOver, IsOver, StopsReading, Serves, ServesLine, ServesUntil, ServesUpTo, TakesTurn, texts_of}
 
 -- what a reader shows of a line says what the line says
 pub says_shown : (network : Network) (shown : Line) (bytes : List ℕ) (said : ReadLine) → Shows shown bytes → SaysRead network shown said → Says network bytes said
@@ -105,120 +107,158 @@ serves_read source sink books old new output core line_fault.TooLong none next =
 
 -- ---- histories that turns lead to
 
+-- one reply tells no more failures than the count rose by
+abbrev TellsOne : Frame → Reply → Frame → Type 0
+TellsOne before reply after = (before.faults + one_if_disk reply ≤ after.faults) ⊎ (2 ^ 64 - 1 ≤ after.faults)
+
+told_none : (before after : Frame) → after ≡ before → (before.faults + 0 ≤ after.faults) ⊎ (2 ^ 64 - 1 ≤ after.faults)
+told_none before after same = inl (omega (arith, ap (λ (frame : Frame). frame.faults) same))
+
+told_one : (before after : Frame) → Rose before after → (before.faults + 1 ≤ after.faults) ⊎ (2 ^ 64 - 1 ≤ after.faults)
+told_one before after rose = ⊎_elim (λ more. inl (omega (arith, more))) (λ most. inr most) rose.rose
+
 -- what the commit of an entry left of a frame
-kept : (before after : Frame) (reply : Reply) → IsMet before (committed_of reply) after → Stays before after × (¬ Rose before after → ¬ IsForDisk reply)
-kept before after (Disk at) met = (met.0, λ held. absurd (held met.1))
-kept before after (Welcome at) met = (Stays-same met, λ _ no. no)
-kept before after (Admitted id cost at amounts) met = (Stays-same met, λ _ no. no)
-kept before after (Quoted quote cost at amounts) met = (Stays-same met, λ _ no. no)
-kept before after (Refused at side) met = (Stays-same met, λ _ no. no)
-kept before after (Stale seen now) met = (Stays-same met, λ _ no. no)
-kept before after (Released id at) met = (Stays-same met, λ _ no. no)
-kept before after (NoVpn id at) met = (Stays-same met, λ _ no. no)
-kept before after (NoQuote quote at) met = (Stays-same met, λ _ no. no)
-kept before after (TooMany at) met = (Stays-same met, λ _ no. no)
-kept before after (Shown id cost at hose amounts) met = (Stays-same met, λ _ no. no)
-kept before after (LinkState link load at) met = (Stays-same met, λ _ no. no)
-kept before after (Full at) met = (Stays-same met, λ _ no. no)
-kept before after (Spent at) met = (Stays-same met, λ _ no. no)
-kept before after Memory met = (Stays-same met, λ _ no. no)
-kept before after (Bad word) met = (Stays-same met, λ _ no. no)
-kept before after Long met = (Stays-same met, λ _ no. no)
-kept before after Bye met = (Stays-same met, λ _ no. no)
+kept : (before after : Frame) (reply : Reply) → IsMet before (committed_of reply) after → Stays before after × TellsOne before reply after
+kept before after (Disk at) met = (met.0, told_one before after met.1)
+kept before after (Welcome at) met = (Stays-same met, told_none before after met)
+kept before after (Admitted id cost at amounts) met = (Stays-same met, told_none before after met)
+kept before after (Quoted quote cost at amounts) met = (Stays-same met, told_none before after met)
+kept before after (Refused at side) met = (Stays-same met, told_none before after met)
+kept before after (Stale seen now) met = (Stays-same met, told_none before after met)
+kept before after (Released id at) met = (Stays-same met, told_none before after met)
+kept before after (NoVpn id at) met = (Stays-same met, told_none before after met)
+kept before after (NoQuote quote at) met = (Stays-same met, told_none before after met)
+kept before after (TooMany at) met = (Stays-same met, told_none before after met)
+kept before after (Shown id cost at hose amounts) met = (Stays-same met, told_none before after met)
+kept before after (LinkState link load at) met = (Stays-same met, told_none before after met)
+kept before after (Full at) met = (Stays-same met, told_none before after met)
+kept before after (Spent at) met = (Stays-same met, told_none before after met)
+kept before after Memory met = (Stays-same met, told_none before after met)
+kept before after (Bad word) met = (Stays-same met, told_none before after met)
+kept before after Long met = (Stays-same met, told_none before after met)
+kept before after Bye met = (Stays-same met, told_none before after met)
 
--- one reply more that is not for a failure of the disk, where the books did not fail
-disk_more : (before middle after : Frame) (replies : List Reply) (reply : Reply) → Stays before middle → Stays middle after → (¬ Rose before middle → WithoutDisk replies) → (¬ Rose middle after → ¬ IsForDisk reply)
-    → ¬ Rose before after → WithoutDisk (replies ++ reply ∷ [])
-disk_more before middle after replies reply first then earlier now held =
-    All-push (λ r. ¬ IsForDisk r) replies reply (earlier (λ rose. held (Rose-before before middle after rose then))) (now (λ rose. held (Rose-later before middle after first rose)))
+disks_push : (replies : List Reply) (reply : Reply) → disks_in (replies ++ reply ∷ []) ≡ disks_in replies + one_if_disk reply
+disks_push [] reply = refl
+disks_push (first ∷ replies) reply = omega (arith, disks_push replies reply)
 
--- the history that a step leads to is decided
-step_decided : (network : Network) (history next : List Entry) (customer : List ℕ) (held after : Held) (command : Command) (reply : Reply) (entry : Option Entry) → IsDecided network 0 0 history
-    → IsStepOf network 0 history customer held command reply entry next after → IsSoundWith network (book_of 0 history) entry → IsDecided network 0 0 next
-step_decided network history next customer held after command reply entry decided step sound = at (step_cases network 0 history customer held command reply entry next after step)
-  where
-    at : IsIdle network 0 history customer held reply entry next after ⊎ IsAnswered network 0 history customer held command entry next after → IsDecided network 0 0 next
-    at (inl idle) = subst (IsDecided network 0 0) (sym idle.stays) decided
-    at (inr answered) = elim answered.goes [
-      | inl stays ↦ subst (IsDecided network 0 0) (sym stays) decided
-      | inr goes ↦ subst (IsDecided network 0 0) (sym goes) (decided_push network 0 history customer held after command answered.given entry decided sound answered.is)
-    ]
+-- one reply more
+disks_more : (before : ℕ) (middle after : Frame) (replies : List Reply) (reply : Reply) → TellsDisks before replies middle.faults → Stays middle after → TellsOne middle reply after
+    → TellsDisks before (replies ++ reply ∷ []) after.faults
+disks_more before middle after replies reply (inl told) stays (inl one) = inl (omega (arith, told, one, disks_push replies reply))
+disks_more before middle after replies reply (inl told) stays (inr most) = inr most
+disks_more before middle after replies reply (inr most) stays one = inr (omega (arith, most, stays.never_falls))
 
--- What is known of a core that has answered lines from the empty history on.
-pub record Answered {K R : Type 0} (books : BooksGhosts K R) (first core : State K) (lines : List ReadLine) (replies : List Reply) : Type 0 where
-  pub answered : AreAnswered (books.ledger first.books).network (books.frame first.books) (books.frame core.books) lines replies
+prefix_push : (one all : List Entry) (entry : Entry) → IsPrefix one all → IsPrefix one (all ++ entry ∷ [])
+prefix_push one all entry (rest, same) = (rest ++ entry ∷ [], sym (append_assoc one rest (entry ∷ [])) ∙ ap (λ (l : List Entry). l ++ entry ∷ []) same)
+
+-- What is known of a history that books went on to.
+record Leads {K R : Type 0} (books : BooksGhosts K R) (network : Network) (since : List Entry) (first : K) (history : List Entry) (now : K) : Type 0 where
+  decided : IsDecided network 0 (length since) history
+  begins : IsPrefix since history
+  goes_on : GoesOn books IsDecidedAt network since first history now
+
+module _ {K R : Type 0} (books : BooksGhosts K R) (network : Network) (since : List Entry) (first middle now : K) (history : List Entry) (answer : Reply) (was : Leads books network since first history middle) where
+  committed : (entry : Entry) (result : Committed) → IsDecidedAt network (book_of 0 history) entry → IsSoundAt network (book_of 0 history) entry → books.went middle entry result now → Leads books network since first (history_after history entry result) now
+  committed entry Done decided sound went = record {
+    decided = decided_push network 0 (length since) history entry was.decided decided sound;
+    begins = prefix_push since history entry was.begins;
+    goes_on = entry_more entry Done was.goes_on decided went;
+  }
+  committed entry Failing decided sound went = record { decided = was.decided; begins = was.begins; goes_on = entry_more entry Failing was.goes_on decided went }
+
+  -- a step leads on
+  leads_on : (entry : Option Entry) → IfSome entry (IsDecidedAt network (book_of 0 history)) → IsSoundWith network (book_of 0 history) entry → Goes books middle answer entry now
+      → Leads books network since first (history_with history entry (committed_of answer)) now
+  leads_on None decided sound same = subst (λ (k : K). Leads books network since first history k) (sym same) was
+  leads_on (Some entry) decided sound went = committed entry (committed_of answer) decided sound went
+
+-- What is known of a core that has answered lines from a history on.
+pub record Answered {K R : Type 0} (books : BooksGhosts K R) (since : List Entry) (first core : State K) (lines : List ReadLine) (replies : List Reply) : Type 0 where
+  pub answered : AreAnswered books (books.ledger first.books).network since first.books core.books lines replies
   pub fits : FitsHistory books core 0 answered.history answered.left
   pub network : (books.ledger core.books).network ≡ (books.ledger first.books).network
 
-module _ {K R : Type 0} (books : BooksGhosts K R) (first old new : State K) (lines : List ReadLine) (replies : List Reply) (was : Answered books first old lines replies) where
+module _ {K R : Type 0} (books : BooksGhosts K R) (since : List Entry) (first old new : State K) (lines : List ReadLine) (replies : List Reply) (was : Answered books since first old lines replies) where
   abbrev network : Network
   network = (books.ledger first.books).network
 
   -- a command was answered by a step
-  command_more : (customer : List ℕ) (command : Command) (reply : Reply) → AnswersLine books old new (Asks customer command) reply → Answered books first new (lines ++ Asks customer command ∷ []) (replies ++ reply ∷ [])
+  command_more : (customer : List ℕ) (command : Command) (reply : Reply) → AnswersLine books old new (Asks customer command) reply → Answered books since first new (lines ++ Asks customer command ∷ []) (replies ++ reply ∷ [])
   command_more customer command reply answers =
       let history = was.answered.history in
       let left = was.answered.left in
       let on = answers.0 0 history left was.fits in
+      let entry = on.stepped.entry in
       let held = left customer in
-      let step = subst (λ (n : Network). IsStepOf n 0 history customer held command reply on.stepped.entry on.stepped.next on.stepped.after) was.network on.stepped.step in
-      let sound = subst (λ (n : Network). IsSoundWith n (book_of 0 history) on.stepped.entry) was.network on.stepped.sound in
-      let line : IsLineStep network 0 history left (Asks customer command) reply on.stepped.next (with_held left customer on.stepped.after) = (on.stepped.after, (on.stepped.entry, step), refl) in
+      let step = subst (λ (n : Network). IsStepOf n 0 history customer held command reply entry on.stepped.next on.stepped.after) was.network on.stepped.step in
+      let sound = subst (λ (n : Network). IsSoundWith n (book_of 0 history) entry) was.network on.stepped.sound in
+      let decided = subst (λ (n : Network). IfSome entry (IsDecidedAt n (book_of 0 history))) was.network on.decided in
+      let before : Leads books network since first.books history old.books = record { decided = was.answered.decided; begins = was.answered.begins; goes_on = was.answered.goes_on } in
+      let leads = subst (λ (all : List Entry). Leads books network since first.books all new.books) (sym on.leads)
+      (leads_on books network since first.books old.books new.books history reply before entry decided sound on.stepped.goes) in
+      let line : IsLineStep network 0 history left (Asks customer command) reply on.stepped.next (with_held left customer on.stepped.after) = (on.stepped.after, (entry, step), refl) in
       let told = kept (books.frame old.books) (books.frame new.books) reply answers.2 in
       record {
         answered = record {
           history = on.stepped.next;
           left = with_held left customer on.stepped.after;
-          script = script_push network 0 [] nothing_held lines replies history left (Asks customer command) reply on.stepped.next (with_held left customer on.stepped.after) was.answered.script line;
-          decided = step_decided network history on.stepped.next customer held on.stepped.after command reply on.stepped.entry was.answered.decided step sound;
+          script = script_push network 0 since nothing_held lines replies history left (Asks customer command) reply on.stepped.next (with_held left customer on.stepped.after) was.answered.script line;
+          decided = leads.decided;
+          begins = leads.begins;
+          goes_on = leads.goes_on;
           stays = Stays-next was.answered.stays told.0;
-          disk = disk_more (books.frame first.books) (books.frame old.books) (books.frame new.books) replies reply was.answered.stays told.0 was.answered.disk told.1;
+          disks = disks_more (books.frame first.books).faults (books.frame old.books) (books.frame new.books) replies reply was.answered.disks told.0 told.1;
         };
         fits = on.fits;
         network = answers.1 ∙ was.network;
       }
 
   -- any other line changed nothing
-  fixed_more : (said : ReadLine) (reply : Reply) → IsLineStep network 0 was.answered.history was.answered.left said reply was.answered.history was.answered.left → ¬ IsForDisk reply → new ≡ old
-      → Answered books first new (lines ++ said ∷ []) (replies ++ reply ∷ [])
-  fixed_more said reply line no_disk same = subst (λ (s : State K). Answered books first s (lines ++ said ∷ []) (replies ++ reply ∷ [])) (sym same) (record {
+  fixed_more : (said : ReadLine) (reply : Reply) → IsLineStep network 0 was.answered.history was.answered.left said reply was.answered.history was.answered.left → one_if_disk reply ≡ 0 → new ≡ old
+      → Answered books since first new (lines ++ said ∷ []) (replies ++ reply ∷ [])
+  fixed_more said reply line no_disk same = subst (λ (s : State K). Answered books since first s (lines ++ said ∷ []) (replies ++ reply ∷ [])) (sym same) (record {
     answered = record {
       history = was.answered.history;
       left = was.answered.left;
-      script = script_push network 0 [] nothing_held lines replies was.answered.history was.answered.left said reply was.answered.history was.answered.left was.answered.script line;
+      script = script_push network 0 since nothing_held lines replies was.answered.history was.answered.left said reply was.answered.history was.answered.left was.answered.script line;
       decided = was.answered.decided;
+      begins = was.answered.begins;
+      goes_on = was.answered.goes_on;
       stays = was.answered.stays;
-      disk = λ held. All-push (λ r. ¬ IsForDisk r) replies reply (was.answered.disk held) no_disk;
+      disks = disks_more (books.frame first.books).faults (books.frame old.books) (books.frame old.books) replies reply was.answered.disks (Stays-none (books.frame old.books)) (inl (omega (arith, no_disk)));
     };
     fits = was.fits;
     network = was.network;
   })
 
   -- one line more is answered
-  pub answered_more : (said : ReadLine) (reply : Reply) → AnswersLine books old new said reply → Answered books first new (lines ++ said ∷ []) (replies ++ reply ∷ [])
+  pub answered_more : (said : ReadLine) (reply : Reply) → AnswersLine books old new said reply → Answered books since first new (lines ++ said ∷ []) (replies ++ reply ∷ [])
   answered_more (Asks customer command) reply answers = command_more customer command reply answers
-  answered_more (IsBad word) reply answers = fixed_more (IsBad word) reply (answers.0, refl, refl) (λ disk. subst IsForDisk answers.0 disk) answers.1
-  answered_more IsLong reply answers = fixed_more IsLong reply (answers.0, refl, refl) (λ disk. subst IsForDisk answers.0 disk) answers.1
-  answered_more Unread reply answers = fixed_more Unread reply (answers.0, refl, refl) (λ disk. subst IsForDisk answers.0 disk) answers.1
+  answered_more (IsBad word) reply answers = fixed_more (IsBad word) reply (answers.0, refl, refl) (ap one_if_disk answers.0) answers.1
+  answered_more IsLong reply answers = fixed_more IsLong reply (answers.0, refl, refl) (ap one_if_disk answers.0) answers.1
+  answered_more Unread reply answers = fixed_more Unread reply (answers.0, refl, refl) (ap one_if_disk answers.0) answers.1
 
 texts_more : (network : Network) (replies : List Reply) (reply : Reply) → texts_of network (replies ++ reply ∷ []) ≡ texts_of network replies ++ line_of (reply_text network reply)
 texts_more network replies reply =
     flat_map-append (λ r. line_of (reply_text network r)) replies (reply ∷ []) ∙ ap (λ (t : List ℕ). texts_of network replies ++ t) (append-nil (line_of (reply_text network reply)))
 
-pub nothing_served : {S K R : Type 0} (source : Ghosts S) (books : BooksGhosts K R) (reader : Reader S) (core : State K) (content : Option (List ℕ)) → FitsHistory books core 0 [] nothing_held
-    → HasServed source books reader reader core core content content
-nothing_served source books reader core content fits = record {
+pub nothing_served : {S K R : Type 0} (source : Ghosts S) (books : BooksGhosts K R) (reader : Reader S) (since : List Entry) (core : State K) (content : Option (List ℕ)) → IsSound (books.ledger core.books).network 0 since → FitsHistory books core 0 since nothing_held
+    → HasServed source books reader reader since core core content content
+nothing_served source books reader since core content sound fits = record {
   lines = [];
   replies = [];
   said = at (source.content reader.source);
-  alone = WhereTold-same (source.content reader.source) _ (λ left. none_yet);
+  alone = WhereTold-same (source.content reader.source) _ (λ left. none_said);
   answered = record {
-    history = [];
+    history = since;
     left = nothing_held;
     script = (refl, refl);
-    decided = record { sound = tt; decided = tt };
+    decided = decided_end (books.ledger core.books).network 0 since sound;
+    begins = ([], append-nil since);
+    goes_on = none_yet;
     stays = Stays-none (books.frame core.books);
-    disk = λ _. All-nil (λ r. ¬ IsForDisk r);
+    disks = inl (omega arith);
   };
   fits = fits;
   network = refl;
@@ -232,12 +272,12 @@ nothing_served source books reader core content fits = record {
 behind_nothing : (xs ys : List ℕ) → xs ++ ys ≡ [] → ys ≡ []
 behind_nothing xs ys none = nil_from_length ys (omega (arith, ap length none, length-append xs ys))
 
-module _ {S K R : Type 0} (source : Ghosts S) (books : BooksGhosts K R) (start now new : Reader S) (begun core next : State K) (first middle last : Option (List ℕ)) where
+module _ {S K R : Type 0} (source : Ghosts S) (books : BooksGhosts K R) (start now new : Reader S) (since : List Entry) (begun core next : State K) (first middle last : Option (List ℕ)) where
   abbrev top : Network
   top = (books.ledger begun.books).network
 
   abbrev Served : Type 0
-  Served = HasServed source books start now begun core first middle
+  Served = HasServed source books start now since begun core first middle
 
   abbrev Turn : (List ℕ → Type 0) → Type 0
   Turn puts = TakesTurn source now new (books.ledger core.books).network (AnswersLine books core next) puts
@@ -253,11 +293,11 @@ module _ {S K R : Type 0} (source : Ghosts S) (books : BooksGhosts K R) (start n
       WhereTold-then (source.content start.source) (source.content now.source) (source.content new.source) reads.takes.0 _ _ _ reads.takes.1 served.said turn.line
       (λ a b c before here. subst (SayLines top (start.pending ++ a) (served.lines ++ turn.said ∷ [])) (sym here.3) (one_more turn.said before here.0 here.1))
 
-  goes_on : (served : Served) → (puts : List ℕ → Type 0) (turn : TakesTurn source now new top (AnswersLine books core next) puts) → Answered books begun next (served.lines ++ turn.said ∷ []) (served.replies ++ turn.reply ∷ [])
-  goes_on served puts turn = answered_more books begun core next served.lines served.replies (record { answered = served.answered; fits = served.fits; network = served.network }) turn.said turn.reply turn.answers
+  goes_on : (served : Served) → (puts : List ℕ → Type 0) (turn : TakesTurn source now new top (AnswersLine books core next) puts) → Answered books since begun next (served.lines ++ turn.said ∷ []) (served.replies ++ turn.reply ∷ [])
+  goes_on served puts turn = answered_more books since begun core next served.lines served.replies (record { answered = served.answered; fits = served.fits; network = served.network }) turn.said turn.reply turn.answers
 
   -- a turn more is served
-  pub served_more : Served → ReadsOn source start now → Turn (Grows middle last) → HasServed source books start new begun next first last
+  pub served_more : Served → ReadsOn source start now → Turn (Grows middle last) → HasServed source books start new since begun next first last
   served_more served reads taken =
       let turn = here (Grows middle last) served taken in
       let more = goes_on served (Grows middle last) turn in record {
@@ -274,7 +314,7 @@ module _ {S K R : Type 0} (source : Ghosts S) (books : BooksGhosts K R) (start n
       }
 
   abbrev UpTo : (List ℕ → List ℕ → List ℕ → Type 0) → (List Reply → Type 0) → Type 0
-  UpTo stops puts = ServesUpTo source start new top (books.frame begun.books) (books.frame next.books) stops puts
+  UpTo stops puts = ServesUpTo source books start new top since begun.books next.books stops puts
 
   -- a turn more is taken, and its reply is cut off
   pub served_cut : Served → ReadsOn source start now → Turn (GrowsInPart middle last) → UpTo IsLeftOver (CutsLast top first last)
@@ -309,7 +349,7 @@ module _ {S K R : Type 0} (source : Ghosts S) (books : BooksGhosts K R) (start n
     said = WhereTold-then (source.content start.source) (source.content now.source) (source.content new.source) reads.takes.0 _ _ _ reads.takes.1
         (WhereTold-both (source.content start.source) (source.content now.source) _ _ served.said fronts) ends
         (λ a b c told end. (now.pending ++ b, told.0, end (start.pending ++ a) told.1));
-    answered = subst (λ (s : State K). AreAnswered top (books.frame begun.books) (books.frame s.books) served.lines served.replies) (sym stays) served.answered;
+    answered = subst (λ (s : State K). AreAnswered books top since begun.books s.books served.lines served.replies) (sym stays) served.answered;
     out = subst (λ (content : Option (List ℕ)). Grows first content (texts_of top served.replies)) (sym same) served.out;
   }
 
@@ -327,44 +367,38 @@ module _ {S K R : Type 0} (source : Ghosts S) (books : BooksGhosts K R) (start n
 
 -- ---- what answering lines comes to
 
-module _ {S O K R : Type 0} (source : Ghosts S) (sink : SinkGhosts O) (books : BooksGhosts K R) (start now new : Reader S) (begun core next : State K) (first middle last : O)
-    (served : HasServed source books start now begun core (sink.content first) (sink.content middle)) (reads : ReadsOn source start now) (none : now.fault ≡ None) (held : sink.frame middle ≡ sink.frame first) where
+module _ {S O K R : Type 0} (source : Ghosts S) (sink : SinkGhosts O) (books : BooksGhosts K R) (start now new : Reader S) (since : List Entry) (begun core next : State K) (first middle last : O)
+    (served : HasServed source books start now since begun core (sink.content first) (sink.content middle)) (reads : ReadsOn source start now) (none : now.fault ≡ None) (held : sink.frame middle ≡ sink.frame first) where
   abbrev whole : Network
   whole = (books.ledger begun.books).network
-
-  abbrev before : Frame
-  before = books.frame begun.books
-
-  abbrev after : Frame
-  after = books.frame next.books
 
   -- no source that is read without a fault has failed
   source_held : source.frame now.source ≡ source.frame start.source
   source_held = reads.unfailed (λ read. absurd (cc (none, read)))
 
   -- the output is as it was
-  until : (fault : LineFault) → StopsReading source now new fault → last ≡ middle → next ≡ core → ServesUntil source sink start new first last whole before after fault
+  until : (fault : LineFault) → StopsReading source now new fault → last ≡ middle → next ≡ core → ServesUntil source sink books start new first last whole since begun.books next.books fault
   until fault met same stays = record {
-    serves = served_broke source books start now new begun core next (sink.content first) (sink.content middle) (sink.content last) fault served reads none met (ap sink.content same) stays;
+    serves = served_broke source books start now new since begun core next (sink.content first) (sink.content middle) (sink.content last) fault served reads none met (ap sink.content same) stays;
     before_end = reads.ended met.before_end;
     kept = met.kept;
     held = ap sink.frame same ∙ held;
   }
 
   -- a fault ends it
-  pub serves_fault : (T : Type 0) (fault : Fault) → ServesLine source sink books now new middle last core next (Err fault) → Serves {T = T} source sink start new first last whole before after (Err fault)
+  pub serves_fault : (T : Type 0) (fault : Fault) → ServesLine source sink books now new middle last core next (Err fault) → Serves {T = T} source sink books start new first last whole since begun.books next.books (Err fault)
   serves_fault T (fault.Words word) line = absurd line
   serves_fault T (fault.Topology l word) line = absurd line
   serves_fault T fault.Memory line = absurd line
   serves_fault T fault.Read line = (until line_fault.Read line.0 line.2 line.3, rw source_held at line.1)
   serves_fault T fault.TooLong line = until line_fault.TooLong line.0 line.1 line.2
   serves_fault T fault.Write line =
-      (served_cut source books start now new begun core next (sink.content first) (sink.content middle) (sink.content last) served reads line.0, line.1, rw held at line.2)
+      (served_cut source books start now new since begun core next (sink.content first) (sink.content middle) (sink.content last) served reads line.0, line.1, rw held at line.2)
 
   -- no line is left
-  pub serves_all : (T : Type 0) (value : T) → ServesLine source sink books now new middle last core next (Ok false) → Serves source sink start new first last whole before after (Ok value)
+  pub serves_all : (T : Type 0) (value : T) → ServesLine source sink books now new middle last core next (Ok false) → Serves source sink books start new first last whole since begun.books next.books (Ok value)
   serves_all T value line = (
-    served_over source books start now new begun core next (sink.content first) (sink.content middle) (sink.content last) served reads line.0 (ap sink.content line.2) line.3,
+    served_over source books start now new since begun core next (sink.content first) (sink.content middle) (sink.content last) served reads line.0 (ap sink.content line.2) line.3,
     line.1,
     ap sink.frame line.2 ∙ held,
     WhereTold-then (source.content start.source) (source.content now.source) (source.content new.source) reads.takes.0 _ _ _ reads.takes.1 served.alone line.0.ended

@@ -1,7 +1,8 @@
 -- What the lines after a topology say, and what is answered to them.
-use Rattle.std.specs.Prelude.{◌≡◌, ◌≢◌, ℕ, ◌+◌, ◌<◌, ◌≤◌, Bool, true, false, IsFalse, List, [], ◌∷◌, ◌++◌, length, Option, None, Some, Result, Ok, Err, ⊤}
+use Rattle.std.specs.Prelude.{◌≡◌, ◌≢◌, ◌⊎◌, ℕ, ◌+◌, ◌-◌, ◌^◌, ◌<◌, ◌≤◌, Bool, true, false, IsFalse, List, [], ◌∷◌, ◌++◌, length, Option, None, Some, Result, Ok, Err, ⊤}
 use Rattle.std.specs.List.{before_first, after_first, flat_map}
-use Rattle.hose_io.specs.Frame.{Frame, Rose, Stays}
+use mathlib.Core.List.{IsPrefix}
+use Rattle.hose_io.specs.Frame.{Rose, Stays}
 use Rattle.hose_io.specs.Stream.{Grows}
 use Rattle.hose_io.specs.Writing.{GrowsInPart}
 use Rattle.hose_io.specs.declared.sink.Sink.{Ghosts as SinkGhosts}
@@ -16,15 +17,17 @@ use Rattle.hose_words.specs.declared.lines.Line.{Line}
 use Rattle.hose_words.specs.declared.lines.Line.TheVariants as line
 use Rattle.hose_graph.specs.declared.entry.Entry.{Entry}
 use Rattle.hose_graph.specs.declared.reply.Reply.{Reply}
+use Rattle.hose_graph.specs.declared.reply.Reply.TheVariants.{Disk}
 use Rattle.hose_graph.specs.Network.{Network}
-use Rattle.hose_law.specs.History.{IsDecided}
+use Rattle.hose_law.specs.History.{IsDecided, IsDecidedAt}
 use Rattle.hose_law.specs.Quotes.{Holdings, nothing_held}
-use Rattle.hose_law.specs.Script.{ReadLine, IsFixedReply, IsScript, WithoutDisk}
+use Rattle.hose_law.specs.Script.{ReadLine, IsFixedReply, IsScript}
 use Rattle.hose_law.specs.Script.ReadLine.{Asks, IsBad, IsLong, Unread}
 use Rattle.hosed.specs.ScriptLine.{IsAsking, WantsMemory, script_grammar}
 use Rattle.hosed.specs.Ending.{GrowsShort}
 use Rattle.hose_proto.specs.ReplyText.{line_of, reply_text}
 use Rattle.hose_book.specs.Commit.{IsMet}
+use Rattle.hose_book.specs.GoingOn.{GoesOn}
 use Rattle.hose_book.specs.declared.books.Books.{Ghosts as BooksGhosts}
 use Rattle.hose_core.specs.Holding.{State}
 use Rattle.hose_core.specs.Stepping.{FitsHistory, Steps, committed_of}
@@ -72,7 +75,7 @@ pub data SayLines (network : Network) : List ℕ → List ReadLine → List ℕ 
 
 -- each line between the start of a text and this rest of it says one thing
 pub data SayOneThingEach (network : Network) : List ℕ → List ℕ → Type 0 where
-  none_yet : {text : List ℕ} → SayOneThingEach network text text
+  none_said : {text : List ℕ} → SayOneThingEach network text text
   line_more : {text rest : List ℕ} → SayOneThingEach network text rest → rest ≢ []
       → SaysOneThing network (before_first is_line_feed rest)
       → SayOneThingEach network text (after_first is_line_feed rest)
@@ -92,16 +95,34 @@ AnswersLine books old new line answer = IsFixedReply line answer × (new ≡ old
 abbrev pub texts_of : Network → List Reply → List ℕ
 texts_of network replies = flat_map (λ reply. line_of (reply_text network reply)) replies
 
--- Lines that were answered from the empty history on: the replies are those of a script, whose
--- history is decided. A failure of a disk was told only where the count of the books rose.
-pub record AreAnswered (network : Network) (before after : Frame) (lines : List ReadLine)
-    (replies : List Reply) : Type 0 where
+-- 1 for a reply that is for a failure of a disk
+abbrev pub one_if_disk : Reply → ℕ
+one_if_disk (Disk at) = 1
+one_if_disk _ = 0
+
+-- how many of the replies are for a failure of a disk
+abbrev pub disks_in : List Reply → ℕ
+disks_in [] = 0
+disks_in (reply ∷ replies) = disks_in replies + one_if_disk reply
+
+-- Failures of a disk were told at most as often as a count rose, or it stands at its type's end.
+abbrev pub TellsDisks : ℕ → List Reply → ℕ → Type 0
+TellsDisks before replies after = (before + disks_in replies ≤ after) ⊎ (2 ^ 64 - 1 ≤ after)
+
+-- Lines that were answered from a history on, where no customer held a quote: the replies are those
+-- of a script, whose history goes on from the first one by entries that are decided and were
+-- committed. Failures of a disk were told no more often than the count of the books rose.
+pub record AreAnswered {K R : Type 0} (books : BooksGhosts K R) (network : Network)
+    (since : List Entry) (first last : K) (lines : List ReadLine) (replies : List Reply) :
+    Type 0 where
   pub history : List Entry
   pub left : Holdings
-  pub script : IsScript network 0 [] nothing_held lines replies history left
-  pub decided : IsDecided network 0 0 history
-  pub stays : Stays before after
-  pub disk : ¬ Rose before after → WithoutDisk replies
+  pub script : IsScript network 0 since nothing_held lines replies history left
+  pub decided : IsDecided network 0 (length since) history
+  pub begins : IsPrefix since history
+  pub goes_on : GoesOn books IsDecidedAt network since first history last
+  pub stays : Stays (books.frame first) (books.frame last)
+  pub disks : TellsDisks (books.frame first).faults replies (books.frame last).faults
 
 -- A turn: the first line that was to come was read and answered, and it says one thing. `puts` says
 -- how much is out of the line of its reply.
@@ -153,10 +174,11 @@ ServesLine source sink books old new output output' core core' (Err fault.Write)
     × (new.fault ≡ None) × Rose (sink.frame output) (sink.frame output')
 ServesLine source sink books old new output output' core core' (Err _) = ⊥
 
--- Turns from the empty history on: lines that were to come were read and answered, each by a reply
--- that is out, and each says one thing.
+-- Turns from a history on: lines that were to come were read and answered, each by a reply that is
+-- out, and each says one thing.
 pub record HasServed {S K R : Type 0} (source : Ghosts S) (books : BooksGhosts K R)
-    (start now : Reader S) (first core : State K) (before after : Option (List ℕ)) : Type 0 where
+    (start now : Reader S) (since : List Entry) (first core : State K)
+    (before after : Option (List ℕ)) : Type 0 where
   pub lines : List ReadLine
   pub replies : List Reply
   pub said : WhereTold (source.content start.source) (source.content now.source) (λ was left.
@@ -165,8 +187,8 @@ pub record HasServed {S K R : Type 0} (source : Ghosts S) (books : BooksGhosts K
   pub alone : WhereTold (source.content start.source) (source.content now.source) (λ was left.
       SayOneThingEach (books.ledger first.books).network (start.pending ++ was)
       (now.pending ++ left))
-  pub answered : AreAnswered (books.ledger first.books).network (books.frame first.books)
-      (books.frame core.books) lines replies
+  pub answered : AreAnswered books (books.ledger first.books).network since first.books core.books
+      lines replies
   pub fits : FitsHistory books core 0 answered.history answered.left
   pub network : (books.ledger core.books).network ≡ (books.ledger first.books).network
   pub out : Grows before after (texts_of (books.ledger first.books).network replies)
@@ -185,47 +207,48 @@ CutsLast network before after replies =
     (whole : List Reply) × (reply : Reply) × (replies ≡ whole ++ reply ∷ [])
     × GrowsShort before after (texts_of network whole) (line_of (reply_text network reply))
 
--- Lines that were to come were answered from the empty history on, while the books' frame went from
--- the one to the other. `stops` says how the text that was to come stands to what comes after them
--- and to what the source has left, and `puts` how much is out of the replies.
-pub record ServesUpTo {S : Type 0} (source : Ghosts S) (start now : Reader S) (network : Network)
-    (before after : Frame) (stops : List ℕ → List ℕ → List ℕ → Type 0)
-    (puts : List Reply → Type 0) : Type 0 where
+-- Lines that were to come were answered from a history on, while the books went from the first to
+-- the last. `stops` says how the text that was to come stands to what comes after them and to what
+-- the source has left, and `puts` how much is out of the replies.
+pub record ServesUpTo {S K R : Type 0} (source : Ghosts S) (books : BooksGhosts K R)
+    (start now : Reader S) (network : Network) (since : List Entry) (first last : K)
+    (stops : List ℕ → List ℕ → List ℕ → Type 0) (puts : List Reply → Type 0) : Type 0 where
   pub lines : List ReadLine
   pub replies : List Reply
   pub said : WhereTold (source.content start.source) (source.content now.source) (λ was left.
       (rest : List ℕ) × SayLines network (start.pending ++ was) lines rest
       × stops (start.pending ++ was) rest left)
-  pub answered : AreAnswered network before after lines replies
+  pub answered : AreAnswered books network since first last lines replies
   pub out : puts replies
 
 -- Lines that were to come were answered, until reading met a fault.
-pub record ServesUntil {S O : Type 0} (source : Ghosts S) (sink : SinkGhosts O)
-    (start last : Reader S) (output output' : O) (network : Network) (before after : Frame)
-    (fault : LineFault) : Type 0 where
-  pub serves : ServesUpTo source start last network before after (StopsAfterLines fault)
+pub record ServesUntil {S O K R : Type 0} (source : Ghosts S) (sink : SinkGhosts O)
+    (books : BooksGhosts K R) (start now : Reader S) (output output' : O) (network : Network)
+    (since : List Entry) (first last : K) (fault : LineFault) : Type 0 where
+  pub serves : ServesUpTo source books start now network since first last (StopsAfterLines fault)
       (λ replies. Grows (sink.content output) (sink.content output') (texts_of network replies))
   pub before_end : IsFalse start.ended
-  pub kept : last.fault ≡ Some fault
+  pub kept : now.fault ≡ Some fault
   pub held : sink.frame output' ≡ sink.frame output
 
 -- What answering all lines comes to: each has its reply and says one thing, and no more is to come;
 -- or reading met a fault, or the output failed in a reply.
-abbrev pub Serves : {S O T : Type 0} → Ghosts S → SinkGhosts O → Reader S → Reader S → O → O
-    → Network → Frame → Frame → Result T Fault → Type 0
-Serves source sink start last output output' network before after (Ok _) =
-    ServesUpTo source start last network before after IsAllTaken
+abbrev pub Serves : {S O K R T : Type 0} → Ghosts S → SinkGhosts O → BooksGhosts K R → Reader S
+    → Reader S → O → O → Network → List Entry → K → K → Result T Fault → Type 0
+Serves source sink books start now output output' network since first last (Ok _) =
+    ServesUpTo source books start now network since first last IsAllTaken
     (λ replies. Grows (sink.content output) (sink.content output') (texts_of network replies))
-    × (last.fault ≡ None) × (sink.frame output' ≡ sink.frame output)
-    × WhereTold (source.content start.source) (source.content last.source) (λ was _.
+    × (now.fault ≡ None) × (sink.frame output' ≡ sink.frame output)
+    × WhereTold (source.content start.source) (source.content now.source) (λ was _.
     SayOneThingEach network (start.pending ++ was) [])
-Serves source sink start last output output' network before after (Err fault.Read) =
-    ServesUntil source sink start last output output' network before after line_fault.Read
-    × Rose (source.frame start.source) (source.frame last.source)
-Serves source sink start last output output' network before after (Err fault.TooLong) =
-    ServesUntil source sink start last output output' network before after line_fault.TooLong
-Serves source sink start last output output' network before after (Err fault.Write) =
-    ServesUpTo source start last network before after IsLeftOver
+Serves source sink books start now output output' network since first last (Err fault.Read) =
+    ServesUntil source sink books start now output output' network since first last line_fault.Read
+    × Rose (source.frame start.source) (source.frame now.source)
+Serves source sink books start now output output' network since first last (Err fault.TooLong) =
+    ServesUntil source sink books start now output output' network since first last
+    line_fault.TooLong
+Serves source sink books start now output output' network since first last (Err fault.Write) =
+    ServesUpTo source books start now network since first last IsLeftOver
     (CutsLast network (sink.content output) (sink.content output'))
-    × (last.fault ≡ None) × Rose (sink.frame output) (sink.frame output')
-Serves source sink start last output output' network before after (Err _) = ⊥
+    × (now.fault ≡ None) × Rose (sink.frame output) (sink.frame output')
+Serves source sink books start now output output' network since first last (Err _) = ⊥
