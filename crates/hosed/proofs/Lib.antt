@@ -1,3 +1,5 @@
+pub mod Journals
+pub mod Leaving
 pub mod OneReading
 pub mod OneRun
 pub mod Outcomes

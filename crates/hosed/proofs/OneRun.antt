@@ -38,18 +38,18 @@ pub record OneInput (input : List ℕ) (network : Network) : Type 0 where
   pub text : OneText input network rest
   pub lines : SayOneThingEach network rest []
 
--- an output that is right for an input is the only one
-pub right_alone : (network : Network) (input rest output : List ℕ) (lines : List ReadLine) (replies : List Reply) (history : List Entry) (left : Holdings) → IsNetwork network → OneInput input network
-    → IsTopologyText input network rest → SayLines network rest lines [] → IsScript network 0 [] nothing_held lines replies history left → AllAnswer replies → IsRightFor input output → output ≡ texts_of network replies
-right_alone network input rest output lines replies history left is one topology said script all right =
+-- an output that is right for an input and the history of a book is the only one
+pub right_alone : (network : Network) (since : List Entry) (input rest output : List ℕ) (lines : List ReadLine) (replies : List Reply) (history : List Entry) (left : Holdings) → IsNetwork network → OneInput input network
+    → IsTopologyText input network rest → SayLines network rest lines [] → IsScript network 0 since nothing_held lines replies history left → AllAnswer replies → IsRightFor since input output → output ≡ texts_of network replies
+right_alone network since input rest output lines replies history left is one topology said script all right =
     let theirs = one.text right.network right.rest right.topology in
     let ours = (one.text network rest topology).1 in
     let same_rest : right.rest ≡ rest = theirs.1 ∙ sym ours in
     let their_said : SayLines network rest right.lines [] = subst (λ (r : List ℕ). SayLines network r right.lines []) same_rest (subst (λ (n : Network). SayLines n right.rest right.lines []) theirs.0 right.said) in
-    let their_script : IsScript network 0 [] nothing_held right.lines right.replies right.history right.left =
-    subst (λ (n : Network). IsScript n 0 [] nothing_held right.lines right.replies right.history right.left) theirs.0 right.script in
+    let their_script : IsScript network 0 since nothing_held right.lines right.replies right.history right.left =
+    subst (λ (n : Network). IsScript n 0 since nothing_held right.lines right.replies right.history right.left) theirs.0 right.script in
     let same_lines = lines_unique network rest right.lines lines (subst (λ (r : List ℕ). SayOneThingEach network r []) (sym ours) one.lines) their_said said
-    (lines_read network [] right.history nothing_held right.left right.lines right.replies their_script right.memory) (lines_read network [] history nothing_held left lines replies script all.memory) in
-    let moved : IsScript network 0 [] nothing_held lines right.replies right.history right.left = subst (λ (l : List ReadLine). IsScript network 0 [] nothing_held l right.replies right.history right.left) same_lines their_script in
-    let same_replies = script_unique network is 0 [] nothing_held lines right.replies replies right.history history right.left left moved script (record { memory = right.memory; disk = right.disk }) all in
+    (lines_read network since right.history nothing_held right.left right.lines right.replies their_script right.memory) (lines_read network since history nothing_held left lines replies script all.memory) in
+    let moved : IsScript network 0 since nothing_held lines right.replies right.history right.left = subst (λ (l : List ReadLine). IsScript network 0 since nothing_held l right.replies right.history right.left) same_lines their_script in
+    let same_replies = script_unique network is 0 since nothing_held lines right.replies replies right.history history right.left left moved script (record { memory = right.memory; disk = right.disk }) all in
     right.out ∙ (ap (λ (n : Network). texts_of n right.replies) theirs.0 ∙ ap (texts_of network) same_replies.0)

@@ -1,12 +1,15 @@
 -- What tells a fault: the status with which the program ends, and the last line that it writes.
 use Rattle.std.specs.Prelude.{ℕ, List, [], ◌++◌, codes, decimal}
+use Rattle.hex.specs.Hex.{encode_lower}
 use Rattle.hose_words.specs.declared.lines.LineFault.{LineFault}
 use Rattle.hose_words.specs.declared.lines.LineFault.TheVariants as line
 use Rattle.hose_topo.specs.declared.fault.TopoFault.{TopoFault}
 use Rattle.hose_topo.specs.declared.fault.TopoFault.TheVariants as topology
+use Rattle.hose_store.specs.declared.fault.StoreFault.{StoreFault}
+use Rattle.hose_store.specs.declared.fault.StoreFault.TheVariants as store
 use Rattle.hose_proto.specs.ReplyText.{line_of}
 use Rattle.hosed.specs.declared.fault.Fault.{Fault}
-use Rattle.hosed.specs.declared.fault.Fault.TheVariants.{Words, Topology, Read, Write, Memory, TooLong}
+use Rattle.hosed.specs.declared.fault.Fault.TheVariants.{Words, Topology, Read, Write, Other, Damaged, Cabinet, Memory, TooLong}
 
 -- the status
 abbrev pub status_of : Fault → ℕ
@@ -14,6 +17,9 @@ status_of (Words word) = 1
 status_of (Topology line word) = 2
 status_of Read = 3
 status_of Write = 4
+status_of (Other kept given) = 5
+status_of (Damaged at) = 5
+status_of Cabinet = 6
 status_of Memory = 7
 status_of TooLong = 8
 
@@ -24,6 +30,10 @@ last_line (Topology line word) =
     line_of (codes "topology " ++ decimal line ++ codes " " ++ decimal word)
 last_line Read = line_of (codes "read")
 last_line Write = []
+last_line (Other kept given) =
+    line_of (codes "journal other " ++ encode_lower kept ++ codes " " ++ encode_lower given)
+last_line (Damaged at) = line_of (codes "journal damaged at " ++ decimal at)
+last_line Cabinet = line_of (codes "cabinet")
 last_line Memory = line_of (codes "no memory")
 last_line TooLong = line_of (codes "too long")
 
@@ -38,3 +48,10 @@ of_topology (topology.At line word) = Topology line word
 of_topology topology.Read = Read
 of_topology topology.TooLong = TooLong
 of_topology topology.Memory = Memory
+
+-- what a fault of opening a store is for a run
+abbrev pub of_store : StoreFault → Fault
+of_store store.Disk = Cabinet
+of_store (store.Other kept given) = Other kept given
+of_store (store.Damaged at) = Damaged at
+of_store store.Memory = Memory

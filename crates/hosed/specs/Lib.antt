@@ -1,7 +1,9 @@
 pub mod Ending
 pub mod Fault
+pub mod OnDisk
 pub mod ProgramWords
 pub mod Run
 pub mod RunOutcome
 pub mod ScriptLine
 pub mod Serving
+pub mod ServingOnDisk

@@ -26,9 +26,10 @@ use Rattle.hose_law.specs.Script.ReadLine.{Asks, IsBad, IsLong, Unread}
 use Rattle.hosed.specs.ScriptLine.{IsAsking, WantsMemory, script_grammar}
 use Rattle.hosed.specs.Ending.{GrowsShort}
 use Rattle.hose_proto.specs.ReplyText.{line_of, reply_text}
-use Rattle.hose_book.specs.Commit.{IsMet}
+use Rattle.hose_book.specs.Commit.{Commits, IsMet, unfailing}
 use Rattle.hose_book.specs.GoingOn.{GoesOn}
 use Rattle.hose_book.specs.declared.books.Books.{Ghosts as BooksGhosts}
+use Rattle.hose_book.specs.declared.books.Plain.{Plain}
 use Rattle.hose_core.specs.Holding.{State}
 use Rattle.hose_core.specs.Stepping.{FitsHistory, Steps, committed_of}
 use Rattle.hose_words.specs.Reading.{WhereTold}
@@ -252,3 +253,20 @@ Serves source sink books start now output output' network since first last (Err 
     (CutsLast network (sink.content output) (sink.content output'))
     × (now.fault ≡ None) × Rose (sink.frame output) (sink.frame output')
 Serves source sink books start now output output' network since first last (Err _) = ⊥
+
+-- a book in memory as books
+abbrev pub plain_books : BooksGhosts Plain ⊤
+plain_books = record {
+  ledger = λ plain. plain.book;
+  frame = λ _. unfailing;
+  fits = λ _ _. ⊤;
+  went = λ old entry result new. Commits old.book entry result new.book;
+}
+
+-- There was no memory for a book, and nothing was done; or lines were answered from an empty one on.
+abbrev pub ServesInMemory : {S O T : Type 0} → Ghosts S → SinkGhosts O → Reader S → Reader S → O → O
+    → Network → Result T Fault → Type 0
+ServesInMemory source sink start now output output' network result =
+    ((result ≡ Err fault.Memory) × (now ≡ start) × (output' ≡ output))
+    ⊎ ((first : Plain) × (last : Plain)
+    × Serves source sink plain_books start now output output' network [] first last result)

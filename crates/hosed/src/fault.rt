@@ -1,10 +1,13 @@
 // What ends a run before its input is all read, and how that is told.
 ghost use Rattle.std.specs.Prelude.{◌≡◌, []};
+ghost use Rattle.hex.specs.Hex.{encode_lower};
+ghost use Rattle.hose_io.specs.Gather.{IsAdded};
 ghost use Rattle.hose_io.specs.Writing.{IsPut};
 ghost use Rattle.hosed.specs.declared.fault.Fault.TheVariants.{Memory, Write};
-ghost use Rattle.hosed.specs.Fault.{status_of, last_line, of_line, of_topology};
+ghost use Rattle.hosed.specs.Fault.{status_of, last_line, of_line, of_store, of_topology};
 
 use hose_io::{Failed, Gather, Sink, write_all};
+use hose_store::StoreFault;
 use hose_topo::TopoFault;
 use hose_words::LineFault;
 use std::alloc::AllocError;
@@ -21,6 +24,13 @@ pub enum Fault {
     Read,
     /// The output failed.
     Write,
+    /// The journal is that of another network: the digest that it keeps, and the network's.
+    Other { kept: [u8; 32], given: [u8; 32] },
+    /// No whole record stands at this place of the journal, or one of an entry that the book does
+    /// not take.
+    Damaged { at: u64 },
+    /// The journal could not be opened, or not be closed.
+    Cabinet,
     /// There was no memory to begin with.
     Memory,
     /// The input is too long.
@@ -37,6 +47,8 @@ impl Fault {
             Fault::Topology { .. } => 2,
             Fault::Read => 3,
             Fault::Write => 4,
+            Fault::Other { .. } | Fault::Damaged { .. } => 5,
+            Fault::Cabinet => 6,
             Fault::Memory => 7,
             Fault::TooLong => 8,
         }
@@ -52,6 +64,9 @@ impl Fault {
             Fault::Topology { line, word } => put_place(output, line, word),
             Fault::Read => write_all(output, b"read\n"),
             Fault::Write => Ok(()),
+            Fault::Other { kept, given } => put_digests(output, &kept, &given),
+            Fault::Damaged { at } => put_damage(output, at),
+            Fault::Cabinet => write_all(output, b"cabinet\n"),
             Fault::Memory => write_all(output, b"no memory\n"),
             Fault::TooLong => write_all(output, b"too long\n"),
         }
@@ -98,6 +113,19 @@ impl From<TopoFault> for Fault {
     }
 }
 
+impl From<StoreFault> for Fault {
+    ghost from_gives = { λ store fault. fault ≡ of_store store };
+
+    fn from(fault: StoreFault) -> Fault {
+        match fault {
+            StoreFault::Disk => Fault::Cabinet,
+            StoreFault::Other { kept, given } => Fault::Other { kept, given },
+            StoreFault::Damaged { at } => Fault::Damaged { at },
+            StoreFault::Memory => Fault::Memory,
+        }
+    }
+}
+
 // Writes the last line that tells which of the program's words is wrong.
 fn put_words<O: Sink>(output: &mut O, word: u64) -> Result<(), Failed>
     ensures { IsPut O.Sink output.old output.new (last_line (Fault.Words word)) result }
@@ -118,6 +146,42 @@ fn put_place<O: Sink>(output: &mut O, line: u64, word: u64) -> Result<(), Failed
     gather.add_number(output, line);
     gather.add(output, b" ");
     gather.add_number(output, word);
+    gather.add(output, b"\n");
+    gather.finish(output)
+}
+
+// Writes the last line that tells which journal is kept in place of which.
+fn put_digests<O: Sink>(output: &mut O, kept: &[u8; 32], given: &[u8; 32]) -> Result<(), Failed>
+    ensures { IsPut O.Sink output.old output.new (last_line (Fault.Other kept.now given.now))
+        result }
+{
+    let mut gather = Gather::new();
+    gather.add(output, b"journal other ");
+    add_digest(&mut gather, output, kept);
+    gather.add(output, b" ");
+    add_digest(&mut gather, output, given);
+    gather.add(output, b"\n");
+    gather.finish(output)
+}
+
+// Adds a digest in hexadecimal digits.
+fn add_digest<O: Sink>(gather: &mut Gather, output: &mut O, digest: &[u8; 32])
+    ensures { IsAdded O.Sink gather.old output.old gather.new output.new
+        (encode_lower digest.now) }
+{
+    let mut digits = [0; 64];
+    // There are two digits for each byte.
+    let _ = hex::encode_to_slice(digest.as_slice(), &mut digits);
+    gather.add(output, &digits);
+}
+
+// Writes the last line that tells where the journal is damaged.
+fn put_damage<O: Sink>(output: &mut O, at: u64) -> Result<(), Failed>
+    ensures { IsPut O.Sink output.old output.new (last_line (Fault.Damaged at)) result }
+{
+    let mut gather = Gather::new();
+    gather.add(output, b"journal damaged at ");
+    gather.add_number(output, at);
     gather.add(output, b"\n");
     gather.finish(output)
 }

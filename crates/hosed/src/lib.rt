@@ -1,64 +1,82 @@
 //! The provisioning server as one call: what it answers on an output to what it reads on an input.
 //!
-//! `hosed(alloc, words, input, output)` does what the program's words say and gives the exit
-//! status. With the word `run` it reads a topology text and then lines `CUSTOMER COMMAND`, and
-//! writes one reply line for each:
+//! `hosed` does what the program's words say and gives the exit status. With the word `run` it reads
+//! a topology text and then lines `CUSTOMER COMMAND`, and writes one reply line for each; with
+//! `run JOURNAL` it keeps its book in a journal, which outlives it:
 //!
 //! ```
-//! let status = hosed(alloc, &words, &mut StdSource::new(stdin), &mut StdSink::new(stdout));
+//! let input = &mut StdSource::new(stdin);
+//! let output = &mut StdSink::new(stdout);
+//! let status = hosed(alloc, &words, input, output, &mut DirCabinet::new(rt));
 //! ```
 //!
 //! Each reply is the sequential book's at its place in one history; each admitted tree's
 //! reservations carry every traffic matrix within the rates, at no more than any tree over the
-//! links then allowed would cost.
+//! links then allowed would cost; after a stop at any moment the journal gives every acknowledged
+//! command, in order, and then at most the one that was being written.
 #![tactic(auto)]
 
-ghost use Rattle.std.specs.Prelude.{◌≡◌, ◌↔◌, ℕ, map};
+ghost use Rattle.std.specs.Prelude.{◌≡◌, ◌↔◌, ℕ, List, Option, None, map};
 ghost use Rattle.std.specs.String.{string_bytes};
 ghost use Rattle.hose_io.specs.Frame.{Stays};
+ghost use Rattle.hose_disk.specs.Cabinet.{object_of};
 ghost use Rattle.hosed.specs.Ending.{IsLastLine, IsOut, status_of_done};
 ghost use Rattle.hosed.specs.Fault.{last_line};
 ghost use Rattle.hosed.specs.ProgramWords.{AreRunWords, IsFirstWrong};
 ghost use Rattle.hosed.specs.RunOutcome.{RunOutcome};
 
 mod fault;
+mod journal;
 mod run;
 mod script_line;
 mod words;
 
 use fault::Fault;
+use hose_disk::Cabinet;
 use hose_io::{Sink, Source};
 use std::alloc::Global;
 
 /// Does what the words say, and gives the exit status. The words are those after the program's
-/// name.
+/// name: `run`, and the name of a journal in the cabinet if the book is to be kept in one.
 ///
-/// The status is 0 where all was read to its end. Else it tells the first fault, and the last line
-/// of the output tells it too: 1 `words K`, the number of the first word that is not allowed; 2
-/// `topology LINE WORD`, the first word of the topology that is not allowed; 3 `read`; 4 a failed
-/// output, which has no last line; 7 `no memory`; 8 `too long`, an input of more than 1 GiB.
-pub fn hosed<I: Source, O: Sink>(
+/// The status is 0 where all was read to its end, and the journal closed. Else it tells the first
+/// fault, and the last line of the output tells it too: 1 `words K`, the number of the first word
+/// that is not allowed; 2 `topology LINE WORD`, the first word of the topology that is not allowed;
+/// 3 `read`; 4 a failed output, which has no last line; 5 `journal other KEPT GIVEN`, a journal of
+/// another network, by both digests, or `journal damaged at P`, at this byte; 6 `cabinet`, a
+/// journal that could not be opened or closed; 7 `no memory`; 8 `too long`, an input of more than
+/// 1 GiB.
+pub fn hosed<I: Source, O: Sink, C: Cabinet>(
     alloc: Global,
     words: &[String],
     input: &mut I,
     output: &mut O,
+    cabinet: &mut C,
 ) -> u8
-    // Wrong words take nothing of the input, and the last line tells the first of them.
-    ensures words { (result ≡ 1) ↔ (¬ AreRunWords (map string_bytes words.now)) }
-    ensures wrong_words { result ≡ 1 → (input.new ≡ input.old)
+    requires { (C.frame cabinet.old).out ≡ None }
+
+    // Wrong words take nothing of the input and of the cabinet, and the last line tells the first
+    // of them.
+    ensures words { (result ≡ 1) ↔ ((journal : Option (List ℕ))
+        → ¬ AreRunWords (map string_bytes words.now) journal) }
+    ensures wrong_words { result ≡ 1 → (input.new ≡ input.old) × (cabinet.new ≡ cabinet.old)
         × ((word : ℕ) × IsFirstWrong (map string_bytes words.now) word
         × IsOut O.Sink output.old output.new (last_line (Fault.Words word))) }
 
-    ensures run { AreRunWords (map string_bytes words.now)
-        → RunOutcome I.Source O.Sink input.old input.new output.old output.new result }
+    ensures run { (journal : Option (List ℕ)) → AreRunWords (map string_bytes words.now) journal
+        → RunOutcome I.Source O.Sink C.Cabinet C.Disk.Disk journal input.old input.new
+        output.old output.new cabinet.old cabinet.new result }
+    ensures in_memory { AreRunWords (map string_bytes words.now) None → cabinet.new ≡ cabinet.old }
 
+    ensures back { (C.frame cabinet.new).out ≡ None }
     ensures input { Stays (I.frame input.old) (I.frame input.new) }
     ensures output { Stays (O.frame output.old) (O.frame output.new) }
+    ensures cabinet { Stays (object_of (C.frame cabinet.old)) (object_of (C.frame cabinet.new)) }
 {
     if let Some(word) = words::first_not_allowed(words) {
         return end(Err(Fault::Words(word)), output);
     }
-    let done = run::run(alloc, input, output);
+    let done = run::run(alloc, &words[1..], input, output, cabinet);
     end(done, output)
 }
 

@@ -10,7 +10,7 @@ pub loop-init : goal.loop-init
 loop-init g c =
     let lines = c.args.lines.now in
     record {
-      served = nothing_served g.S.Source g.K.Books lines c.args.core.now (g.O.Sink.content c.args.output.now) c.requires.opening;
+      served = λ since sound fits. nothing_served g.S.Source g.K.Books lines since c.args.core.now (g.O.Sink.content c.args.output.now) sound fits;
       reads = ReadsOn-start g.S.Source lines;
       none = c.requires.no_fault;
       limit = c.requires.limit;
@@ -23,7 +23,7 @@ loop-preserved g c =
     let served = c.serve_line.ensures.serves in
     let line = subst (ServesLine g.S.Source g.O.Sink g.K.Books c.loop.lines c.serve_line.new.lines c.loop.output c.serve_line.new.output c.loop.core c.serve_line.new.core) (c.in_ok-serve_line.was ∙ ap Ok c.if-branch.true) served in
     record {
-      served = served_more g.S.Source g.K.Books c.args.lines.now c.loop.lines c.serve_line.new.lines c.args.core.now c.loop.core c.serve_line.new.core _ _ _ before.served before.reads line.0;
+      served = λ since sound fits. served_more g.S.Source g.K.Books c.args.lines.now c.loop.lines c.serve_line.new.lines since c.args.core.now c.loop.core c.serve_line.new.core _ _ _ (before.served since sound fits) before.reads line.0;
       reads = ReadsOn-then g.S.Source c.args.lines.now c.loop.lines c.serve_line.new.lines before.reads c.serve_line.ensures.reads_on;
       none = line.1;
       limit = c.serve_line.ensures.limit;
@@ -37,15 +37,15 @@ returns-in_err-serve_line-clause-serves g c =
     let line = subst (ServesLine g.S.Source g.O.Sink g.K.Books c.loop.lines c.serve_line.new.lines c.loop.output c.serve_line.new.output c.loop.core c.serve_line.new.core) c.in_err-serve_line.was c.serve_line.ensures.serves in
     let told = err_from_is_err_and c.from_residual.result c.from_residual.ensures.1 in
     let is : c.from_residual.result ≡ Err fault = told.1 ∙ ap Err told.2 in
-    rw is (serves_fault g.S.Source g.O.Sink g.K.Books c.args.lines.now c.loop.lines c.serve_line.new.lines c.args.core.now c.loop.core c.serve_line.new.core c.args.output.now c.loop.output c.serve_line.new.output
-    before.served before.reads before.none before.held ⊤ fault line)
+    λ since sound fits. rw is (serves_fault g.S.Source g.O.Sink g.K.Books c.args.lines.now c.loop.lines c.serve_line.new.lines since c.args.core.now c.loop.core c.serve_line.new.core c.args.output.now c.loop.output c.serve_line.new.output
+    (before.served since sound fits) before.reads before.none before.held ⊤ fault line)
 
 pub returns-clause-serves : goal.returns-clause-serves
 returns-clause-serves g c =
     let before = c.loop.invariant in
     let line = subst (ServesLine g.S.Source g.O.Sink g.K.Books c.loop.lines c.serve_line.new.lines c.loop.output c.serve_line.new.output c.loop.core c.serve_line.new.core) (c.in_ok-serve_line.was ∙ ap Ok c.if-branch.false) c.serve_line.ensures.serves in
-    serves_all g.S.Source g.O.Sink g.K.Books c.args.lines.now c.loop.lines c.serve_line.new.lines c.args.core.now c.loop.core c.serve_line.new.core c.args.output.now c.loop.output c.serve_line.new.output
-    before.served before.reads before.none before.held ⊤ tt line
+    λ since sound fits. serves_all g.S.Source g.O.Sink g.K.Books c.args.lines.now c.loop.lines c.serve_line.new.lines since c.args.core.now c.loop.core c.serve_line.new.core c.args.output.now c.loop.output c.serve_line.new.output
+    (before.served since sound fits) before.reads before.none before.held ⊤ tt line
 
 pub returns-in_err-serve_line-clause-reads_on : goal.returns-in_err-serve_line-clause-reads_on
 returns-in_err-serve_line-clause-reads_on g c =

@@ -1,11 +1,16 @@
-use Rattle.std.proofs.Common.{◌≡◌, ◌+◌, ◌-◌, ◌^◌, ◌≤◌, None, length}
+use Rattle.std.proofs.Common.{◌≡◌, ◌+◌, ◌-◌, ◌^◌, ◌≤◌, List, None, length}
+use Rattle.hose_graph.specs.declared.entry.Entry.{Entry}
+use Rattle.hose_law.specs.History.{IsSound}
+use Rattle.hose_law.specs.Quotes.{nothing_held}
+use Rattle.hose_core.specs.Stepping.{FitsHistory}
 use Rattle.hose_words.specs.Reading.{ReadsOn}
 use Rattle.hosed.specs.Serving.{HasServed}
 use Rattle.hosed.proofs.run.serve.Given as goal
 
 abbrev pub invariant-loop : goal.invariant-loop
 invariant-loop g l = record {
-  served : HasServed g.S.Source g.K.Books l.fn.lines l.lines l.fn.core l.core (g.O.Sink.content l.fn.output) (g.O.Sink.content l.output);
+  served : (since : List Entry) → IsSound (g.K.Books.ledger l.fn.core.books).network 0 since → FitsHistory g.K.Books l.fn.core 0 since nothing_held
+      → HasServed g.S.Source g.K.Books l.fn.lines l.lines since l.fn.core l.core (g.O.Sink.content l.fn.output) (g.O.Sink.content l.output);
   reads : ReadsOn g.S.Source l.fn.lines l.lines;
   none : l.lines.fault ≡ None;
   limit : l.lines.taken ≤ 2 ^ 30 + 1;

@@ -1,0 +1,10 @@
+use Rattle.hosed.proofs.Journals.{in_cabinet}
+use Rattle.hosed.proofs.journal.serve_in_cabinet.Goals as goal
+
+pub returns-clause-serves : goal.returns-clause-serves
+returns-clause-serves g c =
+    let taken = c.in-Ok.ensures in
+    let back = c.back.ensures in
+    let served = c.serve_on_disk-served in
+    in_cabinet g.C.Cabinet g.C.Disk.Disk c.args.name.now c.args.cabinet.now c.disk.new.self c.back.new.self c.args.topology c.in-Ok.disk served.result.1 taken.opened taken.content taken.images taken.call back.held back.never_falls back.call
+    g.S.Source g.O.Sink c.args.lines.now served.new.lines c.args.output.now served.new.output served.result.0 served.ensures.serves
