@@ -66,6 +66,21 @@ impl<F: Files<File = File> + AllocGlobal + Drop> DirCabinet<F> {
         }
     }
 
+    /// How many calls have failed, those among them that were the last call of a disk that was
+    /// put back.
+    pub fn faults(&self) -> u64
+        ensures { result ≡ self.now.faults }
+    {
+        self.faults
+    }
+
+    /// How many texts were asked for that are not there.
+    pub fn absent(&self) -> u64
+        ensures { result ≡ self.now.absent }
+    {
+        self.absent
+    }
+
     // Counts a call that failed.
     fn fault(&mut self) -> Failed
         ensures after { self.new ≡ record self.old { faults = one_more self.old.faults } }
