@@ -1,5 +1,6 @@
 // A cabinet of the file system.
-ghost use Rattle.std.specs.Prelude.{◌≡◌, ◌≤◌, IfOk, None, false, length};
+ghost use Rattle.std.specs.Prelude.{◌≡◌, ◌↔◌, ◌≤◌, IfOk, IsOk, None, false, length};
+ghost use Rattle.std.specs.Fs.{IsFile, file_type};
 ghost use Rattle.hose_io.specs.Count.{one_more};
 ghost use Rattle.hose_io.specs.Frame.{Rose};
 ghost use Rattle.hose_disk.specs.Cabinet.{object_of};
@@ -180,7 +181,10 @@ fn sync_folder<F: Files<File = File>>(rt: &F, path: &str) -> io::Result<()> {
     File::open(rt, folder)?.sync_all()
 }
 
-fn require_file(there: &Metadata) -> io::Result<()> {
+// Fails where this is no regular file.
+fn require_file(there: &Metadata) -> io::Result<()>
+    ensures { IsOk result ↔ IsFile (file_type there.now) }
+{
     if there.is_file() {
         Ok(())
     } else {
