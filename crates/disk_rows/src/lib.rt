@@ -6,6 +6,8 @@
 #![tactic(auto)]
 
 #[cfg(test)]
+mod cabinets;
+#[cfg(test)]
 mod disks;
 #[cfg(test)]
 mod images;

@@ -5,3 +5,4 @@ pub mod Images
 pub mod MemState
 pub mod Picks
 pub mod Recording
+pub mod Untold

@@ -8,11 +8,23 @@
 //! disk.sync()?;
 //! let after_a_stop = disk.stop_image(alloc, 1, Pick::Lost)?;
 //! ```
+//!
+//! A cabinet is a place of named texts and disks, of which one disk is out at a time: in memory, or
+//! the files of the system.
+//!
+//! ```
+//! let mut cabinet = DirCabinet::new(rt);
+//! let mut disk = cabinet.disk("journal")?;
+//! let len = disk.len();
+//! cabinet.back(disk);
+//! ```
 #![tactic(auto)]
 
 mod cabinet;
 mod call;
+mod dir_cabinet;
 mod disk;
+mod file_disk;
 mod mem_cabinet;
 mod mem_disk;
 mod named;
@@ -22,7 +34,9 @@ mod shelf;
 
 pub use cabinet::Cabinet;
 pub use call::DiskCall;
+pub use dir_cabinet::DirCabinet;
 pub use disk::Disk;
+pub use file_disk::FileDisk;
 pub use hose_io::Failed;
 pub use mem_cabinet::MemCabinet;
 pub use mem_disk::MemDisk;

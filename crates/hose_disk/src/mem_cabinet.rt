@@ -120,6 +120,13 @@ impl MemCabinet {
         self.starved
     }
 
+    /// How many texts were asked for that are not there.
+    pub fn absent(&self) -> u64
+        ensures { result ≡ self.now.absent }
+    {
+        self.absent
+    }
+
     // Counts a call that failed.
     fn fault(&mut self) -> Failed
         ensures after { self.new ≡ record self.old { faults = one_more self.old.faults } }

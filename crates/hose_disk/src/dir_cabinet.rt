@@ -1,0 +1,193 @@
+// A cabinet of the file system.
+ghost use Rattle.std.specs.Prelude.{◌≡◌, ◌↔◌, ◌≤◌, IfOk, IsOk, None, false, length};
+ghost use Rattle.std.specs.Fs.{IsFile, file_type};
+ghost use Rattle.hose_io.specs.Count.{one_more};
+ghost use Rattle.hose_io.specs.Frame.{Rose};
+ghost use Rattle.hose_disk.specs.Cabinet.{object_of};
+
+use crate::cabinet::Cabinet;
+use crate::file_disk::{FileDisk, read_some};
+use hose_io::Failed;
+use std::fs::{File, Metadata};
+use std::io::ErrorKind;
+use std::marker::Model;
+use std::path::Path;
+use std::rt::Files;
+use std::{fs, io};
+
+/// A cabinet whose names are paths, and whose texts and disks are regular files: another kind of
+/// file is a failure. A disk that is out is locked by the system's advisory lock, and one that
+/// another program has locked so is a failure.
+///
+/// It tells nothing, and nothing is proved of what the files hold: that is up to the system, and is
+/// tried by tests. What stands at a path is looked at before it is opened, since to open a pipe may
+/// wait for ever; where another program puts a pipe there in between, it does.
+#[derive(Drop)]
+pub struct DirCabinet<F> {
+    rt: F,
+    faults: u64,
+    absent: u64,
+    returned: u64,
+    out: Option<Vec<u8>>,
+}
+
+impl<F> Model for DirCabinet<F> {
+    ghost use Rattle.std.specs.Prelude.{false, option_map};
+    ghost use Rattle.hose_disk.specs.Cabinet.{CabinetFrame};
+
+    ghost Value = { CabinetFrame };
+
+    ghost view = { λ cabinet. record {
+      faults = cabinet.faults;
+      absent = cabinet.absent;
+      returned = cabinet.returned;
+      out = option_map (λ name. name.items) cabinet.out;
+      tells = false;
+    } };
+}
+
+impl<F: Files<File = File> + AllocGlobal + Drop> DirCabinet<F> {
+    /// The files that the runtime reaches. A path that is not absolute begins at the folder where
+    /// the program runs.
+    pub fn new(rt: F) -> DirCabinet<F>
+        ensures { result ≡ record {
+          faults = 0;
+          absent = 0;
+          returned = 0;
+          out = None;
+          tells = false;
+        } }
+    {
+        DirCabinet {
+            rt,
+            faults: 0,
+            absent: 0,
+            returned: 0,
+            out: None,
+        }
+    }
+
+    /// How many calls have failed, those among them that were the last call of a disk that was
+    /// put back.
+    pub fn faults(&self) -> u64
+        ensures { result ≡ self.now.faults }
+    {
+        self.faults
+    }
+
+    /// How many texts were asked for that are not there.
+    pub fn absent(&self) -> u64
+        ensures { result ≡ self.now.absent }
+    {
+        self.absent
+    }
+
+    // Counts a call that failed.
+    fn fault(&mut self) -> Failed
+        ensures after { self.new ≡ record self.old { faults = one_more self.old.faults } }
+        ensures rose { Rose (object_of self.old) (object_of self.new) }
+        ensures never_falls { self.old.faults ≤ self.new.faults }
+    {
+        self.faults = self.faults.saturating_add(1);
+        Failed
+    }
+}
+
+impl<F: Files<File = File> + AllocGlobal + Drop> Cabinet for DirCabinet<F> {
+    ghost use Rattle.hose_disk.specs.Untold.{untold_bytes, untold_disk};
+
+    type Disk = FileDisk;
+
+    ghost frame = { λ cabinet. cabinet };
+
+    ghost text = { λ _ _. untold_bytes };
+
+    ghost held = { λ _ _. untold_disk };
+
+    fn text(&mut self, name: &str, from: u64, into: &mut [u8]) -> Result<usize, Failed> {
+        match read_text(&self.rt, name, from, into) {
+            Ok(count) => Ok(count),
+            Err(error) => {
+                if error.kind() == ErrorKind::NotFound {
+                    self.absent = self.absent.saturating_add(1);
+                }
+                Err(self.fault())
+            }
+        }
+    }
+
+    fn disk(&mut self, name: &str) -> Result<FileDisk, Failed> {
+        let Ok(out) = Vec::from_slice(self.rt.alloc(), name.as_bytes()) else {
+            return Err(self.fault());
+        };
+        let Ok(file) = open_disk(&self.rt, name) else {
+            return Err(self.fault());
+        };
+        self.out = Some(out);
+        Ok(FileDisk::new(file))
+    }
+
+    fn back(&mut self, disk: FileDisk) {
+        self.out = None;
+        self.returned = disk.faults();
+        if disk.has_failed() {
+            self.fault();
+        }
+    }
+}
+
+fn read_text<F: Files<File = File>>(
+    rt: &F,
+    path: &str,
+    from: u64,
+    into: &mut [u8],
+) -> io::Result<usize>
+    ensures { IfOk result (λ count. count ≤ length into.new) }
+{
+    require_file(&fs::metadata(rt, path)?)?;
+    let file = File::open(rt, path)?;
+    require_file(&file.metadata()?)?;
+    read_some(&file, from, into)
+}
+
+// Opens a file for reading and writing, and locks it. One that is not there is created.
+fn open_disk<F: Files<File = File>>(rt: &F, path: &str) -> io::Result<File> {
+    match fs::metadata(rt, path) {
+        Ok(there) => require_file(&there)?,
+        Err(error) if error.kind() == ErrorKind::NotFound => {}
+        Err(error) => return Err(error),
+    }
+    let file = File::options()
+        .read(true)
+        .write(true)
+        .create(true)
+        .open(rt, path)?;
+    let opened = file.metadata()?;
+    require_file(&opened)?;
+    file.try_lock()?;
+    // An empty file may be new, and its name not yet durable.
+    if opened.len() == 0 {
+        sync_folder(rt, path)?;
+    }
+    Ok(file)
+}
+
+// Makes the names in a file's folder durable.
+fn sync_folder<F: Files<File = File>>(rt: &F, path: &str) -> io::Result<()> {
+    let folder = match Path::new(path).parent() {
+        Some(folder) if !folder.as_str().is_empty() => folder.as_str(),
+        _ => ".",
+    };
+    File::open(rt, folder)?.sync_all()
+}
+
+// Fails where this is no regular file.
+fn require_file(there: &Metadata) -> io::Result<()>
+    ensures { IsOk result ↔ IsFile (file_type there.now) }
+{
+    if there.is_file() {
+        Ok(())
+    } else {
+        Err(ErrorKind::InvalidInput.into())
+    }
+}
