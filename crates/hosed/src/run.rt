@@ -89,8 +89,8 @@ fn run_lines<S: Source, O: Sink, C: Cabinet>(
     }
 }
 
-// Answers all lines by a book in memory.
-fn serve_in_memory<S: Source, O: Sink>(
+/// Answers all lines by a book in memory.
+pub fn serve_in_memory<S: Source, O: Sink>(
     alloc: Global,
     topology: Topology,
     lines: &mut LineReader<S>,

@@ -1,7 +1,9 @@
-//! The program `hosed`: it hands its words and its standard streams on, and ends with the status
-//! that comes of them. As in `cat demo/star.txt demo/star_script.txt | ./hosed run`.
+//! The program `hosed`: it hands its words, its standard streams and the files that it can reach on,
+//! and ends with the status that comes of them. As in
+//! `cat demo/star.txt demo/star_script.txt | ./hosed run orders.journal`.
 #![tactic(auto)]
 
+use hose_disk::DirCabinet;
 use hose_io::{StdSink, StdSource};
 use hosed_program::{USAGE, no_memory, program, program_words};
 use std::process::ExitCode;
@@ -17,6 +19,7 @@ fn main(rt: HostRuntime) -> ExitCode {
             &words,
             &mut StdSource::new(rt.stdin()),
             &mut output,
+            &mut DirCabinet::new(rt),
         ),
         Err(_) => no_memory(&mut output),
     };

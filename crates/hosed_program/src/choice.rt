@@ -1,7 +1,8 @@
 // What the program's words choose: a text about itself, or the server.
-ghost use Rattle.std.specs.Prelude.{◌≡◌, ℕ, map};
+ghost use Rattle.std.specs.Prelude.{◌≡◌, ℕ, List, Option, None, map};
 ghost use Rattle.std.specs.String.{string_bytes};
 ghost use Rattle.hose_io.specs.Frame.{Stays};
+ghost use Rattle.hose_disk.specs.Cabinet.{object_of};
 ghost use Rattle.hosed.specs.Ending.{IsOut};
 ghost use Rattle.hosed.specs.Fault.{last_line};
 ghost use Rattle.hosed.specs.ProgramWords.{AreRunWords, IsFirstWrong};
@@ -11,6 +12,7 @@ ghost use Rattle.hosed_program.specs.Asked.{asked_of};
 ghost use Rattle.hosed_program.specs.Told.{IsTold};
 
 use crate::texts::{HELP, VERSION};
+use hose_disk::Cabinet;
 use hose_io::{Sink, Source, write_all};
 use std::alloc::Global;
 
@@ -24,33 +26,40 @@ pub enum Asked {
 }
 
 /// Does what the words say, and gives the exit status.
-pub fn program<I: Source, O: Sink>(
+pub fn program<I: Source, O: Sink, C: Cabinet>(
     alloc: Global,
     words: &[String],
     input: &mut I,
     output: &mut O,
+    cabinet: &mut C,
 ) -> u8
-    ensures help { asked_of (map string_bytes words.now) ≡ Asked.Help
-        → (input.new ≡ input.old) × IsTold O.Sink output.old output.new HELP.now result }
+    requires { (C.frame cabinet.old).out ≡ None }
+    ensures help { asked_of (map string_bytes words.now) ≡ Asked.Help → (input.new ≡ input.old)
+        × (cabinet.new ≡ cabinet.old) × IsTold O.Sink output.old output.new HELP.now result }
     ensures version { asked_of (map string_bytes words.now) ≡ Asked.Version
-        → (input.new ≡ input.old) × IsTold O.Sink output.old output.new VERSION.now result }
+        → (input.new ≡ input.old) × (cabinet.new ≡ cabinet.old)
+        × IsTold O.Sink output.old output.new VERSION.now result }
 
     // All else is as the server's one call says.
-    ensures run { AreRunWords (map string_bytes words.now)
-        → RunOutcome I.Source O.Sink input.old input.new output.old output.new result }
+    ensures run { (journal : Option (List ℕ)) → AreRunWords (map string_bytes words.now) journal
+        → RunOutcome I.Source O.Sink C.Cabinet C.Disk.Disk journal input.old input.new
+        output.old output.new cabinet.old cabinet.new result }
+    ensures in_memory { AreRunWords (map string_bytes words.now) None → cabinet.new ≡ cabinet.old }
     ensures wrong_words { asked_of (map string_bytes words.now) ≡ Asked.Service
-        → ¬ AreRunWords (map string_bytes words.now)
-        → (result ≡ 1) × (input.new ≡ input.old)
+        → ((journal : Option (List ℕ)) → ¬ AreRunWords (map string_bytes words.now) journal)
+        → (result ≡ 1) × (input.new ≡ input.old) × (cabinet.new ≡ cabinet.old)
         × ((word : ℕ) × IsFirstWrong (map string_bytes words.now) word
         × IsOut O.Sink output.old output.new (last_line (fault.Words word))) }
 
+    ensures back { (C.frame cabinet.new).out ≡ None }
     ensures input { Stays (I.frame input.old) (I.frame input.new) }
     ensures output { Stays (O.frame output.old) (O.frame output.new) }
+    ensures cabinet { Stays (object_of (C.frame cabinet.old)) (object_of (C.frame cabinet.new)) }
 {
     match asked_by(words) {
         Asked::Help => tell(output, HELP),
         Asked::Version => tell(output, VERSION),
-        Asked::Service => hosed::hosed(alloc, words, input, output),
+        Asked::Service => hosed::hosed(alloc, words, input, output, cabinet),
     }
 }
 

@@ -2,7 +2,7 @@
 
 /// What `--help` is answered with.
 pub const HELP: &str = "\
-usage: hosed run < FILE
+usage: hosed run [JOURNAL] < FILE
        hosed --help | --version
 
 hosed run reads a topology, in which lines that begin with # are passed over, and then a line for
@@ -18,7 +18,9 @@ each command of a customer:
     CUSTOMER show ID
     CUSTOMER link L
 
-and writes one line for each of the last six:
+and writes one line for each of the last six. JOURNAL is a file that keeps the book: an admission
+or a release is in it before its line is written, and a later run with it goes on from there. It
+is begun where it is not there. Without it the book is gone at the end.
 
     admitted ID cost C at N links L:R ..
     quoted Q cost C at N links L:R ..
@@ -31,6 +33,7 @@ and writes one line for each of the last six:
     vpn ID cost C at N ends NAME:RATE .. links L:R ..
     link L A B capacity C cost K load X at N
     full at N, spent at N
+    disk at N                           the journal's disk failed, and nothing was entered
     bad W                               the line's first word that is not allowed
     long                                the line has more than 4,096 bytes
     memory                              there was none, and nothing was done
@@ -51,6 +54,10 @@ status  comes                           last line
 2       no topology                     topology LINE WORD
 3       the input failed                read
 4       the output failed               none
+5       a journal of another network    journal other KEPT GIVEN
+        or a damaged one                journal damaged at BYTE
+6       a journal that another program
+        holds, or that failed           cabinet
 7       no memory to begin              no memory
 8       input longer than 1 GiB         too long
 ";
@@ -59,5 +66,6 @@ status  comes                           last line
 pub const VERSION: &str = "hosed 0.1.0\n";
 
 /// What is said on standard error where the words are wrong.
-pub const USAGE: &str = "hosed takes one word: `run`, which reads a topology and commands, \
-    `--help`, which tells their forms, or `--version`.";
+pub const USAGE: &str = "hosed takes `run`, which reads a topology and commands, and after it the \
+    name of a journal if the book is to be kept; or `--help`, which tells their forms, or \
+    `--version`.";

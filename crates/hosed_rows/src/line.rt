@@ -29,6 +29,16 @@ pub enum Line<'a> {
     Status(u64),
     /// How many bytes of the input are taken.
     Taken(u64),
+    /// What the disk `j` of the cabinet holds, in hexadecimal digits.
+    Journal(&'a str),
+    /// What that disk holds afterwards.
+    Left(&'a str),
+    /// Which calls of a kind fail on that disk.
+    DiskFails(&'a str),
+    /// Which calls of the cabinet fail.
+    CabinetFails(&'a str),
+    /// That the program is stopped after each call of that disk.
+    Stops,
 }
 
 impl<'a> Line<'a> {
@@ -59,6 +69,11 @@ impl<'a> Line<'a> {
             "write-fails" => Ok(Line::WriteFails(rest)),
             "status" => Ok(Line::Status(number(rest)?)),
             "taken" => Ok(Line::Taken(number(rest)?)),
+            "journal" => Ok(Line::Journal(rest)),
+            "left" => Ok(Line::Left(rest)),
+            "disk-fails" => Ok(Line::DiskFails(rest)),
+            "cabinet-fails" => Ok(Line::CabinetFails(rest)),
+            "stops" => Ok(Line::Stops),
             _ => Err(CaseFault::Word),
         }
     }
