@@ -1,6 +1,8 @@
 // Lines that are read as replies and written again, and the first word where they are none.
+ghost use Rattle.hose_graph.specs.Naming.{NamesPlaces};
+
 use crate::reading::{STAR, network, same, tells};
-use hose_graph::Topology;
+use hose_graph::{Reply, Topology};
 use hose_io::{Failed, MemSink};
 use hose_proto::{ReadFault, put_reply, read_reply};
 use std::alloc::Global;
@@ -48,17 +50,24 @@ const REPLIES: [(&str, &str); 18] = [
     ("bye\n", "Bye"),
 ];
 
+// Fails where a reply is written otherwise.
+fn is_written(alloc: Global, top: &Topology, reply: &Reply, line: &str) -> Result<(), Fail>
+    requires { NamesPlaces top.now reply.now }
+{
+    let mut sink = MemSink::new(alloc)?;
+    put_reply(&mut sink, top, reply)?;
+    if sink.bytes() != line.as_bytes() {
+        return Err(Fail::new(line));
+    }
+    Ok(())
+}
+
 // Fails where a line is read as another reply, or written otherwise.
 fn goes_round(alloc: Global, top: &Topology, line: &str, want: &str) -> Result<(), Fail> {
     let text = line.strip_suffix('\n').ok_or("no line")?;
     let reply = read_reply(alloc, top, text.as_bytes())?;
     tells(alloc, &reply, want)?;
-    let mut sink = MemSink::new(alloc)?;
-    put_reply(&mut sink, top, &reply)?;
-    if sink.bytes() != line.as_bytes() {
-        return Err(Fail::new(line));
-    }
-    Ok(())
+    is_written(alloc, top, &reply, line)
 }
 
 fn go_round(alloc: Global, star: &Topology, rows: &[(&str, &str)]) -> Result<(), Fail> {
