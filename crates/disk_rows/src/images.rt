@@ -321,15 +321,26 @@ fn leaves(
     Ok(got == Ok(image.len) && stopped.len() == Ok(image.len as u64) && bytes == image.bytes)
 }
 
-// The ten calls, where the next of this kind after so many of them is to fail.
-fn tried(alloc: Global, all: &[Image], kind: DiskCall, place: usize) -> Result<Trial, Fail> {
-    let mut trial = Trial::new(alloc)?;
+// Makes the ten calls, where the next of this kind after so many of them is to fail.
+fn make_all(
+    trial: &mut Trial,
+    alloc: Global,
+    all: &[Image],
+    kind: DiskCall,
+    place: usize,
+) -> Result<(), Fail> {
     for (number, call) in CALLS.into_iter().enumerate() {
         if number == place {
             trial.fail(alloc, kind)?;
         }
         trial.make(alloc, all, call)?;
     }
+    Ok(())
+}
+
+fn tried(alloc: Global, all: &[Image], kind: DiskCall, place: usize) -> Result<Trial, Fail> {
+    let mut trial = Trial::new(alloc)?;
+    make_all(&mut trial, alloc, all, kind, place)?;
     if trial.disk.calls().saturating_add(1) != trial.moments.len() as u64 {
         return Err("a call that is not recorded".into());
     }
