@@ -2,7 +2,7 @@
 ghost use Rattle.std.specs.Prelude.{◌≤◌, IfOk};
 ghost use Rattle.hose_graph.specs.declared.limits.TheConstants.{MOST_EPOCH};
 
-use crate::reading::{STAR, debugged, network};
+use crate::reading::{STAR, network, tells};
 use hose_book::{Book, Books, Committed, Plain};
 use hose_graph::{Entry, MOST_EPOCH, MOST_LIVE, Name, Reply, Topology};
 use hose_proto::read_reply;
@@ -39,13 +39,53 @@ pub fn book_at(alloc: Global, epoch: u64) -> Result<Book, Fail>
     Ok(Book::at(alloc, network(alloc, STAR)?, epoch)?)
 }
 
-// Enters an entry, if it is sound, and tells what was said of it.
-fn enter(alloc: Global, book: &mut Book, entry: &Entry) -> Result<String, Fail> {
+// Enters an entry, if it is sound, and fails where something else is said of it.
+fn enters(alloc: Global, book: &mut Book, entry: &Entry, want: &str) -> Result<(), Fail> {
     let judged = book.check(entry);
     if judged.is_ok() {
         book.apply(entry.copy(alloc)?);
     }
-    Ok(debugged(alloc, &judged)?)
+    tells(alloc, &judged, want)
+}
+
+fn admits(alloc: Global, book: &mut Book, words: &str, want: &str) -> Result<(), Fail> {
+    let entry = admission(alloc, book.topology(), words)?;
+    enters(alloc, book, &entry, want)
+}
+
+fn admits_at(alloc: Global, epoch: u64, words: &str, want: &str) -> Result<(), Fail> {
+    let mut book = book_at(alloc, epoch.min(MOST_EPOCH))?;
+    admits(alloc, &mut book, words, want)
+}
+
+fn releases(
+    alloc: Global,
+    book: &mut Book,
+    customer: &str,
+    id: u64,
+    want: &str,
+) -> Result<(), Fail> {
+    enters(alloc, book, &release(customer, id)?, want)
+}
+
+fn release_in_order(
+    alloc: Global,
+    book: &mut Book,
+    rows: &[(&str, u64, &str)],
+) -> Result<(), Fail> {
+    for (customer, id, want) in rows {
+        releases(alloc, book, customer, *id, want)?;
+    }
+    Ok(())
+}
+
+// Fails where the epoch is another one, or as many VPNs as are live, or a load.
+fn stands(alloc: Global, book: &Book, want: &str) -> Result<(), Fail> {
+    tells(
+        alloc,
+        &(book.epoch(), book.live().len(), book.loads()),
+        want,
+    )
 }
 
 #[test]
@@ -66,13 +106,7 @@ fn an_admission_is_judged_in_order(rt: HostRuntime) -> Result<(), Fail> {
         ),
         (0, "ends a:10 b:10 links 0:10 1:10", "Ok(())"),
     ] {
-        let mut book = book_at(rt.alloc(), epoch)?;
-        let entry = admission(rt.alloc(), book.topology(), words)?;
-        assert_eq!(rt;
-            enter(rt.alloc(), &mut book, &entry)?.as_str(),
-            want,
-            "{words}"
-        );
+        admits_at(rt.alloc(), epoch, words, want)?;
     }
     Ok(())
 }
@@ -80,27 +114,36 @@ fn an_admission_is_judged_in_order(rt: HostRuntime) -> Result<(), Fail> {
 #[test]
 fn a_release_is_judged_in_order(rt: HostRuntime) -> Result<(), Fail> {
     let mut book = book_at(rt.alloc(), MOST_EPOCH - 3)?;
-    let entry = admission(rt.alloc(), book.topology(), "ends a:1 b:1 links 0:1 1:1")?;
-    for want in ["Ok(())", "Ok(())"] {
-        assert_eq!(rt; enter(rt.alloc(), &mut book, &entry)?.as_str(), want);
-    }
-    for (customer, id, want) in [
+    admits(
+        rt.alloc(),
+        &mut book,
+        "ends a:1 b:1 links 0:1 1:1",
+        "Ok(())",
+    )?;
+    admits(
+        rt.alloc(),
+        &mut book,
+        "ends a:1 b:1 links 0:1 1:1",
+        "Ok(())",
+    )?;
+    let rows = [
         ("beta", MOST_EPOCH - 2, "Err(NoVpn)"),
         ("acme", MOST_EPOCH, "Err(NoVpn)"),
         ("acme", MOST_EPOCH - 2, "Ok(())"),
         ("acme", MOST_EPOCH - 2, "Err(NoVpn)"),
         ("acme", MOST_EPOCH - 1, "Err(Spent)"),
-    ] {
-        let entry = release(customer, id)?;
-        assert_eq!(rt;
-            enter(rt.alloc(), &mut book, &entry)?.as_str(),
-            want,
-            "{customer} {id}"
-        );
+    ];
+    release_in_order(rt.alloc(), &mut book, &rows)?;
+    stands(rt.alloc(), &book, "(4000000000, 1, [1, 1, 0])")
+}
+
+// Fails where an entry is not entered as often as VPNs may be live, or it or the wrong one then.
+fn fill(alloc: Global, book: &mut Book, entry: &Entry, wrong: &Entry) -> Result<(), Fail> {
+    for _ in 0..MOST_LIVE {
+        enters(alloc, book, entry, "Ok(())")?;
     }
-    assert_eq!(rt; book.epoch(), MOST_EPOCH);
-    assert_eq!(rt; book.loads(), [1, 1, 0].as_slice());
-    Ok(())
+    enters(alloc, book, entry, "Err(Full)")?;
+    enters(alloc, book, wrong, "Err(Full)")
 }
 
 #[test]
@@ -109,17 +152,8 @@ fn a_book_is_full(rt: HostRuntime) -> Result<(), Fail> {
     let entry = admission(rt.alloc(), &top, "ends a:1 b:1 links 0:1")?;
     let wrong = admission(rt.alloc(), &top, "ends a:1 b:1 links 0:2")?;
     let mut book = Book::new(rt.alloc(), top)?;
-    for _ in 0..MOST_LIVE {
-        enter(rt.alloc(), &mut book, &entry)?;
-    }
-    for entry in [&entry, &wrong] {
-        assert_eq!(rt; enter(rt.alloc(), &mut book, entry)?.as_str(), "Err(Full)");
-    }
-    assert_eq!(rt;
-        (book.live().len(), book.loads()),
-        (MOST_LIVE, [20_000].as_slice())
-    );
-    Ok(())
+    fill(rt.alloc(), &mut book, &entry, &wrong)?;
+    stands(rt.alloc(), &book, "(20000, 20000, [20000])")
 }
 
 // What comes of a release that is prepared and committed to a book in memory.
@@ -130,6 +164,26 @@ fn committed(alloc: Global, plain: &mut Plain, entry: Entry) -> Result<Option<Co
     Ok(Some(plain.commit(entry, ())))
 }
 
+fn commits(alloc: Global, plain: &mut Plain, entry: Entry, want: &str) -> Result<(), Fail> {
+    tells(alloc, &committed(alloc, plain, entry)?, want)
+}
+
+fn commits_release(alloc: Global, plain: &mut Plain, id: u64, want: &str) -> Result<(), Fail> {
+    let customer = name("acme")?;
+    let id = id.min(MOST_EPOCH);
+    let entry = Entry::Release { customer, id };
+    Plain::prepare(alloc, &entry)?;
+    commits(alloc, plain, entry, want)
+}
+
+fn release_again(alloc: Global, plain: &mut Plain) -> Result<(), Fail> {
+    stands(alloc, plain.book(), "(1, 1, [3, 4, 5])")?;
+    for (id, want) in [(2, "None"), (1, "Some(Done)"), (1, "None")] {
+        commits_release(alloc, plain, id, want)?;
+    }
+    stands(alloc, plain.book(), "(2, 0, [0, 0, 0])")
+}
+
 #[test]
 fn entries_are_committed_to_a_book_in_memory(rt: HostRuntime) -> Result<(), Fail> {
     let mut plain = Plain {
@@ -137,17 +191,6 @@ fn entries_are_committed_to_a_book_in_memory(rt: HostRuntime) -> Result<(), Fail
     };
     let words = "ends a:3 b:4 c:5 links 0:3 1:4 2:5";
     let entry = admission(rt.alloc(), plain.book().topology(), words)?;
-    assert_eq!(rt;
-        committed(rt.alloc(), &mut plain, entry)?,
-        Some(Committed::Done)
-    );
-    assert_eq!(rt; plain.book().epoch(), 1);
-    let customer = name("acme")?;
-    for (id, want) in [(2, None), (1, Some(Committed::Done)), (1, None)] {
-        let entry = Entry::Release { customer, id };
-        Plain::prepare(rt.alloc(), &entry)?;
-        assert_eq!(rt; committed(rt.alloc(), &mut plain, entry)?, want, "{id}");
-    }
-    assert_eq!(rt; plain.book().loads(), [0, 0, 0].as_slice());
-    Ok(())
+    commits(rt.alloc(), &mut plain, entry, "Some(Done)")?;
+    release_again(rt.alloc(), &mut plain)
 }

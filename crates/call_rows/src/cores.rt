@@ -9,7 +9,7 @@ ghost use Rattle.hose_plan.specs.Planning.{IsDecision, IsSoundDecision};
 ghost use Rattle.hose_core.specs.Holding.{IsMade};
 
 use crate::books::{book_at, name};
-use crate::reading::{debugged, hose};
+use crate::reading::{hose, is_text, tells};
 use hose_book::{Book, Books, Plain};
 use hose_core::{Core, Quote, Quotes, admit_now, claim_release, claim_take, release_now, take_now};
 use hose_graph::{Amounts, Hose, MOST_EPOCH, MOST_QUOTES};
@@ -28,42 +28,52 @@ fn core_at(alloc: Global, epoch: u64) -> Result<Core<Plain>, Fail>
     Ok(Core::new(alloc, Plain { book }))
 }
 
-// What acme's command is answered.
-fn answered(alloc: Global, core: &mut Core<Plain>, line: &str) -> Result<String, Fail> {
+// Fails where acme's command is answered otherwise.
+fn answers(alloc: Global, core: &mut Core<Plain>, line: &str, want: &str) -> Result<(), Fail> {
     let top = core.books().book().topology();
     let command = read_command(alloc, top, line.as_bytes(), 0)?;
     let reply = core.step(alloc, &name("acme")?, command, &mut PlainRows::new());
-    Ok(debugged(alloc, &reply)?)
+    tells(alloc, &reply, want)
+}
+
+fn answers_in_order(
+    alloc: Global,
+    core: &mut Core<Plain>,
+    rows: &[(&str, &str)],
+) -> Result<(), Fail> {
+    for (line, want) in rows {
+        answers(alloc, core, line, want)?;
+    }
+    Ok(())
 }
 
 #[test]
 fn commands_at_the_first_epoch(rt: HostRuntime) -> Result<(), Fail> {
     let mut core = core_at(rt.alloc(), 0)?;
-    for (line, want) in [
+    let rows = [
         (
             "quote a:1 b:1",
             "Quoted { quote: 1, cost: 3, at: 0, amounts: Amounts { pairs: [(0, 1), (1, 1)] } }",
         ),
         ("take 2", "NoQuote { quote: 2, at: 0 }"),
-    ] {
-        assert_eq!(rt; answered(rt.alloc(), &mut core, line)?.as_str(), want);
-    }
-    let mut books = core.into_books();
-    assert_eq!(rt;
-        admitted(rt.alloc(), &mut books, "admit a:3 b:4 c:5")?.as_str(),
+    ];
+    answers_in_order(rt.alloc(), &mut core, &rows)?;
+    admits(
+        rt.alloc(),
+        &mut core.into_books(),
+        "admit a:3 b:4 c:5",
         "Admitted { id: 1, cost: 26, at: 1, \
-            amounts: Amounts { pairs: [(0, 3), (1, 4), (2, 5)] } }"
-    );
-    Ok(())
+            amounts: Amounts { pairs: [(0, 3), (1, 4), (2, 5)] } }",
+    )
 }
 
-// What an admission for acme is answered.
-fn admitted(alloc: Global, books: &mut Plain, line: &str) -> Result<String, Fail>
+// Fails where an admission for acme is answered otherwise.
+fn admits(alloc: Global, books: &mut Plain, line: &str, want: &str) -> Result<(), Fail>
     ensures { books.new.book.network ≡ books.old.book.network }
 {
     let hose = hose(alloc, books.book().topology(), line)?;
     let reply = admit_now(alloc, books, &name("acme")?, hose, &mut PlainRows::new());
-    Ok(debugged(alloc, &reply)?)
+    tells(alloc, &reply, want)
 }
 
 // What is decided of a hose at a book.
@@ -102,12 +112,12 @@ fn planned(alloc: Global, book: &Book, line: &str) -> Result<Quote, Fail>
     }
 }
 
-// What acme's take is answered.
-fn taken(alloc: Global, books: &mut Plain, quote: &Quote) -> Result<String, Fail>
+// Fails where acme's take is answered otherwise.
+fn takes(alloc: Global, books: &mut Plain, quote: &Quote, want: &str) -> Result<(), Fail>
     requires { IsMade books.old.book.network quote.now }
 {
     let claim = claim_take(alloc, &name("acme")?, quote)?;
-    Ok(debugged(alloc, &take_now(books, quote, claim))?)
+    tells(alloc, &take_now(books, quote, claim), want)
 }
 
 #[test]
@@ -116,21 +126,24 @@ fn a_take_after_another_entry(rt: HostRuntime) -> Result<(), Fail> {
         book: book_at(rt.alloc(), 0)?,
     };
     let quote = planned(rt.alloc(), books.book(), "admit a:1 b:1")?;
-    assert_eq!(rt;
-        admitted(rt.alloc(), &mut books, "admit b:2 c:2")?.as_str(),
-        "Admitted { id: 1, cost: 10, at: 1, amounts: Amounts { pairs: [(1, 2), (2, 2)] } }"
-    );
-    assert_eq!(rt;
-        taken(rt.alloc(), &mut books, &quote)?.as_str(),
-        "Admitted { id: 2, cost: 3, at: 2, amounts: Amounts { pairs: [(0, 1), (1, 1)] } }"
-    );
-    Ok(())
+    admits(
+        rt.alloc(),
+        &mut books,
+        "admit b:2 c:2",
+        "Admitted { id: 1, cost: 10, at: 1, amounts: Amounts { pairs: [(1, 2), (2, 2)] } }",
+    )?;
+    takes(
+        rt.alloc(),
+        &mut books,
+        &quote,
+        "Admitted { id: 2, cost: 3, at: 2, amounts: Amounts { pairs: [(0, 1), (1, 1)] } }",
+    )
 }
 
 #[test]
 fn commands_at_the_last_epoch(rt: HostRuntime) -> Result<(), Fail> {
     let mut core = core_at(rt.alloc(), MOST_EPOCH)?;
-    for (line, want) in [
+    let rows = [
         ("admit a:1 b:1", "Spent { at: 4000000000 }"),
         (
             "quote a:1 b:1",
@@ -140,18 +153,16 @@ fn commands_at_the_last_epoch(rt: HostRuntime) -> Result<(), Fail> {
         ("take 1", "Spent { at: 4000000000 }"),
         ("take 1", "NoQuote { quote: 1, at: 4000000000 }"),
         ("release 1", "NoVpn { id: 1, at: 4000000000 }"),
-    ] {
-        assert_eq!(rt; answered(rt.alloc(), &mut core, line)?.as_str(), want);
-    }
-    Ok(())
+    ];
+    answers_in_order(rt.alloc(), &mut core, &rows)
 }
 
-// What acme's release of a VPN is answered.
-fn released(alloc: Global, books: &mut Plain, id: u64) -> Result<String, Fail>
+// Fails where acme's release of a VPN is answered otherwise.
+fn releases(alloc: Global, books: &mut Plain, id: u64, want: &str) -> Result<(), Fail>
     requires { id ≤ MOST_EPOCH }
 {
     let claim = claim_release(alloc, &name("acme")?, id)?;
-    Ok(debugged(alloc, &release_now(books, claim))?)
+    tells(alloc, &release_now(books, claim), want)
 }
 
 #[test]
@@ -159,11 +170,7 @@ fn a_release_at_an_empty_book(rt: HostRuntime) -> Result<(), Fail> {
     let mut books = Plain {
         book: book_at(rt.alloc(), 0)?,
     };
-    assert_eq!(rt;
-        released(rt.alloc(), &mut books, 1)?.as_str(),
-        "NoVpn { id: 1, at: 0 }"
-    );
-    Ok(())
+    releases(rt.alloc(), &mut books, 1, "NoVpn { id: 1, at: 0 }")
 }
 
 // A quote that tells the epoch at which it was made.
@@ -191,31 +198,50 @@ fn put(alloc: Global, quotes: &mut Quotes, number: u64) -> Result<(), Fail> {
     Ok(())
 }
 
-// What is held under the first, the last and the numbers beside them, and the lowest free number.
-fn state(alloc: Global, quotes: &Quotes) -> Result<String, AllocError> {
+fn clear(quotes: &mut Quotes, number: u64) -> Result<(), Fail> {
+    if number < 1 || number > MOST_QUOTES as u64 {
+        return Err(Fail::from("no number"));
+    }
+    quotes.clear(number);
+    Ok(())
+}
+
+// Fails where something else is held under the first, the last and the numbers beside them, or
+// another number is the lowest free one.
+fn stand(alloc: Global, quotes: &Quotes, want: &str) -> Result<(), Fail> {
     let held = [0, 1, 2, 16, 17].map(|number| quotes.held(number).map(|quote| quote.seen));
-    format!(in alloc; "{held:?} {:?}", quotes.free())
+    let got = format!(in alloc; "{held:?} {:?}", quotes.free())?;
+    is_text(got.as_str(), want)
+}
+
+// Puts the first and the last, all between them, and clears the last and the first.
+fn put_and_clear(alloc: Global, quotes: &mut Quotes) -> Result<(), Fail> {
+    put(alloc, quotes, 1)?;
+    put(alloc, quotes, 16)?;
+    stand(
+        alloc,
+        quotes,
+        "[None, Some(1), None, Some(16), None] Some(2)",
+    )?;
+    for number in 2..16 {
+        put(alloc, quotes, number)?;
+    }
+    stand(
+        alloc,
+        quotes,
+        "[None, Some(1), Some(2), Some(16), None] None",
+    )?;
+    clear(quotes, 16)?;
+    stand(
+        alloc,
+        quotes,
+        "[None, Some(1), Some(2), None, None] Some(16)",
+    )?;
+    clear(quotes, 1)?;
+    stand(alloc, quotes, "[None, None, Some(2), None, None] Some(1)")
 }
 
 #[test]
 fn quotes_at_the_first_and_the_last_number(rt: HostRuntime) -> Result<(), Fail> {
-    let mut quotes = Quotes::new();
-    put(rt.alloc(), &mut quotes, 1)?;
-    put(rt.alloc(), &mut quotes, 16)?;
-    assert_eq!(rt;
-        state(rt.alloc(), &quotes)?.as_str(),
-        "[None, Some(1), None, Some(16), None] Some(2)"
-    );
-    for number in 2..16 {
-        put(rt.alloc(), &mut quotes, number)?;
-    }
-    assert_eq!(rt; quotes.free(), None);
-    quotes.clear(16);
-    assert_eq!(rt; quotes.free(), Some(16));
-    quotes.clear(1);
-    assert_eq!(rt;
-        state(rt.alloc(), &quotes)?.as_str(),
-        "[None, None, Some(2), None, None] Some(1)"
-    );
-    Ok(())
+    put_and_clear(rt.alloc(), &mut Quotes::new())
 }

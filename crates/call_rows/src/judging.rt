@@ -1,5 +1,7 @@
 // Whether amounts are what a hose reserves on some tree.
-use crate::reading::{STAR, network};
+ghost use Rattle.hose_graph.specs.Ascending.{IsAscending};
+
+use crate::reading::{STAR, network, same};
 use hose_graph::{Amounts, Endpoint, Hose, Reply, Topology};
 use hose_proto::read_reply;
 use hose_tree::is_reservation;
@@ -19,10 +21,19 @@ fn judged(alloc: Global, top: &Topology, words: &str) -> Result<bool, Fail> {
     }
 }
 
+fn are_judged(alloc: Global, top: &Topology, rows: &[(&str, bool)]) -> Result<(), Fail> {
+    for (words, want) in rows {
+        if judged(alloc, top, words)? != *want {
+            return Err(Fail::new(*words));
+        }
+    }
+    Ok(())
+}
+
 #[test]
 fn what_a_hose_reserves_on_trees_of_a_star(rt: HostRuntime) -> Result<(), Fail> {
     let star = network(rt.alloc(), STAR)?;
-    for (words, want) in [
+    let rows = [
         ("ends a:3 b:4 c:5 links 0:3 1:4 2:5", true),
         ("ends a:9 b:1 c:1 links 0:2 1:1 2:1", true),
         ("ends a:3 b:3 links 0:3 1:3", true),
@@ -34,16 +45,14 @@ fn what_a_hose_reserves_on_trees_of_a_star(rt: HostRuntime) -> Result<(), Fail> 
         ("ends a:3 b:4 c:5 links 0:3 1:4", false),
         // A leaf is no endpoint.
         ("ends a:3 b:3 links 0:3 1:3 2:1", false),
-    ] {
-        assert_eq!(rt; judged(rt.alloc(), &star, words)?, want, "{words}");
-    }
-    Ok(())
+    ];
+    are_judged(rt.alloc(), &star, &rows)
 }
 
 #[test]
 fn what_a_hose_reserves_on_trees_of_a_ring(rt: HostRuntime) -> Result<(), Fail> {
     let ring = network(rt.alloc(), RING)?;
-    for (words, want) in [
+    let rows = [
         ("ends a:2 c:2 links 0:2 1:2", true),
         ("ends a:2 c:2 links 2:2 3:2", true),
         ("ends a:2 c:2 links 1:2 5:2", true),
@@ -53,38 +62,44 @@ fn what_a_hose_reserves_on_trees_of_a_ring(rt: HostRuntime) -> Result<(), Fail> 
         // There is a tree, and a cycle apart; or two trees.
         ("ends e:2 f:2 links 0:2 4:2 5:2", false),
         ("ends a:2 b:2 e:2 f:2 links 0:2 4:2", false),
-    ] {
-        assert_eq!(rt; judged(rt.alloc(), &ring, words)?, want, "{words}");
-    }
-    Ok(())
+    ];
+    are_judged(rt.alloc(), &ring, &rows)
 }
 
-// The same of a hose of two endpoints in a star. The proof of a test is quicker where the large
-// contract stands here.
+// The same of a hose of two endpoints in a star.
 fn is_reserved(alloc: Global, ends: &[Endpoint], amounts: &Amounts) -> Result<bool, Fail> {
     let star = network(alloc, STAR)?;
     let hose = Hose::build(alloc, ends)?;
     Ok(is_reservation(&star, &hose, amounts))
 }
 
+// Fails where a hose of the first two nodes reserves these amounts.
+fn is_not_reserved(alloc: Global, pairs: &[(u32, u64)]) -> Result<(), Fail>
+    requires { IsAscending pairs.now }
+{
+    let amounts = Amounts::build(alloc, pairs)?;
+    let is = is_reserved(alloc, &[(0, 3), (1, 3)], &amounts)?;
+    same(&is, &false)
+}
+
 #[test]
 fn amounts_on_no_link_one_too_many_and_one_that_is_not_there(rt: HostRuntime) -> Result<(), Fail> {
-    let alloc = rt.alloc();
-    let none = Amounts::build(alloc, &[])?;
-    let needless = Amounts::build(alloc, &[(0, 3), (1, 3), (2, 0)])?;
-    let beyond = Amounts::build(alloc, &[(0, 3), (1, 3), (3, 3)])?;
-    for amounts in [&none, &needless, &beyond] {
-        assert!(rt; !is_reserved(alloc, &[(0, 3), (1, 3)], amounts)?);
-    }
-    Ok(())
+    is_not_reserved(rt.alloc(), &[])?;
+    is_not_reserved(rt.alloc(), &[(0, 3), (1, 3), (2, 0)])?;
+    is_not_reserved(rt.alloc(), &[(0, 3), (1, 3), (3, 3)])
+}
+
+// Fails where the hose of a node and the first one is judged otherwise on the first link.
+fn is_joined(alloc: Global, node: u32, want: bool) -> Result<(), Fail> {
+    let amounts = Amounts::build(alloc, &[(0, 3)])?;
+    let is = is_reserved(alloc, &[(0, 3), (node, 3)], &amounts)?;
+    same(&is, &want)
 }
 
 #[test]
 fn an_endpoint_outside_the_network(rt: HostRuntime) -> Result<(), Fail> {
-    let amounts = Amounts::build(rt.alloc(), &[(0, 3)])?;
     for (node, want) in [(3, true), (4, false), (511, false)] {
-        let is = is_reserved(rt.alloc(), &[(0, 3), (node, 3)], &amounts)?;
-        assert_eq!(rt; is, want, "{node}");
+        is_joined(rt.alloc(), node, want)?;
     }
     Ok(())
 }

@@ -1,8 +1,10 @@
 // Link sets, hoses, networks, and copies of values.
-use crate::reading::{STAR, debugged, network};
-use hose_graph::{Amounts, Entry, Hose, HoseFault, Link, Name, NodeList, Topology, TopologyFault};
+use crate::reading::{STAR, is_copy, network, same, tells};
+use hose_graph::{
+    Amounts, Endpoint, Entry, Hose, HoseFault, Link, Name, NodeList, Topology, TopologyFault,
+};
 use hose_links::LinkSet;
-use std::alloc::{AllocError, Global};
+use std::alloc::Global;
 use std::test::Fail;
 
 fn of_three(links: &LinkSet) -> [bool; 3] {
@@ -12,58 +14,66 @@ fn of_three(links: &LinkSet) -> [bool; 3] {
     [links.has(0), links.has(1), links.has(2)]
 }
 
-#[test]
-fn three_links_go_in_and_out(rt: HostRuntime) -> Result<(), Fail> {
-    let mut links = LinkSet::new(rt.alloc(), 3)?;
+// Three links at first, with one put, filled but for that, as copied then, and with one cleared.
+fn changed(alloc: Global) -> Result<[[bool; 3]; 5], Fail> {
+    let mut links = LinkSet::new(alloc, 3)?;
     let at_first = of_three(&links);
     links.put(1);
     let one_put = of_three(&links);
     links.fill_where(|link| link != 1);
     let filled = of_three(&links);
-    let copy = links.copy(rt.alloc())?;
+    let copy = links.copy(alloc)?;
     let is_same = links.same(&copy);
     links.clear(0);
-    let one_cleared = of_three(&links);
-    for (what, is, want) in [
-        ("at first", at_first, [false, false, false]),
-        ("one put", one_put, [false, true, false]),
-        ("filled", filled, [true, false, true]),
-        ("copied", of_three(&copy), [true, false, true]),
-        ("one cleared", one_cleared, [false, false, true]),
-    ] {
-        assert_eq!(rt; is, want, "{what}");
+    if !is_same || links.same(&copy) {
+        return Err(Fail::from("same and other links"));
     }
-    assert!(rt; is_same && !links.same(&copy));
+    Ok([at_first, one_put, filled, of_three(&copy), of_three(&links)])
+}
+
+#[test]
+fn three_links_go_in_and_out(rt: HostRuntime) -> Result<(), Fail> {
+    let want = [
+        [false, false, false],
+        [false, true, false],
+        [true, false, true],
+        [true, false, true],
+        [false, false, true],
+    ];
+    assert!(rt; changed(rt.alloc())? == want);
     Ok(())
+}
+
+// Fails where a hose or its copy has other ends or another total.
+fn has_ends(alloc: Global, hose: &Hose, want: &str) -> Result<(), Fail> {
+    let copy = hose.copy(alloc)?;
+    tells(alloc, &(hose.ends(), hose.total()), want)?;
+    tells(alloc, &(copy.ends(), copy.total()), want)
 }
 
 #[test]
 fn a_hose_has_its_ends_in_order_and_their_total(rt: HostRuntime) -> Result<(), Fail> {
     let hose = Hose::build(rt.alloc(), &[(2, 5), (0, 3), (1, 4)])?;
-    for hose in [&hose, &hose.copy(rt.alloc())?] {
-        assert_eq!(rt; hose.ends(), [(0, 3), (1, 4), (2, 5)].as_slice());
-        assert_eq!(rt; hose.total(), 12);
-    }
-    Ok(())
+    has_ends(rt.alloc(), &hose, "([(0, 3), (1, 4), (2, 5)], 12)")
+}
+
+// Whether these endpoints are refused as a hose for this fault.
+fn is_refused(alloc: Global, ends: &[Endpoint], fault: HoseFault) -> bool {
+    Hose::build(alloc, ends).err() == Some(fault)
 }
 
 #[test]
 fn what_is_no_hose_is_refused_in_order(rt: HostRuntime) {
-    let many = [(600, 0); 65];
-    let table: [(&[(u32, u64)], HoseFault); 5] = [
-        (&many, HoseFault::Many),
-        (&[(0, 3)], HoseFault::Few),
-        (&[(0, 0), (1, 1)], HoseFault::Range),
-        (&[(512, 1), (512, 1)], HoseFault::Range),
-        (&[(0, 1), (0, 2)], HoseFault::Repeat),
-    ];
-    for (ends, fault) in table {
-        assert_eq!(rt;
-            Hose::build(rt.alloc(), ends).err(),
-            Some(fault),
-            "at {ends:?}"
-        );
-    }
+    let alloc = rt.alloc();
+    assert!(rt; is_refused(alloc, &[(600, 0); 65], HoseFault::Many));
+    assert!(rt; is_refused(alloc, &[(0, 3)], HoseFault::Few));
+    assert!(rt; is_refused(alloc, &[(0, 0), (1, 1)], HoseFault::Range));
+    assert!(rt; is_refused(alloc, &[(512, 1), (512, 1)], HoseFault::Range));
+    assert!(rt; is_refused(alloc, &[(0, 1), (0, 2)], HoseFault::Repeat));
+}
+
+fn add(top: &mut Topology, name: Name) -> Result<u32, TopologyFault> {
+    top.add_node(name)
 }
 
 // What comes of a link from the first node to itself.
@@ -77,17 +87,21 @@ fn add_loop(top: &mut Topology, capacity: u64) -> Result<u32, TopologyFault> {
     })
 }
 
-#[test]
-fn a_network_refuses_in_order(rt: HostRuntime) -> Result<(), Fail> {
-    let mut top = Topology::new(rt.alloc())?;
+// Adds to an empty network.
+fn refuses_in_order(top: &mut Topology) -> Result<(), Fail> {
     let name = Name::read(b"a").ok_or("no name")?;
     for want in [Ok(0), Err(TopologyFault::Repeat)] {
-        assert_eq!(rt; top.add_node(name), want);
+        same(&add(top, name), &want)?;
     }
     for (capacity, fault) in [(1, TopologyFault::Loop), (0, TopologyFault::Range)] {
-        assert_eq!(rt; add_loop(&mut top, capacity), Err(fault), "at {capacity}");
+        same(&add_loop(top, capacity), &Err(fault))?;
     }
     Ok(())
+}
+
+#[test]
+fn a_network_refuses_in_order(rt: HostRuntime) -> Result<(), Fail> {
+    refuses_in_order(&mut Topology::new(rt.alloc())?)
 }
 
 #[test]
@@ -99,27 +113,24 @@ fn names_are_read_and_compared(rt: HostRuntime) {
 }
 
 #[test]
-fn amounts_are_copied(rt: HostRuntime) -> Result<(), AllocError> {
+fn amounts_are_copied(rt: HostRuntime) -> Result<(), Fail> {
     let amounts = Amounts::build(rt.alloc(), &[(0, 3), (2, 5)])?;
     let copy = amounts.copy(rt.alloc())?;
-    assert_eq!(rt; copy.pairs(), [(0, 3), (2, 5)].as_slice());
-    Ok(())
+    tells(rt.alloc(), &copy.pairs(), "[(0, 3), (2, 5)]")
 }
 
 #[test]
-fn a_list_of_nodes_is_copied(rt: HostRuntime) -> Result<(), AllocError> {
+fn a_list_of_nodes_is_copied(rt: HostRuntime) -> Result<(), Fail> {
     let nodes = NodeList::build(rt.alloc(), &[0, 2])?;
     let copy = nodes.copy(rt.alloc())?;
-    assert_eq!(rt; copy.nodes(), [0, 2].as_slice());
-    Ok(())
+    tells(rt.alloc(), &copy.nodes(), "[0, 2]")
 }
 
 #[test]
 fn a_network_is_copied(rt: HostRuntime) -> Result<(), Fail> {
     let star = network(rt.alloc(), STAR)?;
     let copy = star.copy(rt.alloc())?;
-    assert_eq!(rt; debugged(rt.alloc(), &copy)?, debugged(rt.alloc(), &star)?);
-    Ok(())
+    is_copy(rt.alloc(), &star, &copy)
 }
 
 // The admission of a hose of three endpoints.
@@ -136,6 +147,5 @@ fn admission(alloc: Global) -> Result<Entry, Fail> {
 fn an_entry_is_copied(rt: HostRuntime) -> Result<(), Fail> {
     let entry = admission(rt.alloc())?;
     let copy = entry.copy(rt.alloc())?;
-    assert_eq!(rt; debugged(rt.alloc(), &copy)?, debugged(rt.alloc(), &entry)?);
-    Ok(())
+    is_copy(rt.alloc(), &entry, &copy)
 }

@@ -36,7 +36,41 @@ pub fn debugged<T: Debug>(alloc: Global, value: &T) -> Result<String, AllocError
     format!(in alloc; "{value:?}")
 }
 
-/// The next line of a reader, as it is printed for those who look for faults.
-pub fn next_line(alloc: Global, lines: &mut LineReader<MemSource>) -> Result<String, AllocError> {
-    debugged(alloc, &lines.next())
+/// Fails where a value is another one. A test that calls such a function is proved sooner than one
+/// that asserts.
+pub fn same<T: PartialEq + Debug>(got: &T, want: &T) -> Result<(), Fail> {
+    if *got != *want {
+        return Err(Fail::new(format_args!("{got:?} in place of {want:?}")));
+    }
+    Ok(())
+}
+
+/// Fails where a value is printed otherwise for those who look for faults.
+pub fn tells<T: Debug>(alloc: Global, value: &T, want: &str) -> Result<(), Fail> {
+    is_text(debugged(alloc, value)?.as_str(), want)
+}
+
+/// Fails where a text is another one.
+pub fn is_text(got: &str, want: &str) -> Result<(), Fail> {
+    if got != want {
+        return Err(Fail::new(format_args!("{got} in place of {want}")));
+    }
+    Ok(())
+}
+
+/// Fails where a value and its copy are printed otherwise.
+pub fn is_copy<T: Debug>(alloc: Global, value: &T, copy: &T) -> Result<(), Fail> {
+    tells(alloc, copy, debugged(alloc, value)?.as_str())
+}
+
+/// Fails where the next lines of a reader are printed otherwise.
+pub fn next_tell(
+    alloc: Global,
+    lines: &mut LineReader<MemSource>,
+    wants: &[&str],
+) -> Result<(), Fail> {
+    for want in wants {
+        tells(alloc, &lines.next(), want)?;
+    }
+    Ok(())
 }

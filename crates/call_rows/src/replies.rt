@@ -1,6 +1,8 @@
 // Lines that are read as replies and written again, and the first word where they are none.
-use crate::reading::{STAR, debugged, network};
-use hose_graph::Topology;
+ghost use Rattle.hose_graph.specs.Naming.{NamesPlaces};
+
+use crate::reading::{STAR, network, same, tells};
+use hose_graph::{Reply, Topology};
 use hose_io::{Failed, MemSink};
 use hose_proto::{ReadFault, put_reply, read_reply};
 use std::alloc::Global;
@@ -48,18 +50,37 @@ const REPLIES: [(&str, &str); 18] = [
     ("bye\n", "Bye"),
 ];
 
+// Fails where a reply is written otherwise.
+fn is_written(alloc: Global, top: &Topology, reply: &Reply, line: &str) -> Result<(), Fail>
+    requires { NamesPlaces top.now reply.now }
+{
+    let mut sink = MemSink::new(alloc)?;
+    put_reply(&mut sink, top, reply)?;
+    if sink.bytes() != line.as_bytes() {
+        return Err(Fail::new(line));
+    }
+    Ok(())
+}
+
+// Fails where a line is read as another reply, or written otherwise.
+fn goes_round(alloc: Global, top: &Topology, line: &str, want: &str) -> Result<(), Fail> {
+    let text = line.strip_suffix('\n').ok_or("no line")?;
+    let reply = read_reply(alloc, top, text.as_bytes())?;
+    tells(alloc, &reply, want)?;
+    is_written(alloc, top, &reply, line)
+}
+
+fn go_round(alloc: Global, star: &Topology, rows: &[(&str, &str)]) -> Result<(), Fail> {
+    for (line, want) in rows {
+        goes_round(alloc, star, line, want)?;
+    }
+    Ok(())
+}
+
 #[test]
 fn each_reply_is_read_and_written_again(rt: HostRuntime) -> Result<(), Fail> {
     let star = network(rt.alloc(), STAR)?;
-    for (line, want) in REPLIES {
-        let text = line.strip_suffix('\n').ok_or("no line")?;
-        let reply = read_reply(rt.alloc(), &star, text.as_bytes())?;
-        assert_eq!(rt; debugged(rt.alloc(), &reply)?.as_str(), want);
-        let mut sink = MemSink::new(rt.alloc())?;
-        put_reply(&mut sink, &star, &reply)?;
-        assert_eq!(rt; sink.bytes(), line.as_bytes());
-    }
-    Ok(())
+    go_round(rt.alloc(), &star, &REPLIES)
 }
 
 // Lines that are no reply, and the number of their first wrong word.
@@ -102,17 +123,17 @@ fn wrong_word(alloc: Global, top: &Topology, line: &str) -> Option<u64> {
     }
 }
 
+fn are_wrong(alloc: Global, star: &Topology, rows: &[(&str, u64)]) -> Result<(), Fail> {
+    for (line, word) in rows {
+        same(&wrong_word(alloc, star, line), &Some(*word))?;
+    }
+    Ok(())
+}
+
 #[test]
 fn the_first_wrong_word_of_a_reply_is_told(rt: HostRuntime) -> Result<(), Fail> {
     let star = network(rt.alloc(), STAR)?;
-    for (line, word) in WRONG {
-        assert_eq!(rt;
-            wrong_word(rt.alloc(), &star, line),
-            Some(word),
-            "at {line:?}"
-        );
-    }
-    Ok(())
+    are_wrong(rt.alloc(), &star, &WRONG)
 }
 
 // The texts of a network of 65 nodes, and of a reply with all of them.
@@ -127,12 +148,16 @@ fn many_endpoints(alloc: Global) -> Result<(String, String), Fail> {
     Ok((network, reply))
 }
 
+fn wrong_word_of(alloc: Global, network_text: &str, reply: &str) -> Result<Option<u64>, Fail> {
+    let top = network(alloc, network_text)?;
+    Ok(wrong_word(alloc, &top, reply))
+}
+
 #[test]
 fn a_reply_has_at_most_64_endpoints(rt: HostRuntime) -> Result<(), Fail> {
     let (text, reply) = many_endpoints(rt.alloc())?;
-    let top = network(rt.alloc(), text.as_str())?;
-    assert_eq!(rt; wrong_word(rt.alloc(), &top, reply.as_str()), Some(72));
-    Ok(())
+    let word = wrong_word_of(rt.alloc(), text.as_str(), reply.as_str())?;
+    same(&word, &Some(72))
 }
 
 // The texts of a network of 200 links, and of a reply of 4,919 bytes with all of them.
@@ -158,6 +183,10 @@ fn put_many_links(alloc: Global, failing: u64) -> Result<(Result<(), Failed>, us
     Ok((result, sink.bytes().len()))
 }
 
+fn is_put(alloc: Global, failing: u64, want: (Result<(), Failed>, usize)) -> Result<(), Fail> {
+    same(&put_many_links(alloc, failing)?, &want)
+}
+
 #[test]
 fn a_long_reply_goes_out_in_pieces(rt: HostRuntime) -> Result<(), Fail> {
     for (failing, want) in [
@@ -165,7 +194,7 @@ fn a_long_reply_goes_out_in_pieces(rt: HostRuntime) -> Result<(), Fail> {
         (2, (Err(Failed), 4_094)),
         (3, (Ok(()), 4_919)),
     ] {
-        assert_eq!(rt; put_many_links(rt.alloc(), failing)?, want, "at {failing}");
+        is_put(rt.alloc(), failing, want)?;
     }
     Ok(())
 }

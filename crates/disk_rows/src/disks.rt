@@ -1,6 +1,7 @@
 // Disks in memory: writes and cuts at each place, calls that fail, and what a stop then leaves.
 //
 // Bytes that a disk holds are told as the digits of a number, as 134 for 1, 3 and 4, and none as 0.
+use crate::spellings::same;
 use hose_disk::{Disk, DiskCall, Failed, MemDisk, Pick};
 use std::alloc::{AllocError, Global};
 use std::test::Fail;
@@ -34,17 +35,28 @@ fn all_left(alloc: Global, disk: &MemDisk, calls: u64) -> Result<[u64; 3], Fail>
     ])
 }
 
+// A disk whose first write failed.
+fn failed(alloc: Global) -> Result<MemDisk, Fail> {
+    let mut disk = MemDisk::new(alloc)?;
+    disk.fail(alloc, DiskCall::Write, 1)?;
+    if disk.write_at(0, &[1, 2]).is_ok() || disk.faults() != 1 {
+        return Err("written".into());
+    }
+    Ok(disk)
+}
+
+// How long the disk is after a sync, how many calls failed and found no memory, and all calls.
+fn synced(disk: &mut MemDisk) -> Result<(u64, [u64; 3]), Failed> {
+    disk.sync()?;
+    let len = disk.len()?;
+    Ok((len, [disk.faults(), disk.starved(), disk.calls()]))
+}
+
 #[test]
 fn a_write_that_fails_is_begun_and_lost(rt: HostRuntime) -> Result<(), Fail> {
-    let mut disk = MemDisk::new(rt.alloc())?;
-    disk.fail(rt.alloc(), DiskCall::Write, 1)?;
-    assert_eq!(rt; disk.write_at(0, &[1, 2]), Err(Failed));
-    assert_eq!(rt; disk.faults(), 1);
-    assert_eq!(rt; all_left(rt.alloc(), &disk, 1)?, [0, 0, 99]);
-    assert_eq!(rt; disk.sync(), Ok(()));
-    assert_eq!(rt; disk.len(), Ok(0));
-    assert_eq!(rt; (disk.faults(), disk.starved(), disk.calls()), (1, 0, 3));
-    Ok(())
+    let mut disk = failed(rt.alloc())?;
+    same(&all_left(rt.alloc(), &disk, 1)?, &[0, 0, 99])?;
+    same(&synced(&mut disk), &Ok((0, [1, 0, 3])))
 }
 
 // Writes where the place lies within the disk, after its length was asked.
@@ -65,17 +77,20 @@ fn cut(disk: &mut MemDisk, to: u64) {
     }
 }
 
-// What a disk of the bytes 1, 2 and 3 holds after a write.
-fn written(alloc: Global, at: u64, bytes: &[u8]) -> Result<u64, Fail> {
+// What a disk of the bytes 1, 2 and 3 holds after a write of so many of 4, 5, 6 and 7.
+fn written(alloc: Global, at: u64, count: usize) -> Result<u64, Fail> {
     let mut disk = MemDisk::new(alloc)?;
     write(&mut disk, 0, &[1, 2, 3]);
-    write(&mut disk, at, bytes);
+    write(&mut disk, at, [4, 5, 6, 7].get(..count).unwrap_or(&[]));
     Ok(held(&mut disk)?)
+}
+
+fn is_written(alloc: Global, at: u64, count: usize, want: u64) -> Result<(), Fail> {
+    same(&(at, count, written(alloc, at, count)?), &(at, count, want))
 }
 
 #[test]
 fn a_write_changes_its_range_alone(rt: HostRuntime) -> Result<(), Fail> {
-    let bytes = [4, 5, 6, 7];
     for (at, count, want) in [
         (0, 0, 123),
         (0, 1, 423),
@@ -85,11 +100,7 @@ fn a_write_changes_its_range_alone(rt: HostRuntime) -> Result<(), Fail> {
         (3, 0, 123),
         (0, 4, 4567),
     ] {
-        assert_eq!(rt;
-            written(rt.alloc(), at, &bytes[..count])?,
-            want,
-            "{count} at {at}"
-        );
+        is_written(rt.alloc(), at, count, want)?;
     }
     Ok(())
 }
@@ -102,10 +113,14 @@ fn cut_to(alloc: Global, len: u64) -> Result<u64, Fail> {
     Ok(held(&mut disk)?)
 }
 
+fn is_cut(alloc: Global, len: u64, want: u64) -> Result<(), Fail> {
+    same(&(len, cut_to(alloc, len)?), &(len, want))
+}
+
 #[test]
 fn a_cut_keeps_the_front(rt: HostRuntime) -> Result<(), Fail> {
     for (len, want) in [(0, 0), (1, 1), (2, 12), (3, 123)] {
-        assert_eq!(rt; cut_to(rt.alloc(), len)?, want);
+        is_cut(rt.alloc(), len, want)?;
     }
     Ok(())
 }
@@ -129,6 +144,11 @@ fn after_calls(alloc: Global, kind: DiskCall, nth: u64, calls: u64) -> Result<[u
     all_left(alloc, &disk, calls)
 }
 
+fn leaves(alloc: Global, kind: DiskCall, nth: u64, calls: u64, want: [u64; 3]) -> Result<(), Fail> {
+    let got = after_calls(alloc, kind, nth, calls)?;
+    same(&(kind, nth, calls, got), &(kind, nth, calls, want))
+}
+
 #[test]
 fn a_stop_leaves_what_its_pick_names(rt: HostRuntime) -> Result<(), Fail> {
     for (kind, nth, calls, want) in [
@@ -148,8 +168,7 @@ fn a_stop_leaves_what_its_pick_names(rt: HostRuntime) -> Result<(), Fail> {
         (DiskCall::Cut, 1, 7, [134, 12, 199]),
         (DiskCall::Cut, 1, 9, [154, 12, 199]),
     ] {
-        let got = after_calls(rt.alloc(), kind, nth, calls)?;
-        assert_eq!(rt; got, want, "{kind:?} {nth}, after {calls}");
+        leaves(rt.alloc(), kind, nth, calls, want)?;
     }
     Ok(())
 }

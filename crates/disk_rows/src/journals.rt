@@ -4,7 +4,7 @@ ghost use Rattle.std.specs.Prelude.{[], None, List, ℕ, IfOk};
 ghost use Rattle.hose_disk.specs.contracts.mem_disk.MemDiskDisk.TheImpl.{ghosts};
 ghost use Rattle.hose_journal.specs.Journal.{Stands};
 
-use crate::spellings::{ADMISSION, RELEASE, admission_of, edited};
+use crate::spellings::{ADMISSION, RELEASE, admission_of, edited, same};
 use hose_codec::decode;
 use hose_disk::{Disk, DiskCall, Failed, MemDisk, Pick};
 use hose_journal::{Journal, JournalFault, open, ready};
@@ -73,23 +73,32 @@ fn most(alloc: Global, disk: &MemDisk) -> Result<u32, Fail> {
     Ok(most)
 }
 
+// The disk after a journal was opened on it.
+fn opened(alloc: Global, disk: MemDisk) -> Result<MemDisk, Fail> {
+    match open(alloc, disk, DIGEST) {
+        Ok(reading) => Ok(reading.stop()),
+        Err(_) => Err("refused".into()),
+    }
+}
+
 #[test]
 fn an_opening_that_is_stopped_leaves_no_entry(rt: HostRuntime) -> Result<(), Fail> {
-    let Ok(reading) = open(rt.alloc(), MemDisk::new(rt.alloc())?, DIGEST) else {
-        return Err("refused".into());
-    };
-    let disk = reading.stop();
-    assert_eq!(rt; most(rt.alloc(), &disk)?, 0);
-    Ok(())
+    let disk = opened(rt.alloc(), MemDisk::new(rt.alloc())?)?;
+    same(&most(rt.alloc(), &disk)?, &0)
+}
+
+// How long a disk is, how many entries a stop leaves at most, and how many are read.
+fn figures(alloc: Global, disk: MemDisk) -> Result<(u64, u32, u32), Fail> {
+    let mut disk = disk;
+    let len = disk.len()?;
+    let most = most(alloc, &disk)?;
+    Ok((len, most, entries(alloc, disk)?))
 }
 
 #[test]
 fn an_append_that_is_stopped_leaves_an_entry_or_none(rt: HostRuntime) -> Result<(), Fail> {
-    let mut disk = appended(rt.alloc(), MemDisk::new(rt.alloc())?, &ADMISSION)?;
-    assert_eq!(rt; disk.len(), Ok(89));
-    assert_eq!(rt; most(rt.alloc(), &disk)?, 1);
-    assert_eq!(rt; entries(rt.alloc(), disk), Ok(1));
-    Ok(())
+    let disk = appended(rt.alloc(), MemDisk::new(rt.alloc())?, &ADMISSION)?;
+    same(&figures(rt.alloc(), disk)?, &(89, 1, 1))
 }
 
 // Whether a release is in doubt whose append had the nth call of a kind fail, and the disk after an
@@ -107,6 +116,12 @@ fn appended_after(alloc: Global, kind: DiskCall, nth: u64) -> Result<(bool, MemD
     Ok((doubt, journal.stop()))
 }
 
+fn stands_alone(alloc: Global, kind: DiskCall, nth: u64, in_doubt: bool) -> Result<(), Fail> {
+    let (doubt, disk) = appended_after(alloc, kind, nth)?;
+    same(&(kind, nth, doubt), &(kind, nth, in_doubt))?;
+    same(&figures(alloc, disk)?, &(89, 1, 1))
+}
+
 // The beginning of a journal makes three writes and five syncs with that of its opening.
 #[test]
 fn an_append_after_one_that_failed_stands_alone(rt: HostRuntime) -> Result<(), Fail> {
@@ -116,11 +131,7 @@ fn an_append_after_one_that_failed_stands_alone(rt: HostRuntime) -> Result<(), F
         (DiskCall::Write, 5, true),
         (DiskCall::Sync, 7, true),
     ] {
-        let (doubt, mut disk) = appended_after(rt.alloc(), kind, nth)?;
-        assert_eq!(rt; doubt, in_doubt, "{kind:?} {nth}");
-        assert_eq!(rt; disk.len(), Ok(89), "{kind:?} {nth}");
-        assert_eq!(rt; most(rt.alloc(), &disk)?, 1, "{kind:?} {nth}");
-        assert_eq!(rt; entries(rt.alloc(), disk), Ok(1), "{kind:?} {nth}");
+        stands_alone(rt.alloc(), kind, nth, in_doubt)?;
     }
     Ok(())
 }
@@ -144,6 +155,11 @@ fn read(alloc: Global, bytes: &[u8]) -> Result<Result<u32, JournalFault>, Fail> 
     Ok(entries(alloc, disk))
 }
 
+// Fails where it is read as something else.
+fn is_read(alloc: Global, bytes: &[u8], want: Result<u32, JournalFault>) -> Result<(), Fail> {
+    same(&(bytes.len(), read(alloc, bytes)?), &(bytes.len(), want))
+}
+
 const fn damaged(at: u64) -> Result<u32, JournalFault> {
     Err(JournalFault::Damaged { at })
 }
@@ -157,8 +173,7 @@ fn a_journal_that_was_cut_is_damaged_at_its_last_gate(rt: HostRuntime) -> Result
         (69, 70, Ok(2)),
     ] {
         for len in from..to {
-            let front = &TWO[..TWO.len().min(len)];
-            assert_eq!(rt; read(rt.alloc(), front)?, want, "{len} bytes");
+            is_read(rt.alloc(), &TWO[..TWO.len().min(len)], want)?;
         }
     }
     Ok(())
@@ -176,6 +191,23 @@ fn turned(
 
 const BITS: [u8; 8] = [1, 2, 4, 8, 16, 32, 64, 128];
 
+// Fails where with any bit of a byte turned it is read as neither of these.
+fn are_turned(
+    alloc: Global,
+    place: usize,
+    byte: u8,
+    want: Result<u32, JournalFault>,
+    or: Result<u32, JournalFault>,
+) -> Result<(), Fail> {
+    for bit in BITS {
+        let got = turned(alloc, place, byte, bit)?;
+        if got != want {
+            same(&(place, bit, got), &(place, bit, or))?;
+        }
+    }
+    Ok(())
+}
+
 // Of a spelling some bits make the spelling of another entry.
 #[test]
 fn a_turned_bit_is_told_at_its_place(rt: HostRuntime) -> Result<(), Fail> {
@@ -191,44 +223,53 @@ fn a_turned_bit_is_told_at_its_place(rt: HostRuntime) -> Result<(), Fail> {
         (68, 1, damaged(68), Ok(2)),
     ] {
         for (place, byte) in TWO.iter().enumerate().skip(from).take(count) {
-            for bit in BITS {
-                let got = turned(rt.alloc(), place, *byte, bit)?;
-                assert!(rt; got == want || got == or, "{got:?} with {bit} at {place}");
-            }
+            are_turned(rt.alloc(), place, *byte, want, or)?;
         }
     }
     Ok(())
+}
+
+// The two digests that are told where a bit of that of the journal is turned.
+fn turned_digest(alloc: Global, place: usize, bit: u8) -> Result<[[u8; 32]; 2], Fail> {
+    match turned(alloc, place.saturating_add(6), 7, bit)? {
+        Err(JournalFault::Other { kept, given }) => Ok([kept, given]),
+        _ => Err("the same digest".into()),
+    }
+}
+
+fn is_told(alloc: Global, place: usize, bit: u8) -> Result<(), Fail> {
+    let want = [edited(DIGEST, place, &[7 ^ bit]), DIGEST];
+    same(&turned_digest(alloc, place, bit)?, &want)
 }
 
 #[test]
 fn a_turned_bit_of_the_digest_makes_another_journal(rt: HostRuntime) -> Result<(), Fail> {
     for place in 0..32 {
         for bit in BITS {
-            let other = JournalFault::Other {
-                kept: edited(DIGEST, place, &[7 ^ bit]),
-                given: DIGEST,
-            };
-            let got = turned(rt.alloc(), place + 6, 7, bit)?;
-            assert_eq!(rt; got, Err(other), "{bit} at {place}");
+            is_told(rt.alloc(), place, bit)?;
         }
     }
     Ok(())
 }
 
+// Fails where the longest admission is read as something else after this length.
+fn is_read_with(alloc: Global, len: u32, want: Result<u32, JournalFault>) -> Result<(), Fail> {
+    let mut bytes = TWO[..39].to_vec(alloc)?;
+    bytes.extend_from_slice(&len.to_be_bytes())?;
+    bytes.extend_from_slice(&admission_of(alloc, 16, 64, 511)?)?;
+    bytes.extend_from_slice(&[0, 0])?;
+    is_read(alloc, &bytes, want)
+}
+
 #[test]
 fn a_length_is_that_of_the_record(rt: HostRuntime) -> Result<(), Fail> {
-    let body = admission_of(rt.alloc(), 16, 64, 511)?;
     for (len, want) in [
-        (0u32, damaged(38)),
+        (0, damaged(38)),
         (3_471, Ok(1)),
         (3_472, damaged(38)),
         (4_294_967_295, damaged(38)),
     ] {
-        let mut bytes = TWO[..39].to_vec(rt.alloc())?;
-        bytes.extend_from_slice(&len.to_be_bytes())?;
-        bytes.extend_from_slice(&body)?;
-        bytes.extend_from_slice(&[0, 0])?;
-        assert_eq!(rt; read(rt.alloc(), &bytes)?, want, "{len}");
+        is_read_with(rt.alloc(), len, want)?;
     }
     Ok(())
 }

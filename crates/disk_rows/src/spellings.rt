@@ -2,7 +2,17 @@
 use hose_codec::{CodecFault, decode, encode};
 use hose_graph::{Amounts, Entry, Hose, Name};
 use std::alloc::{AllocError, Global};
+use std::fmt::Debug;
 use std::test::Fail;
+
+// Fails where a value is another one. A test that calls such a function is proved sooner than one
+// that asserts.
+pub(crate) fn same<T: PartialEq + Debug>(got: &T, want: &T) -> Result<(), Fail> {
+    if *got != *want {
+        return Err(Fail::new(format_args!("{got:?} in place of {want:?}")));
+    }
+    Ok(())
+}
 
 // What acme's hose with 3 at node 0, 4 at node 1 and 5 at node 2 reserves on a star.
 pub(crate) const ADMISSION: [u8; 45] = [
@@ -19,10 +29,10 @@ pub(crate) const ADMISSION: [u8; 45] = [
 // The release of VPN 1 by acme.
 pub(crate) const RELEASE: [u8; 10] = [0x02, 0x04, 0x61, 0x63, 0x6d, 0x65, 0x00, 0x00, 0x00, 0x01];
 
-fn admission(alloc: Global, customer: Name) -> Result<Entry, Fail> {
+fn admission(alloc: Global) -> Result<Entry, Fail> {
     let pairs = [(0, 3), (1, 4), (2, 5)];
     Ok(Entry::Admit {
-        customer,
+        customer: Name::read(b"acme").ok_or("a name")?,
         hose: Hose::build(alloc, &pairs)?,
         amounts: Amounts::build(alloc, &pairs)?,
     })
@@ -39,14 +49,19 @@ fn spells(alloc: Global, bytes: &[u8], entry: &Entry) -> Result<bool, Fail> {
     Ok(is_same && encode(alloc, &read)?.as_slice() == bytes)
 }
 
+fn spells_admission(alloc: Global) -> Result<bool, Fail> {
+    spells(alloc, &ADMISSION, &admission(alloc)?)
+}
+
+fn spells_release(alloc: Global) -> Result<bool, Fail> {
+    let customer = Name::read(b"acme").ok_or("a name")?;
+    spells(alloc, &RELEASE, &Entry::Release { customer, id: 1 })
+}
+
 #[test]
 fn entries_are_spelled_and_read_again(rt: HostRuntime) -> Result<(), Fail> {
-    let customer = Name::read(b"acme").ok_or("a name")?;
-    let admission = admission(rt.alloc(), customer)?;
-    let release = Entry::Release { customer, id: 1 };
-    assert!(rt; spells(rt.alloc(), &ADMISSION, &admission)?);
-    assert!(rt; spells(rt.alloc(), &RELEASE, &release)?);
-    Ok(())
+    same(&spells_admission(rt.alloc())?, &true)?;
+    same(&spells_release(rt.alloc())?, &true)
 }
 
 // Whether bytes are the spelling of an entry, and whether of the one as which they are read.
@@ -79,136 +94,140 @@ pub(crate) fn edited<const N: usize>(spelling: [u8; N], place: usize, bytes: &[u
     spelling
 }
 
+// Fails where a spelling is another one with these bytes at a place.
+fn is_judged<const N: usize>(
+    alloc: Global,
+    spelling: [u8; N],
+    place: usize,
+    bytes: &[u8],
+    want: Verdict,
+) -> Result<(), Fail> {
+    let got = judge(alloc, &edited(spelling, place, bytes))?;
+    same(&(got, bytes), &(want, bytes))
+}
+
+// The same with a number of so many bytes.
+fn is_judged_with<const N: usize>(
+    alloc: Global,
+    spelling: [u8; N],
+    place: usize,
+    len: usize,
+    number: u32,
+    want: Verdict,
+) -> Result<(), Fail> {
+    let bytes = number.to_be_bytes();
+    let bytes = bytes.get(4usize.saturating_sub(len)..).unwrap_or(&[]);
+    is_judged(alloc, spelling, place, bytes, want)
+}
+
 #[test]
 fn numbers_are_read_within_their_ranges(rt: HostRuntime) -> Result<(), Fail> {
-    let table: [(&str, usize, &[u8], Verdict); 14] = [
-        ("the kind 0", 0, &[0x00], Verdict::Bad),
-        ("the kind of a release", 0, &[0x02], Verdict::Bad),
-        ("the kind 3", 0, &[0x03], Verdict::Bad),
-        ("the node 511", 19, &[0x01, 0xff], Verdict::Spelling),
-        ("the node 512", 19, &[0x02, 0x00], Verdict::Bad),
-        ("the rate 0", 21, &[0x00, 0x00, 0x00, 0x00], Verdict::Bad),
-        (
-            "the rate 1",
-            21,
-            &[0x00, 0x00, 0x00, 0x01],
-            Verdict::Spelling,
-        ),
-        (
-            "the rate 1,000,000",
-            21,
-            &[0x00, 0x0f, 0x42, 0x40],
-            Verdict::Spelling,
-        ),
-        (
-            "the rate 1,000,001",
-            21,
-            &[0x00, 0x0f, 0x42, 0x41],
-            Verdict::Bad,
-        ),
-        ("the link 2,047", 39, &[0x07, 0xff], Verdict::Spelling),
-        ("the link 2,048", 39, &[0x08, 0x00], Verdict::Bad),
-        ("the amount 0", 41, &[0x00, 0x00, 0x00, 0x00], Verdict::Bad),
-        (
-            "the amount 32,000,000",
-            41,
-            &[0x01, 0xe8, 0x48, 0x00],
-            Verdict::Spelling,
-        ),
-        (
-            "the amount 32,000,001",
-            41,
-            &[0x01, 0xe8, 0x48, 0x01],
-            Verdict::Bad,
-        ),
-    ];
-    for (what, place, bytes, want) in table {
-        let spelling = edited(ADMISSION, place, bytes);
-        assert_eq!(rt; judge(rt.alloc(), &spelling)?, want, "{what}");
+    for (place, len, number, want) in [
+        // The kind, of which 2 is that of a release.
+        (0, 1, 0, Verdict::Bad),
+        (0, 1, 2, Verdict::Bad),
+        (0, 1, 3, Verdict::Bad),
+        // A node.
+        (19, 2, 511, Verdict::Spelling),
+        (19, 2, 512, Verdict::Bad),
+        // A rate.
+        (21, 4, 0, Verdict::Bad),
+        (21, 4, 1, Verdict::Spelling),
+        (21, 4, 1_000_000, Verdict::Spelling),
+        (21, 4, 1_000_001, Verdict::Bad),
+        // A link.
+        (39, 2, 2_047, Verdict::Spelling),
+        (39, 2, 2_048, Verdict::Bad),
+        // An amount.
+        (41, 4, 0, Verdict::Bad),
+        (41, 4, 32_000_000, Verdict::Spelling),
+        (41, 4, 32_000_001, Verdict::Bad),
+    ] {
+        is_judged_with(rt.alloc(), ADMISSION, place, len, number, want)?;
     }
     Ok(())
 }
 
 #[test]
 fn releases_are_read_within_their_ranges(rt: HostRuntime) -> Result<(), Fail> {
-    let table: [(&str, usize, &[u8], Verdict); 16] = [
-        ("the VPN 0", 6, &[0x00, 0x00, 0x00, 0x00], Verdict::Spelling),
-        (
-            "the VPN 4,000,000,000",
-            6,
-            &[0xee, 0x6b, 0x28, 0x00],
-            Verdict::Spelling,
-        ),
-        (
-            "the VPN 4,000,000,001",
-            6,
-            &[0xee, 0x6b, 0x28, 0x01],
-            Verdict::Bad,
-        ),
-        ("the kind of an admission", 0, &[0x01], Verdict::Bad),
-        ("a name with a", 2, b"a", Verdict::Spelling),
-        ("a name with z", 2, b"z", Verdict::Spelling),
-        ("a name with 0", 2, b"0", Verdict::Spelling),
-        ("a name with 9", 2, b"9", Verdict::Spelling),
-        ("a name with -", 2, b"-", Verdict::Spelling),
-        ("before a", 2, b"`", Verdict::Bad),
-        ("after z", 2, b"{", Verdict::Bad),
-        ("before 0, and after .", 2, b"/", Verdict::Bad),
-        ("after 9", 2, b":", Verdict::Bad),
-        ("before -", 2, b",", Verdict::Bad),
-        ("after -", 2, b".", Verdict::Bad),
-        ("a capital letter", 2, b"A", Verdict::Bad),
-    ];
-    for (what, place, bytes, want) in table {
-        let spelling = edited(RELEASE, place, bytes);
-        assert_eq!(rt; judge(rt.alloc(), &spelling)?, want, "{what}");
+    for (place, len, number, want) in [
+        // The VPN.
+        (6, 4, 0, Verdict::Spelling),
+        (6, 4, 4_000_000_000, Verdict::Spelling),
+        (6, 4, 4_000_000_001, Verdict::Bad),
+        // The kind of an admission.
+        (0, 1, 1, Verdict::Bad),
+    ] {
+        is_judged_with(rt.alloc(), RELEASE, place, len, number, want)?;
     }
     Ok(())
 }
 
 #[test]
-fn nodes_and_links_ascend(rt: HostRuntime) -> Result<(), Fail> {
-    let table: [(&str, usize, &[u8]); 6] = [
-        ("a node twice", 13, &[0x00, 0x00]),
-        ("a node after a greater one", 13, &[0x00, 0x03]),
-        (
-            "the two first links exchanged",
-            27,
-            &[
-                0x00, 0x01, 0x00, 0x00, 0x00, 0x04, //
-                0x00, 0x00, 0x00, 0x00, 0x00, 0x03,
-            ],
-        ),
-        (
-            "the two first nodes exchanged",
-            7,
-            &[
-                0x00, 0x01, 0x00, 0x00, 0x00, 0x04, //
-                0x00, 0x00, 0x00, 0x00, 0x00, 0x03,
-            ],
-        ),
-        ("a link twice", 33, &[0x00, 0x00]),
-        ("a link after a greater one", 33, &[0x00, 0x03]),
-    ];
-    for (what, place, bytes) in table {
-        let spelling = edited(ADMISSION, place, bytes);
-        assert_eq!(rt; judge(rt.alloc(), &spelling)?, Verdict::Bad, "{what}");
+fn the_bytes_of_a_name_are_in_their_ranges(rt: HostRuntime) -> Result<(), Fail> {
+    for (byte, want) in [
+        (b'a', Verdict::Spelling),
+        (b'z', Verdict::Spelling),
+        (b'0', Verdict::Spelling),
+        (b'9', Verdict::Spelling),
+        (b'-', Verdict::Spelling),
+        // Before a and after z.
+        (b'`', Verdict::Bad),
+        (b'{', Verdict::Bad),
+        // Before 0 and after 9.
+        (b'/', Verdict::Bad),
+        (b':', Verdict::Bad),
+        // Before and after -.
+        (b',', Verdict::Bad),
+        (b'.', Verdict::Bad),
+        (b'A', Verdict::Bad),
+    ] {
+        is_judged(rt.alloc(), RELEASE, 2, &[byte], want)?;
     }
     Ok(())
+}
+
+// The first two endpoints or links, exchanged.
+const EXCHANGED: [u8; 12] = [
+    0x00, 0x01, 0x00, 0x00, 0x00, 0x04, //
+    0x00, 0x00, 0x00, 0x00, 0x00, 0x03,
+];
+
+#[test]
+fn nodes_and_links_ascend(rt: HostRuntime) -> Result<(), Fail> {
+    for place in [7, 27] {
+        is_judged(rt.alloc(), ADMISSION, place, &EXCHANGED, Verdict::Bad)?;
+    }
+    for (place, number) in [
+        // A node twice, and one after a greater one.
+        (13, 0),
+        (13, 3),
+        // A link twice, and one after a greater one.
+        (33, 0),
+        (33, 3),
+    ] {
+        is_judged_with(rt.alloc(), ADMISSION, place, 2, number, Verdict::Bad)?;
+    }
+    Ok(())
+}
+
+// Fails where a front of the spelling, or it and a byte, is not bad.
+fn is_bad_but_whole(alloc: Global, spelling: &[u8]) -> Result<(), Fail> {
+    for len in 0..spelling.len() {
+        same(
+            &(len, judge(alloc, &spelling[..len])?),
+            &(len, Verdict::Bad),
+        )?;
+    }
+    let mut longer = spelling.to_vec(alloc)?;
+    longer.push(0)?;
+    same(&judge(alloc, &longer)?, &Verdict::Bad)
 }
 
 #[test]
 fn shorter_and_longer_bytes_are_bad(rt: HostRuntime) -> Result<(), Fail> {
-    for spelling in [ADMISSION.as_slice(), RELEASE.as_slice()] {
-        for len in 0..spelling.len() {
-            let front = &spelling[..len];
-            assert_eq!(rt; judge(rt.alloc(), front)?, Verdict::Bad, "of {len} bytes");
-        }
-        let mut longer = spelling.to_vec(rt.alloc())?;
-        longer.push(0)?;
-        assert_eq!(rt; judge(rt.alloc(), &longer)?, Verdict::Bad);
-    }
-    Ok(())
+    is_bad_but_whole(rt.alloc(), &ADMISSION)?;
+    is_bad_but_whole(rt.alloc(), &RELEASE)
 }
 
 // An admission with a name of so many bytes, so many endpoints, and so many links, each as late in
@@ -237,9 +256,25 @@ pub(crate) fn admission_of(
     Ok(bytes)
 }
 
+// Fails where such an admission has another length or is another one, or is not bad with a byte
+// more.
+fn is_judged_of(
+    alloc: Global,
+    name: u8,
+    ends: u8,
+    links: u16,
+    len: usize,
+    want: Verdict,
+) -> Result<(), Fail> {
+    let mut spelling = admission_of(alloc, name, ends, links)?;
+    same(&(spelling.len(), judge(alloc, &spelling)?), &(len, want))?;
+    spelling.push(0)?;
+    same(&judge(alloc, &spelling)?, &Verdict::Bad)
+}
+
 #[test]
 fn names_endpoints_and_links_are_not_too_few_nor_too_many(rt: HostRuntime) -> Result<(), Fail> {
-    let table = [
+    for (name, ends, links, len, want) in [
         (1, 2, 1, 24, Verdict::Spelling),
         (16, 64, 511, 3471, Verdict::Spelling),
         (0, 2, 1, 23, Verdict::Bad),
@@ -248,21 +283,8 @@ fn names_endpoints_and_links_are_not_too_few_nor_too_many(rt: HostRuntime) -> Re
         (1, 65, 1, 402, Verdict::Bad),
         (1, 2, 0, 18, Verdict::Bad),
         (1, 2, 512, 3090, Verdict::Bad),
-    ];
-    for (name, ends, links, len, want) in table {
-        let mut spelling = admission_of(rt.alloc(), name, ends, links)?;
-        assert_eq!(rt; spelling.len(), len);
-        assert_eq!(rt;
-            judge(rt.alloc(), &spelling)?,
-            want,
-            "{name} {ends} {links}"
-        );
-        spelling.push(0)?;
-        assert_eq!(rt;
-            judge(rt.alloc(), &spelling)?,
-            Verdict::Bad,
-            "of {len} bytes and one"
-        );
+    ] {
+        is_judged_of(rt.alloc(), name, ends, links, len, want)?;
     }
     Ok(())
 }

@@ -1,6 +1,6 @@
 // Stores on disks in memory: stopped, with a call that fails, and opened on journals whose entries
 // are not sound. The bytes are written by hand, after the format.
-use crate::spellings::{ADMISSION, RELEASE, edited};
+use crate::spellings::{ADMISSION, RELEASE, edited, same};
 use hose_book::{Book, Books, Committed};
 use hose_codec::decode;
 use hose_disk::{Disk, DiskCall, MemDisk, Pick};
@@ -26,12 +26,12 @@ const DETOUR_DIGEST: [u8; 32] = [
 // The nodes of these letters, and links of these ends, capacities and costs.
 fn network(
     alloc: Global,
-    names: &[&str],
+    letters: &[u8],
     links: &[(u32, u32, u64, u64)],
 ) -> Result<Topology, Fail> {
     let mut top = Topology::new(alloc)?;
-    for name in names {
-        let name = Name::read(name.as_bytes()).ok_or("no name")?;
+    for letter in letters {
+        let name = Name::read(&[*letter]).ok_or("no name")?;
         if top.add_node(name).is_err() {
             return Err("no node".into());
         }
@@ -53,12 +53,12 @@ fn network(
 
 fn star(alloc: Global) -> Result<Topology, Fail> {
     let links = [(0, 3, 10, 1), (1, 3, 10, 2), (2, 3, 10, 3)];
-    network(alloc, &["a", "b", "c", "h"], &links)
+    network(alloc, b"abch", &links)
 }
 
 fn detour(alloc: Global) -> Result<Topology, Fail> {
     let links = [(0, 1, 4, 1), (0, 2, 10, 2), (2, 1, 10, 2)];
-    network(alloc, &["a", "b", "c"], &links)
+    network(alloc, b"abc", &links)
 }
 
 // The epoch of a book, and two digits for what is reserved on each of its three links: 1030405 for
@@ -175,57 +175,96 @@ fn opened(alloc: Global, bytes: &[u8]) -> Result<Found, Fail> {
     Ok(open_on(alloc, disk_of(alloc, bytes)?, star(alloc)?))
 }
 
-// The two digests that are told of a journal of the star which is opened for the detour, and the
-// disk that comes back.
-fn refused(alloc: Global, bytes: &[u8]) -> Result<([[u8; 32]; 2], MemDisk), Fail> {
-    match open(alloc, disk_of(alloc, bytes)?, detour(alloc)?) {
-        Err((StoreFault::Other { kept, given }, disk)) => Ok(([kept, given], disk)),
-        _ => Err("not refused".into()),
+// Fails where that is something else.
+fn is_opened(alloc: Global, bytes: &[u8], want: Found) -> Result<(), Fail> {
+    same(&(bytes.len(), opened(alloc, bytes)?), &(bytes.len(), want))
+}
+
+// The two digests that are told where a store is refused for another network.
+fn digests<D: Disk>(opened: &Result<Store<D>, (StoreFault, D)>) -> Option<[[u8; 32]; 2]> {
+    match opened {
+        Err((StoreFault::Other { kept, given }, _)) => Some([*kept, *given]),
+        _ => None,
     }
+}
+
+// The digests that are told of a journal of the star which is opened for the detour.
+fn told(alloc: Global, bytes: &[u8]) -> Result<Option<[[u8; 32]; 2]>, Fail> {
+    let (disk, top) = (disk_of(alloc, bytes)?, detour(alloc)?);
+    Ok(digests(&open(alloc, disk, top)))
+}
+
+// The disk that comes back then.
+fn returned(alloc: Global, bytes: &[u8]) -> Result<MemDisk, Fail> {
+    match open(alloc, disk_of(alloc, bytes)?, detour(alloc)?) {
+        Err(refused) => Ok(refused.1),
+        Ok(_) => Err("not refused".into()),
+    }
+}
+
+// How long a disk is, and what a store of the star is opened with on it.
+fn length_and_book(alloc: Global, disk: MemDisk) -> Result<(u64, Found), Fail> {
+    let mut disk = disk;
+    let len = disk.len()?;
+    Ok((len, open_on(alloc, disk, star(alloc)?)))
 }
 
 #[test]
 fn the_journal_of_another_network_is_refused(rt: HostRuntime) -> Result<(), Fail> {
     let bytes = journal_of(rt.alloc(), &[Item::Admission])?;
-    let (digests, mut disk) = refused(rt.alloc(), &bytes)?;
-    assert!(rt; digests == [STAR_DIGEST, DETOUR_DIGEST]);
-    assert_eq!(rt; disk.len(), Ok(89));
-    assert_eq!(rt;
-        open_on(rt.alloc(), disk, star(rt.alloc())?),
-        Found::Book(1_030_405)
-    );
-    Ok(())
+    let disk = returned(rt.alloc(), &bytes)?;
+    same(
+        &told(rt.alloc(), &bytes)?,
+        &Some([STAR_DIGEST, DETOUR_DIGEST]),
+    )?;
+    same(
+        &length_and_book(rt.alloc(), disk)?,
+        &(89, Found::Book(1_030_405)),
+    )
+}
+
+// Fails where a store of the star is opened with something else on the journal of these entries.
+fn recovers(alloc: Global, items: &[Item], want: Found) -> Result<(), Fail> {
+    is_opened(alloc, &journal_of(alloc, items)?, want)
 }
 
 #[test]
 fn an_entry_that_is_not_sound_is_damage_at_its_gate(rt: HostRuntime) -> Result<(), Fail> {
-    let table: [(&[Item], Found); 12] = [
-        (&[], Found::Book(0)),
-        (&[Item::Admission], Found::Book(1_030_405)),
-        (&[Item::Admission, Item::Admission], Found::Book(2_060_810)),
-        (&[Item::Admission, Item::OneTooMuch], Found::Damaged(88)),
-        (&[Item::Admission, Item::Release], Found::Book(2_000_000)),
-        (&[Item::Release], Found::Damaged(38)),
-        (&[Item::Admission, Item::ReleaseOfTwo], Found::Damaged(88)),
-        (&[Item::Admission, Item::ReleaseByBeta], Found::Damaged(88)),
-        (
-            &[Item::Admission, Item::Release, Item::Release],
-            Found::Damaged(103),
-        ),
-        (&[Item::AmountOfSix], Found::Damaged(38)),
-        (&[Item::AtTheSameCost], Found::Damaged(38)),
-        (&[Item::WrongTree], Found::Damaged(38)),
-    ];
-    for (place, (items, want)) in table.iter().enumerate() {
-        let bytes = journal_of(rt.alloc(), items)?;
-        assert_eq!(rt; opened(rt.alloc(), &bytes)?, *want, "{place}");
+    for (item, want) in [
+        (Item::Admission, Found::Book(1_030_405)),
+        (Item::Release, Found::Damaged(38)),
+        (Item::AmountOfSix, Found::Damaged(38)),
+        (Item::AtTheSameCost, Found::Damaged(38)),
+        (Item::WrongTree, Found::Damaged(38)),
+    ] {
+        recovers(rt.alloc(), &[item], want)?;
     }
     Ok(())
 }
 
 #[test]
-fn a_journal_that_was_cut_is_refused_or_empty(rt: HostRuntime) -> Result<(), Fail> {
-    let bytes = journal_of(rt.alloc(), &[Item::Admission, Item::Release])?;
+fn an_entry_after_an_admission_is_damage_at_its_gate(rt: HostRuntime) -> Result<(), Fail> {
+    for (item, want) in [
+        (Item::Admission, Found::Book(2_060_810)),
+        (Item::OneTooMuch, Found::Damaged(88)),
+        (Item::Release, Found::Book(2_000_000)),
+        (Item::ReleaseOfTwo, Found::Damaged(88)),
+        (Item::ReleaseByBeta, Found::Damaged(88)),
+    ] {
+        recovers(rt.alloc(), &[Item::Admission, item], want)?;
+    }
+    Ok(())
+}
+
+#[test]
+fn no_entry_is_no_damage_and_a_second_release_is(rt: HostRuntime) -> Result<(), Fail> {
+    let three = [Item::Admission, Item::Release, Item::Release];
+    recovers(rt.alloc(), &[], Found::Book(0))?;
+    recovers(rt.alloc(), &three, Found::Damaged(103))
+}
+
+// The journal of an admission and its release.
+fn are_opened(alloc: Global, bytes: &[u8]) -> Result<(), Fail> {
     for (from, to, want) in [
         (0, 39, Found::Book(0)),
         (39, 89, Found::Damaged(38)),
@@ -233,11 +272,16 @@ fn a_journal_that_was_cut_is_refused_or_empty(rt: HostRuntime) -> Result<(), Fai
         (104, 105, Found::Book(2_000_000)),
     ] {
         for len in from..to {
-            let front = &bytes[..bytes.len().min(len)];
-            assert_eq!(rt; opened(rt.alloc(), front)?, want, "{len} bytes");
+            is_opened(alloc, &bytes[..bytes.len().min(len)], want)?;
         }
     }
     Ok(())
+}
+
+#[test]
+fn a_journal_that_was_cut_is_refused_or_empty(rt: HostRuntime) -> Result<(), Fail> {
+    let bytes = journal_of(rt.alloc(), &[Item::Admission, Item::Release])?;
+    are_opened(rt.alloc(), &bytes)
 }
 
 // What the journal of an admission and its release is opened as, with these bits of the byte at a
@@ -251,6 +295,17 @@ fn turned(alloc: Global, place: usize, bits: u8) -> Result<Found, Fail> {
 }
 
 const BITS: [u8; 8] = [1, 2, 4, 8, 16, 32, 64, 128];
+
+// Fails where with any bit of the byte at a place turned it is opened as neither of these.
+fn are_turned(alloc: Global, place: usize, want: Found, or: Found) -> Result<(), Fail> {
+    for bits in BITS {
+        let got = turned(alloc, place, bits)?;
+        if got != want {
+            same(&(place, bits, got), &(place, bits, or))?;
+        }
+    }
+    Ok(())
+}
 
 // Where the customer is another one, the release that follows is of a VPN that is not theirs.
 #[test]
@@ -266,23 +321,28 @@ fn a_turned_bit_is_refused_or_means_nothing(rt: HostRuntime) -> Result<(), Fail>
         (103, 104, Found::Damaged(103), Found::Book(2_000_000)),
     ] {
         for place in from..to {
-            for bits in BITS {
-                let got = turned(rt.alloc(), place, bits)?;
-                assert!(rt; got == want || got == or, "{got:?} with {bits} at {place}");
-            }
+            are_turned(rt.alloc(), place, want, or)?;
         }
     }
     Ok(())
 }
 
-// What comes of the entry of this spelling.
-fn commit(alloc: Global, store: &mut Store<MemDisk>, spelling: &[u8]) -> Result<Committed, Fail> {
+// Fails where something else comes of the entry of this spelling.
+fn commits(
+    alloc: Global,
+    store: &mut Store<MemDisk>,
+    spelling: &[u8],
+    want: Committed,
+) -> Result<(), Fail> {
     let entry = decode(alloc, spelling)?;
     let ready = Store::<MemDisk>::prepare(alloc, &entry)?;
     if store.book().check(&entry).is_err() {
         return Err("not sound".into());
     }
-    Ok(store.commit(entry, ready))
+    if store.commit(entry, ready) != want {
+        return Err("committed otherwise".into());
+    }
+    Ok(())
 }
 
 // A store of the star that is begun on this disk.
@@ -314,12 +374,22 @@ fn left(alloc: Global, disk: &MemDisk, before: u64, pick: Pick) -> Result<Found,
     Ok(open_on(alloc, stopped, star(alloc)?))
 }
 
+// Fails where a stop so many calls before the last one leaves another book by a pick.
+fn are_left(alloc: Global, disk: &MemDisk, rows: &[(u64, Pick, u64)]) -> Result<(), Fail> {
+    for (before, pick, want) in rows {
+        let got = left(alloc, disk, *before, *pick)?;
+        same(
+            &(*before, *pick, got),
+            &(*before, *pick, Found::Book(*want)),
+        )?;
+    }
+    Ok(())
+}
+
 // The disk after a commit and the closing.
 fn committed(alloc: Global) -> Result<MemDisk, Fail> {
     let mut store = begun(alloc, MemDisk::new(alloc)?)?;
-    let Committed::Done = commit(alloc, &mut store, &ADMISSION)? else {
-        return Err("not committed".into());
-    };
+    commits(alloc, &mut store, &ADMISSION, Committed::Done)?;
     closed_with(store, 1_030_405)
 }
 
@@ -327,7 +397,7 @@ fn committed(alloc: Global) -> Result<MemDisk, Fail> {
 #[test]
 fn a_commit_that_is_stopped_leaves_its_entry_or_none(rt: HostRuntime) -> Result<(), Fail> {
     let disk = committed(rt.alloc())?;
-    for (before, pick, want) in [
+    let rows = [
         (5, Pick::Kept, 0),
         (4, Pick::Kept, 0),
         (4, Pick::Fill(1), 0),
@@ -338,15 +408,8 @@ fn a_commit_that_is_stopped_leaves_its_entry_or_none(rt: HostRuntime) -> Result<
         (2, Pick::Fill(255), 0),
         (1, Pick::Lost, 1_030_405),
         (0, Pick::Lost, 1_030_405),
-    ] {
-        let got = left(rt.alloc(), &disk, before, pick)?;
-        assert_eq!(rt;
-            got,
-            Found::Book(want),
-            "{before} calls before the last, {pick:?}"
-        );
-    }
-    Ok(())
+    ];
+    are_left(rt.alloc(), &disk, &rows)
 }
 
 // A store whose first commit had its second sync fail, which is the seventh of the disk; another
@@ -356,9 +419,7 @@ fn in_doubt(alloc: Global, nth: u64) -> Result<Store<MemDisk>, Fail> {
     disk.fail(alloc, DiskCall::Sync, 7)?;
     disk.fail(alloc, DiskCall::Sync, nth)?;
     let mut store = begun(alloc, disk)?;
-    let Committed::Disk = commit(alloc, &mut store, &ADMISSION)? else {
-        return Err("committed".into());
-    };
+    commits(alloc, &mut store, &ADMISSION, Committed::Disk)?;
     Ok(store)
 }
 
@@ -371,9 +432,7 @@ fn second() -> [u8; 45] {
 // The disk after another commit and the closing.
 fn committed_after_doubt(alloc: Global) -> Result<MemDisk, Fail> {
     let mut store = in_doubt(alloc, 0)?;
-    let Committed::Done = commit(alloc, &mut store, &second())? else {
-        return Err("not committed".into());
-    };
+    commits(alloc, &mut store, &second(), Committed::Done)?;
     closed_with(store, 1_020_101)
 }
 
@@ -382,33 +441,28 @@ fn committed_after_doubt(alloc: Global) -> Result<MemDisk, Fail> {
 #[test]
 fn an_entry_in_doubt_is_revoked_by_the_next_commit(rt: HostRuntime) -> Result<(), Fail> {
     let disk = committed_after_doubt(rt.alloc())?;
-    for (before, pick, want) in [
+    let rows = [
         (7, Pick::Kept, 1_030_405),
         (7, Pick::Lost, 0),
         (5, Pick::Lost, 0),
         (1, Pick::Lost, 1_020_101),
         (0, Pick::Kept, 1_020_101),
-    ] {
-        let got = left(rt.alloc(), &disk, before, pick)?;
-        assert_eq!(rt;
-            got,
-            Found::Book(want),
-            "{before} calls before the last, {pick:?}"
-        );
-    }
-    Ok(())
+    ];
+    are_left(rt.alloc(), &disk, &rows)
+}
+
+// Fails where a store with an entry in doubt is closed otherwise, and another sync was to fail, or
+// where it or what is opened then has a VPN.
+fn closes_in_doubt(alloc: Global, nth: u64, want: bool) -> Result<(), Fail> {
+    let (result, disk, book) = closed(in_doubt(alloc, nth)?);
+    same(&(nth, result, book), &(nth, want, 0))?;
+    are_left(alloc, &disk, &[(0, Pick::Kept, 0)])
 }
 
 #[test]
 fn closing_revokes_the_entry_in_doubt(rt: HostRuntime) -> Result<(), Fail> {
     for (nth, is_closed) in [(9, true), (8, false)] {
-        let (result, disk, book) = closed(in_doubt(rt.alloc(), nth)?);
-        assert_eq!(rt; (result, book), (is_closed, 0), "{nth}");
-        assert_eq!(rt;
-            left(rt.alloc(), &disk, 0, Pick::Kept)?,
-            Found::Book(0),
-            "{nth}"
-        );
+        closes_in_doubt(rt.alloc(), nth, is_closed)?;
     }
     Ok(())
 }
