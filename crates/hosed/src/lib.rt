@@ -1,6 +1,6 @@
 //! The provisioning server as one call: what it answers on an output to what it reads on an input.
 //!
-//! `hosed` does what the program's words say and gives the exit status. With the word `run` it reads
+//! `hosed` does what the words of the program say and gives the exit status. With `run` it reads
 //! a topology text and then lines `CUSTOMER COMMAND`, and writes one reply line for each; with
 //! `run JOURNAL` it keeps its book in a journal, which outlives it:
 //!

@@ -4,6 +4,7 @@ ghost use Rattle.std.specs.Prelude.{◌≡◌, ◌≤◌, ◌↔◌, IfOk, IsErr
 use crate::fault::CaseFault;
 use crate::line::Line;
 use crate::pattern::number;
+use hose_disk::DiskCall;
 use std::alloc::{AllocError, Global};
 
 // How many bytes a call moves where a file does not say.
@@ -38,6 +39,20 @@ pub struct Stream {
     pub failing: Vec<u64>,
 }
 
+/// The disk of the journal `j`, in the cabinet of a case.
+#[derive(Clone, Debug, Drop)]
+pub struct Journal {
+    pub bytes: Vec<u8>,
+    /// What it holds afterwards.
+    pub left: Option<Vec<u8>>,
+    /// The calls of it that fail, by their kinds and their numbers, counted from 1.
+    pub failing: Vec<(DiskCall, u64)>,
+    /// Whether the cabinet fails to give it out.
+    pub is_closed: bool,
+    /// Whether the program is stopped after each call of it.
+    pub stops: bool,
+}
+
 /// One call of the server, and what must come of it.
 #[derive(Clone, Debug, Drop)]
 pub struct Case {
@@ -48,6 +63,7 @@ pub struct Case {
     /// How many more bytes the input has.
     pub more: u64,
     pub output: Stream,
+    pub journal: Journal,
     pub status: u64,
     pub taken: Option<u64>,
     /// Whether it says what must come of it.
@@ -64,6 +80,18 @@ impl Stream {
     }
 }
 
+impl Journal {
+    fn new(alloc: Global) -> Journal {
+        Journal {
+            bytes: Vec::new(alloc),
+            left: None,
+            failing: Vec::new(alloc),
+            is_closed: false,
+            stops: false,
+        }
+    }
+}
+
 impl Case {
     /// A case without a name, of which no line is read yet.
     pub fn new(alloc: Global) -> Case {
@@ -73,6 +101,7 @@ impl Case {
             input: Stream::new(alloc),
             more: 0,
             output: Stream::new(alloc),
+            journal: Journal::new(alloc),
             status: 0,
             taken: None,
             compares: false,
@@ -90,17 +119,22 @@ impl Case {
             Line::Write(piece) => self.output.piece = Piece::new(piece)?,
             Line::ReadFails(rest) => self.input.failing = calls_of(alloc, rest)?,
             Line::WriteFails(rest) => self.output.failing = calls_of(alloc, rest)?,
-            wanted => self.add_wanted(wanted)?,
+            Line::Journal(rest) => self.journal.bytes = bytes_of(alloc, rest)?,
+            Line::DiskFails(rest) => add_disk_calls(alloc, &mut self.journal.failing, rest)?,
+            Line::CabinetFails => self.journal.is_closed = true,
+            Line::Stops => self.journal.stops = true,
+            wanted => self.add_wanted(alloc, wanted)?,
         }
         Ok(())
     }
 
     // Adds what a line says of what must come of the case.
-    fn add_wanted(&mut self, line: Line) -> Result<(), CaseFault> {
+    fn add_wanted(&mut self, alloc: Global, line: Line) -> Result<(), CaseFault> {
         match line {
             Line::Output(pattern) => pattern.add_to(&mut self.output.bytes)?,
             Line::Status(status) => self.status = status,
             Line::Taken(taken) => self.taken = Some(taken),
+            Line::Left(rest) => self.journal.left = Some(bytes_of(alloc, rest)?),
             _ => return Ok(()),
         }
         self.compares = true;
@@ -128,4 +162,39 @@ fn calls_of(alloc: Global, rest: &str) -> Result<Vec<u64>, CaseFault> {
         calls.push(nth)?;
     }
     Ok(calls)
+}
+
+// The bytes of a line, which may be parted by spaces.
+fn bytes_of(alloc: Global, rest: &str) -> Result<Vec<u8>, CaseFault> {
+    let mut bytes = Vec::new(alloc);
+    for word in rest.split_whitespace() {
+        let part = hex::decode(alloc, word).map_err(|_| CaseFault::Digits)?;
+        bytes.extend_from_slice(&part)?;
+    }
+    Ok(bytes)
+}
+
+// Adds the calls of a line: their kind, and their numbers.
+fn add_disk_calls(
+    alloc: Global,
+    failing: &mut Vec<(DiskCall, u64)>,
+    rest: &str,
+) -> Result<(), CaseFault> {
+    let (kind, numbers) = rest.split_once(' ').unwrap_or((rest, ""));
+    let kind = kind_of(kind)?;
+    for nth in &calls_of(alloc, numbers)? {
+        failing.push((kind, *nth))?;
+    }
+    Ok(())
+}
+
+fn kind_of(word: &str) -> Result<DiskCall, CaseFault> {
+    match word {
+        "len" => Ok(DiskCall::Len),
+        "read" => Ok(DiskCall::Read),
+        "write" => Ok(DiskCall::Write),
+        "cut" => Ok(DiskCall::Cut),
+        "sync" => Ok(DiskCall::Sync),
+        _ => Err(CaseFault::Kind),
+    }
 }

@@ -2,7 +2,8 @@
 ghost use Rattle.std.specs.Prelude.{◌≤◌, length};
 
 use crate::case::Case;
-use crate::run::{Outcome, run_case};
+use crate::run::{Outcome, held, run_case};
+use crate::stops::stops_that_differ;
 use std::alloc::{AllocError, Global};
 use std::io;
 
@@ -14,19 +15,30 @@ const BEFORE: usize = 24;
 /// Runs a case, and prints whether it went as it says and what differs. Answers whether something
 /// does.
 pub fn tell_case<R: Print + AllocGlobal>(rt: &R, file: &str, case: &Case) -> io::Result<bool> {
-    let outcome = run_case(rt.alloc(), case)?;
-    let differs = differs(case, &outcome);
+    let mut outcome = run_case(rt.alloc(), case)?;
+    let left = match &mut outcome.disk {
+        Some(disk) => held(rt.alloc(), disk)?,
+        None => Vec::new(rt.alloc()),
+    };
+    let lost = stops_that_differ(rt.alloc(), case)?;
+    let differs = differs(case, &outcome, &left) || lost > 0;
     let verdict = if differs { "differs" } else { "ok" };
     let name = case.name.as_str();
     println!(rt; "{verdict:<8}{file}: {name}")?;
     if differs {
         tell_difference(rt, case, &outcome)?;
+        tell_journal(rt, case, &left, lost)?;
     }
     Ok(differs)
 }
 
-fn differs(case: &Case, outcome: &Outcome) -> bool {
+fn differs(case: &Case, outcome: &Outcome, left: &[u8]) -> bool {
     u64::from(outcome.status) != case.status
+        || case
+            .journal
+            .left
+            .as_ref()
+            .is_some_and(|wanted| wanted.as_slice() != left)
         || case.taken.is_some_and(|taken| taken != outcome.taken)
         || outcome.output.bytes() != case.output.bytes.as_slice()
 }
@@ -48,6 +60,25 @@ fn tell_difference<R: Print + AllocGlobal>(
         println!(rt; "        {taken} bytes of the input are taken, and {wanted} are wanted")?;
     }
     tell_output(rt, outcome.output.bytes(), &case.output.bytes)
+}
+
+// Prints what the journal has in place of what it should, and how many stops were not recovered.
+fn tell_journal<R: Print + AllocGlobal>(
+    rt: &R,
+    case: &Case,
+    left: &[u8],
+    lost: u64,
+) -> io::Result<()> {
+    if let Some(wanted) = &case.journal.left {
+        if wanted.as_slice() != left {
+            let is = hex::encode(rt.alloc(), left)?;
+            println!(rt; "        the journal has {is}")?;
+        }
+    }
+    if lost > 0 {
+        println!(rt; "        after {lost} stops another history is found")?;
+    }
+    Ok(())
 }
 
 // Prints where two outputs differ first, and what stands there.

@@ -14,7 +14,11 @@ pub enum CaseFault {
     Brace,
     #[error("a piece has one byte at least, and calls are counted from 1")]
     Zero,
-    #[error("the case says nothing of status, output or what is taken")]
+    #[error("bytes are written in pairs of hexadecimal digits")]
+    Digits,
+    #[error("a call of a disk is len, read, write, cut or sync")]
+    Kind,
+    #[error("the case says nothing of status, output, what is taken or what is left")]
     NothingToCompare,
     #[error("the file has no case")]
     NoCase,

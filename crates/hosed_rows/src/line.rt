@@ -35,8 +35,8 @@ pub enum Line<'a> {
     Left(&'a str),
     /// Which calls of a kind fail on that disk.
     DiskFails(&'a str),
-    /// Which calls of the cabinet fail.
-    CabinetFails(&'a str),
+    /// That the cabinet fails to give that disk out.
+    CabinetFails,
     /// That the program is stopped after each call of that disk.
     Stops,
 }
@@ -72,7 +72,7 @@ impl<'a> Line<'a> {
             "journal" => Ok(Line::Journal(rest)),
             "left" => Ok(Line::Left(rest)),
             "disk-fails" => Ok(Line::DiskFails(rest)),
-            "cabinet-fails" => Ok(Line::CabinetFails(rest)),
+            "cabinet-fails" => Ok(Line::CabinetFails),
             "stops" => Ok(Line::Stops),
             _ => Err(CaseFault::Word),
         }

@@ -13,6 +13,7 @@ mod file;
 mod line;
 mod pattern;
 mod run;
+mod stops;
 mod streams;
 
 use comparison::tell_case;
