@@ -25,8 +25,8 @@ pub record IsOpenedOn {D : Type 0} (disk : Ghosts D) (old : D) (top : Network) (
   pub read : IfSome (disk.content old) (IsHistoryOf top history)
   pub images : Images disk store.journal.disk (IsHistoryOf top history)
 
--- An image at some moment of an opening: one of before, or one that stands for the history for which
--- the disk stood as it was read.
+-- An image at some moment of an opening: one of before, or one that stands for the history for
+-- which the disk stood as it was read.
 abbrev pub IsAtOpening : {D : Type 0} → Ghosts D → D → Network → List ℕ → Type 0
 IsAtOpening disk old top image = disk.may_leave old image
     ⊎ ((history : List Entry) × IfSome (disk.content old) (IsHistoryOf top history)

@@ -33,9 +33,9 @@ in_memory = record {
   Keeps = λ network since history replies. WithoutDisk replies;
 }
 
--- This output is right for this input and a book of this history: the input is the text of a network
--- and then lines, the output is the replies of their script from this history on, none of which is
--- for want of memory or for a failure of a disk.
+-- This output is right for this input and a book of this history: the input is the text of a
+-- network and then lines, the output is the replies of their script from this history on, none of
+-- which is for want of memory or for a failure of a disk.
 pub record IsRightFor (since : List Entry) (input output : List ℕ) : Type 0 where
   pub network : Network
   pub rest : List ℕ
@@ -53,11 +53,11 @@ pub record IsRightFor (since : List Entry) (input output : List ℕ) : Type 0 wh
 -- The input is the text of a network and then lines that were answered: the replies are those of
 -- the script of the lines from the history with which the book began, where no customer holds a
 -- quote. The history that it leads to goes on from there and is sound, and decided from there on.
--- At each place of it no link is oversold, and exactly those VPNs are live that were admitted before
--- it and not released since, each as it was admitted. What each admission after the beginning
--- reserves carries every matrix within the rates of its hose, and no tree over the links allowed at
--- the book before it carries them at less cost. `stops` says how the input stands to what comes
--- after the lines and to what is left.
+-- At each place of it no link is oversold, and exactly those VPNs are live that were admitted
+-- before it and not released since, each as it was admitted. What each admission after the
+-- beginning reserves carries every matrix within the rates of its hose, and no tree over the links
+-- allowed at the book before it carries them at less cost. `stops` says how the input stands to
+-- what comes after the lines and to what is left.
 pub record HasRun (keeping : Keeping) (old new : Option Stream) (network : Network)
     (lines : List ReadLine) (replies : List Reply)
     (stops : List ℕ → List ℕ → List ℕ → Type 0) : Type 0 where

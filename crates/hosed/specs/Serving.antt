@@ -263,7 +263,8 @@ plain_books = record {
   went = λ old entry result new. Commits old.book entry result new.book;
 }
 
--- There was no memory for a book, and nothing was done; or lines were answered from an empty one on.
+-- There was no memory for a book, and nothing was done; or lines were answered from an empty one
+-- on.
 abbrev pub ServesInMemory : {S O T : Type 0} → Ghosts S → SinkGhosts O → Reader S → Reader S → O → O
     → Network → Result T Fault → Type 0
 ServesInMemory source sink start now output output' network result =

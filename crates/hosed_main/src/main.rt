@@ -1,5 +1,5 @@
-//! The program `hosed`: it hands its words, its standard streams and the files that it can reach on,
-//! and ends with the status that comes of them. As in
+//! The program `hosed`: it hands its words, its standard streams and the files that it can reach
+//! on, and ends with the status that comes of them. As in
 //! `cat demo/star.txt demo/star_script.txt | ./hosed run orders.journal`.
 #![tactic(auto)]
 
