@@ -33,7 +33,7 @@ MOST_LIVE = 60
 LINES_MORE = 1_000  # than have replies when a run is killed
 MOST_ON_ONE_JOURNAL = 12  # kills
 HANGS = 60  # seconds
-ADMIT, RELEASE, OPEN = 1, 2, 1
+OPEN, ADMIT, RELEASE = b"\1", b"\1", b"\2"
 
 # ---- The network is a star, in which each leaf's link carries the smaller side of its rate.
 
@@ -72,11 +72,11 @@ class Entry(NamedTuple):
     def spelling(self):
         name = bytes([len(self.customer)]) + self.customer.encode()
         if self.hose is None:
-            return bytes([RELEASE]) + name + self.id.to_bytes(4, "big")
+            return RELEASE + name + self.id.to_bytes(4, "big")
         amounts = amounts_of(self.hose)
         count = len(amounts).to_bytes(2, "big")
         ends = bytes([len(self.hose)]) + pairs(self.hose)
-        return bytes([ADMIT]) + name + ends + count + pairs(amounts)
+        return ADMIT + name + ends + count + pairs(amounts)
 
 
 def pairs(of):
@@ -87,8 +87,8 @@ def image_of(entries):
     """What a journal of these entries begins with; its next gate is not open."""
     digest = hashlib.sha256(TOPOLOGY.encode()).digest()
     spelled = [entry.spelling() for entry in entries]
-    records = [b"\1" + len(bytes).to_bytes(4, "big") + bytes for bytes in spelled]
-    return b"\1HOSE\1" + digest + b"".join(records)
+    records = [OPEN + len(body).to_bytes(4, "big") + body for body in spelled]
+    return OPEN + b"HOSE\1" + digest + b"".join(records)
 
 
 class Book:
@@ -265,7 +265,10 @@ def random_moment(draw, speed):
 def shown(journal, questions):
     text = TOPOLOGY + "".join(f"{question}\n" for question in questions)
     streams = {"input": text, "capture_output": True, "text": True, "timeout": HANGS}
-    done = subprocess.run([PROGRAM, "run", journal], **streams)
+    try:
+        done = subprocess.run([PROGRAM, "run", journal], **streams)
+    except subprocess.TimeoutExpired:
+        return [f"no end after {HANGS} s"]
     return done.stdout.splitlines() + [f"status {done.returncode}"]
 
 
@@ -285,7 +288,7 @@ def holds(journal, entries):
     with open(journal, "rb") as file:
         found = file.read()
     image = image_of(entries)
-    return found.startswith(image) and found[len(image) : len(image) + 1] not in (b"", b"\1")
+    return found.startswith(image) and found[len(image) : len(image) + 1] not in (b"", OPEN)
 
 
 def recovered(journal, entries, next_entry):

@@ -2,8 +2,9 @@
 # Orders that are acknowledged in a second by a run with a new journal in FOLDER, admissions and
 # releases, beside a loop of the same writes and syncs on a file there; and how long a run without a
 # command takes to open a journal there of 20,000 live VPNs of 3 and of 64 endpoints, beside
-# sha256sum of its file, and a run without a journal. A disk may sync many times as fast at one
-# moment as at another: so the run and the loop have short turns, and no least figure is taken.
+# sha256sum of its file, and a run without a journal: the least of some runs. A sync may take many
+# times as long at one moment as at another, so the orders and the loop go by short turns, and
+# their figures are those of all turns.
 # usage: bench/orders.sh [FOLDER]     FOLDER: on a real disk; else the current one
 set -euo pipefail
 export LC_ALL=C
