@@ -41,8 +41,8 @@ pub trait Cabinet: Drop {
         ensures disks { held self.new ≡ held self.old }
         ensures call { IsTextCall (frame self.old) (frame self.new) result };
 
-    /// Takes out the disk of a name. It has failed in no call yet, and what a stop may leave of it
-    /// is what a stop might have left of the one that was held.
+    /// Takes out the disk of a name. It has failed in no call yet, no time has passed on it since it
+    /// was held, and what a stop may leave of it is what a stop might have left of it then.
     fn disk(&mut self, name: &str) -> Result<Self::Disk, Failed>
         requires { (frame self.old).out ≡ None }
         ensures opened { IfOk result
@@ -51,6 +51,8 @@ pub trait Cabinet: Drop {
             (λ was. Self.Disk.content disk ≡ Self.Disk.content was)) }
         ensures images { IfOk result (λ disk. Has (frame self.old).tells (held self.old name.now)
             (λ was. NoneNew (Self.Disk.may_leave was) (Self.Disk.may_leave disk))) }
+        ensures moment { IfOk result (λ disk. Has (frame self.old).tells (held self.old name.now)
+            (λ was. Self.Disk.moment disk ≡ Self.Disk.moment was)) }
         ensures untold { IfOk result (λ disk. IsFalse (frame self.old).tells →
             Self.Disk.content disk ≡ None) }
         ensures texts { text self.new ≡ text self.old }

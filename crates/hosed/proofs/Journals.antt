@@ -13,15 +13,14 @@ use Rattle.hose_graph.specs.Network.{Network}
 use Rattle.hose_graph.specs.declared.entry.Entry.{Entry}
 use Rattle.hose_graph.specs.declared.reply.Reply.{Reply}
 use Rattle.hose_law.specs.History.{IsDecidedAt}
-use Rattle.hose_book.specs.GoingOn.{GoesOn, none_yet, entry_more}
-use Rattle.hose_disk.specs.Cabinet.{CabinetFrame, Has, IsDiskCall, after_back, object_of, opened_at, where_told}
+use Rattle.hose_book.specs.GoingOn.{GoesOn}
+use Rattle.hose_disk.specs.Cabinet.{CabinetFrame, Has, IsDiskCall, after_back, object_of, where_told}
 use Rattle.hose_disk.specs.Disk.{DiskFrame, IsCalled, NoneNew}
 use Rattle.hose_disk.specs.declared.cabinet.Cabinet.{Ghosts as CabinetGhosts}
 use Rattle.hose_disk.specs.declared.disk.Disk.{Ghosts as DiskGhosts}
 use Rattle.hose_journal.specs.Image.{Meaning, listed, damaged, other}
 use Rattle.hose_journal.specs.Moments.{LeavesOnly}
-use Rattle.hose_journal.specs.Opening.{KeepsDisk}
-use Rattle.hose_store.specs.Beginning.{Beginning, HasLeft, StandsFor}
+use Rattle.hose_store.specs.Beginning.{HasLeft, StandsFor}
 use Rattle.hose_store.specs.Commit.{Closes, store_books}
 use Rattle.hose_store.specs.Opening.{IsAtOpening, IsOpenedOn, IsRefused as IsRefusedStore}
 use Rattle.hose_store.specs.Recovery.{IsHistoryOf, IsRecoveredAs, digest_of}
@@ -29,7 +28,7 @@ use Rattle.hose_store.specs.Store.{Kept}
 use Rattle.hose_store.specs.declared.fault.StoreFault.{StoreFault}
 use Rattle.hose_store.specs.declared.fault.StoreFault.TheVariants as store
 use Rattle.hosed.specs.Fault.{of_store}
-use Rattle.hosed.specs.OnDisk.{Held, IsRefused, IsUnopened, KeptOnDisk, since_opening}
+use Rattle.hosed.specs.OnDisk.{Held, IsRefused, IsUnopened, KeptOnDisk, opening_of}
 use Rattle.hosed.specs.Serving.{Serves, TellsDisks}
 use Rattle.hosed.specs.ServingOnDisk.{HasServedInCabinet, HasServedOnDisk, IsNotOpened, IsNotServed, IsWhy, Refuses, ServesInCabinet, ServesOnDisk, first_fault}
 use Rattle.hosed.specs.declared.fault.Fault.{Fault}
@@ -51,46 +50,24 @@ not_listed network meaning apart one (Some bytes) is = (is, λ history stands. a
 module _ {E : Type 0} (disk : DiskGhosts E) (network : Network) (old left : E) where
   -- a store that is refused
   pub not_opened : (why : StoreFault) → ((image : List ℕ) (one two : Meaning Entry) → IsRecoveredAs network image one → IsRecoveredAs network image two → one ≡ two)
-      → LeavesOnly disk old left (IsAtOpening disk old network) → IsRefusedStore disk old left network why → KeepsDisk disk old left → IsNotOpened disk old left network (Err (of_store why))
-  not_opened store.Disk one run refused keeps = record { why = refused.told; images = run; opened = keeps.opened }
-  not_opened (store.Other old_one given) one run refused keeps = record {
+      → LeavesOnly disk old left (IsAtOpening disk old network) → IsRefusedStore disk old left network why → IsNotOpened disk old left network (Err (of_store why))
+  not_opened store.Disk one run refused = record { why = refused.told; images = run }
+  not_opened (store.Other old_one given) one run refused = record {
     why = (refused.1, not_listed network (other old_one) (λ history same. cc same) one (disk.content old) refused.2);
     images = run;
-    opened = keeps.opened;
   }
-  not_opened (store.Damaged at) one run refused keeps = record { why = not_listed network (damaged at) (λ history same. cc same) one (disk.content old) refused.1; images = run; opened = keeps.opened }
-  not_opened store.Memory one run refused keeps = record { why = tt; images = run; opened = keeps.opened }
-
-  -- a run of commits keeps the moment of the opening
-  goes_opened : (since : List Entry) (first : Kept E) (history : List Entry) (last : Kept E) → GoesOn (store_books disk) IsDecidedAt network since first history last → (disk.frame last.journal.disk).opened ≡ (disk.frame first.journal.disk).opened
-  goes_opened since first history last none_yet = refl
-  goes_opened since first history last (entry_more entry result before at went) = went.opened ∙ goes_opened since first _ _ before
-
-  -- what is left, in the words of the disk that is left
-  pub left_since_opening : (beginning : Beginning) (first last : Kept E) (history : List Entry) (closing : Result ⊤ Failed) → beginning.network ≡ network → beginning.moment ≡ disk.moment old
-      → (disk.frame first.journal.disk).opened ≡ (disk.frame old).opened → (disk.frame left).opened ≡ (disk.frame last.journal.disk).opened → disk.moment old ≡ (disk.frame old).opened
-      → GoesOn (store_books disk) IsDecidedAt network beginning.since first history last → HasLeft disk IsDecidedAt (disk.may_leave old) beginning history left closing
-      → HasLeft disk IsDecidedAt (disk.may_leave old) (since_opening disk network beginning.since left) history left closing
-  left_since_opening beginning first last history closing same at opened closed fresh goes has =
-      let moment : (disk.frame left).opened ≡ beginning.moment = closed ∙ (goes_opened beginning.since first history last goes ∙ (opened ∙ (sym fresh ∙ sym at))) in
-      subst (λ (n : Network). HasLeft disk IsDecidedAt (disk.may_leave old) (since_opening disk n beginning.since left) history left closing) same (record {
-        now = has.now;
-        closed = has.closed;
-        moments = λ image since. has.moments image (subst (λ (t : ℕ). disk.left_since left t image) moment since);
-      })
+  not_opened (store.Damaged at) one run refused = record { why = not_listed network (damaged at) (λ history same. cc same) one (disk.content old) refused.1; images = run }
+  not_opened store.Memory one run refused = record { why = tt; images = run }
 
 -- what the laws of stores say of a run over a store that was opened and closed
 module _ {S O E : Type 0} (source : SourceGhosts S) (sink : SinkGhosts O) (disk : DiskGhosts E) (start now : Reader S) (output output' : O) (network : Network) (old left : E) (store first last closed : Kept E) (served : Result ⊤ Fault) (closing : Result ⊤ Failed)
-    (opened : IsOpenedOn disk old network store) (keeps : KeepsDisk disk old store.journal.disk) (is_first : first ≡ store) (is_last : closed ≡ last)
+    (opened : IsOpenedOn disk old network store) (is_first : first ≡ store) (is_last : closed ≡ last)
     (closes : Closes disk closed left closing) (call : IsCalled (disk.frame closed.journal.disk) (disk.frame left) closing) where
-  abbrev pub beginning : Beginning
-  beginning = record { since = opened.history; network = network; moment = disk.moment old; tells = is_some (disk.content old) }
-
   abbrev Stood : List Entry → Kept E → Type 0
-  Stood history kept = StandsFor disk IsDecidedAt (disk.may_leave old) beginning history kept
+  Stood history kept = StandsFor disk IsDecidedAt (disk.may_leave old) (opening_of disk network opened.history old) history kept
 
   pub served_on : Stood opened.history store → ((history : List Entry) (kept : Kept E) → Stood opened.history store → GoesOn (store_books disk) IsDecidedAt network opened.history store history kept → Stood history kept)
-      → ((history : List Entry) (kept : Kept E) → Stood history kept → Closes disk kept left closing → HasLeft disk IsDecidedAt (disk.may_leave old) beginning history left closing)
+      → ((history : List Entry) (kept : Kept E) → Stood history kept → Closes disk kept left closing → HasLeft disk IsDecidedAt (disk.may_leave old) (opening_of disk network opened.history old) history left closing)
       → Serves source sink (store_books disk) start now output output' first.ledger.network opened.history first last served
       → HasServedOnDisk source sink disk start now output output' network old left served closing
   served_on stood run close serves = record {
@@ -102,10 +79,7 @@ module _ {S O E : Type 0} (source : SourceGhosts S) (sink : SinkGhosts O) (disk 
         (subst (λ (kept : Kept E). Serves source sink (store_books disk) start now output output' kept.ledger.network opened.history kept last served) is_first serves);
     faults = subst (λ (kept : Kept E). (disk.frame kept.journal.disk).faults ≤ (disk.frame left).faults) is_last call.met.stays.never_falls;
     told = call.told;
-    leaves = λ fresh history goes.
-        let closed_last = subst (λ (kept : Kept E). (disk.frame left).opened ≡ (disk.frame kept.journal.disk).opened) is_last call.opened in
-        left_since_opening disk network old left beginning store last history closing refl refl keeps.opened closed_last fresh goes
-        (close history last (run history last stood goes) (subst (λ (kept : Kept E). Closes disk kept left closing) is_last closes));
+    leaves = λ history goes. close history last (run history last stood goes) (subst (λ (kept : Kept E). Closes disk kept left closing) is_last closes);
   }
 
 -- ---- in a cabinet
@@ -129,9 +103,9 @@ told_some true value told = refl
 told_some false value told = absurd (cc told)
 
 module _ {C E : Type 0} (cabinet : CabinetGhosts C E) (disk : DiskGhosts E) (name : List ℕ) (old mid new : C) (network : Network) (opened left : E)
-    (fresh : disk.frame opened ≡ opened_at (disk.moment opened))
     (content : Has (cabinet.frame old).tells (cabinet.held old name) (λ was. disk.content opened ≡ disk.content was))
     (images : Has (cabinet.frame old).tells (cabinet.held old name) (λ was. NoneNew (disk.may_leave was) (disk.may_leave opened)))
+    (same_moment : Has (cabinet.frame old).tells (cabinet.held old name) (λ was. disk.moment opened ≡ disk.moment was))
     (taken : IsDiskCall {T = E} name (cabinet.frame old) (cabinet.frame mid) (Ok opened))
     (held : IfSome (cabinet.frame mid).out (λ out. cabinet.held new out ≡ where_told (cabinet.frame mid).tells left))
     (never_falls : (cabinet.frame mid).faults ≤ (cabinet.frame new).faults)
@@ -146,21 +120,24 @@ module _ {C E : Type 0} (cabinet : CabinetGhosts C E) (disk : DiskGhosts E) (nam
       let there = subst (λ (out : Option (List ℕ)). IfSome out (λ out. cabinet.held new out ≡ where_told (cabinet.frame mid).tells left)) taken.taken_out held in
       (left, there ∙ told_some (cabinet.frame mid).tells left (subst IsTrue tells told), refl)
 
-  -- the moment of its opening
-  moment : (disk.frame opened).opened ≡ disk.moment opened
-  moment = ap (λ (f : DiskFrame). f.opened) fresh
-
   at_opening : (was : E) (image : List ℕ) → disk.content opened ≡ disk.content was → NoneNew (disk.may_leave was) (disk.may_leave opened) → IsAtOpening disk opened network image → IsAtOpening disk was network image
   at_opening was image same none_new (inl had) = inl (none_new image had)
   at_opening was image same none_new (inr stands) = inr (stands.0, subst (λ (c : Option (List ℕ)). IfSome c (IsHistoryOf network stands.0)) same stands.1, stands.2)
 
+  -- the disk that was held, as it was taken out
+  abbrev TakenFrom : E → Type 0
+  TakenFrom was = (disk.content opened ≡ disk.content was) × (NoneNew (disk.may_leave was) (disk.may_leave opened) × (disk.moment opened ≡ disk.moment was))
+
+  taken_from : Has was_tells (cabinet.held old name) TakenFrom
+  taken_from = has_both was_tells (cabinet.held old name) _ _ content (has_both was_tells (cabinet.held old name) _ _ images same_moment)
+
   -- nothing was entered
-  unopened : LeavesOnly disk opened left (IsAtOpening disk opened network) → (disk.frame left).opened ≡ (disk.frame opened).opened → IsUnopened cabinet disk old new network name
-  unopened run kept = inr (has_weaker was_tells (cabinet.held old name) _ _
-      (λ was both. has_weaker (cabinet.frame new).tells (cabinet.held new name) _ _
-      (λ now same image since. at_opening was image both.0 both.1
-      (run.each image (subst (λ (t : ℕ). disk.left_since left t image) (kept ∙ moment) (subst (λ (d : E). disk.left_since d (disk.frame d).opened image) same since)))) held_left)
-      (has_both was_tells (cabinet.held old name) _ _ content images))
+  unopened : LeavesOnly disk opened left (IsAtOpening disk opened network) → IsUnopened cabinet disk old new network name
+  unopened run = inr (has_weaker was_tells (cabinet.held old name) _ _
+      (λ was is. has_weaker (cabinet.frame new).tells (cabinet.held new name) _ _
+      (λ now same image since. at_opening was image is.0 is.1.0
+      (run.each image (subst (λ (t : ℕ). disk.left_since left t image) (sym is.1.1) (subst (λ (d : E). disk.left_since d (disk.moment was) image) same since)))) held_left)
+      taken_from)
 
   -- what was read of the disk is what it held
   held_as : (P : List ℕ → Type 0) → IfSome (disk.content opened) P → Held cabinet disk old new name P
@@ -220,10 +197,10 @@ module _ {C E : Type 0} (cabinet : CabinetGhosts C E) (disk : DiskGhosts E) (nam
   not_served (Err fault.Read) not = absurd not.why
   not_served (Err fault.Write) not = absurd not.why
   not_served (Err fault.TooLong) not = absurd not.why
-  not_served (Err (fault.Other old_one given)) not = (not.why.0, refuses (other old_one) (unopened not.images not.opened) not.why.1)
-  not_served (Err (fault.Damaged at)) not = refuses (damaged at) (unopened not.images not.opened) not.why
-  not_served (Err fault.Cabinet) not = (unopened not.images not.opened, risen not.why)
-  not_served (Err fault.Memory) not = unopened not.images not.opened
+  not_served (Err (fault.Other old_one given)) not = (not.why.0, refuses (other old_one) (unopened not.images) not.why.1)
+  not_served (Err (fault.Damaged at)) not = refuses (damaged at) (unopened not.images) not.why
+  not_served (Err fault.Cabinet) not = (unopened not.images, risen not.why)
+  not_served (Err fault.Memory) not = unopened not.images
 
   -- a store was opened, and closed
   module _ {S O : Type 0} (source : SourceGhosts S) (sink : SinkGhosts O) (start now : Reader S) (output output' : O) where
@@ -239,9 +216,9 @@ module _ {C E : Type 0} (cabinet : CabinetGhosts C E) (disk : DiskGhosts E) (nam
         told = told_back replies told;
         met = counts closing has.told;
         left = has_weaker was_tells (cabinet.held old name) _ _
-            (λ was none_new. has_weaker (cabinet.frame new).tells (cabinet.held new name) _ _
-            (λ now same. subst (λ (d : E). HasLeft disk IsDecidedAt (disk.may_leave was) (since_opening disk network has.since d) history d closing) (sym same)
-            (had_before was none_new history (has.leaves (sym moment) history goes))) held_left) images;
+            (λ was is. has_weaker (cabinet.frame new).tells (cabinet.held new name) _ _
+            (λ now same. subst (λ (d : E). HasLeft disk IsDecidedAt (disk.may_leave was) (opening_of disk network has.since was) history d closing) (sym same)
+            (had_before was is history (has.leaves history goes))) held_left) taken_from;
       };
     }
       where
@@ -249,12 +226,12 @@ module _ {C E : Type 0} (cabinet : CabinetGhosts C E) (disk : DiskGhosts E) (nam
         told_back replies (inl told) = inl (omega (arith, told, has.faults, ap (λ (f : CabinetFrame). f.returned) after))
         told_back replies (inr most) = inr (omega (arith, most, has.faults, ap (λ (f : CabinetFrame). f.returned) after))
 
-        had_before : (was : E) → NoneNew (disk.may_leave was) (disk.may_leave opened) → (history : List Entry) → HasLeft disk IsDecidedAt (disk.may_leave opened) (since_opening disk network has.since left) history left closing
-            → HasLeft disk IsDecidedAt (disk.may_leave was) (since_opening disk network has.since left) history left closing
-        had_before was none_new history one = record {
+        had_before : (was : E) → TakenFrom was → (history : List Entry) → HasLeft disk IsDecidedAt (disk.may_leave opened) (opening_of disk network has.since opened) history left closing
+            → HasLeft disk IsDecidedAt (disk.may_leave was) (opening_of disk network has.since was) history left closing
+        had_before was is history one = record {
           now = one.now;
           closed = one.closed;
-          moments = λ image since. ⊎_elim (λ part. inl part) (λ had. inr (none_new image had)) (one.moments image since);
+          moments = λ image since. ⊎_elim (λ part. inl part) (λ had. inr (is.1.0 image had)) (one.moments image (subst (λ (t : ℕ). disk.left_since left t image) (sym is.1.1) since));
         }
 
     pub in_cabinet : (done : Result ⊤ Fault) → ServesOnDisk source sink disk start now output output' network opened left done → ServesInCabinet source sink cabinet disk name start now output output' old new network done

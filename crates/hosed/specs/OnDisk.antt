@@ -16,13 +16,13 @@ use Rattle.hose_store.specs.Recovery.{IsHistoryOf, IsRecoveredAs, digest_of}
 use Rattle.hosed.specs.Run.{Keeping, in_memory}
 use Rattle.hosed.specs.Serving.{TellsDisks}
 
--- the opening of a disk that stood for a history then, by what is left of the disk
-abbrev pub since_opening : {E : Type 0} → DiskGhosts E → Network → List Entry → E → Beginning
-since_opening disk network since left = record {
+-- the opening of a disk that stood for a history then
+abbrev pub opening_of : {E : Type 0} → DiskGhosts E → Network → List Entry → E → Beginning
+opening_of disk network since was = record {
   since = since;
   network = network;
-  moment = (disk.frame left).opened;
-  tells = is_some (disk.content left);
+  moment = disk.moment was;
+  tells = is_some (disk.content was);
 }
 
 -- Failures of a disk were told no more often than the disk has failed. The cabinet failed where
@@ -35,7 +35,7 @@ pub record KeptOnDisk {C E : Type 0} (cabinet : CabinetGhosts C E) (disk : DiskG
   pub met : Met (object_of (cabinet.frame old)) (object_of (cabinet.frame new)) closing
   pub left : Has (cabinet.frame old).tells (cabinet.held old name) (λ was.
       Has (cabinet.frame new).tells (cabinet.held new name) (λ left.
-      HasLeft disk IsDecidedAt (disk.may_leave was) (since_opening disk network since left) history
+      HasLeft disk IsDecidedAt (disk.may_leave was) (opening_of disk network since was) history
       left closing))
 
 module _ {C E : Type 0} (cabinet : CabinetGhosts C E) (disk : DiskGhosts E) (old new : C) where
@@ -62,7 +62,7 @@ module _ {C E : Type 0} (cabinet : CabinetGhosts C E) (disk : DiskGhosts E) (old
   IsUnopened network name = (cabinet.held new ≡ cabinet.held old)
       ⊎ Has (cabinet.frame old).tells (cabinet.held old name) (λ was.
       Has (cabinet.frame new).tells (cabinet.held new name) (λ left. (image : List ℕ) →
-      disk.left_since left (disk.frame left).opened image → IsAtOpening disk was network image))
+      disk.left_since left (disk.moment was) image → IsAtOpening disk was network image))
 
   -- The journal is not one of the network: it means this, and so it stands for no history.
   pub record IsRefused (network : Network) (name : List ℕ) (meaning : Meaning Entry) : Type 0 where

@@ -20,7 +20,7 @@ use Rattle.hose_store.specs.Commit.{store_books}
 use Rattle.hose_store.specs.Opening.{IsAtOpening}
 use Rattle.hose_store.specs.Recovery.{IsHistoryOf, IsRecoveredAs, digest_of}
 use Rattle.hose_store.specs.Store.{Kept}
-use Rattle.hosed.specs.OnDisk.{Held, IsRefused, IsUnopened, KeptOnDisk, since_opening}
+use Rattle.hosed.specs.OnDisk.{Held, IsRefused, IsUnopened, KeptOnDisk, opening_of}
 use Rattle.hosed.specs.Serving.{Serves, TellsDisks}
 use Rattle.hosed.specs.declared.fault.Fault.{Fault}
 use Rattle.hosed.specs.declared.fault.Fault.TheVariants as fault
@@ -53,7 +53,6 @@ pub record IsNotOpened {E : Type 0} (disk : DiskGhosts E) (old left : E) (networ
     (result : Result ⊤ Fault) : Type 0 where
   pub why : IsWhy disk old left network result
   pub images : LeavesOnly disk old left (IsAtOpening disk old network)
-  pub opened : (disk.frame left).opened ≡ (disk.frame old).opened
 
 -- Lines were answered by a store, which was closed then.
 pub record HasServedOnDisk {S O E : Type 0} (source : SourceGhosts S) (sink : SinkGhosts O)
@@ -67,10 +66,10 @@ pub record HasServedOnDisk {S O E : Type 0} (source : SourceGhosts S) (sink : Si
       last served
   pub faults : (disk.frame last.journal.disk).faults ≤ (disk.frame left).faults
   pub told : (disk.frame left).has_failed ≡ is_err closing
-  pub leaves : disk.moment old ≡ (disk.frame old).opened → (history : List Entry)
+  pub leaves : (history : List Entry)
       → GoesOn (store_books disk) IsDecidedAt network since first history last
-      → HasLeft disk IsDecidedAt (disk.may_leave old) (since_opening disk network since left)
-      history left closing
+      → HasLeft disk IsDecidedAt (disk.may_leave old) (opening_of disk network since old) history
+      left closing
 
 -- no store was opened, or lines were answered by it, and the first fault is told
 abbrev pub ServesOnDisk : {S O E : Type 0} → SourceGhosts S → SinkGhosts O → DiskGhosts E → Reader S

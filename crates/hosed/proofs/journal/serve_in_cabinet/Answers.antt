@@ -6,5 +6,5 @@ returns-clause-serves g c =
     let taken = c.in-Ok.ensures in
     let back = c.back.ensures in
     let served = c.serve_on_disk-served in
-    in_cabinet g.C.Cabinet g.C.Disk.Disk c.args.name.now c.args.cabinet.now c.disk.new.self c.back.new.self c.args.topology c.in-Ok.disk served.result.1 taken.opened taken.content taken.images taken.call back.held back.never_falls back.call
+    in_cabinet g.C.Cabinet g.C.Disk.Disk c.args.name.now c.args.cabinet.now c.disk.new.self c.back.new.self c.args.topology c.in-Ok.disk served.result.1 taken.content taken.images taken.moment taken.call back.held back.never_falls back.call
     g.S.Source g.O.Sink c.args.lines.now served.new.lines c.args.output.now served.new.output served.result.0 served.ensures.serves

@@ -3,13 +3,14 @@ use Rattle.hose_law.specs.History.{IsSound}
 use Rattle.hose_store.specs.Store.{Kept}
 use Rattle.hosed.specs.ServingOnDisk.{ServesOnDisk, first_fault}
 use Rattle.hosed.specs.declared.fault.Fault.{Fault}
-use Rattle.hosed.proofs.Journals.{and_cabinet, beginning, not_opened, served_on}
+use Rattle.hosed.specs.OnDisk.{opening_of}
+use Rattle.hosed.proofs.Journals.{and_cabinet, not_opened, served_on}
 use Rattle.hosed.proofs.journal.serve_on_disk.Goals as goal
 
 pub returns-in-Err-clause-serves : goal.returns-in-Err-clause-serves
 returns-in-Err-clause-serves g c =
     let left = c.in-Err.refused.1 in
-    let not = not_opened g.D.Disk c.args.topology c.args.disk left c.in-Err.refused.0 c.law_one_meaning.ensures c.in-Err.ensures.any_moment c.in-Err.ensures.refused c.in-Err.ensures.keeps in
+    let not = not_opened g.D.Disk c.args.topology c.args.disk left c.in-Err.refused.0 c.law_one_meaning.ensures c.in-Err.ensures.any_moment c.in-Err.ensures.refused in
     subst (λ (why : Fault). ServesOnDisk g.S.Source g.O.Sink g.D.Disk c.args.lines.now c.args.lines.now c.args.output.now c.args.output.now c.args.topology c.args.disk left (Err why)) (sym c.from.ensures)
     (inl (not, refl, refl))
 
@@ -20,18 +21,16 @@ returns-in-Ok-0₀-clause-serves g c =
     let left = c.close-closed.result.1 in
     let store = c.in-Ok.store in
     let opened = c.in-Ok.ensures.opened in
-    let keeps = c.in-Ok.ensures.keeps in
     let first = c.new-core.result.books in
     let last = c.serve-served.new.core.books in
     let closed = c.into_books.result in
     let closing = c.close-closed.result.0 in
     let is_first = c.new-core.ensures.books in
-    let begins = beginning g.S.Source g.O.Sink disk c.args.lines.now c.serve-served.new.lines c.args.output.now c.serve-served.new.output c.args.topology old left store first last closed c.serve-served.result closing
-    opened keeps is_first c.into_books.ensures c.close-closed.ensures.closes c.close-closed.ensures.call in
-    let stood = c.law_opened.ensures begins old old store opened refl c.in-Ok.ensures.any_moment keeps.tells refl (le_refl _) (g.met.D.Disk.only_now old) in
+    let begins = opening_of disk c.args.topology opened.history old in
+    let stood = c.law_opened.ensures begins old old store opened refl c.in-Ok.ensures.any_moment c.in-Ok.ensures.keeps.tells refl (le_refl _) (g.met.D.Disk.only_now old) in
     let sound = subst (λ (kept : Kept g.row.D.Denot). IsSound kept.ledger.network 0 opened.history) (sym is_first) opened.has.sound in
     let has = served_on g.S.Source g.O.Sink disk c.args.lines.now c.serve-served.new.lines c.args.output.now c.serve-served.new.output c.args.topology old left store first last closed c.serve-served.result closing
-    opened keeps is_first c.into_books.ensures c.close-closed.ensures.closes c.close-closed.ensures.call stood
+    opened is_first c.into_books.ensures c.close-closed.ensures.closes c.close-closed.ensures.call stood
     (λ history kept stands goes. c.law_run.ensures begins old opened.history history store kept stands goes)
     (λ history kept stands closes. c.law_closed.ensures begins old left history kept closing stands closes)
     (c.serve-served.ensures.serves opened.history sound (c.new-core.ensures.fits 0 opened.history opened.has.book)) in
@@ -44,18 +43,16 @@ returns-clause-serves g c =
     let left = c.close-closed.result.1 in
     let store = c.in-Ok.store in
     let opened = c.in-Ok.ensures.opened in
-    let keeps = c.in-Ok.ensures.keeps in
     let first = c.new-core.result.books in
     let last = c.serve-served.new.core.books in
     let closed = c.into_books.result in
     let closing = c.close-closed.result.0 in
     let is_first = c.new-core.ensures.books in
-    let begins = beginning g.S.Source g.O.Sink disk c.args.lines.now c.serve-served.new.lines c.args.output.now c.serve-served.new.output c.args.topology old left store first last closed c.serve-served.result closing
-    opened keeps is_first c.into_books.ensures c.close-closed.ensures.closes c.close-closed.ensures.call in
-    let stood = c.law_opened.ensures begins old old store opened refl c.in-Ok.ensures.any_moment keeps.tells refl (le_refl _) (g.met.D.Disk.only_now old) in
+    let begins = opening_of disk c.args.topology opened.history old in
+    let stood = c.law_opened.ensures begins old old store opened refl c.in-Ok.ensures.any_moment c.in-Ok.ensures.keeps.tells refl (le_refl _) (g.met.D.Disk.only_now old) in
     let sound = subst (λ (kept : Kept g.row.D.Denot). IsSound kept.ledger.network 0 opened.history) (sym is_first) opened.has.sound in
     let has = served_on g.S.Source g.O.Sink disk c.args.lines.now c.serve-served.new.lines c.args.output.now c.serve-served.new.output c.args.topology old left store first last closed c.serve-served.result closing
-    opened keeps is_first c.into_books.ensures c.close-closed.ensures.closes c.close-closed.ensures.call stood
+    opened is_first c.into_books.ensures c.close-closed.ensures.closes c.close-closed.ensures.call stood
     (λ history kept stands goes. c.law_run.ensures begins old opened.history history store kept stands goes)
     (λ history kept stands closes. c.law_closed.ensures begins old left history kept closing stands closes)
     (c.serve-served.ensures.serves opened.history sound (c.new-core.ensures.fits 0 opened.history opened.has.book)) in
