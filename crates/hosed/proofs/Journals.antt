@@ -1,5 +1,5 @@
 -- A run over a journal: on its disk, and in the cabinet that holds the disk.
-use Rattle.std.proofs.Common.{◌≡◌, ◌∙◌, ◌⊎◌, inl, inr, ⊎_elim, ℕ, ◌≤◌, ◌<◌, ◌-◌, ◌^◌, if◌then◌else◌, List, [], length, Bool, true, false, Option, Some, None, IfSome, IsTrue, is_some, is_err, Result, Ok, Err, refl, sym, ap, subst, arith}
+use Rattle.std.proofs.Common.{◌≡◌, ◌∙◌, ◌⊎◌, inl, inr, ⊎_elim, ℕ, ◌≤◌, ◌<◌, ◌-◌, ◌^◌, if◌then◌else◌, List, [], Bool, true, false, Option, Some, None, IfSome, IsTrue, is_err, Result, Ok, Err, refl, sym, ap, subst, arith}
 use Rattle.std.specs.Prelude.{⊤}
 use Rattle.std.specs.Result.{result_and}
 use Rattle.std.proofs.lemmas.Bool.{cases_lt}
@@ -15,7 +15,7 @@ use Rattle.hose_graph.specs.declared.reply.Reply.{Reply}
 use Rattle.hose_law.specs.History.{IsDecidedAt}
 use Rattle.hose_book.specs.GoingOn.{GoesOn}
 use Rattle.hose_disk.specs.Cabinet.{CabinetFrame, Has, IsDiskCall, after_back, object_of, where_told}
-use Rattle.hose_disk.specs.Disk.{DiskFrame, IsCalled, NoneNew}
+use Rattle.hose_disk.specs.Disk.{IsCalled, NoneNew}
 use Rattle.hose_disk.specs.declared.cabinet.Cabinet.{Ghosts as CabinetGhosts}
 use Rattle.hose_disk.specs.declared.disk.Disk.{Ghosts as DiskGhosts}
 use Rattle.hose_journal.specs.Image.{Meaning, listed, damaged, other}
@@ -23,14 +23,14 @@ use Rattle.hose_journal.specs.Moments.{LeavesOnly}
 use Rattle.hose_store.specs.Beginning.{HasLeft, StandsFor}
 use Rattle.hose_store.specs.Commit.{Closes, store_books}
 use Rattle.hose_store.specs.Opening.{IsAtOpening, IsOpenedOn, IsRefused as IsRefusedStore}
-use Rattle.hose_store.specs.Recovery.{IsHistoryOf, IsRecoveredAs, digest_of}
+use Rattle.hose_store.specs.Recovery.{IsHistoryOf, IsRecoveredAs}
 use Rattle.hose_store.specs.Store.{Kept}
 use Rattle.hose_store.specs.declared.fault.StoreFault.{StoreFault}
 use Rattle.hose_store.specs.declared.fault.StoreFault.TheVariants as store
 use Rattle.hosed.specs.Fault.{of_store}
-use Rattle.hosed.specs.OnDisk.{Held, IsRefused, IsUnopened, KeptOnDisk, opening_of}
+use Rattle.hosed.specs.OnDisk.{Held, IsRefused, IsUnopened, opening_of}
 use Rattle.hosed.specs.Serving.{Serves, TellsDisks}
-use Rattle.hosed.specs.ServingOnDisk.{HasServedInCabinet, HasServedOnDisk, IsNotOpened, IsNotServed, IsWhy, Refuses, ServesInCabinet, ServesOnDisk, first_fault}
+use Rattle.hosed.specs.ServingOnDisk.{HasServedInCabinet, HasServedOnDisk, IsNotOpened, IsNotServed, Refuses, ServesInCabinet, ServesOnDisk, first_fault}
 use Rattle.hosed.specs.declared.fault.Fault.{Fault}
 use Rattle.hosed.specs.declared.fault.Fault.TheVariants as fault
 

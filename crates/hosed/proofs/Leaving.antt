@@ -1,5 +1,5 @@
 -- What a run leaves, by what answering its lines comes to.
-use Rattle.std.proofs.Common.{◌≡◌, ◌∙◌, ◌⊎◌, ℕ, List, [], ◌∷◌, ◌++◌, drop, MutBor, Option, Some, None, Result, Ok, Err, inl, inr, refl, sym, ap, subst, IsSome}
+use Rattle.std.proofs.Common.{◌≡◌, ◌∙◌, ℕ, List, [], ◌∷◌, ◌++◌, drop, MutBor, Option, Some, None, Result, Ok, Err, inl, inr, refl, sym, ap, subst}
 use Rattle.std.specs.Prelude.{⊤}
 use Rattle.std.specs.Borrow.{GName}
 use Rattle.hose_io.specs.Frame.{Frame, Rose}

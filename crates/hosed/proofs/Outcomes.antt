@@ -1,7 +1,7 @@
 -- What the top call makes of a run.
 use Rattle.std.proofs.Common.{◌≡◌, ◌⊎◌, ◌∙◌, ℕ, ◌^◌, ◌<◌, List, ◌∷◌, [], ◌++◌, Option, None, Some, IfSome, IsSome, MatchOption, Result, Ok, Err, inl, inr, refl, sym, ap, subst, arith, length, length-append}
 use Rattle.std.specs.Prelude.{⊤}
-use Rattle.hose_io.specs.Frame.{Rose, Stays}
+use Rattle.hose_io.specs.Frame.{Stays}
 use Rattle.hose_io.specs.Stream.{Stream, Gives}
 use Rattle.hose_io.specs.Writing.{IsPut}
 use Rattle.hose_io.specs.declared.Failed.{Failed}

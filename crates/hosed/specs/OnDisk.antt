@@ -9,10 +9,10 @@ use Rattle.hose_law.specs.History.{IsDecidedAt}
 use Rattle.hose_disk.specs.Cabinet.{Has, object_of}
 use Rattle.hose_disk.specs.declared.cabinet.Cabinet.{Ghosts as CabinetGhosts}
 use Rattle.hose_disk.specs.declared.disk.Disk.{Ghosts as DiskGhosts}
-use Rattle.hose_journal.specs.Image.{Meaning, damaged, other}
+use Rattle.hose_journal.specs.Image.{Meaning}
 use Rattle.hose_store.specs.Beginning.{Beginning, HasLeft}
 use Rattle.hose_store.specs.Opening.{IsAtOpening}
-use Rattle.hose_store.specs.Recovery.{IsHistoryOf, IsRecoveredAs, digest_of}
+use Rattle.hose_store.specs.Recovery.{IsHistoryOf, IsRecoveredAs}
 use Rattle.hosed.specs.Run.{Keeping, in_memory}
 use Rattle.hosed.specs.Serving.{TellsDisks}
 

@@ -1,5 +1,5 @@
 -- What answering lines by the book of a journal comes to, and what it does to the journal's disk.
-use Rattle.std.specs.Prelude.{◌≡◌, ◌⊎◌, ℕ, ◌≤◌, List, Option, IfSome, Bool, true, Result, Ok, Err, is_err, is_some, ⊤}
+use Rattle.std.specs.Prelude.{◌≡◌, ◌⊎◌, ℕ, ◌≤◌, List, IfSome, true, Result, Ok, Err, is_err, ⊤}
 use Rattle.hose_io.specs.Frame.{Rose}
 use Rattle.hose_io.specs.declared.Failed.{Failed}
 use Rattle.hose_io.specs.declared.source.Source.{Ghosts as SourceGhosts}

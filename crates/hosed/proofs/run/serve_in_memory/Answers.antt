@@ -1,4 +1,4 @@
-use Rattle.std.proofs.Common.{◌≡◌, ◌∙◌, [], inr, ap, subst}
+use Rattle.std.proofs.Common.{◌∙◌, [], inr, ap, subst}
 use Rattle.hose_book.specs.Ledger.{Ledger}
 use Rattle.hose_book.specs.declared.books.Plain.{Plain}
 use Rattle.hose_graph.specs.Network.{Network}

@@ -1,4 +1,4 @@
-use Rattle.std.proofs.Common.{codes, ◌≡◌, ◌∙◌, ℕ, ◌≤◌, ltb, List, [], ◌∷◌, length, get_or, map, IfSome, inl, inr, refl, sym, subst, arith}
+use Rattle.std.proofs.Common.{codes, ◌≡◌, ℕ, ◌≤◌, ltb, List, [], ◌∷◌, length, get_or, map, IfSome, inl, inr, refl, subst, arith}
 use Rattle.std.specs.Bool.{then_some}
 use Rattle.std.specs.String.{string_bytes}
 use Rattle.std.proofs.lemmas.Bool.{lt-ltb}
