@@ -41,8 +41,8 @@ pub trait Cabinet: Drop {
         ensures disks { held self.new ≡ held self.old }
         ensures call { IsTextCall (frame self.old) (frame self.new) result };
 
-    /// Takes out the disk of a name. It has failed in no call yet, no time has passed on it since it
-    /// was held, and what a stop may leave of it is what a stop might have left of it then.
+    /// Takes out the disk of a name. It has failed in no call yet, no time has passed on it since
+    /// it was put there, and what a stop may leave of it is what one might have left of it then.
     fn disk(&mut self, name: &str) -> Result<Self::Disk, Failed>
         requires { (frame self.old).out ≡ None }
         ensures opened { IfOk result
