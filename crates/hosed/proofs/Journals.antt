@@ -1,7 +1,6 @@
 -- A run over a journal: on its disk, and in the cabinet that holds the disk.
 use Rattle.std.proofs.Common.{◌≡◌, ◌∙◌, ◌⊎◌, inl, inr, ⊎_elim, ℕ, ◌≤◌, ◌<◌, ◌-◌, ◌^◌, if◌then◌else◌, List, [], Bool, true, false, Option, Some, None, IfSome, IsTrue, is_err, Result, Ok, Err, refl, sym, ap, subst, arith}
 use Rattle.std.specs.Prelude.{⊤}
-use Rattle.std.specs.Result.{result_and}
 use Rattle.std.proofs.lemmas.Bool.{cases_lt}
 use Rattle.hose_io.specs.Count.{one_more}
 use Rattle.hose_io.specs.Frame.{Frame, Met, Rose}
@@ -30,16 +29,11 @@ use Rattle.hose_store.specs.declared.fault.StoreFault.TheVariants as store
 use Rattle.hosed.specs.Fault.{of_store}
 use Rattle.hosed.specs.OnDisk.{Held, IsRefused, IsUnopened, opening_of}
 use Rattle.hosed.specs.Serving.{Serves, TellsDisks}
-use Rattle.hosed.specs.ServingOnDisk.{HasServedInCabinet, HasServedOnDisk, IsNotOpened, IsNotServed, Refuses, ServesInCabinet, ServesOnDisk, first_fault}
+use Rattle.hosed.specs.ServingOnDisk.{HasServedInCabinet, HasServedOnDisk, IsNotOpened, IsNotServed, Refuses, ServesInCabinet, ServesOnDisk, first_of}
 use Rattle.hosed.specs.declared.fault.Fault.{Fault}
 use Rattle.hosed.specs.declared.fault.Fault.TheVariants as fault
 
 -- ---- on a disk
-
--- the fault of closing, where there is none before
-pub and_cabinet : (served : Result ⊤ Fault) (failed : Failed) → result_and served (Err fault.Cabinet) ≡ first_fault served (Err failed)
-and_cabinet (Ok done) failed = refl
-and_cabinet (Err why) failed = refl
 
 -- what is other or damaged is no list
 not_listed : (network : Network) (meaning : Meaning Entry) → ((history : List Entry) → listed history ≡ meaning → ⊥) → ((image : List ℕ) (one two : Meaning Entry) → IsRecoveredAs network image one → IsRecoveredAs network image two → one ≡ two)

@@ -21,7 +21,7 @@ use Rattle.hosed.specs.OnDisk.{keeping_of, on_disk}
 use Rattle.hosed.specs.Run.{IsCutOff, IsRun, IsRunUpTo, TellsNoNetwork, in_memory}
 use Rattle.hosed.specs.RunOutcome.{HasRead, IsBroken, IsStarved, RunLeaves}
 use Rattle.hosed.specs.Serving.{ServesInMemory, plain_books}
-use Rattle.hosed.specs.ServingOnDisk.{HasServedInCabinet, IsNotServed, ServesInCabinet, first_fault}
+use Rattle.hosed.specs.ServingOnDisk.{HasServedInCabinet, IsNotServed, ServesInCabinet, first_of}
 use Rattle.hosed.specs.declared.fault.Fault.{Fault}
 use Rattle.hosed.specs.declared.fault.Fault.TheVariants as fault
 use Rattle.hosed.proofs.OneRun.{OneText}
@@ -60,7 +60,7 @@ module _ {S O C E : Type 0} (source : Ghosts S) (sink : SinkGhosts O) (cabinet :
 
   -- lines were answered by the book of a journal
   module _ (name : List ℕ) where
-    served_leaves : (served : Result ⊤ Fault) (closing : Result ⊤ Failed) → ReadsOn source middle last → HasServedInCabinet source sink cabinet disk name middle last output output' place place' network served closing → Leaves (Some name) place' (first_fault served closing)
+    served_leaves : (served : Result ⊤ Fault) (closing : Result ⊤ Failed) → ReadsOn source middle last → HasServedInCabinet source sink cabinet disk name middle last output output' place place' network served closing → Leaves (Some name) place' (first_of served closing)
     served_leaves served (Ok done) more has =
         ran source sink start middle last network output output' is empty text one reads none (store_books disk) (on_disk cabinet disk place place' name (Ok done)) has.since has.first has.last has.begun has.keeps more
         (λ done. Leaves (Some name) place' done)
@@ -70,7 +70,7 @@ module _ {S O C E : Type 0} (source : Ghosts S) (sink : SinkGhosts O) (cabinet :
         (λ run held rose. ((Ok done, run), held, rose)) served has.serves
     served_leaves served (Err failed) more has =
         ran source sink start middle last network output output' is empty text one reads none (store_books disk) (on_disk cabinet disk place place' name (Err failed)) has.since has.first has.last has.begun has.keeps more
-        (λ done. Leaves (Some name) place' (first_fault done (Err failed)))
+        (λ done. Leaves (Some name) place' (first_of done (Err failed)))
         (λ run held out. (inr (refl, failed, run, held, out), run.run.keeps.met.failed refl))
         (λ run out rose. (inr (Err failed, run, out), rose))
         (λ run out held. (inr (Err failed, run, out), held))

@@ -26,10 +26,10 @@ use Rattle.hosed.specs.declared.fault.Fault.{Fault}
 use Rattle.hosed.specs.declared.fault.Fault.TheVariants as fault
 
 -- the first fault of answering lines and then closing
-abbrev pub first_fault : Result ⊤ Fault → Result ⊤ Failed → Result ⊤ Fault
-first_fault served (Ok _) = served
-first_fault (Ok _) (Err failed) = Err fault.Cabinet
-first_fault (Err why) (Err failed) = Err why
+abbrev pub first_of : Result ⊤ Fault → Result ⊤ Failed → Result ⊤ Fault
+first_of served (Ok _) = served
+first_of (Ok _) (Err failed) = Err fault.Cabinet
+first_of (Err why) (Err failed) = Err why
 
 -- ---- on a disk
 
@@ -78,7 +78,7 @@ ServesOnDisk source sink disk start now output output' network old left result =
     (IsNotOpened disk old left network result × (now ≡ start) × (output' ≡ output))
     ⊎ ((served : Result ⊤ Fault) × (closing : Result ⊤ Failed)
     × HasServedOnDisk source sink disk start now output output' network old left served closing
-    × (result ≡ first_fault served closing))
+    × (result ≡ first_of served closing))
 
 -- ---- in a cabinet
 
@@ -120,4 +120,4 @@ ServesInCabinet source sink cabinet disk name start now output output' old new n
     (IsNotServed cabinet disk name old new network result × (now ≡ start) × (output' ≡ output))
     ⊎ ((served : Result ⊤ Fault) × (closing : Result ⊤ Failed)
     × HasServedInCabinet source sink cabinet disk name start now output output' old new network
-    served closing × (result ≡ first_fault served closing))
+    served closing × (result ≡ first_of served closing))

@@ -3,14 +3,14 @@ ghost use Rattle.std.specs.Prelude.{◌≡◌, ◌↔◌, ◌+◌, ◌<◌, ◌�
 ghost use Rattle.hose_io.specs.Frame.{Stays};
 ghost use Rattle.hose_words.specs.Reading.{ReadsOn};
 ghost use Rattle.hose_disk.specs.Cabinet.{object_of};
-ghost use Rattle.hosed.specs.ServingOnDisk.{ServesInCabinet, ServesOnDisk};
+ghost use Rattle.hosed.specs.ServingOnDisk.{ServesInCabinet, ServesOnDisk, first_of};
 
 use crate::fault::Fault;
 use crate::run::serve;
 use hose_core::Core;
 use hose_disk::{Cabinet, Disk};
 use hose_graph::Topology;
-use hose_io::{Sink, Source};
+use hose_io::{Failed, Sink, Source};
 use hose_store::{Premises, Store, law_closed, law_one_meaning, law_opened, law_run};
 use hose_words::{INPUT_LIMIT, LineReader};
 use std::alloc::Global;
@@ -73,9 +73,16 @@ fn serve_on_disk<S: Source, O: Sink, D: Disk>(
     let mut core = Core::new(alloc, store);
     let served = serve(alloc, &mut core, lines, output);
     let closed = core.into_books().close();
-    match closed.0 {
-        Ok(()) => (served, closed.1),
-        Err(_) => (served.and(Err(Fault::Cabinet)), closed.1),
+    (first_fault(served, closed.0), closed.1)
+}
+
+// What came of answering lines and then closing.
+fn first_fault(served: Result<(), Fault>, closing: Result<(), Failed>) -> Result<(), Fault>
+    ensures { result ≡ first_of served closing }
+{
+    match closing {
+        Ok(()) => served,
+        Err(_) => served.and(Err(Fault::Cabinet)),
     }
 }
 

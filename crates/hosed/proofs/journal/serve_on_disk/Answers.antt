@@ -1,10 +1,10 @@
 use Rattle.std.proofs.Common.{◌∙◌, inl, inr, Err, refl, sym, ap, subst, le_refl}
 use Rattle.hose_law.specs.History.{IsSound}
 use Rattle.hose_store.specs.Store.{Kept}
-use Rattle.hosed.specs.ServingOnDisk.{ServesOnDisk, first_fault}
+use Rattle.hosed.specs.ServingOnDisk.{ServesOnDisk, first_of}
 use Rattle.hosed.specs.declared.fault.Fault.{Fault}
 use Rattle.hosed.specs.OnDisk.{opening_of}
-use Rattle.hosed.proofs.Journals.{and_cabinet, not_opened, served_on}
+use Rattle.hosed.proofs.Journals.{not_opened, served_on}
 use Rattle.hosed.proofs.journal.serve_on_disk.Goals as goal
 
 pub returns-in-Err-clause-serves : goal.returns-in-Err-clause-serves
@@ -13,28 +13,6 @@ returns-in-Err-clause-serves g c =
     let not = not_opened g.D.Disk c.args.topology c.args.disk left c.in-Err.refused.0 c.law_one_meaning.ensures c.in-Err.ensures.any_moment c.in-Err.ensures.refused in
     subst (λ (why : Fault). ServesOnDisk g.S.Source g.O.Sink g.D.Disk c.args.lines.now c.args.lines.now c.args.output.now c.args.output.now c.args.topology c.args.disk left (Err why)) (sym c.from.ensures)
     (inl (not, refl, refl))
-
-pub returns-in-Ok-0₀-clause-serves : goal.returns-in-Ok-0₀-clause-serves
-returns-in-Ok-0₀-clause-serves g c =
-    let disk = g.D.Disk in
-    let old = c.args.disk in
-    let left = c.close-closed.result.1 in
-    let store = c.in-Ok.store in
-    let opened = c.in-Ok.ensures.opened in
-    let first = c.new-core.result.books in
-    let last = c.serve-served.new.core.books in
-    let closed = c.into_books.result in
-    let closing = c.close-closed.result.0 in
-    let is_first = c.new-core.ensures.books in
-    let begins = opening_of disk c.args.topology opened.history old in
-    let stood = c.law_opened.ensures begins old old store opened refl c.in-Ok.ensures.any_moment c.in-Ok.ensures.keeps.tells refl (le_refl _) (g.met.D.Disk.only_now old) in
-    let sound = subst (λ (kept : Kept g.row.D.Denot). IsSound kept.ledger.network 0 opened.history) (sym is_first) opened.has.sound in
-    let has = served_on g.S.Source g.O.Sink disk c.args.lines.now c.serve-served.new.lines c.args.output.now c.serve-served.new.output c.args.topology old left store first last closed c.serve-served.result closing
-    opened is_first c.into_books.ensures c.close-closed.ensures.closes c.close-closed.ensures.call stood
-    (λ history kept stands goes. c.law_run.ensures begins old opened.history history store kept stands goes)
-    (λ history kept stands closes. c.law_closed.ensures begins old left history kept closing stands closes)
-    (c.serve-served.ensures.serves opened.history sound (c.new-core.ensures.fits 0 opened.history opened.has.book)) in
-    inr (c.serve-served.result, closing, has, sym (ap (first_fault c.serve-served.result) c.in-Ok-0₀.is))
 
 pub returns-clause-serves : goal.returns-clause-serves
 returns-clause-serves g c =
@@ -56,4 +34,4 @@ returns-clause-serves g c =
     (λ history kept stands goes. c.law_run.ensures begins old opened.history history store kept stands goes)
     (λ history kept stands closes. c.law_closed.ensures begins old left history kept closing stands closes)
     (c.serve-served.ensures.serves opened.history sound (c.new-core.ensures.fits 0 opened.history opened.has.book)) in
-    inr (c.serve-served.result, closing, has, c.and.ensures ∙ (and_cabinet c.serve-served.result _ ∙ sym (ap (first_fault c.serve-served.result) c.in-Err-0₀.is)))
+    inr (c.serve-served.result, closing, has, c.first_fault.ensures)
