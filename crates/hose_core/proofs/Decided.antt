@@ -7,20 +7,22 @@ use Rattle.hose_graph.specs.declared.entry.Entry.{Entry}
 use Rattle.hose_graph.specs.declared.reply.Reply.{Reply}
 use Rattle.hose_graph.specs.declared.reply.Reply.TheVariants as reply
 use Rattle.hose_law.specs.Answer.{IsAdmitAnswer, IsPlannedAnswer}
-use Rattle.hose_law.specs.Book.{Book}
+use Rattle.hose_law.specs.Book.{Book, loads_of}
 use Rattle.hose_law.specs.Decision.{IsRefused}
 use Rattle.hose_law.specs.History.{book_of}
 use Rattle.hose_law.specs.Quotes.{Held}
 use Rattle.hose_law.specs.Room.{room_of}
 use Rattle.hose_law.proofs.Bounds.{reserved_ranges}
-use Rattle.hose_plan.specs.Planning.{IsDecision, IsSoundDecision, NamesNodes}
+use Rattle.hose_plan.specs.Planning.{IsDecision, IsSoundDecision, NamesNodes, room_beside}
+use Rattle.hose_plan.specs.declared.decision.Grounds.{Grounds}
 use Rattle.hose_plan.specs.declared.decision.Decision.{Decision}
 use Rattle.hose_plan.specs.declared.decision.Decision.TheVariants.{Plan, Refused}
 use Rattle.hose_book.specs.declared.books.Books.{Ghosts}
 use Rattle.hose_book.specs.Ledger.{Ledger}
-use Rattle.hose_plan.specs.declared.decision.Grounds.{Grounds}
 use Rattle.hose_core.specs.Claiming.{HasRanges, IsDecisionAt}
 use Rattle.hose_core.specs.Holding.{IsMadeAt}
+use Rattle.hose_core.specs.Planning.{IsPlannedAt}
+use Rattle.hose_core.specs.declared.planning.Planned.{Planned}
 use Rattle.hose_core.specs.Stepping.{AnswersBy, HasStepped}
 use Rattle.hose_core.proofs.Stepped.{stepped_by}
 
@@ -81,10 +83,22 @@ module _ {K R : Type 0} (books : Ghosts K R) (old new : K) (epoch : ℕ) (histor
 
 -- ---- a quote
 
--- a plan that was decided, with the epoch of its book, is a quote that was made there
-pub made_of : (ledger old : Ledger) → ledger ≡ old → (hose amounts : List (ℕ × ℕ)) (cost at : ℕ) (grounds : Grounds) (decision : Decision) → decision ≡ Plan grounds amounts cost → IsDecisionAt ledger hose decision → at ≡ ledger.book.epoch
-    → IsMadeAt old.network old.book (record { hose = hose; seen = at; cost = cost; amounts = amounts; grounds = grounds })
-made_of ledger old same hose amounts cost at grounds decision is decided here =
-    let plan = subst (IsDecisionAt ledger hose) is decided in
-    subst (λ (l : Ledger). IsMadeAt l.network l.book (record { hose = hose; seen = at; cost = cost; amounts = amounts; grounds = grounds })) same
-    (record { is_hose = plan.is_hose; ranges = plan.ranges; seen = here; decision = plan.is })
+-- What comes of planning beside the loads of a ledger is so at that ledger.
+pub planned_there : (here ledger : Ledger) → here ≡ ledger → (top : Network) (loads : List ℕ) (at : ℕ) (hose : List (ℕ × ℕ)) (planned : Planned) → top ≡ here.network → loads ≡ loads_of here.network here.book → at ≡ here.book.epoch
+    → ((book : Book) → loads ≡ loads_of top book → at ≡ book.epoch → IsPlannedAt top book hose planned) → IsPlannedAt ledger.network ledger.book hose planned
+planned_there here ledger same top loads at hose planned is_top is_loads is_at plans =
+    subst (λ (l : Ledger). IsPlannedAt l.network l.book hose planned) same
+    (subst (λ (n : Network). (book : Book) → loads ≡ loads_of n book → at ≡ book.epoch → IsPlannedAt n book hose planned) is_top plans here.book is_loads is_at)
+
+-- A plan that was decided beside the loads of a book is a quote that was made there.
+pub made_beside : (network : Network) → IsNetwork network → (loads : List ℕ) (hose amounts : List (ℕ × ℕ)) (cost epoch : ℕ) (grounds : Grounds) (decision : Decision) → decision ≡ Plan grounds amounts cost → IsHose hose
+    → IsDecision network (room_beside network loads) hose decision → IsSoundDecision network (room_beside network loads) hose decision → (book : Book) → loads ≡ loads_of network book → epoch ≡ book.epoch
+    → IsMadeAt network book (record { hose = hose; seen = epoch; cost = cost; amounts = amounts; grounds = grounds })
+made_beside network is loads hose amounts cost epoch grounds decision plan is_hose decided sound book same here =
+    let is_sound = subst (λ (l : List ℕ). IsSoundDecision network (room_beside network l) hose (Plan grounds amounts cost)) same (subst (IsSoundDecision network (room_beside network loads) hose) plan sound) in
+    record {
+      is_hose = is_hose;
+      ranges = reserved_ranges network is (room_of network book).links hose amounts is_hose is_sound.on_tree;
+      seen = here;
+      decision = subst (λ (l : List ℕ). IsDecision network (room_beside network l) hose (Plan grounds amounts cost)) same (subst (IsDecision network (room_beside network loads) hose) plan decided);
+    }

@@ -3,6 +3,7 @@ use Rattle.std.proofs.Common.{◌≡◌, ◌≢◌, ◌⊎◌, ◌∙◌, ◌≤
 use Rattle.std.specs.Prelude.{if◌then◌else◌}
 use Rattle.std.specs.Str.{bytes_eq}
 use Rattle.std.proofs.lemmas.Bool.{cases_eq}
+use mathlib.Core.List.{IsPrefix}
 use Rattle.std.proofs.lemmas.List.{length-append, take-append-le}
 use Rattle.hose_graph.specs.Network.{Network}
 use Rattle.hose_graph.specs.declared.entry.Entry.{Entry}
@@ -27,6 +28,9 @@ pub front_with : (history next : List Entry) (entry : Option Entry) → next ≡
 front_with history next None same = front_same history next same
 front_with history next (Some entry) same =
     subst (IsFront history) (sym same) (λ place there. (omega (arith, there, length-append history (entry ∷ [])), take-append-le place history (entry ∷ []) there))
+
+pub front_prefix : (history next : List Entry) → IsPrefix history next → IsFront history next
+front_prefix history next (rest, same) = subst (IsFront history) same (λ place there. (omega (arith, there, length-append history rest), take-append-le place history rest there))
 
 module _ (network : Network) (epoch : ℕ) (history next : List Entry) (front : IsFront history next) where
   fits_longer : (held : Option HeldQuote) (quote : Option Quote) → Fits network epoch history held quote → Fits network epoch next held quote

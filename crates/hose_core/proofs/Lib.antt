@@ -8,3 +8,4 @@ mod ReleasedEntries
 mod Stepped
 mod SteppedOn
 mod TakenQuotes
+mod Told

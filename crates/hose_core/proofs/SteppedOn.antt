@@ -22,9 +22,9 @@ use Rattle.hose_book.specs.Ledger.{Ledger}
 use Rattle.hose_core.specs.Holding.{AreHeld, HoldsNow, IsMadeAt, IsQuoteOf, State, quotes_in}
 use Rattle.hose_core.specs.Stepping.{FitsHistory, HasStepped, StepsOn}
 use Rattle.hose_core.proofs.Leading.{decided, leads}
-use Rattle.hose_core.specs.Telling.{IsShown}
 use Rattle.hose_core.specs.declared.quotes.Quote.{Quote}
 use Rattle.hose_core.proofs.Customers.{holds_same}
+use Rattle.hose_core.proofs.Told.{told_step}
 use Rattle.hose_core.proofs.HeldQuotes.{IsFront, free_alike, front_same, front_with, held_longer, held_now, held_with, none_alike, some_alike}
 
 -- ---- one step
@@ -148,15 +148,7 @@ module _ {K R : Type 0} (books : Ghosts K R) (old : State K) (epoch : ℕ) (hist
 
   -- an answer without an entry, which leaves what is held
   told_on : (asked : Command) (answer : Reply) → IsStepOf was.network epoch history customer mine asked answer None history mine → Stays asked answer
-  told_on asked answer step = stays_on books old old epoch history holdings customer fits refl asked answer (record {
-    entry = None;
-    next = history;
-    after = mine;
-    step = step;
-    sound = tt;
-    goes = refl;
-    book = fits.book;
-  }) refl refl
+  told_on asked answer step = stays_on books old old epoch history holdings customer fits refl asked answer (told_step books old.books epoch history customer mine fits.book asked answer step) refl refl
 
   -- want of memory
   pub memory_on : (asked : Command) → MayWantMemory (book_of epoch history) customer mine asked → Stays asked reply.Memory
@@ -195,20 +187,6 @@ module _ {K R : Type 0} (books : Ghosts K R) (old : State K) (epoch : ℕ) (hist
   take_memory_on number quote there =
       let one = some_alike was.network epoch history mine quotes (fits.held customer) number quote there in
       memory_on (command.Take number) (subst IsSome (sym one.1) refl)
-
-  -- a VPN is told
-  pub show_on : (id : ℕ) (answer : Reply) → IsShown was customer id answer → Stays (command.Show id) answer
-  show_on id reply.Memory shown = memory_on (command.Show id) (subst (λ (b : Book). HasVpn b customer id) fits.book shown)
-  show_on id (reply.NoVpn told at) shown = told_on (command.Show id) (reply.NoVpn told at) ((subst (λ (b : Book). (told ≡ id) × (at ≡ b.epoch) × (HasVpn b customer id → ⊥)) fits.book shown, refl), refl)
-  show_on id (reply.Shown told cost at hose amounts) shown =
-      told_on (command.Show id) (reply.Shown told cost at hose amounts) ((subst (λ (b : Book). IsShowAnswer was.network b customer id (reply.Shown told cost at hose amounts) None) fits.book shown, refl), refl)
-  show_on id answer shown = absurd shown
-
-  -- a link is told
-  pub link_on : (link : ℕ) (answer : Reply) → IsLinkAnswer was.book link answer None → Stays (command.Link link) answer
-  link_on link (reply.LinkState told load at) shown =
-      told_on (command.Link link) (reply.LinkState told load at) ((subst (λ (b : Book). IsLinkAnswer b link (reply.LinkState told load at) None) fits.book shown, refl), refl)
-  link_on link answer shown = absurd shown
 
   -- ---- a quote that is put
 

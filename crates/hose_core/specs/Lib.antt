@@ -1,4 +1,5 @@
 pub mod Claiming
 pub mod Holding
+pub mod Planning
 pub mod Stepping
 pub mod Telling

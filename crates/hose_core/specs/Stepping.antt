@@ -1,5 +1,6 @@
 -- One command, one step: what a call does to books and to the quotes of customers.
 use Rattle.std.specs.Prelude.{◌≡◌, ◌⊎◌, ℕ, Bool, List, Option, None, Some, IfSome, IsSome, ⊤}
+use Rattle.hose_graph.specs.Amounts.{ReservedLink}
 use Rattle.hose_graph.specs.Hose.{Endpoint}
 use Rattle.hose_graph.specs.Network.{Network}
 use Rattle.hose_graph.specs.declared.command.Command.{Command}
@@ -62,6 +63,11 @@ AdmitsCheapest network book hose (reply.Admitted id cost at amounts) =
     (set : List Bool) × IsAllowed network (room_of network book) hose set
     × IsCheapest network set hose amounts
 AdmitsCheapest network book hose answer = ⊤
+
+-- an admission tells this plan, and this cost
+abbrev pub TellsPlan : List ReservedLink → ℕ → Reply → Type 0
+TellsPlan plan cost (reply.Admitted id told at amounts) = (amounts ≡ plan) × (told ≡ cost)
+TellsPlan plan cost answer = ⊤
 
 -- A command of a customer who holds this was answered by a step at a history, whose entry is sound
 -- there, and what the step leads to is the book now.

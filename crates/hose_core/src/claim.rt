@@ -1,5 +1,5 @@
 // Claims on what a take or a release needs.
-ghost use Rattle.std.specs.Prelude.{◌≤◌, IfOk};
+ghost use Rattle.std.specs.Prelude.{◌≡◌, ◌≤◌, IfOk};
 ghost use Rattle.hose_graph.specs.Ranges.{AreInRanges};
 ghost use Rattle.hose_graph.specs.declared.limits.TheConstants.{MOST_EPOCH};
 ghost use Rattle.hose_core.specs.Claiming.{IsClaimOf, IsReleaseClaim};
@@ -16,6 +16,15 @@ pub struct Claim<K: Books> {
     pub(crate) ready: K::Ready,
     // What the reply to a take tells.
     pub(crate) told: Option<Amounts>,
+}
+
+impl<K: Books> Claim<K> {
+    /// What joins the book where it is accepted.
+    pub fn entry(&self) -> &Entry
+        ensures { result.now ≡ self.now.entry }
+    {
+        &self.entry
+    }
 }
 
 /// Claims what a customer needs to take a quote.

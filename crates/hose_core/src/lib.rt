@@ -6,14 +6,17 @@
 //! let reply = core.step(alloc, &customer, Command::Quote(hose), &mut PlainRows::new());
 //! ```
 //!
-//! `admit_now`, `take_now` and `release_now` do the same to books that are kept by others, as under
-//! a lock: a take and a release take no memory there, since all of it is in their claim.
+//! `admit_now`, `take_now`, `release_now`, `show_now` and `link_now` do the same to books that are
+//! kept by others, as under a lock: a take and a release take no memory there, since all of it is
+//! in their claim. What is quoted can be planned outside of it, by `plan_beside`.
 #![tactic(auto)]
 
 mod admitting;
 mod claim;
 mod deciding;
 mod entering;
+mod laws;
+mod planning;
 mod quotes;
 mod releasing;
 mod sessions;
@@ -23,7 +26,10 @@ mod telling;
 
 pub use admitting::admit_now;
 pub use claim::{Claim, claim_release, claim_take};
+pub use laws::{law_quotes, law_step};
+pub use planning::{Planned, plan_beside};
 pub use quotes::{Quote, Quotes};
 pub use releasing::release_now;
 pub use stepping::Core;
 pub use taking::take_now;
+pub use telling::{link_now, show_now};

@@ -52,6 +52,7 @@ impl Quotes {
     pub fn held(&self, quote: u64) -> Option<&Quote>
         ensures some { IfSome result (λ held. at_number self.now quote ≡ Some held.now) }
         ensures none { IfNone result (at_number self.now quote ≡ None) }
+        ensures places { IfSome result (λ _. length self.now ≡ MOST_QUOTES) }
     {
         let index = quote.checked_sub(1)?;
         self.quotes.get(index as usize)?.as_ref()
@@ -61,6 +62,7 @@ impl Quotes {
     pub fn free(&self) -> Option<u64>
         ensures lowest { result ≡ free_number self.now }
         ensures range { IfSome result (λ number. (1 ≤ number) × (number ≤ MOST_QUOTES)) }
+        ensures places { length self.now ≡ MOST_QUOTES }
     {
         first_free(&self.quotes).map(|index| index as u64 + 1)
     }

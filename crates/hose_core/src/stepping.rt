@@ -15,16 +15,15 @@ ghost use Rattle.hose_core.specs.Stepping.{FitsHistory, Steps, committed_of};
 
 use crate::admitting::admit_now;
 use crate::claim::{claim_release, claim_take};
-use crate::deciding::decide_now;
+use crate::planning::{Planned, plan_beside};
 use crate::quotes::Quote;
 use crate::releasing::release_now;
 use crate::sessions::Sessions;
 use crate::taking::take_now;
-use crate::telling::{link_state, show};
+use crate::telling::{link_now, show_now};
 use hose_book::Books;
 use hose_graph::{Command, Hose, Name, Reply};
 use hose_paths::RowMaker;
-use hose_plan::Decision;
 use std::alloc::Global;
 use std::marker::Model;
 
@@ -136,29 +135,15 @@ impl<K: Books + Drop> Core<K> {
         ensures met { committed_of result ≡ Committed.Done }
         ensures names { NamesPlaces (K.ledger self.old.books).network result }
     {
-        let at = self.books.book().epoch();
+        let book = self.books.book();
+        let at = book.epoch();
         let Some(number) = self.sessions.free(customer) else {
             return Reply::TooMany { at };
         };
-        match decide_now(alloc, &self.books, &hose, rows) {
+        match plan_beside(alloc, book.topology(), book.loads(), at, hose, rows) {
             Err(_) => Reply::Memory,
-            Ok(Decision::Refused { side }) => Reply::Refused { at, side },
-            Ok(
-                Decision::Plan {
-                    grounds,
-                    amounts,
-                    cost,
-                },
-            ) => {
-                let quote = Quote {
-                    hose,
-                    seen: at,
-                    cost,
-                    amounts,
-                    grounds,
-                };
-                self.hold(alloc, customer, number, quote)
-            }
+            Ok(Planned::Refused { side }) => Reply::Refused { at, side },
+            Ok(Planned::Quote(quote)) => self.hold(alloc, customer, number, quote),
         }
     }
 
@@ -230,7 +215,7 @@ impl<K: Books + Drop> Core<K> {
         ensures met { committed_of result ≡ Committed.Done }
         ensures names { NamesPlaces (K.ledger self.now.books).network result }
     {
-        show(self.books.book(), alloc, customer, id)
+        show_now(alloc, &self.books, customer, id)
     }
 
     // Tells a link.
@@ -241,6 +226,6 @@ impl<K: Books + Drop> Core<K> {
         ensures met { committed_of result ≡ Committed.Done }
         ensures names { NamesPlaces (K.ledger self.now.books).network result }
     {
-        link_state(self.books.book(), link)
+        link_now(&self.books, link)
     }
 }

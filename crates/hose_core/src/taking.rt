@@ -11,7 +11,7 @@ ghost use Rattle.hose_law.specs.Quotes.{Held, HeldQuote, at_number};
 ghost use Rattle.hose_book.specs.Commit.{IsMet};
 ghost use Rattle.hose_core.specs.Claiming.{IsClaimOf};
 ghost use Rattle.hose_core.specs.Holding.{IsMade, IsMadeAt, IsQuoteOf};
-ghost use Rattle.hose_core.specs.Stepping.{AdmitsCheapest, HasStepped, committed_of};
+ghost use Rattle.hose_core.specs.Stepping.{AdmitsCheapest, HasStepped, TellsPlan, committed_of};
 
 use crate::claim::Claim;
 use crate::entering::enter_planned;
@@ -34,6 +34,7 @@ pub fn take_now<K: Books>(books: &mut K, quote: &Quote, claim: Claim<K>) -> Repl
         (Command.Take number) result }
     ensures cheapest { AdmitsCheapest (K.ledger books.old).network (K.ledger books.old).book
         quote.now.hose result }
+    ensures told { TellsPlan quote.now.amounts quote.now.cost result }
     ensures network { (K.ledger books.new).network ≡ (K.ledger books.old).network }
     ensures met { IsMet (K.frame books.old) (committed_of result) (K.frame books.new) }
     ensures names { NamesPlaces (K.ledger books.old).network result }

@@ -1,17 +1,49 @@
 // What a book tells: a VPN, or a link.
 ghost use Rattle.std.specs.Prelude.{◌≡◌, ◌<◌, ℕ, List, None, length};
 ghost use Rattle.hose_graph.specs.Naming.{NamesPlaces};
+ghost use Rattle.hose_graph.specs.Network.{IsLinkOf};
+ghost use Rattle.hose_graph.specs.declared.command.Command.{Command};
+ghost use Rattle.hose_graph.specs.declared.entry.Entry.{Entry};
 ghost use Rattle.hose_law.specs.Answer.{IsLinkAnswer, IsShowAnswer};
 ghost use Rattle.hose_law.specs.Book.{HasVpn};
+ghost use Rattle.hose_law.specs.History.{book_of};
+ghost use Rattle.hose_law.specs.Quotes.{Held};
+ghost use Rattle.hose_book.specs.declared.committed.Committed.{Committed};
+ghost use Rattle.hose_core.specs.Stepping.{HasStepped, committed_of};
 ghost use Rattle.hose_core.specs.Telling.{IsShown};
 
-use hose_book::Book;
+use hose_book::{Book, Books};
 use hose_graph::{Name, Reply};
 use hose_tree::cost;
 use std::alloc::Global;
 
-/// The reply to a customer who asks what the VPN of a number is.
-pub fn show(book: &Book, alloc: Global, customer: &Name, id: u64) -> Reply
+/// Tells a customer what the VPN of a number is: `Shown`, `NoVpn` or `Memory`.
+pub fn show_now<K: Books>(alloc: Global, books: &K, customer: &Name, id: u64) -> Reply
+    ensures step { (epoch : ℕ) (history : List Entry) (held : Held)
+        → (K.ledger books.now).book ≡ book_of epoch history
+        → HasStepped K.Books books.now books.now epoch history customer.now held
+        (Command.Show id) result }
+    ensures met { committed_of result ≡ Committed.Done }
+    ensures names { NamesPlaces (K.ledger books.now).network result }
+{
+    show(books.book(), alloc, customer, id)
+}
+
+/// Tells what is reserved on a link of the network: `LinkState`. It takes no memory.
+pub fn link_now<K: Books>(books: &K, link: u32) -> Reply
+    requires { IsLinkOf (K.ledger books.now).network link }
+    ensures step { (customer : List ℕ) (epoch : ℕ) (history : List Entry) (held : Held)
+        → (K.ledger books.now).book ≡ book_of epoch history
+        → HasStepped K.Books books.now books.now epoch history customer held
+        (Command.Link link) result }
+    ensures met { committed_of result ≡ Committed.Done }
+    ensures names { NamesPlaces (K.ledger books.now).network result }
+{
+    link_state(books.book(), link)
+}
+
+// The reply to a customer who asks what the VPN of a number is.
+fn show(book: &Book, alloc: Global, customer: &Name, id: u64) -> Reply
     ensures answer { IsShown book.now customer.now id result }
     ensures names { NamesPlaces book.now.network result }
 {
@@ -35,8 +67,8 @@ pub fn show(book: &Book, alloc: Global, customer: &Name, id: u64) -> Reply
     }
 }
 
-/// The reply to a customer who asks what is reserved on a link. It takes no memory.
-pub fn link_state(book: &Book, link: u32) -> Reply
+// The reply to a customer who asks what is reserved on a link.
+fn link_state(book: &Book, link: u32) -> Reply
     requires { link < length book.now.network.links }
     ensures answer { IsLinkAnswer book.now.book link result None }
     ensures names { NamesPlaces book.now.network result }

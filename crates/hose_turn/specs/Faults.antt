@@ -1,6 +1,6 @@
 -- Counts of faults, which stand still at the end of their type, and the numbers of faults that
 -- passes have met.
-use Rattle.std.specs.Prelude.{◌≡◌, ◌⊎◌, ℕ, ◌-◌, ◌^◌, ◌≤◌, ◌==◌, true, List, if◌then◌else◌, nat_lt}
+use Rattle.std.specs.Prelude.{◌≡◌, ◌⊎◌, ℕ, ◌-◌, ◌^◌, ◌≤◌, true, List, if◌then◌else◌, nat_le, nat_lt}
 use Rattle.std.specs.List.{sum_by}
 use mathlib.Core.Option.{some}
 use lib.ListN.{get_elem?}
@@ -12,7 +12,8 @@ end_of_count = 2 ^ 64 - 1
 
 -- 1 where the count rose from `floor` to `count`, or cannot rise, and else 0
 abbrev pub rise : ℕ → ℕ → ℕ
-rise floor count = if nat_lt floor count then 1 else (if count == end_of_count then 1 else 0)
+rise floor count =
+    if nat_lt floor count then 1 else (if nat_le end_of_count count then 1 else 0)
 
 -- 0: the first pass has met no faults
 abbrev pub no_rise : ℕ → ℕ → ℕ

@@ -13,8 +13,6 @@ no_origin = record {
   first = 0;
   since = [];
   network = record { nodes = []; links = [] };
-  opened = 0;
-  tells = false;
 }
 
 -- a seat that knows nothing, as it is left by a join

@@ -12,7 +12,7 @@
 //! let other = turn.split(&mut pass);     // for another thread
 //! let mut held = turn.lock(rt, pass);
 //! held.value_mut().admit(&entry);
-//! turn.count(&mut held, &entry);
+//! turn.count(&mut held, Snapshot::of(&entry));
 //! let mut pass = turn.unlock(held);
 //! turn.join(&mut pass, other);
 //! let store = turn.close(pass);

@@ -19,6 +19,7 @@ use hose_graph::Entry;
 use std::alloc::{AllocError, Global};
 use std::marker::{Brand, Model};
 use std::mem::replace;
+use std::snapshot::Snapshot;
 use std::sync::Wait;
 use std::thread;
 
@@ -144,7 +145,7 @@ impl<S: Stands + Drop> Turn<S> {
     }
 
     /// The same as `count`, where a type names the entry.
-    fn count_named<N: Counted>(&self, held: &mut Held<S>, entry: &Entry)
+    fn count_named<N: Counted>(&self, held: &mut Held<S>, entry: Snapshot<Entry>)
         requires turn { (holder held.old).turn ≡ self.now }
         requires stands { let known = holder held.old in
             S.stands known.origin (known.seen ++ N.entry ∷ []) (value_of held.old) }
@@ -161,12 +162,12 @@ impl<S: Stands + Drop> Turn<S> {
     }
 
     /// Says that the history has one entry more, with which the value stands for it already. The
-    /// entry is the pass's own.
-    pub fn count(&self, held: &mut Held<S>, entry: &Entry)
+    /// entry is the pass's own. It is for contracts alone, so none has to be kept for it.
+    pub fn count(&self, held: &mut Held<S>, entry: Snapshot<Entry>)
         requires turn { (holder held.old).turn ≡ self.now }
         requires stands { let known = holder held.old in
-            S.stands known.origin (known.seen ++ entry.now ∷ []) (value_of held.old) }
-        ensures counted { holder held.new ≡ with_own_entry (holder held.old) entry.now }
+            S.stands known.origin (known.seen ++ entry.value ∷ []) (value_of held.old) }
+        ensures counted { holder held.new ≡ with_own_entry (holder held.old) entry.value }
         ensures value { value_of held.new ≡ value_of held.old }
         ensures floor { floor_of held.new ≡ floor_of held.old }
     {

@@ -11,10 +11,6 @@ pub struct Origin {
     pub since: [Entry; 0],
     /// The network of the value's book.
     pub network: Topology,
-    /// The moment at which the value's disk was opened.
-    pub opened: u64,
-    /// Whether that disk tells its content.
-    pub tells: bool,
 }
 
 pub struct View {

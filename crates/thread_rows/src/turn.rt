@@ -4,6 +4,7 @@ ghost use Rattle.std.specs.Prelude.{◌≡◌, ◌≤◌, ◌+◌, ◌∷◌, []
 use hose_graph::{Entry, Name};
 use hose_turn::{ALL_SHARES, Pass, Stands, Turn};
 use std::alloc::{AllocError, Global};
+use std::snapshot::Snapshot;
 use std::sync::Wait;
 
 /// A list of entries, which is the list for which it stands.
@@ -57,7 +58,7 @@ fn add<W: Wait>(
     let mut held = turn.lock(rt, pass);
     let added = held.value_mut().add(alloc, entry);
     if added.is_ok() {
-        turn.count(&mut held, entry);
+        turn.count(&mut held, Snapshot::of(entry));
     }
     let pass = turn.unlock(held);
     added?;

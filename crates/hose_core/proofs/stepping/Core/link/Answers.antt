@@ -1,12 +1,14 @@
-use Rattle.std.proofs.Common.{◌∙◌, None, ap, subst}
-use Rattle.hose_law.specs.Answer.{IsLinkAnswer}
-use Rattle.hose_book.specs.Ledger.{Ledger}
+use Rattle.std.proofs.Common.{refl, subst}
+use Rattle.hose_graph.specs.declared.command.Command.TheVariants.{Link}
 use Rattle.hose_core.specs.Holding.{State}
-use Rattle.hose_core.proofs.SteppedOn.{link_on}
+use Rattle.hose_core.specs.Stepping.{FitsHistory, StepsOn}
+use Rattle.hose_core.proofs.SteppedOn.{keeps_on}
 use Rattle.hose_core.proofs.stepping.Core.link.Goals as goal
 
 pub returns-clause-step : goal.returns-clause-step
-returns-clause-step g c = λ customer epoch history holdings fits.
-    let is = c.book.ensures ∙ ap (λ (s : State _). g.K.Books.ledger s.books) c.self.view_is in
-    link_on g.K.Books c.args.self.now epoch history holdings customer fits c.args.link c.link_state.result
-    (subst (λ (l : Ledger). IsLinkAnswer l.book c.args.link c.link_state.result None) is c.link_state.ensures.answer)
+returns-clause-step g c = λ customer epoch history holdings.
+    let books = g.K.Books in
+    let fields : State _ = record { books = c.self.inside.books; sessions = c.self.inside.sessions } in
+    let answer = c.link_now.result in
+    subst (λ (s : State _). FitsHistory books s epoch history holdings → StepsOn books s s epoch history holdings customer (Link c.args.link) answer) c.self.view_is
+    (λ fits. keeps_on books fields fields epoch history holdings customer fits refl (Link c.args.link) answer tt (c.link_now.ensures.step customer epoch history (holdings customer) fits.book) refl)

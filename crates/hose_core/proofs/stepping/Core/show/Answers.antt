@@ -1,13 +1,15 @@
-use Rattle.std.proofs.Common.{◌∙◌, ap, subst}
-use Rattle.hose_book.specs.Ledger.{Ledger}
+use Rattle.std.proofs.Common.{refl, subst}
+use Rattle.hose_graph.specs.declared.command.Command.TheVariants.{Show}
 use Rattle.hose_core.specs.Holding.{State}
-use Rattle.hose_core.specs.Telling.{IsShown}
-use Rattle.hose_core.proofs.SteppedOn.{show_on}
+use Rattle.hose_core.specs.Stepping.{FitsHistory, StepsOn}
+use Rattle.hose_core.proofs.SteppedOn.{keeps_on}
 use Rattle.hose_core.proofs.stepping.Core.show.Goals as goal
 
 pub returns-clause-step : goal.returns-clause-step
-returns-clause-step g c = λ epoch history holdings fits.
+returns-clause-step g c = λ epoch history holdings.
+    let books = g.K.Books in
+    let fields : State _ = record { books = c.self.inside.books; sessions = c.self.inside.sessions } in
     let customer = c.args.customer.now in
-    let is = c.book.ensures ∙ ap (λ (s : State _). g.K.Books.ledger s.books) c.self.view_is in
-    show_on g.K.Books c.args.self.now epoch history holdings customer fits c.args.id c.show.result
-    (subst (λ (l : Ledger). IsShown l customer c.args.id c.show.result) is c.show.ensures.answer)
+    let answer = c.show_now.result in
+    subst (λ (s : State _). FitsHistory books s epoch history holdings → StepsOn books s s epoch history holdings customer (Show c.args.id) answer) c.self.view_is
+    (λ fits. keeps_on books fields fields epoch history holdings customer fits refl (Show c.args.id) answer tt (c.show_now.ensures.step epoch history (holdings customer) fits.book) refl)

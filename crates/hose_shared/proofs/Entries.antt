@@ -1,0 +1,271 @@
+-- Which entry joined, and what an admission's take and the replies without an entry are as steps.
+use Rattle.std.proofs.Common.{◌≡◌, ◌≢◌, ℕ, ◌<◌, ◌≤◌, Bool, true, false, List, [], ◌++◌, length, take, Option, None, Some, IfSome, IsSome, MatchResult, Result, refl, sym, ap, subst, ◌∙◌, append-nil, arith}
+use Rattle.std.specs.Prelude.{replicate}
+use Rattle.std.proofs.lemmas.List.{length-append, take-append-le, take_all}
+use mathlib.Core.List.{IsPrefix}
+use Rattle.hose_graph.specs.Amounts.{ReservedLink}
+use Rattle.hose_graph.specs.Hose.{Endpoint}
+use Rattle.hose_graph.specs.Naming.{NamesPlaces}
+use Rattle.hose_graph.specs.Network.{Network}
+use Rattle.hose_graph.specs.declared.command.Command.{Command}
+use Rattle.hose_graph.specs.declared.command.Command.TheVariants as command
+use Rattle.hose_graph.specs.declared.entry.Entry.{Entry}
+use Rattle.hose_graph.specs.declared.entry.Entry.TheVariants.{Admit, Release}
+use Rattle.hose_graph.specs.declared.reply.Reply.{Reply}
+use Rattle.hose_graph.specs.declared.reply.Reply.TheVariants as reply
+use Rattle.hose_law.specs.Answer.{IsAdmitAnswer, IsAnswer, IsPlannedAnswer, IsReleaseAnswer, IsStepOf, IsTakeAnswer, IsTakingAnswer, with_entry}
+use Rattle.hose_law.specs.Book.{Book, loads_of}
+use Rattle.hose_law.specs.Decision.{HasFirstFit, HaveEqualGrounds, IsPlanned}
+use Rattle.hose_law.specs.History.{book_of}
+use Rattle.hose_law.specs.Plan.{AreNodes, plan_cost}
+use Rattle.hose_law.specs.Quotes.{Held, HeldQuote, at_number, free_number, with_number}
+use Rattle.hose_law.specs.Room.{room_of, safe_links}
+use Rattle.hose_book.specs.Ledger.{Ledger}
+use Rattle.hose_book.specs.declared.committed.Committed.{Committed}
+use Rattle.hose_book.specs.declared.committed.Committed.TheVariants.{Done, Disk}
+use Rattle.hose_core.specs.Holding.{AreHeld, IsMadeAt, IsQuoteOf}
+use Rattle.hose_core.specs.Stepping.{TellsPlan, committed_of}
+use Rattle.hose_core.specs.declared.quotes.Quote.{Quote}
+use Rattle.hose_plan.specs.Planning.{allowed_links}
+use Rattle.hose_turn.specs.Known.{Known}
+use Rattle.hose_shared.specs.Along.{StepsAlong, StepsAt, StepsHolding, place_of}
+use Rattle.hose_shared.specs.Planning.{HasTold, IsNotPlanned, IsPlannedFor, is_stale}
+use Rattle.hose_shared.specs.Sharing.{HasSeenMore}
+use Rattle.hose_shared.proofs.Passes.{prefix_same}
+use Rattle.hose_shared.proofs.Turned.{joined_of, none_joined}
+
+-- what holds of an entry that was committed holds of the one that joined
+joined_is : (P : Entry → Type 0) (entry : Option Entry) (result : Committed) → ((one : Entry) → entry ≡ Some one → result ≡ Done → P one) → IfSome (joined_of entry result) P
+joined_is P None Done is = tt
+joined_is P (Some entry) Done is = is entry refl refl
+joined_is P entry Disk is = tt
+
+module _ (network : Network) (history : List Entry) (customer : List ℕ) (held : Held) (asked : Command) where
+  -- a step whose entry was committed is an answer
+  answered : (answer : Reply) (entry : Entry) (next : List Entry) (after : Held) → committed_of answer ≡ Done → IsStepOf network 0 history customer held asked answer (Some entry) next after
+      → IsAnswer network 0 history customer held asked answer (Some entry) after
+  answered (reply.Disk at) entry next after done step = absurd (cc done)
+  answered reply.Memory entry next after done step = absurd (cc step.1)
+  answered answer entry next after done step = step.0
+
+-- ---- a release
+
+released : (book : Book) (customer : List ℕ) (id : ℕ) (answer : Reply) (entry : Entry) → IsReleaseAnswer book customer id answer (Some entry) → entry ≡ Release customer id
+released book customer id (reply.Released told at) entry is = is.4
+released book customer id answer entry is = absurd is
+
+pub release_entry : (network : Network) (history : List Entry) (customer : List ℕ) (held : Held) (id : ℕ) (answer : Reply) (entry : Option Entry) (next : List Entry) (after : Held)
+    → IsStepOf network 0 history customer held (command.Release id) answer entry next after → IfSome (joined_of entry (committed_of answer)) (λ one. one ≡ Release customer id)
+release_entry network history customer held id answer entry next after step = joined_is (λ one. one ≡ Release customer id) entry (committed_of answer) (λ one is done.
+    released (book_of 0 history) customer id answer one
+    (answered network history customer held (command.Release id) answer one next after done (subst (λ (e : Option Entry). IsStepOf network 0 history customer held (command.Release id) answer e next after) is step)).0)
+
+-- ---- a take
+
+module _ (network : Network) (earlier book : Book) (customer : List ℕ) (hose : List Endpoint) where
+  taking_planned : (answer : Reply) (entry : Entry) → IsTakingAnswer network earlier book customer hose answer (Some entry) → IsPlannedAnswer network book customer hose answer (Some entry)
+  taking_planned (reply.Stale seen now) entry is = is.1
+  taking_planned answer entry is = is.1
+
+  planned_is : (plan : List ReservedLink) (cost : ℕ) (answer : Reply) (entry : Entry) → TellsPlan plan cost answer → IsPlannedAnswer network book customer hose answer (Some entry) → entry ≡ Admit customer hose plan
+  planned_is plan cost (reply.Admitted id told at amounts) entry tells is = is.6 ∙ ap (Admit customer hose) tells.0
+  planned_is plan cost answer entry tells is = absurd is
+
+  -- what has a plan is answered as an admission
+  planned_admits : (answer : Reply) (entry : Option Entry) → IsPlannedAnswer network book customer hose answer entry → IsAdmitAnswer network book customer hose answer entry
+  planned_admits (reply.Spent at) None is = is
+  planned_admits (reply.Full at) None is = is
+  planned_admits (reply.Admitted id cost at amounts) (Some entry) is = is
+  planned_admits answer entry is = absurd is
+
+  taking_admits : (answer : Reply) (entry : Option Entry) → is_stale answer ≡ false → IsTakingAnswer network earlier book customer hose answer entry → IsAdmitAnswer network book customer hose answer entry
+  taking_admits (reply.Stale seen now) entry fresh is = absurd (cc fresh)
+  taking_admits answer entry fresh is = planned_admits answer entry is.1
+
+  taking_entered : (answer : Reply) (entry : Entry) → IsTakingAnswer network earlier book customer hose answer (Some entry) → IsAdmitAnswer network book customer hose answer (Some entry)
+  taking_entered answer entry is = planned_admits answer (Some entry) (taking_planned answer entry is)
+
+-- the decisions on a hose at one book cannot but have the same grounds
+grounds_same : (network : Network) (book : Book) (hose : List Endpoint) → (HaveEqualGrounds network book book hose → ⊥) → ⊥
+grounds_same network book hose differ =
+    let no_fit : HasFirstFit network (room_of network book) hose → ⊥ = λ fit. differ (record { fits = true; safe = replicate (length network.links) false; here = (fit, refl); there = (fit, refl) }) in
+    differ (record { fits = false; safe = safe_links (room_of network book) hose; here = (no_fit, refl); there = (no_fit, refl) })
+
+module _ (network : Network) (history : List Entry) (customer : List ℕ) (held : Held) (number : ℕ) (one : HeldQuote) (there : at_number held number ≡ Some one) where
+  abbrev Taken : Reply → Option Entry → List Entry → Held → Type 0
+  Taken answer entry next after = IsStepOf network 0 history customer held (command.Take number) answer entry next after
+
+  abbrev earlier : Book
+  earlier = book_of 0 (take one.place history)
+
+  taking : (answer : Reply) (entry : Option Entry) (after : Held) → IsTakeAnswer network 0 history customer number held (at_number held number) answer entry after
+      → IsTakingAnswer network earlier (book_of 0 history) customer one.hose answer entry
+  taking answer entry after is = (subst (λ (found : Option HeldQuote). IsTakeAnswer network 0 history customer number held found answer entry after) there is).0
+
+  pub take_entry : (plan : List ReservedLink) (cost : ℕ) (answer : Reply) (entry : Option Entry) (next : List Entry) (after : Held) → TellsPlan plan cost answer → Taken answer entry next after
+      → IfSome (joined_of entry (committed_of answer)) (λ joined. joined ≡ Admit customer one.hose plan)
+  take_entry plan cost answer entry next after tells step = joined_is (λ joined. joined ≡ Admit customer one.hose plan) entry (committed_of answer) (λ joined is done.
+      planned_is network earlier (book_of 0 history) customer one.hose plan cost answer joined tells
+      (taking_planned network earlier (book_of 0 history) customer one.hose answer joined
+      (taking answer (Some joined) after (answered network history customer held (command.Take number) answer joined next after done (subst (λ (e : Option Entry). Taken answer e next after) is step)))))
+
+  entered_admits : (mine : Held) (given : Reply) (entry : Option Entry) (after : Held) → IsSome entry → IsTakeAnswer network 0 history customer number held (at_number held number) given entry after
+      → IsAnswer network 0 history customer mine (command.Admit one.hose) given entry mine
+  entered_admits mine given None after some is = absurd (cc some)
+  entered_admits mine given (Some entry) after some is = (taking_entered network earlier (book_of 0 history) customer one.hose given entry (taking given (Some entry) after is), refl)
+
+  -- A take of a quote that is not stale answers the admission of its hose.
+  take_admits : (mine : Held) (answer : Reply) (entry : Option Entry) (next : List Entry) (after : Held) → is_stale answer ≡ false → Taken answer entry next after
+      → IsStepOf network 0 history customer mine (command.Admit one.hose) answer entry next mine
+  take_admits mine (reply.Disk at) entry next after fresh step = (step.0, step.1, (step.2.0, entered_admits mine step.2.0 entry after step.1 step.2.1), step.3)
+  take_admits mine reply.Memory entry next after fresh step = (tt, step.1, step.2, refl)
+  take_admits mine answer entry next after fresh step = ((taking_admits network earlier (book_of 0 history) customer one.hose answer entry fresh (taking answer entry after step.0), refl), step.1)
+
+  -- at the place of its quote a take is not stale
+  pub fresh_there : one.place ≡ length history → (answer : Reply) (entry : Option Entry) (next : List Entry) (after : Held) → Taken answer entry next after → is_stale answer ≡ false
+  fresh_there here (reply.Stale seen now) None next after step =
+      let whole : take one.place history ≡ history = take_all one.place history (omega (arith, here)) in
+      let differ = (taking (reply.Stale seen now) None after step.0).2 in
+      absurd (grounds_same network (book_of 0 history) one.hose (subst (λ (all : List Entry). HaveEqualGrounds network (book_of 0 all) (book_of 0 history) one.hose → ⊥) whole differ))
+  fresh_there here (reply.Stale seen now) (Some entry) next after step = absurd (taking (reply.Stale seen now) (Some entry) after step.0).1
+  fresh_there here answer entry next after step = refl
+
+  stale_stays : (answer : Reply) (entry : Option Entry) (next : List Entry) (after : Held) → is_stale answer ≡ true → Taken answer entry next after → next ≡ history
+  stale_stays (reply.Stale seen now) None next after stale step = step.1
+  stale_stays (reply.Stale seen now) (Some entry) next after stale step = absurd (taking (reply.Stale seen now) (Some entry) after step.0).1
+  stale_stays answer entry next after stale step = absurd (cc stale)
+
+  -- a take of what is stale adds nothing of the pass's own
+  pub stale_more : (answer : Reply) (old new : Known) → is_stale answer ≡ true → StepsAt network customer held (command.Take number) answer history old new → HasSeenMore old new
+  stale_more answer old new stale at =
+      let none = none_joined history at.joined (ap length (stale_stays answer at.entry (with_entry history at.joined) at.after stale at.step)) in
+      record { same = at.same; own = at.own ∙ ap (λ (joined : Option Entry). old.own ++ place_of history joined) none ∙ append-nil old.own }
+
+  -- the same of a pass
+  pub admits_at : (mine : Held) (answer : Reply) (old new : Known) → is_stale answer ≡ false → StepsAt network customer held (command.Take number) answer history old new
+      → StepsAt network customer mine (command.Admit one.hose) answer history old new
+  admits_at mine answer old new fresh at = record {
+    entry = at.entry;
+    joined = at.joined;
+    after = mine;
+    step = take_admits mine answer at.entry (with_entry history at.joined) at.after fresh at.step;
+    decided = at.decided;
+    cheapest = at.cheapest;
+    same = at.same;
+    seen = at.seen;
+    own = at.own;
+    failed = at.failed;
+  }
+
+-- ---- replies without an entry
+
+-- A reply without an entry, at all that the pass has seen then.
+pub stays_along : (network : Network) (customer : List ℕ) (held after : Held) (asked : Command) (answer : Reply) (old new : Known) → HasSeenMore old new → committed_of answer ≡ Done
+    → IsStepOf network 0 new.seen customer held asked answer None new.seen after → StepsAlong network customer held asked answer old new
+stays_along network customer held after asked answer old new more done step = record {
+  before = new.seen;
+  later = more.same.seen;
+  at = record {
+    entry = None;
+    joined = None;
+    after = after;
+    step = step;
+    decided = tt;
+    cheapest = tt;
+    same = more.same;
+    seen = prefix_same new.seen;
+    own = more.own ∙ sym (append-nil old.own);
+    failed = λ is. absurd (cc (is, done));
+  };
+}
+
+-- the same, with what is held then
+pub stays_holding : (network : Network) (customer : List ℕ) (held after : Held) (asked : Command) (answer : Reply) (old new : Known) (quotes : List (Option Quote)) → HasSeenMore old new → committed_of answer ≡ Done
+    → IsStepOf network 0 new.seen customer held asked answer None new.seen after → AreHeld network 0 new.seen after quotes → StepsHolding network customer held asked answer old new quotes
+unfolding stays_along
+stays_holding network customer held after asked answer old new quotes more done step are = record { along = stays_along network customer held after asked answer old new more done step; holds = are }
+
+-- ---- what was planned, or not
+
+module _ (network : Network) (seen : List Entry) (customer : List ℕ) (held : Held) (hose : List Endpoint) where
+  pub unplanned_admit : (answer : Reply) → IsNotPlanned network (book_of 0 seen) hose answer → IsStepOf network 0 seen customer held (command.Admit hose) answer None seen held
+  unplanned_admit reply.Memory is = (tt, refl, refl, refl)
+  unplanned_admit (reply.Refused at side) is = (((is.0, is.1), refl), refl)
+  unplanned_admit answer is = absurd is
+
+  pub unplanned_quote : (answer : Reply) → IsSome (free_number held) → IsNotPlanned network (book_of 0 seen) hose answer → IsStepOf network 0 seen customer held (command.Quote hose) answer None seen held
+  unplanned_quote reply.Memory some is = (some, refl, refl, refl)
+  unplanned_quote (reply.Refused at side) some is = ((refl, (is.0, some, is.1, refl)), refl)
+  unplanned_quote answer some is = absurd is
+
+  pub unplanned_done : (answer : Reply) → IsNotPlanned network (book_of 0 seen) hose answer → committed_of answer ≡ Done
+  unplanned_done reply.Memory is = refl
+  unplanned_done (reply.Refused at side) is = refl
+  unplanned_done answer is = absurd is
+
+  pub unplanned_names : (answer : Reply) → IsNotPlanned network (book_of 0 seen) hose answer → NamesPlaces network answer
+  unplanned_names reply.Memory is = tt
+  unplanned_names (reply.Refused at side) is = is.2
+  unplanned_names answer is = absurd is
+
+  -- a plan that was made at all that was seen is a quote of that place
+  pub quote_there : (quote : Quote) → IsPlannedFor network (book_of 0 seen) hose quote → IsQuoteOf network 0 seen (record { hose = hose; place = length seen }) quote
+  quote_there quote planned = record {
+    there = omega arith;
+    hose = sym planned.of;
+    made = subst (λ (all : List Entry). IsMadeAt network (book_of 0 all) quote) (sym (take_all (length seen) seen (omega arith))) planned.made;
+  }
+
+  -- A plan is held under a free number and told, or memory was wanting.
+  pub told_quote : (quote : Quote) (number : ℕ) (quotes now : List (Option Quote)) (answer : Reply) → AreHeld network 0 seen held quotes → free_number held ≡ Some number → IsPlannedFor network (book_of 0 seen) hose quote
+      → HasTold number quote quotes now answer
+      → ((one : HeldQuote) → IsQuoteOf network 0 seen one quote → AreHeld network 0 seen (with_number held number (Some one)) (with_number quotes number (Some quote)))
+      → (after : Held) × IsStepOf network 0 seen customer held (command.Quote hose) answer None seen after × AreHeld network 0 seen after now × (committed_of answer ≡ Done)
+  told_quote quote number quotes now reply.Memory are free planned told put = (held, (subst IsSome (sym free) refl, refl, refl, refl), subst (AreHeld network 0 seen held) (sym told) are, refl)
+  told_quote quote number quotes now (reply.Quoted given cost at amounts) are free planned (is_number, is_cost, is_at, is_amounts, is_now) put =
+      let one : HeldQuote = record { hose = hose; place = length seen } in
+      let room = room_of network (book_of 0 seen) in
+      let plan : IsPlanned network room hose amounts =
+          subst (λ (plan : List ReservedLink). IsPlanned network room hose plan) (sym is_amounts)
+          (subst (λ (ends : List Endpoint). IsPlanned network room ends quote.amounts) planned.of (allowed_links room quote.grounds, planned.made.decision.0)) in
+      let costs : cost ≡ plan_cost network amounts = is_cost ∙ planned.made.decision.1 ∙ ap (plan_cost network) (sym is_amounts) in
+      (with_number held given (Some one), ((refl, (is_at ∙ planned.made.seen, free ∙ ap Some (sym is_number), plan, costs, refl)), refl),
+      subst (λ (n : ℕ). AreHeld network 0 seen (with_number held n (Some one)) now) (sym is_number) (subst (AreHeld network 0 seen (with_number held number (Some one))) (sym is_now) (put one (quote_there quote planned))), refl)
+  told_quote quote number quotes now answer are free planned told put = absurd told
+
+module _ (network : Network) (seen : List Entry) (customer : List ℕ) (held : Held) (number : ℕ) where
+  -- nothing stands at the number
+  pub no_quote : (at : ℕ) → at ≡ (book_of 0 seen).epoch → at_number held number ≡ None → IsStepOf network 0 seen customer held (command.Take number) (reply.NoQuote number at) None seen held
+  no_quote at here none = (subst (λ (found : Option HeldQuote). IsTakeAnswer network 0 seen customer number held found (reply.NoQuote number at) None held) (sym none) (ap (reply.NoQuote number) here, refl, refl), refl)
+
+  taken_by : (one : HeldQuote) → at_number held number ≡ Some one → (given : Reply) (entry : Option Entry) (after : Held) → IsTakeAnswer network 0 seen customer number held (at_number held number) given entry after → after ≡ with_number held number None
+  taken_by one there given entry after is = (subst (λ (found : Option HeldQuote). IsTakeAnswer network 0 seen customer number held found given entry after) there is).1
+
+  -- a take that was answered has used its quote up
+  pub taken_after : (one : HeldQuote) → at_number held number ≡ Some one → (answer : Reply) (entry : Option Entry) (next : List Entry) (after : Held) → answer ≢ reply.Memory
+      → IsStepOf network 0 seen customer held (command.Take number) answer entry next after → after ≡ with_number held number None
+  taken_after one there (reply.Disk at) entry next after told step = taken_by one there step.2.0 entry after step.2.1
+  taken_after one there reply.Memory entry next after told step = absurd (told refl)
+  taken_after one there answer entry next after told step = taken_by one there answer entry after step.0
+
+-- a quote of a place that was seen is one of that place in all that was seen later
+pub seen_quote : (network : Network) (seen later : List Entry) (one : HeldQuote) (quote : Quote) → IsPrefix seen later → IsQuoteOf network 0 seen one quote → IsQuoteOf network 0 later one quote
+seen_quote network seen later one quote (rest, same) of = record {
+  there = let a = of.there in let b = length-append seen rest in let c = ap length same in omega arith;
+  hose = of.hose;
+  made = subst (λ (all : List Entry). IsMadeAt network (book_of 0 (take one.place all)) quote) same
+      (subst (λ (all : List Entry). IsMadeAt network (book_of 0 all) quote) (sym (take-append-le one.place seen rest of.there)) of.made);
+}
+
+-- nodes of a network are those of an equal one
+pub nodes_here : (hose : List Endpoint) (network top : Network) → top ≡ network → AreNodes network hose → AreNodes top hose
+nodes_here hose network top same are = subst (λ (n : Network). AreNodes n hose) (sym same) are
+
+-- What comes of planning beside the loads of a book is so at all that was seen, where the book is that of it.
+pub planned_here : (here : Ledger) (network : Network) (seen : List Entry) (top : Network) (loads : List ℕ) (epoch : ℕ) (hose : List Endpoint) (result : Result Quote Reply) → top ≡ here.network → top ≡ network → here.book ≡ book_of 0 seen
+    → loads ≡ loads_of here.network here.book → epoch ≡ here.book.epoch
+    → ((book : Book) → loads ≡ loads_of top book → epoch ≡ book.epoch → MatchResult result (IsPlannedFor top book hose) (IsNotPlanned top book hose))
+    → MatchResult result (IsPlannedFor network (book_of 0 seen) hose) (IsNotPlanned network (book_of 0 seen) hose)
+planned_here here network seen top loads epoch hose result is_here same is_book is_loads is_epoch plans =
+    let there = is_loads ∙ ap (loads_of here.network) is_book ∙ ap (λ (n : Network). loads_of n (book_of 0 seen)) (sym is_here) in
+    subst (λ (n : Network). MatchResult result (IsPlannedFor n (book_of 0 seen) hose) (IsNotPlanned n (book_of 0 seen) hose)) same (plans (book_of 0 seen) there (is_epoch ∙ ap (λ (b : Book). b.epoch) is_book))

@@ -1,0 +1,195 @@
+-- What a turn makes of a shared store: the store stands for the history with the entry that joined it, and the pass that gave the turn on has seen that.
+use Rattle.std.proofs.Common.{◌≡◌, ℕ, ◌+◌, ◌<◌, ◌≤◌, List, [], ◌∷◌, ◌++◌, length, Option, None, Some, IfSome, refl, sym, ap, subst, ◌∙◌, arith, append-nil}
+use Rattle.std.proofs.lemmas.List.{length-append}
+use mathlib.Core.List.{IsPrefix}
+use Rattle.hose_graph.specs.Network.{IsNetwork, Network}
+use Rattle.hose_graph.specs.declared.command.Command.{Command}
+use Rattle.hose_graph.specs.declared.entry.Entry.{Entry}
+use Rattle.hose_graph.specs.declared.entry.Entry.TheVariants.{Admit, Release}
+use Rattle.hose_graph.specs.declared.reply.Reply.{Reply}
+use Rattle.hose_law.specs.Answer.{IsStepOf, with_entry}
+use Rattle.hose_law.specs.Book.{Book}
+use Rattle.hose_law.specs.History.{IsDecidedAt, book_of}
+use Rattle.hose_law.specs.Quotes.{Held}
+use Rattle.hose_law.proofs.Cheapest.{canonical_cheapest}
+use Rattle.hose_book.specs.Commit.{IsMet}
+use Rattle.hose_book.specs.GoingOn.{GoesOn, entry_more}
+use Rattle.hose_book.specs.declared.committed.Committed.{Committed}
+use Rattle.hose_book.specs.declared.committed.Committed.TheVariants.{Done, Disk}
+use Rattle.hose_core.specs.Stepping.{Goes, HasStepped, committed_of, history_with}
+use Rattle.hose_disk.specs.Disk.{object_frame}
+use Rattle.hose_disk.specs.declared.disk.Disk.{Ghosts}
+use Rattle.hose_store.specs.Commit.{store_books}
+use Rattle.hose_store.specs.Store.{Kept as KeptStore}
+use Rattle.hose_turn.specs.declared.view.Origin.{Origin}
+use Rattle.hose_turn.specs.Faults.{rise}
+use Rattle.hose_turn.specs.Known.{Known}
+use Rattle.hose_shared.specs.Along.{IsCheapestEntry, StepsAt, place_of}
+use Rattle.hose_shared.specs.Keeping.{StandsShared}
+use Rattle.hose_shared.specs.Turns.{faults_in, with_joined}
+use Rattle.hose_shared.proofs.Passes.{epoch_of, failed_rise, prefix_joined, prefix_same}
+
+-- ---- the entry that joined
+
+-- the entry that joined the history, by what its commit came to
+abbrev pub joined_of : Option Entry → Committed → Option Entry
+joined_of entry Done = entry
+joined_of entry Disk = None
+
+history_joined : (history : List Entry) (entry : Option Entry) (result : Committed) → history_with history entry result ≡ with_entry history (joined_of entry result)
+history_joined history None Done = refl
+history_joined history None Disk = refl
+history_joined history (Some entry) Done = refl
+history_joined history (Some entry) Disk = refl
+
+if_joined : (P : Entry → Type 0) (entry : Option Entry) (result : Committed) → IfSome entry P → IfSome (joined_of entry result) P
+if_joined P entry Done is = is
+if_joined P entry Disk is = tt
+
+-- an entry that was decided costs least
+cheapest_of : (network : Network) → IsNetwork network → (book : Book) (entry : Entry) → IsDecidedAt network book entry → IsCheapestEntry network book entry
+cheapest_of network is book (Admit customer hose amounts) (sound, planned) = (planned.0, planned.1.allowed, canonical_cheapest network is planned.0 hose amounts planned.1.is_plan)
+cheapest_of network is book (Release customer id) decided = tt
+
+if_cheapest : (network : Network) → IsNetwork network → (book : Book) (joined : Option Entry) → IfSome joined (IsDecidedAt network book) → IfSome joined (IsCheapestEntry network book)
+if_cheapest network is book None decided = tt
+if_cheapest network is book (Some entry) decided = cheapest_of network is book entry decided
+
+-- nothing joined where the history is as long as before
+pub none_joined : (history : List Entry) (joined : Option Entry) → length (with_entry history joined) ≡ length history → joined ≡ None
+none_joined history None same = refl
+none_joined history (Some entry) same = absurd (let a = length-append history (entry ∷ []) in omega arith)
+
+-- ---- passes
+
+pass_joined : (known : Known) (joined : Option Entry) → (with_joined known joined).seen ≡ with_entry known.seen joined
+pass_joined known None = refl
+pass_joined known (Some entry) = refl
+
+own_joined : (known : Known) (joined : Option Entry) → (with_joined known joined).own ≡ known.own ++ place_of known.seen joined
+own_joined known None = sym (append-nil known.own)
+own_joined known (Some entry) = refl
+
+others_joined : (known : Known) (joined : Option Entry)
+    → ((with_joined known joined).turn ≡ known.turn) × ((with_joined known joined).origin ≡ known.origin) × ((with_joined known joined).share ≡ known.share) × ((with_joined known joined).faults ≡ known.faults)
+others_joined known None = (refl, refl, refl, refl)
+others_joined known (Some entry) = (refl, refl, refl, refl)
+
+-- ---- the store
+
+module _ {D : Type 0} (disk : Ghosts D) (Begins : List Entry → KeptStore D → Type 0) (origin : Origin) (history : List Entry) (old new : KeptStore D) (customer : List ℕ) (held : Held) (command : Command) (answer : Reply)
+    (stood : StandsShared disk Begins origin history old) (stepped : HasStepped (store_books disk) old new 0 history customer held command answer)
+    (law : IfSome stepped.entry (IsDecidedAt old.ledger.network (book_of 0 history)) × (stepped.next ≡ history_with history stepped.entry (committed_of answer)))
+    (network : new.ledger.network ≡ old.ledger.network) where
+  abbrev pub joined : Option Entry
+  joined = joined_of stepped.entry (committed_of answer)
+
+  leads : stepped.next ≡ with_entry history joined
+  leads = law.1 ∙ history_joined history stepped.entry (committed_of answer)
+
+  goes_on : (entry : Option Entry) → Goes (store_books disk) old answer entry new → IfSome entry (IsDecidedAt old.ledger.network (book_of 0 history))
+      → GoesOn (store_books disk) IsDecidedAt origin.network origin.since stood.first (history_with history entry (committed_of answer)) new
+  goes_on None same decided = subst (GoesOn (store_books disk) IsDecidedAt origin.network origin.since stood.first history) (sym same) stood.goes_on
+  goes_on (Some entry) went decided =
+      entry_more entry (committed_of answer) stood.goes_on (subst (λ (n : Network). IsDecidedAt n (book_of 0 history) entry) stood.network decided) went
+
+  -- the store stands for the history with the entry that joined it
+  pub stands_after : StandsShared disk Begins origin (with_entry history joined) new
+  stands_after = record {
+    first = stood.first;
+    begins = stood.begins;
+    goes_on = subst (λ (all : List Entry). GoesOn (store_books disk) IsDecidedAt origin.network origin.since stood.first all new)
+        (history_joined history stepped.entry (committed_of answer)) (goes_on stepped.entry stepped.goes law.0);
+    epoch = stood.epoch;
+    network = network ∙ stood.network;
+    book = stepped.book ∙ ap (book_of 0) leads;
+  }
+
+  -- nothing joined where the store is as it was
+  pub none_where_same : new ≡ old → joined ≡ None
+  none_where_same same =
+      none_joined history joined (sym (epoch_of (with_entry history joined)) ∙ ap (λ (b : Book). b.epoch) (sym stands_after.book ∙ ap (λ (s : KeptStore D). s.ledger.book) same ∙ stood.book) ∙ epoch_of history)
+
+  -- The pass that gave the turn on has made a step at all that it had seen.
+  pub steps_at : (top : Network) → old.ledger.network ≡ top → IsNetwork top → (known pass : Known) (more : ℕ) → known.seen ≡ history → pass ≡ record (with_joined known joined) { faults = (with_joined known joined).faults + more }
+      → (committed_of answer ≡ Disk → more ≡ 1) → StepsAt top customer held command answer known.seen known pass
+  steps_at top same is known pass more here left failed =
+      let others = others_joined known joined in
+      let seen : pass.seen ≡ with_entry known.seen joined = ap (λ (k : Known). k.seen) left ∙ pass_joined known joined in
+      let decided : IfSome joined (IsDecidedAt top (book_of 0 known.seen)) =
+          subst (λ (n : Network). IfSome joined (IsDecidedAt n (book_of 0 known.seen))) same
+          (subst (λ (all : List Entry). IfSome joined (IsDecidedAt old.ledger.network (book_of 0 all))) (sym here) (if_joined (IsDecidedAt old.ledger.network (book_of 0 history)) stepped.entry (committed_of answer) law.0)) in
+      let step : IsStepOf old.ledger.network 0 history customer held command answer stepped.entry (with_entry history joined) stepped.after =
+          subst (λ (next : List Entry). IsStepOf old.ledger.network 0 history customer held command answer stepped.entry next stepped.after) leads stepped.step in
+      record {
+        entry = stepped.entry;
+        joined = joined;
+        after = stepped.after;
+        step = subst (λ (n : Network). IsStepOf n 0 known.seen customer held command answer stepped.entry (with_entry known.seen joined) stepped.after) same
+            (subst (λ (all : List Entry). IsStepOf old.ledger.network 0 all customer held command answer stepped.entry (with_entry all joined) stepped.after) (sym here) step);
+        decided = decided;
+        cheapest = if_cheapest top is (book_of 0 known.seen) joined decided;
+        same = record {
+          turn = ap (λ (k : Known). k.turn) left ∙ others.0;
+          origin = ap (λ (k : Known). k.origin) left ∙ others.1;
+          share = ap (λ (k : Known). k.share) left ∙ others.2;
+          seen = subst (IsPrefix known.seen) (sym seen) (prefix_joined known.seen joined);
+          faults = let a = ap (λ (k : Known). k.faults) left in let b = others.3 in omega arith;
+        };
+        seen = subst (IsPrefix (with_entry known.seen joined)) (sym seen) (prefix_same (with_entry known.seen joined));
+        own = ap (λ (k : Known). k.own) left ∙ own_joined known joined;
+        failed = λ is. let a = ap (λ (k : Known). k.faults) left in let b = failed is in let c = others.3 in omega arith;
+      }
+
+-- ---- a turn as a whole
+
+module _ {D : Type 0} (disk : Ghosts D) (Begins : List Entry → KeptStore D → Type 0) (top : Network) (is : IsNetwork top) (known : Known) (here : known.origin.network ≡ top) (value old new : KeptStore D) (same : old ≡ value)
+    (stood : StandsShared disk Begins known.origin known.seen value) (customer : List ℕ) (held : Held) (command : Command) (answer : Reply)
+    (stepped : HasStepped (store_books disk) old new 0 known.seen customer held command answer)
+    (law : IfSome stepped.entry (IsDecidedAt old.ledger.network (book_of 0 known.seen)) × (stepped.next ≡ history_with known.seen stepped.entry (committed_of answer)))
+    (network : new.ledger.network ≡ old.ledger.network) where
+  before : StandsShared disk Begins known.origin known.seen old
+  before = subst (StandsShared disk Begins known.origin known.seen) (sym same) stood
+
+  abbrev pub entered : Option Entry
+  entered = joined_of stepped.entry (committed_of answer)
+
+  -- the store stands for what was seen, and the entry that joined it
+  pub turn_stands : StandsShared disk Begins known.origin (with_entry known.seen entered) new
+  turn_stands = stands_after disk Begins known.origin known.seen old new customer held command answer before stepped law network
+
+  module _ (pass : Known) (floor : ℕ) (floored : floor ≡ faults_in disk value) (met : IsMet (object_frame (disk.frame old.journal.disk)) (committed_of answer) (object_frame (disk.frame new.journal.disk))) where
+    rises_by : committed_of answer ≡ Disk → rise floor (faults_in disk new) ≡ 1
+    rises_by failed = subst (λ (count : ℕ). rise count (faults_in disk new) ≡ 1) (ap (faults_in disk) same ∙ sym floored)
+        (failed_rise (object_frame (disk.frame old.journal.disk)) (object_frame (disk.frame new.journal.disk)) (committed_of answer) met failed)
+
+    -- the pass that gave the turn on
+    pub turn_steps : pass ≡ record (with_joined known entered) { faults = (with_joined known entered).faults + rise floor (faults_in disk new) } → StepsAt top customer held command answer known.seen known pass
+    turn_steps left = steps_at disk Begins known.origin known.seen old new customer held command answer before stepped law network top (before.network ∙ here) is known pass (rise floor (faults_in disk new)) refl left rises_by
+
+    -- where the store is as it was
+    pub asked_steps : new ≡ old → pass ≡ record known { faults = known.faults + rise floor (faults_in disk value) } → StepsAt top customer held command answer known.seen known pass
+    asked_steps stays left =
+        let none = none_where_same disk Begins known.origin known.seen old new customer held command answer before stepped law network stays in
+        let mine = subst (λ (count : ℕ). pass ≡ record known { faults = known.faults + rise floor count }) (ap (faults_in disk) (sym same ∙ sym stays)) left in
+        turn_steps (subst (λ (joined : Option Entry). pass ≡ record (with_joined known joined) { faults = (with_joined known joined).faults + rise floor (faults_in disk new) }) (sym none) mine)
+
+-- ---- the end of a turn
+
+-- nothing joined where the book is as long as what was seen
+pub none_counted : {D : Type 0} (disk : Ghosts D) (Begins : List Entry → KeptStore D → Type 0) (origin : Origin) (seen : List Entry) (store : KeptStore D) (joined : Option Entry) (epoch at : ℕ)
+    → StandsShared disk Begins origin (with_entry seen joined) store → epoch ≡ origin.first + length (with_entry seen joined) → at ≡ length seen → epoch ≡ at → joined ≡ None
+none_counted disk Begins origin seen store joined epoch at stood is here same = none_joined seen joined (let a = stood.epoch in omega arith)
+
+-- and else the entry did
+pub one_counted : {D : Type 0} (disk : Ghosts D) (Begins : List Entry → KeptStore D → Type 0) (origin : Origin) (seen : List Entry) (store : KeptStore D) (joined : Option Entry) (entry : Entry) (epoch at : ℕ)
+    → StandsShared disk Begins origin (with_entry seen joined) store → epoch ≡ origin.first + length (with_entry seen joined) → at ≡ length seen → IfSome joined (λ one. one ≡ entry) → (epoch ≡ at → ⊥) → joined ≡ Some entry
+one_counted disk Begins origin seen store None entry epoch at stood is here of differs = absurd (differs (let a = stood.epoch in omega arith))
+one_counted disk Begins origin seen store (Some one) entry epoch at stood is here of differs = ap Some of
+
+-- a pass that gave the turn on after a count
+pub passed_counted : (known holder pass : Known) (floor floor' count count' : ℕ) → holder ≡ known → floor' ≡ floor → count' ≡ count → pass ≡ record holder { faults = holder.faults + rise floor' count' }
+    → pass ≡ record known { faults = known.faults + rise floor count }
+passed_counted known holder pass floor floor' count count' same floors counts left =
+    subst (λ (k : Known). pass ≡ record k { faults = k.faults + rise floor count }) same
+    (subst (λ (f : ℕ). pass ≡ record holder { faults = holder.faults + rise f count }) floors (subst (λ (n : ℕ). pass ≡ record holder { faults = holder.faults + rise floor' n }) counts left))

@@ -1,0 +1,13 @@
+use Rattle.std.proofs.Common.{◌∙◌, ap, sym, length}
+use Rattle.hose_law.specs.Book.{Book}
+use Rattle.hose_book.specs.Ledger.{Ledger}
+use Rattle.hose_turn.specs.Held.{holder}
+use Rattle.hose_turn.specs.Known.{Known}
+use Rattle.hose_shared.proofs.Passes.{epoch_of}
+use Rattle.hose_shared.proofs.shared.Shared.now.Goals as goal
+
+pub returns-clause-epoch : goal.returns-clause-epoch
+returns-clause-epoch g c =
+    let seen = (holder c.lock-held.result).seen in
+    c.epoch-epoch.ensures.value ∙ ap (λ (l : Ledger). l.book.epoch) (c.book.ensures ∙ ap (λ (k : _). k.store.ledger) c.value.ensures) ∙ ap (λ (b : Book). b.epoch) c.lock-held.ensures.stands.book ∙ epoch_of seen
+    ∙ ap (λ (k : Known). length k.seen) (sym c.unlock.ensures)

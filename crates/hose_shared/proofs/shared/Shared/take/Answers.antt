@@ -1,0 +1,75 @@
+use Rattle.std.proofs.Common.{◌≡◌, ◌≤◌, ◌∙◌, IsSome, List, Option, None, Some, arith, length, refl, subst, sym}
+use Rattle.hose_graph.specs.declared.command.Command.TheVariants.{Take}
+use Rattle.hose_graph.specs.declared.limits.TheConstants.{MOST_QUOTES}
+use Rattle.hose_graph.specs.declared.reply.Reply.TheVariants.{Memory, NoQuote}
+use Rattle.hose_law.specs.Quotes.{Held, at_number, with_number}
+use Rattle.hose_core.specs.Holding.{AreHeld}
+use Rattle.hose_core.specs.declared.quotes.Quote.{Quote}
+use Rattle.hose_turn.specs.Held.{holder}
+use Rattle.hose_shared.proofs.Entries.{no_quote, stays_holding, taken_after}
+use Rattle.hose_shared.proofs.Passes.{along_of, epoch_of, locked_more, more_same}
+use Rattle.hose_shared.proofs.shared.Shared.take.Goals as goal
+
+pub returns-in_default-clause-steps : goal.returns-in_default-clause-steps
+returns-in_default-clause-steps g c = λ held are.
+    let network = c.args.self.now.network in
+    let customer = c.args.customer.now in
+    let number = c.args.quote in
+    let quotes = c.args.quotes.now in
+    let pass = c.args.pass in
+    let new = c.now-at.result.1 in
+    let more = c.now-at.ensures.more in
+    let none = c.law_quotes.ensures.none network 0 pass.seen held quotes number are c.in_default.ensures.none in
+    let at = c.now-at.ensures.epoch ∙ sym (epoch_of new.seen) in
+    stays_holding network customer held held (Take number) (NoQuote number c.now-at.result.0) pass new quotes more refl (no_quote network new.seen customer held number c.now-at.result.0 at none)
+    (c.law_quotes.ensures.longer network 0 pass.seen new.seen held quotes more.same.seen are)
+
+pub returns-in_default-claim_take-clause-steps : goal.returns-in_default-claim_take-clause-steps
+returns-in_default-claim_take-clause-steps g c = λ held are.
+    let network = c.args.self.now.network in
+    let number = c.args.quote in
+    let quotes = c.args.quotes.now in
+    let pass = c.args.pass in
+    let there = c.law_quotes.ensures.some network 0 pass.seen held quotes number c.in-Some.held.now are c.in-Some.ensures.some in
+    let some : IsSome (at_number held number) = subst IsSome (sym there.2.1) refl in
+    stays_holding network c.args.customer.now held held (Take number) Memory pass pass quotes (more_same pass) refl (some, refl, refl, refl) are
+
+pub take_claimed-answered-requires-clause-quote : goal.take_claimed-answered-requires-clause-quote
+take_claimed-answered-requires-clause-quote g c =
+    let network = c.args.self.now.network in
+    let quotes = c.args.quotes.now in
+    let held = c.requires.quotes.0 in
+    let known = holder c.lock.result in
+    let longer = c.law_quotes.ensures.longer network 0 c.args.pass.seen known.seen held quotes c.lock.ensures.seen c.requires.quotes.1 in
+    let there = c.law_quotes.ensures.some network 0 known.seen held quotes c.args.quote c.in-Some.held.now longer c.in-Some.ensures.some in
+    (there.2.0, there.2.2)
+
+pub clear-requires : goal.clear-requires
+clear-requires g c =
+    let quotes = c.args.quotes.now in
+    let there = c.law_quotes.ensures.some c.args.self.now.network 0 c.args.pass.seen c.requires.quotes.0 quotes c.args.quote c.in-Some.held.now c.requires.quotes.1 c.in-Some.ensures.some in
+    let most : c.args.quote ≤ MOST_QUOTES = omega (arith, there.1, c.in-Some.ensures.places) in
+    record { range = (there.0, most) }
+
+pub returns-clause-steps : goal.returns-clause-steps
+returns-clause-steps g c = λ held are.
+    let network = c.args.self.now.network in
+    let customer = c.args.customer.now in
+    let number = c.args.quote in
+    let quotes = c.args.quotes.now in
+    let pass = c.args.pass in
+    let known = holder c.lock.result in
+    let answer = c.take_claimed-answered.result.0 in
+    let new = c.take_claimed-answered.result.1 in
+    let longer = c.law_quotes.ensures.longer network 0 pass.seen known.seen held quotes c.lock.ensures.seen are in
+    let there = c.law_quotes.ensures.some network 0 known.seen held quotes number c.in-Some.held.now longer c.in-Some.ensures.some in
+    let at = c.take_claimed-answered.ensures.steps customer held number there.2.0 c.in-Ok.ensures there.2.1 there.2.2 in
+    let more = locked_more pass known c.lock.ensures.kept c.lock.ensures.seen in
+    let after = taken_after network known.seen customer held number there.2.0 there.2.1 answer at.entry _ at.after c.take_claimed-answered.ensures.memory at.step in
+    let now = c.law_quotes.ensures.longer network 0 known.seen new.seen held quotes at.same.seen longer in
+    let cleared = c.law_quotes.ensures.cleared network 0 new.seen held quotes number now there.0 there.1 in
+    record {
+      along = along_of network customer held (Take number) answer pass known new more at;
+      holds = subst (λ (h : Held). AreHeld network 0 new.seen h c.clear.new.self) (sym after)
+          (subst (AreHeld network 0 new.seen (with_number held number None)) (sym c.clear.ensures) cleared);
+    }

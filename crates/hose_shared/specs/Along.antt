@@ -1,0 +1,76 @@
+-- Commands that are answered along a history.
+use Rattle.std.specs.Prelude.{◌≡◌, ℕ, ◌<◌, Bool, List, [], ◌∷◌, ◌++◌, length, Option, None, Some, IfSome, Result, Ok, Err, ⊤}
+use mathlib.Core.List.{IsPrefix}
+use Rattle.hose_graph.specs.Hose.{Endpoint}
+use Rattle.hose_graph.specs.Network.{Network}
+use Rattle.hose_graph.specs.Naming.{NamesPlaces}
+use Rattle.hose_graph.specs.declared.command.Command.{Command}
+use Rattle.hose_graph.specs.declared.command.Command.TheVariants.{Admit as AdmitHose}
+use Rattle.hose_graph.specs.declared.entry.Entry.{Entry}
+use Rattle.hose_graph.specs.declared.entry.Entry.TheVariants.{Admit, Release}
+use Rattle.hose_graph.specs.declared.reply.Reply.{Reply}
+use Rattle.hose_law.specs.Answer.{IsStepOf, with_entry}
+use Rattle.hose_law.specs.Book.{Book}
+use Rattle.hose_law.specs.Cheapest.{IsCheapest}
+use Rattle.hose_law.specs.Decision.{IsAllowed}
+use Rattle.hose_law.specs.History.{IsDecidedAt, book_of}
+use Rattle.hose_law.specs.Quotes.{Held}
+use Rattle.hose_law.specs.Room.{room_of}
+use Rattle.hose_book.specs.declared.committed.Committed.TheVariants.{Disk}
+use Rattle.hose_core.specs.Holding.{AreHeld}
+use Rattle.hose_core.specs.Stepping.{committed_of}
+use Rattle.hose_core.specs.declared.quotes.Quote.{Quote}
+use Rattle.hose_turn.specs.Known.{Known}
+use Rattle.hose_shared.specs.Sharing.{HasSeenMore, IsSamePass}
+
+-- what an admission reserves is a cheapest way to carry its hose over the links allowed at a book
+abbrev pub IsCheapestEntry : Network → Book → Entry → Type 0
+IsCheapestEntry network book (Admit customer hose amounts) =
+    (set : List Bool) × IsAllowed network (room_of network book) hose set
+    × IsCheapest network set hose amounts
+IsCheapestEntry network book (Release customer id) = ⊤
+
+-- the place of an entry that joined the history, if one did
+abbrev pub place_of : List Entry → Option Entry → List ℕ
+place_of before None = []
+place_of before (Some entry) = length before ∷ []
+
+-- A command of a customer who holds this was answered by a step at a place of the history, that
+-- after these entries. The entry that joined the history there, if one did, was decided, and costs
+-- least where it is an admission. It is the pass's own, and no other that it had not before. Where
+-- the disk failed, the pass has met more faults.
+pub record StepsAt (network : Network) (customer : List ℕ) (held : Held) (command : Command)
+    (answer : Reply) (before : List Entry) (old new : Known) : Type 0 where
+  pub entry : Option Entry
+  pub joined : Option Entry
+  pub after : Held
+  pub step : IsStepOf network 0 before customer held command answer entry
+      (with_entry before joined) after
+  pub decided : IfSome joined (IsDecidedAt network (book_of 0 before))
+  pub cheapest : IfSome joined (IsCheapestEntry network (book_of 0 before))
+  pub same : IsSamePass old new
+  pub seen : IsPrefix (with_entry before joined) new.seen
+  pub own : new.own ≡ old.own ++ place_of before joined
+  pub failed : committed_of answer ≡ Disk → old.faults < new.faults
+
+-- The place is one that the pass has seen then, not before what it had seen.
+pub record StepsAlong (network : Network) (customer : List ℕ) (held : Held) (command : Command)
+    (answer : Reply) (old new : Known) : Type 0 where
+  pub before : List Entry
+  pub later : IsPrefix old.seen before
+  pub at : StepsAt network customer held command answer before old new
+
+-- The same of a command that changes what the customer holds, which these quotes fit then.
+pub record StepsHolding (network : Network) (customer : List ℕ) (held : Held) (command : Command)
+    (answer : Reply) (old new : Known) (quotes : List (Option Quote)) : Type 0 where
+  pub along : StepsAlong network customer held command answer old new
+  pub holds : AreHeld network 0 new.seen along.at.after quotes
+
+-- An admission was answered so, with a reply that names what is there; or its plan went stale, and
+-- the hose is still to be admitted.
+abbrev pub IsTried : Network → List ℕ → List Endpoint → Known → Known
+    → Result Reply (List Endpoint) → Type 0
+IsTried network customer hose old new (Ok answer) =
+    ((held : Held) → StepsAlong network customer held (AdmitHose hose) answer old new)
+    × NamesPlaces network answer
+IsTried network customer hose old new (Err same) = (same ≡ hose) × HasSeenMore old new

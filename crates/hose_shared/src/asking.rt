@@ -1,0 +1,84 @@
+// Questions after what is live, and its release.
+ghost use Rattle.std.specs.Prelude.{◌≤◌};
+ghost use Rattle.hose_graph.specs.Naming.{NamesPlaces};
+ghost use Rattle.hose_graph.specs.Network.{IsLinkOf};
+ghost use Rattle.hose_graph.specs.declared.command.Command.{Command};
+ghost use Rattle.hose_graph.specs.declared.limits.TheConstants.{MOST_EPOCH};
+ghost use Rattle.hose_law.specs.Quotes.{Held as HeldQuotes};
+ghost use Rattle.std.specs.Prelude.{ℕ, List};
+ghost use Rattle.hose_shared.specs.Along.{StepsAlong};
+ghost use Rattle.hose_shared.specs.Sharing.{IsPassOf};
+
+use crate::kept::Begun;
+use crate::shared::Shared;
+use hose_core::{claim_release, law_step, link_now, release_now, show_now};
+use hose_disk::Disk;
+use hose_graph::{Name, Reply};
+use hose_store::Store;
+use hose_turn::{Pass, Stands};
+use std::alloc::Global;
+use std::snapshot::Snapshot;
+use std::sync::Wait;
+
+impl<D: Disk, B: Begun<D>> Shared<D, B> {
+    /// Tells a customer what the VPN of a number is: `Shown`, `NoVpn` or `Memory`.
+    pub fn show<W: Wait>(
+        &self,
+        rt: &W,
+        alloc: Global,
+        pass: Pass,
+        customer: &Name,
+        id: u64,
+    ) -> (Reply, Pass)
+        requires { IsPassOf self.now pass }
+        ensures steps { (held : HeldQuotes) → StepsAlong self.now.network customer.now held
+            (Command.Show id) result.0 pass result.1 }
+        ensures names { NamesPlaces self.now.network result.0 }
+    {
+        law_step::<Store<D>>();
+        let held = self.turn.lock(rt, pass);
+        let reply = show_now(alloc, &held.value().store, customer, id);
+        (reply, self.turn.unlock(held))
+    }
+
+    /// Tells what is reserved on a link of the network: `LinkState`.
+    pub fn link<W: Wait>(&self, rt: &W, pass: Pass, link: u32) -> (Reply, Pass)
+        requires of { IsPassOf self.now pass }
+        requires link { IsLinkOf self.now.network link }
+        ensures steps { (customer : List ℕ) (held : HeldQuotes) → StepsAlong self.now.network
+            customer held (Command.Link link) result.0 pass result.1 }
+        ensures names { NamesPlaces self.now.network result.0 }
+    {
+        law_step::<Store<D>>();
+        let held = self.turn.lock(rt, pass);
+        let reply = link_now(&held.value().store, link);
+        (reply, self.turn.unlock(held))
+    }
+
+    /// Gives up a customer's VPN of a number of at most 4,000,000,000: `Released`, `NoVpn`,
+    /// `Spent`, `Disk` or `Memory`.
+    pub fn release<W: Wait>(
+        &self,
+        rt: &W,
+        alloc: Global,
+        pass: Pass,
+        customer: &Name,
+        id: u64,
+    ) -> (Reply, Pass)
+        requires of { IsPassOf self.now pass }
+        requires id { id ≤ MOST_EPOCH }
+        ensures steps { (held : HeldQuotes) → StepsAlong self.now.network customer.now held
+            (Command.Release id) result.0 pass result.1 }
+        ensures names { NamesPlaces self.now.network result.0 }
+    {
+        law_step::<Store<D>>();
+        let Ok(claim) = claim_release(alloc, customer, id) else {
+            return (Reply::Memory, pass);
+        };
+        let entry = Snapshot::of(claim.entry());
+        let mut held = self.turn.lock(rt, pass);
+        let epoch = held.value().epoch();
+        let reply = release_now(&mut held.value_mut().store, claim);
+        (reply, self.end_turn(held, epoch, entry))
+    }
+}

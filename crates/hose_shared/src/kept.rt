@@ -1,0 +1,37 @@
+// The value under the lock.
+ghost use Rattle.std.specs.Prelude.{List};
+ghost use Rattle.hose_graph.specs.declared.entry.Entry.{Entry};
+ghost use Rattle.hose_store.specs.Store.{Kept as KeptStore};
+
+use hose_book::Books;
+use hose_disk::Disk;
+use hose_store::Store;
+use hose_turn::Stands;
+use std::marker::PhantomData;
+
+/// What is known of the store with which a lock is made, and of the list for which it stood then.
+/// A caller who has to say later which store that was names it here.
+pub trait Begun<D: Disk> {
+    ghost begins: { List Entry → KeptStore D → Type 0 };
+}
+
+/// A store that many passes share.
+#[derive(Drop)]
+pub struct Kept<D: Disk, B: Begun<D>> {
+    pub(crate) store: Store<D>,
+    pub(crate) begun: PhantomData<B>,
+}
+
+impl<D: Disk, B: Begun<D>> Stands for Kept<D, B> {
+    ghost use Rattle.hose_disk.specs.Disk.{DiskFrame};
+    ghost use Rattle.hose_shared.specs.Keeping.{StandsShared};
+
+    ghost stands = { λ origin history kept.
+        StandsShared D.Disk B.begins origin history kept.store };
+
+    ghost faults = { λ kept. (D.frame kept.store.journal.disk).faults };
+
+    fn epoch(&self) -> u64 {
+        self.store.book().epoch()
+    }
+}

@@ -1,0 +1,27 @@
+//! One book on a disk for many callers at once: each quotes, takes, admits, releases and asks along
+//! a pass of its own, and what all of them are told is one history.
+//!
+//! A plan is made outside of the lock, beside a copy of the loads; what joins the book is decided
+//! under it, where nothing is planned and no memory is taken.
+//!
+//! ```
+//! let (shared, mut pass) = Shared::<_, Any>::new(alloc, store)?;
+//! let other = shared.split(&mut pass);      // for another thread
+//! let (reply, mut pass) =
+//!     shared.admit(rt, alloc, pass, &customer, hose, &mut PlainRows::new(), &PlainGate, 1);
+//! shared.join(&mut pass, other);
+//! let (closed, disk, book) = shared.close(pass).close();
+//! ```
+#![tactic(auto)]
+
+mod admitting;
+mod asking;
+mod entering;
+mod kept;
+mod planning;
+mod quoting;
+mod shared;
+mod taking;
+
+pub use kept::{Begun, Kept};
+pub use shared::Shared;

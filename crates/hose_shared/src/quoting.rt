@@ -1,0 +1,75 @@
+// Quotes.
+ghost use Rattle.std.specs.Prelude.{◌≡◌, ◌≤◌, List, Some, ℕ};
+ghost use Rattle.hose_graph.specs.Naming.{NamesPlaces};
+ghost use Rattle.hose_graph.specs.declared.command.Command.{Command};
+ghost use Rattle.hose_graph.specs.declared.limits.TheConstants.{MOST_QUOTES};
+ghost use Rattle.hose_law.specs.Plan.{AreNodes};
+ghost use Rattle.hose_law.specs.Quotes.{Held as HeldQuotes, free_number};
+ghost use Rattle.hose_core.specs.Holding.{AreHeld};
+ghost use Rattle.hose_shared.specs.Along.{StepsHolding};
+ghost use Rattle.hose_shared.specs.Planning.{HasTold};
+ghost use Rattle.hose_shared.specs.Sharing.{IsPassOf};
+
+use crate::kept::Begun;
+use crate::shared::Shared;
+use hose_core::{Quote, Quotes, law_quotes};
+use hose_disk::Disk;
+use hose_graph::{Hose, Reply};
+use hose_paths::RowMaker;
+use hose_turn::Pass;
+use std::alloc::Global;
+use std::sync::Wait;
+
+impl<D: Disk, B: Begun<D>> Shared<D, B> {
+    /// Plans a hose outside of the lock, and holds the plan under the customer's lowest free
+    /// number: `Quoted`, `TooMany`, `Refused` or `Memory`. The quotes were made along this pass.
+    pub fn quote<W: Wait, R: RowMaker>(
+        &self,
+        rt: &W,
+        alloc: Global,
+        pass: Pass,
+        quotes: &mut Quotes,
+        hose: Hose,
+        rows: &mut R,
+    ) -> (Reply, Pass)
+        requires of { IsPassOf self.now pass }
+        requires nodes { AreNodes self.now.network hose }
+        requires quotes { (held : HeldQuotes)
+            × AreHeld self.now.network 0 pass.seen held quotes.old }
+        ensures steps { (customer : List ℕ) (held : HeldQuotes)
+            → AreHeld self.now.network 0 pass.seen held quotes.old
+            → StepsHolding self.now.network customer held (Command.Quote hose) result.0
+            pass result.1 quotes.new }
+        ensures names { NamesPlaces self.now.network result.0 }
+    {
+        law_quotes();
+        let Some(number) = quotes.free() else {
+            let (at, pass) = self.now(rt, pass);
+            return (Reply::TooMany { at }, pass);
+        };
+        let (planned, pass) = self.plan(rt, alloc, pass, hose, rows);
+        match planned {
+            Err(reply) => (reply, pass),
+            Ok(quote) => (hold(alloc, quotes, number, quote), pass),
+        }
+    }
+}
+
+// Holds a quote under a free number, and tells it.
+fn hold(alloc: Global, quotes: &mut Quotes, number: u64, quote: Quote) -> Reply
+    requires range { (1 ≤ number) × (number ≤ MOST_QUOTES) }
+    requires free { free_number quotes.old ≡ Some number }
+    ensures { HasTold number quote quotes.old quotes.new result }
+{
+    let (at, cost) = (quote.seen, quote.cost);
+    let Ok(amounts) = quote.amounts.copy(alloc) else {
+        return Reply::Memory;
+    };
+    quotes.put(number, quote);
+    Reply::Quoted {
+        quote: number,
+        cost,
+        at,
+        amounts,
+    }
+}

@@ -1,0 +1,94 @@
+// Taking what was quoted.
+ghost use Rattle.std.specs.Prelude.{◌≡◌, ◌≢◌, List, Option, Some, ℕ};
+ghost use Rattle.hose_graph.specs.Naming.{NamesPlaces};
+ghost use Rattle.hose_graph.specs.declared.command.Command.{Command};
+ghost use Rattle.hose_graph.specs.declared.reply.Reply.{Reply};
+ghost use Rattle.hose_law.specs.Quotes.{Held as HeldQuotes, HeldQuote, at_number};
+ghost use Rattle.hose_store.specs.Commit.{store_books};
+ghost use Rattle.hose_core.specs.Claiming.{IsClaimOf};
+ghost use Rattle.hose_core.specs.Holding.{AreHeld, IsQuoteOf};
+ghost use Rattle.hose_turn.specs.Held.{floor_of, holder, value_of};
+ghost use Rattle.hose_shared.specs.Along.{StepsAt, StepsHolding};
+ghost use Rattle.hose_shared.specs.Keeping.{StandsShared};
+ghost use Rattle.hose_shared.specs.Sharing.{IsPassOf};
+ghost use Rattle.hose_shared.specs.Turns.{faults_in};
+
+use crate::kept::{Begun, Kept};
+use crate::shared::Shared;
+use hose_core::{Claim, Quote, Quotes, claim_take, law_quotes, law_step, take_now};
+use hose_disk::Disk;
+use hose_graph::{Name, Reply};
+use hose_store::Store;
+use hose_turn::{Held, Pass, Stands};
+use std::alloc::Global;
+use std::snapshot::Snapshot;
+use std::sync::Wait;
+
+impl<D: Disk, B: Begun<D>> Shared<D, B> {
+    /// Admits what a customer was quoted under a number, which is free then: `Admitted`, `NoQuote`,
+    /// `Stale`, `Spent`, `Full`, `Disk` or `Memory`. The quotes were made along this pass.
+    pub fn take<W: Wait>(
+        &self,
+        rt: &W,
+        alloc: Global,
+        pass: Pass,
+        customer: &Name,
+        quotes: &mut Quotes,
+        quote: u64,
+    ) -> (Reply, Pass)
+        requires of { IsPassOf self.now pass }
+        requires quotes { (held : HeldQuotes)
+            × AreHeld self.now.network 0 pass.seen held quotes.old }
+        ensures steps { (held : HeldQuotes) → AreHeld self.now.network 0 pass.seen held quotes.old
+            → StepsHolding self.now.network customer.now held (Command.Take quote) result.0
+            pass result.1 quotes.new }
+        ensures names { NamesPlaces self.now.network result.0 }
+    {
+        law_quotes();
+        let Some(held) = quotes.held(quote) else {
+            let (at, pass) = self.now(rt, pass);
+            return (Reply::NoQuote { quote, at }, pass);
+        };
+        let Ok(claim) = claim_take(alloc, customer, held) else {
+            return (Reply::Memory, pass);
+        };
+        let answered = self.take_claimed(self.turn.lock(rt, pass), held, claim);
+        quotes.clear(quote);
+        answered
+    }
+
+    /// Takes a quote in a turn, which ends then.
+    pub(crate) fn take_claimed(
+        &self,
+        held: Held<Kept<D, B>>,
+        quote: &Quote,
+        claim: Claim<Store<D>>,
+    ) -> (Reply, Pass)
+        requires turn { (holder held).turn ≡ self.now.turn }
+        requires network { (holder held).origin.network ≡ self.now.network }
+        requires stands { StandsShared D.Disk B.begins (holder held).origin (holder held).seen
+            (value_of held).store }
+        requires floor { floor_of held ≡ faults_in D.Disk (value_of held).store }
+        requires quote { (one : HeldQuote)
+            × IsQuoteOf self.now.network 0 (holder held).seen one quote.now }
+        requires claim { (customer : List ℕ)
+            × IsClaimOf (store_books D.Disk) claim customer quote.now }
+        ensures steps { (customer : List ℕ) (holds : HeldQuotes) (number : ℕ) (one : HeldQuote)
+            → IsClaimOf (store_books D.Disk) claim customer quote.now
+            → at_number holds number ≡ Some one
+            → IsQuoteOf self.now.network 0 (holder held).seen one quote.now
+            → StepsAt self.now.network customer holds (Command.Take number) result.0
+            (holder held).seen (holder held) result.1 }
+        ensures memory { result.0 ≢ Reply.Memory }
+        ensures names { NamesPlaces self.now.network result.0 }
+    {
+        law_step::<Store<D>>();
+        // What holds of the network is told with it.
+        let _topology = self.topology();
+        let mut held = held;
+        let epoch = held.value().epoch();
+        let entry = Snapshot::of(claim.entry());
+        let reply = take_now(&mut held.value_mut().store, quote, claim);
+        (reply, self.end_turn(held, epoch, entry))
+    }
+}
