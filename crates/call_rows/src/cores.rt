@@ -1,23 +1,21 @@
 // Books with the quotes of their customers: what commands are answered, and what is held.
 ghost use Rattle.std.specs.Prelude.{◌≡◌, ◌≤◌, IfOk};
 ghost use Rattle.hose_graph.specs.declared.limits.TheConstants.{MOST_EPOCH};
-ghost use Rattle.hose_graph.specs.Hose.{IsHose};
-ghost use Rattle.hose_graph.specs.Network.{IsNetwork};
-ghost use Rattle.hose_law.specs.Plan.{AreNodes};
-ghost use Rattle.hose_law.specs.Room.{room_of};
-ghost use Rattle.hose_plan.specs.Planning.{IsDecision, IsSoundDecision};
 ghost use Rattle.hose_core.specs.Holding.{IsMade};
 
 use crate::books::{book_at, name};
 use crate::reading::{hose, is_text, tells};
 use hose_book::{Book, Books, Plain};
-use hose_core::{Core, Quote, Quotes, admit_now, claim_release, claim_take, release_now, take_now};
-use hose_graph::{Amounts, Hose, MOST_EPOCH, MOST_QUOTES};
+use hose_core::{
+    Core, Planned, Quote, Quotes, admit_now, claim_release, claim_take, plan_beside, release_now,
+    take_now,
+};
+use hose_graph::{Amounts, MOST_EPOCH, MOST_QUOTES};
 use hose_links::LinkSet;
 use hose_paths::PlainRows;
-use hose_plan::{Decision, Grounds, decide};
+use hose_plan::Grounds;
 use hose_proto::read_command;
-use std::alloc::{AllocError, Global};
+use std::alloc::Global;
 use std::test::Fail;
 
 // The core of a star's book in memory, at an epoch.
@@ -76,39 +74,15 @@ fn admits(alloc: Global, books: &mut Plain, line: &str, want: &str) -> Result<()
     tells(alloc, &reply, want)
 }
 
-// What is decided of a hose at a book.
-fn decided(alloc: Global, book: &Book, hose: &Hose) -> Result<Decision, AllocError>
-    requires { AreNodes book.now.network hose.now }
-    ensures decision { IfOk result
-        (IsDecision book.now.network (room_of book.now.network book.now.book) hose.now) }
-    ensures sound { IfOk result
-        (IsSoundDecision book.now.network (room_of book.now.network book.now.book) hose.now) }
-    ensures hose { IfOk result (λ _. IsHose hose.now) }
-    ensures network { IsNetwork book.now.network }
-{
-    let (top, loads) = (book.topology(), book.loads());
-    decide(alloc, top, loads, hose, &mut PlainRows::new())
-}
-
 // What is planned of a hose at a book.
 fn planned(alloc: Global, book: &Book, line: &str) -> Result<Quote, Fail>
     ensures { IfOk result (IsMade book.now.network) }
 {
-    let hose = hose(alloc, book.topology(), line)?;
-    let decision = decided(alloc, book, &hose)?;
-    match decision {
-        Decision::Plan {
-            grounds,
-            amounts,
-            cost,
-        } => Ok(Quote {
-            hose,
-            seen: book.epoch(),
-            cost,
-            amounts,
-            grounds,
-        }),
-        Decision::Refused { .. } => Err(Fail::from("no plan")),
+    let (top, loads, epoch) = (book.topology(), book.loads(), book.epoch());
+    let hose = hose(alloc, top, line)?;
+    match plan_beside(alloc, top, loads, epoch, hose, &mut PlainRows::new())? {
+        Planned::Quote(quote) => Ok(quote),
+        Planned::Refused { .. } => Err(Fail::from("no plan")),
     }
 }
 

@@ -8,8 +8,8 @@ use Rattle.hose_graph.specs.declared.command.Command.TheVariants as command
 use Rattle.hose_graph.specs.declared.entry.Entry.{Entry}
 use Rattle.hose_graph.specs.declared.reply.Reply.{Reply}
 use Rattle.hose_graph.specs.declared.reply.Reply.TheVariants as reply
-use Rattle.hose_law.specs.Answer.{IsAnswer, IsLinkAnswer, IsStepOf, IsShowAnswer, IsTakeAnswer, MayWantMemory}
-use Rattle.hose_law.specs.Book.{Book, HasVpn}
+use Rattle.hose_law.specs.Answer.{IsAnswer, IsStepOf, IsTakeAnswer, MayWantMemory}
+use Rattle.hose_law.specs.Book.{Book}
 use Rattle.hose_law.specs.Decision.{IsPlanned, IsRefused}
 use Rattle.hose_law.specs.History.{book_of}
 use Rattle.hose_law.specs.Quotes.{Held, HeldQuote, Holdings, at_number, free_number, with_held, with_number}

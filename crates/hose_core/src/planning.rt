@@ -18,9 +18,7 @@ pub enum Planned {
     Quote(Quote),
     /// It is refused: these are the nodes that its lowest-numbered endpoint reaches over the safe
     /// links.
-    Refused {
-        side: NodeList,
-    },
+    Refused { side: NodeList },
 }
 
 /// Plans a hose beside the loads that a book had at an epoch, wherever that book is now. There is a

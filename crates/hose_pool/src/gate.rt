@@ -4,13 +4,9 @@
 #[derive(Debug, Clone, Copy, PartialEq, Eq)]
 pub enum Point {
     /// A hose was planned beside a copy of the loads, and is not admitted yet.
-    Planned {
-        session: u64,
-    },
+    Planned { session: u64 },
     /// The line of a reply is out.
-    Answered {
-        session: u64,
-    },
+    Answered { session: u64 },
 }
 
 /// What a session calls at each point. It may wait there for another session.

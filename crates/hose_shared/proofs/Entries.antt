@@ -1,5 +1,5 @@
 -- Which entry joined, and what an admission's take and the replies without an entry are as steps.
-use Rattle.std.proofs.Common.{◌≡◌, ◌≢◌, ℕ, ◌<◌, ◌≤◌, Bool, true, false, List, [], ◌++◌, length, take, Option, None, Some, IfSome, IsSome, MatchResult, Result, refl, sym, ap, subst, ◌∙◌, append-nil, arith}
+use Rattle.std.proofs.Common.{◌≡◌, ◌≢◌, ℕ, true, false, List, ◌++◌, length, take, Option, None, Some, IfSome, IsSome, MatchResult, Result, refl, sym, ap, subst, ◌∙◌, append-nil, arith}
 use Rattle.std.specs.Prelude.{replicate}
 use Rattle.std.proofs.lemmas.List.{length-append, take-append-le, take_all}
 use mathlib.Core.List.{IsPrefix}
@@ -226,11 +226,14 @@ module _ (network : Network) (seen : List Entry) (customer : List ℕ) (held : H
       let one : HeldQuote = record { hose = hose; place = length seen } in
       let room = room_of network (book_of 0 seen) in
       let plan : IsPlanned network room hose amounts =
-          subst (λ (plan : List ReservedLink). IsPlanned network room hose plan) (sym is_amounts)
-          (subst (λ (ends : List Endpoint). IsPlanned network room ends quote.amounts) planned.of (allowed_links room quote.grounds, planned.made.decision.0)) in
-      let costs : cost ≡ plan_cost network amounts = is_cost ∙ planned.made.decision.1 ∙ ap (plan_cost network) (sym is_amounts) in
-      (with_number held given (Some one), ((refl, (is_at ∙ planned.made.seen, free ∙ ap Some (sym is_number), plan, costs, refl)), refl),
-      subst (λ (n : ℕ). AreHeld network 0 seen (with_number held n (Some one)) now) (sym is_number) (subst (AreHeld network 0 seen (with_number held number (Some one))) (sym is_now) (put one (quote_there quote planned))), refl)
+      subst (λ (plan : List ReservedLink). IsPlanned network room hose plan) (sym is_amounts)
+      (subst (λ (ends : List Endpoint). IsPlanned network room ends quote.amounts) planned.of (allowed_links room quote.grounds, planned.made.decision.0)) in
+      let costs : cost ≡ plan_cost network amounts = is_cost ∙ planned.made.decision.1 ∙ ap (plan_cost network) (sym is_amounts) in (
+        with_number held given (Some one),
+        ((refl, (is_at ∙ planned.made.seen, free ∙ ap Some (sym is_number), plan, costs, refl)), refl),
+        subst (λ (n : ℕ). AreHeld network 0 seen (with_number held n (Some one)) now) (sym is_number) (subst (AreHeld network 0 seen (with_number held number (Some one))) (sym is_now) (put one (quote_there quote planned))),
+        refl,
+      )
   told_quote quote number quotes now answer are free planned told put = absurd told
 
 module _ (network : Network) (seen : List Entry) (customer : List ℕ) (held : Held) (number : ℕ) where

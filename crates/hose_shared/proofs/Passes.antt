@@ -1,8 +1,8 @@
 -- Passes that go on.
-use Rattle.std.proofs.Common.{◌≡◌, ◌⊎◌, ℕ, ◌+◌, ◌-◌, ◌^◌, ◌<◌, ◌≤◌, List, [], ◌∷◌, ◌++◌, length, Option, None, Some, refl, sym, ap, subst, ◌∙◌, arith, append_assoc, append-nil}
+use Rattle.std.proofs.Common.{◌≡◌, ◌⊎◌, ℕ, ◌+◌, ◌<◌, ◌≤◌, List, [], ◌∷◌, ◌++◌, length, Option, None, Some, refl, sym, ap, subst, ◌∙◌, arith, append_assoc, append-nil}
 use Rattle.std.proofs.lemmas.Bool.Decides.{nat_tests}
 use mathlib.Core.List.{IsPrefix}
-use Rattle.hose_io.specs.Frame.{Frame, Rose}
+use Rattle.hose_io.specs.Frame.{Frame}
 use Rattle.hose_graph.specs.declared.entry.Entry.{Entry}
 use Rattle.hose_graph.specs.declared.command.Command.{Command}
 use Rattle.hose_graph.specs.declared.reply.Reply.{Reply}
@@ -19,7 +19,6 @@ use Rattle.hose_turn.specs.Faults.{end_of_count, rise}
 use Rattle.hose_turn.specs.Known.{Known}
 use Rattle.hose_shared.specs.Along.{StepsAlong, StepsAt, place_of}
 use Rattle.hose_shared.specs.Sharing.{HasSeenMore, IsSamePass}
-use Rattle.hose_shared.specs.Turns.{with_joined}
 
 -- ---- beginnings
 

@@ -1,5 +1,5 @@
 -- What a turn makes of a shared store: the store stands for the history with the entry that joined it, and the pass that gave the turn on has seen that.
-use Rattle.std.proofs.Common.{◌≡◌, ℕ, ◌+◌, ◌<◌, ◌≤◌, List, [], ◌∷◌, ◌++◌, length, Option, None, Some, IfSome, refl, sym, ap, subst, ◌∙◌, arith, append-nil}
+use Rattle.std.proofs.Common.{◌≡◌, ℕ, ◌+◌, List, [], ◌∷◌, ◌++◌, length, Option, None, Some, IfSome, refl, sym, ap, subst, ◌∙◌, arith, append-nil}
 use Rattle.std.proofs.lemmas.List.{length-append}
 use mathlib.Core.List.{IsPrefix}
 use Rattle.hose_graph.specs.Network.{IsNetwork, Network}
@@ -117,10 +117,10 @@ module _ {D : Type 0} (disk : Ghosts D) (Begins : List Entry → KeptStore D →
       let others = others_joined known joined in
       let seen : pass.seen ≡ with_entry known.seen joined = ap (λ (k : Known). k.seen) left ∙ pass_joined known joined in
       let decided : IfSome joined (IsDecidedAt top (book_of 0 known.seen)) =
-          subst (λ (n : Network). IfSome joined (IsDecidedAt n (book_of 0 known.seen))) same
-          (subst (λ (all : List Entry). IfSome joined (IsDecidedAt old.ledger.network (book_of 0 all))) (sym here) (if_joined (IsDecidedAt old.ledger.network (book_of 0 history)) stepped.entry (committed_of answer) law.0)) in
+      subst (λ (n : Network). IfSome joined (IsDecidedAt n (book_of 0 known.seen))) same
+      (subst (λ (all : List Entry). IfSome joined (IsDecidedAt old.ledger.network (book_of 0 all))) (sym here) (if_joined (IsDecidedAt old.ledger.network (book_of 0 history)) stepped.entry (committed_of answer) law.0)) in
       let step : IsStepOf old.ledger.network 0 history customer held command answer stepped.entry (with_entry history joined) stepped.after =
-          subst (λ (next : List Entry). IsStepOf old.ledger.network 0 history customer held command answer stepped.entry next stepped.after) leads stepped.step in
+      subst (λ (next : List Entry). IsStepOf old.ledger.network 0 history customer held command answer stepped.entry next stepped.after) leads stepped.step in
       record {
         entry = stepped.entry;
         joined = joined;

@@ -1,5 +1,5 @@
 -- What a store that is shared stands for.
-use Rattle.std.specs.Prelude.{◌≡◌, ℕ, List}
+use Rattle.std.specs.Prelude.{◌≡◌, List}
 use Rattle.hose_graph.specs.declared.entry.Entry.{Entry}
 use Rattle.hose_law.specs.History.{IsDecidedAt, book_of}
 use Rattle.hose_book.specs.GoingOn.{GoesOn}

@@ -1,5 +1,5 @@
 -- A shared book, as contracts see it, and its passes.
-use Rattle.std.specs.Prelude.{◌≡◌, ℕ, ◌≤◌}
+use Rattle.std.specs.Prelude.{◌≡◌, ◌≤◌}
 use mathlib.Core.List.{IsPrefix}
 use Rattle.hose_turn.specs.Known.{TableId}
 use Rattle.hose_graph.specs.Network.{Network}

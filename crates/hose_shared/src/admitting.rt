@@ -46,8 +46,9 @@ impl<D: Disk, B: Begun<D>> Shared<D, B> {
         let mut pass = pass;
         let mut hose = hose;
         for _ in 0..TRIES {
-            let (tried, later) =
-                self.try_to_admit(rt, alloc, pass, customer, hose, rows, gate, session);
+            let (tried, later) = self.try_to_admit(
+                rt, alloc, pass, customer, hose, rows, gate, session,
+            );
             pass = later;
             match tried {
                 Ok(reply) => return (reply, pass),

@@ -63,7 +63,10 @@ impl<D: Disk, B: Begun<D>> Shared<D, B> {
             return (Err(Reply::Memory), pass);
         };
         let (epoch, pass) = self.look(rt, pass, &mut loads);
-        (plan_at(alloc, &self.topology, &loads, epoch, hose, rows), pass)
+        (
+            plan_at(alloc, &self.topology, &loads, epoch, hose, rows),
+            pass,
+        )
     }
 
     /// The same under the lock, at all that the pass has seen.
@@ -83,7 +86,14 @@ impl<D: Disk, B: Begun<D>> Shared<D, B> {
             (IsNotPlanned self.now.network book hose) }
     {
         let book = held.value().store.book();
-        plan_at(alloc, book.topology(), book.loads(), book.epoch(), hose, rows)
+        plan_at(
+            alloc,
+            book.topology(),
+            book.loads(),
+            book.epoch(),
+            hose,
+            rows,
+        )
     }
 
     // Copies the loads of all links at a place of the history, and tells the epoch there.

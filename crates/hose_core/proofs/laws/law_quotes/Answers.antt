@@ -1,6 +1,6 @@
 use Rattle.std.proofs.Common.{None, Some, refl}
 use Rattle.hose_law.proofs.Numbers.{some_at}
-use Rattle.hose_core.proofs.HeldQuotes.{IsFront, free_alike, front_prefix, held_longer, held_with, none_alike, some_alike}
+use Rattle.hose_core.proofs.HeldQuotes.{free_alike, front_prefix, held_longer, held_with, none_alike, some_alike}
 use Rattle.hose_core.proofs.laws.law_quotes.Goals as goal
 
 pub returns-clause-longer : goal.returns-clause-longer

@@ -8,8 +8,6 @@ from_ticket-requires c = (
     first = 0;
     since = c.args.log.entries.items;
     network = record { nodes = []; links = [] };
-    opened = 0;
-    tells = false;
   },
   (refl, refl),
 )

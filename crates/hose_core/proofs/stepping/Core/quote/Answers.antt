@@ -1,12 +1,9 @@
-use Rattle.std.proofs.Common.{◌≡◌, ◌∙◌, ap, sym, subst}
-use Rattle.hose_graph.specs.declared.command.Command.{Command}
-use Rattle.hose_graph.specs.declared.command.Command.TheVariants.{Quote as QuoteOf}
+use Rattle.std.proofs.Common.{◌∙◌, ap, sym}
 use Rattle.hose_book.specs.Ledger.{Ledger}
 use Rattle.hose_law.specs.Quotes.{free_number}
 use Rattle.hose_core.specs.Holding.{State, quotes_in}
 use Rattle.hose_core.specs.Planning.{IsPlannedAt}
-use Rattle.hose_core.specs.Stepping.{Steps}
-use Rattle.hose_core.specs.declared.planning.Planned.TheVariants.{Quote, Refused}
+use Rattle.hose_core.specs.declared.planning.Planned.TheVariants.{Refused}
 use Rattle.hose_core.proofs.Decided.{planned_there}
 use Rattle.hose_core.proofs.SteppedOn.{quote_memory_on, refused_on, too_many_on}
 use Rattle.hose_core.proofs.stepping.Core.quote.Goals as goal

@@ -3,7 +3,7 @@ use Rattle.hose_graph.specs.declared.command.Command.TheVariants.{Admit}
 use Rattle.hose_graph.specs.declared.entry.Entry.{Entry}
 use Rattle.hose_graph.specs.declared.reply.Reply.TheVariants.{Memory}
 use Rattle.hose_law.specs.History.{book_of}
-use Rattle.hose_law.specs.Quotes.{Held, HeldQuote}
+use Rattle.hose_law.specs.Quotes.{HeldQuote}
 use Rattle.hose_turn.specs.Held.{holder}
 use Rattle.hose_turn.specs.Known.{Known}
 use Rattle.hose_shared.specs.Planning.{IsNotPlanned, IsPlannedFor}

@@ -1,5 +1,4 @@
 use Rattle.std.proofs.Common.{◌∙◌, ap, refl, subst, sym}
-use Rattle.hose_io.specs.Frame.{Frame}
 use Rattle.hose_graph.specs.Network.{IsNetwork}
 use Rattle.hose_graph.specs.declared.command.Command.TheVariants.{Link}
 use Rattle.hose_book.specs.Commit.{IsMet}

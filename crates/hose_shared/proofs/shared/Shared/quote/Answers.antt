@@ -50,5 +50,5 @@ returns-in-Ok-clause-steps g c = λ customer held are.
     let longer = c.law_quotes.ensures.longer network 0 pass.seen new.seen held quotes more.same.seen are in
     let most : number ≤ length quotes = omega (arith, range.1, c.free.ensures.places) in
     let told = told_quote network new.seen customer held hose c.in-Ok.quote number quotes c.hold.new.quotes c.hold.result longer free planned c.hold.ensures
-        (λ one of. c.law_quotes.ensures.put network 0 new.seen held quotes number one c.in-Ok.quote longer range.0 most of) in
+    (λ one of. c.law_quotes.ensures.put network 0 new.seen held quotes number one c.in-Ok.quote longer range.0 most of) in
     stays_holding network customer held told.0 (QuoteOf hose) c.hold.result pass new c.hold.new.quotes more told.3 told.1 told.2

@@ -1,4 +1,4 @@
-use Rattle.std.proofs.Common.{◌≡◌, ◌∙◌, IfSome, List, Option, None, ap, arith, refl, subst, sym}
+use Rattle.std.proofs.Common.{◌≡◌, ◌∙◌, IfSome, ap, arith, refl, subst, sym}
 use Rattle.hose_graph.specs.Network.{IsNetwork}
 use Rattle.hose_graph.specs.declared.command.Command.TheVariants.{Release}
 use Rattle.hose_graph.specs.declared.entry.Entry.{Entry}

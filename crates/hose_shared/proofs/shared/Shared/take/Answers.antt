@@ -1,10 +1,9 @@
-use Rattle.std.proofs.Common.{◌≡◌, ◌≤◌, ◌∙◌, IsSome, List, Option, None, Some, arith, length, refl, subst, sym}
+use Rattle.std.proofs.Common.{◌≤◌, ◌∙◌, IsSome, None, arith, refl, subst, sym}
 use Rattle.hose_graph.specs.declared.command.Command.TheVariants.{Take}
 use Rattle.hose_graph.specs.declared.limits.TheConstants.{MOST_QUOTES}
 use Rattle.hose_graph.specs.declared.reply.Reply.TheVariants.{Memory, NoQuote}
 use Rattle.hose_law.specs.Quotes.{Held, at_number, with_number}
 use Rattle.hose_core.specs.Holding.{AreHeld}
-use Rattle.hose_core.specs.declared.quotes.Quote.{Quote}
 use Rattle.hose_turn.specs.Held.{holder}
 use Rattle.hose_shared.proofs.Entries.{no_quote, stays_holding, taken_after}
 use Rattle.hose_shared.proofs.Passes.{along_of, epoch_of, locked_more, more_same}

@@ -1,13 +1,12 @@
-use Rattle.std.proofs.Common.{◌≡◌, ◌∙◌, IfSome, List, [], ◌∷◌, ℕ, Option, None, Some, take, ap, arith, refl, subst, sym}
+use Rattle.std.proofs.Common.{◌≡◌, ◌∙◌, IfSome, List, [], ◌∷◌, ℕ, Some, take, ap, arith, refl, subst, sym}
 use Rattle.hose_graph.specs.Network.{IsNetwork, Network}
 use Rattle.hose_graph.specs.declared.command.Command.TheVariants.{Take}
 use Rattle.hose_graph.specs.declared.entry.Entry.{Entry}
 use Rattle.hose_graph.specs.declared.entry.Entry.TheVariants.{Admit}
 use Rattle.hose_law.specs.History.{book_of}
-use Rattle.hose_law.specs.Quotes.{Held, HeldQuote}
+use Rattle.hose_law.specs.Quotes.{Held}
 use Rattle.hose_core.specs.Holding.{IsMadeAt, IsQuoteOf}
 use Rattle.hose_turn.specs.Held.{floor_of, holder, value_of}
-use Rattle.hose_turn.specs.Known.{Known}
 use Rattle.hose_shared.specs.Keeping.{StandsShared}
 use Rattle.hose_shared.proofs.Entries.{take_entry}
 use Rattle.hose_shared.proofs.Turned.{entered, turn_stands, turn_steps}
@@ -51,7 +50,7 @@ end_turn-requires-clause-stands g c =
     let joined = entered g.D.Disk g.B.Begun.begins top is known c.requires.network value old new same stood customer held (Take 1) answer stepped law c.take_now-reply.ensures.network in
     let stands = turn_stands g.D.Disk g.B.Begun.begins top is known c.requires.network value old new same stood customer held (Take 1) answer stepped law c.take_now-reply.ensures.network in
     let hose = subst (λ (ends : List (ℕ × ℕ)). IfSome joined (λ joined. joined ≡ Admit customer ends quote.amounts)) of.hose
-        (take_entry old.ledger.network known.seen customer held 1 one.0 refl quote.amounts quote.cost answer stepped.entry stepped.next stepped.after c.take_now-reply.ensures.told stepped.step) in
+    (take_entry old.ledger.network known.seen customer held 1 one.0 refl quote.amounts quote.cost answer stepped.entry stepped.next stepped.after c.take_now-reply.ensures.told stepped.step) in
     (joined, stands, subst (λ (e : Entry). IfSome joined (λ one. one ≡ e)) (sym (c.of-entry.ensures ∙ c.entry.ensures ∙ c.requires.claim.1.entry)) hose)
 
 pub returns-clause-steps : goal.returns-clause-steps
@@ -74,7 +73,7 @@ returns-clause-steps g c = λ customer held number one claim there of_quote.
     let joined = entered g.D.Disk g.B.Begun.begins top is known c.requires.network value old new same stood customer held (Take number) answer stepped law c.take_now-reply.ensures.network in
     let stands = turn_stands g.D.Disk g.B.Begun.begins top is known c.requires.network value old new same stood customer held (Take number) answer stepped law c.take_now-reply.ensures.network in
     let hose = subst (λ (ends : List (ℕ × ℕ)). IfSome joined (λ joined. joined ≡ Admit customer ends quote.amounts)) of.hose
-        (take_entry old.ledger.network known.seen customer held number one there quote.amounts quote.cost answer stepped.entry stepped.next stepped.after c.take_now-reply.ensures.told stepped.step) in
+    (take_entry old.ledger.network known.seen customer held number one there quote.amounts quote.cost answer stepped.entry stepped.next stepped.after c.take_now-reply.ensures.told stepped.step) in
     let mine = subst (λ (e : Entry). IfSome joined (λ one. one ≡ e)) (sym (c.of-entry.ensures ∙ c.entry.ensures ∙ claim.entry)) hose in
     turn_steps g.D.Disk g.B.Begun.begins top is known c.requires.network value old new same stood customer held (Take number) answer stepped law c.take_now-reply.ensures.network c.end_turn.result (floor_of c.args.held) c.requires.floor c.take_now-reply.ensures.met
     (c.end_turn.ensures joined stands mine)

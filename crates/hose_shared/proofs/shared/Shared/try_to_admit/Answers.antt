@@ -1,8 +1,8 @@
-use Rattle.std.proofs.Common.{◌≡◌, ◌∙◌, false, List, [], ◌∷◌, Some, length, refl, sym}
+use Rattle.std.proofs.Common.{◌∙◌, [], ◌∷◌, Some, length, refl, sym}
 use Rattle.hose_graph.specs.declared.command.Command.TheVariants.{Admit}
 use Rattle.hose_graph.specs.declared.reply.Reply.TheVariants.{Memory}
 use Rattle.hose_law.specs.History.{book_of}
-use Rattle.hose_law.specs.Quotes.{Held, HeldQuote}
+use Rattle.hose_law.specs.Quotes.{HeldQuote}
 use Rattle.hose_turn.specs.Held.{holder}
 use Rattle.hose_shared.specs.Planning.{IsNotPlanned, IsPlannedFor}
 use Rattle.hose_shared.proofs.Entries.{admits_at, quote_there, seen_quote, stale_more, stays_along, unplanned_admit, unplanned_done, unplanned_names}
@@ -15,10 +15,11 @@ returns-in-Err g c =
     let hose = c.args.hose in
     let new = c.plan-planned.result.1 in
     let customer = c.args.customer.now in
-    let none : IsNotPlanned network (book_of 0 new.seen) hose c.in-Err.reply = rw c.in-Err.is at c.plan-planned.ensures.planned in
-    (λ held. stays_along network customer held held (Admit hose) c.in-Err.reply c.args.pass new c.plan-planned.ensures.more (unplanned_done network new.seen customer held hose c.in-Err.reply none)
-    (unplanned_admit network new.seen customer held hose c.in-Err.reply none),
-    unplanned_names network new.seen customer [] hose c.in-Err.reply none)
+    let none : IsNotPlanned network (book_of 0 new.seen) hose c.in-Err.reply = rw c.in-Err.is at c.plan-planned.ensures.planned in (
+      λ held. stays_along network customer held held (Admit hose) c.in-Err.reply c.args.pass new c.plan-planned.ensures.more (unplanned_done network new.seen customer held hose c.in-Err.reply none)
+          (unplanned_admit network new.seen customer held hose c.in-Err.reply none),
+      unplanned_names network new.seen customer [] hose c.in-Err.reply none,
+    )
 
 pub returns-in_default : goal.returns-in_default
 returns-in_default g c = (
@@ -63,8 +64,9 @@ returns g c =
     let one : HeldQuote = record { hose = hose; place = length mid.seen } in
     let of = seen_quote network mid.seen known.seen one quote c.lock.ensures.seen (quote_there network mid.seen customer [] hose quote planned) in
     let more = more_on c.args.pass mid known c.plan-planned.ensures.more (locked_more mid known c.lock.ensures.kept c.lock.ensures.seen) in
-    let fresh = sym c.is_stale.ensures ∙ c.if-is_stale.false in
-    (λ held.
-    let at = c.take_claimed-reply.ensures.steps customer (Some one ∷ []) 1 one c.in-Ok-claim_take.ensures refl of in
-    along_of network customer held (Admit hose) answer c.args.pass known new more (admits_at network known.seen customer (Some one ∷ []) 1 one refl held answer known new fresh at),
-    c.take_claimed-reply.ensures.names)
+    let fresh = sym c.is_stale.ensures ∙ c.if-is_stale.false in (
+      λ held.
+          let at = c.take_claimed-reply.ensures.steps customer (Some one ∷ []) 1 one c.in-Ok-claim_take.ensures refl of in
+          along_of network customer held (Admit hose) answer c.args.pass known new more (admits_at network known.seen customer (Some one ∷ []) 1 one refl held answer known new fresh at),
+      c.take_claimed-reply.ensures.names,
+    )
