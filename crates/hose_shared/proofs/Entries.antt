@@ -28,10 +28,11 @@ use Rattle.hose_core.specs.Stepping.{TellsPlan, committed_of}
 use Rattle.hose_core.specs.declared.quotes.Quote.{Quote}
 use Rattle.hose_plan.specs.Planning.{allowed_links}
 use Rattle.hose_turn.specs.Known.{Known}
-use Rattle.hose_shared.specs.Along.{StepsAlong, StepsAt, StepsHolding, place_of}
+use Rattle.hose_shared.specs.Along.{StepsAlong, StepsHolding}
 use Rattle.hose_shared.specs.Planning.{HasTold, IsNotPlanned, IsPlannedFor, is_stale}
 use Rattle.hose_shared.specs.Sharing.{HasSeenMore}
-use Rattle.hose_shared.proofs.Passes.{prefix_same}
+use Rattle.hose_shared.specs.Turns.{StepsAt, place_of}
+use Rattle.hose_shared.proofs.Passes.{along_of, prefix_same}
 use Rattle.hose_shared.proofs.Turned.{joined_of, none_joined}
 
 -- what holds of an entry that was committed holds of the one that joined
@@ -162,22 +163,18 @@ module _ (network : Network) (history : List Entry) (customer : List ℕ) (held 
 -- A reply without an entry, at all that the pass has seen then.
 pub stays_along : (network : Network) (customer : List ℕ) (held after : Held) (asked : Command) (answer : Reply) (old new : Known) → HasSeenMore old new → committed_of answer ≡ Done
     → IsStepOf network 0 new.seen customer held asked answer None new.seen after → StepsAlong network customer held asked answer old new
-stays_along network customer held after asked answer old new more done step = record {
-  before = new.seen;
-  later = more.same.seen;
-  at = record {
-    entry = None;
-    joined = None;
-    after = after;
-    step = step;
-    decided = tt;
-    cheapest = tt;
-    same = more.same;
-    seen = prefix_same new.seen;
-    own = more.own ∙ sym (append-nil old.own);
-    failed = λ is. absurd (cc (is, done));
-  };
-}
+stays_along network customer held after asked answer old new more done step = along_of network customer held asked answer old new new more (record {
+  entry = None;
+  joined = None;
+  after = after;
+  step = step;
+  decided = tt;
+  cheapest = tt;
+  same = record { turn = refl; origin = refl; share = refl; seen = prefix_same new.seen; faults = omega arith };
+  seen = prefix_same new.seen;
+  own = sym (append-nil new.own);
+  failed = λ is. absurd (cc (is, done));
+})
 
 -- the same, with what is held then
 pub stays_holding : (network : Network) (customer : List ℕ) (held after : Held) (asked : Command) (answer : Reply) (old new : Known) (quotes : List (Option Quote)) → HasSeenMore old new → committed_of answer ≡ Done

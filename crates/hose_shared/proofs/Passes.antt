@@ -1,15 +1,20 @@
 -- Passes that go on.
-use Rattle.std.proofs.Common.{◌≡◌, ◌⊎◌, ℕ, ◌+◌, ◌<◌, ◌≤◌, List, [], ◌∷◌, ◌++◌, length, Option, None, Some, refl, sym, ap, subst, ◌∙◌, arith, append_assoc, append-nil}
+use Rattle.std.proofs.Common.{◌≡◌, ◌⊎◌, inl, inr, ℕ, ◌+◌, ◌<◌, ◌≤◌, All, List, [], ◌∷◌, ◌++◌, length, take, Option, None, Some, IfSome, refl, sym, ap, subst, ◌∙◌, arith, append_assoc, append-nil}
+use Rattle.std.specs.List.{slice_get}
 use Rattle.std.proofs.lemmas.Bool.Decides.{nat_tests}
+use Rattle.std.proofs.lemmas.List.{length-append}
+use Rattle.std.proofs.lemmas.List.Elements.{All-cons, All-nil}
+use Rattle.std.proofs.lemmas.Option.{slice_get-get_or}
+use Rattle.std.proofs.Math.Seq.{get_or-append_seam, take-append_seam}
 use mathlib.Core.List.{IsPrefix}
 use Rattle.hose_io.specs.Frame.{Frame}
 use Rattle.hose_graph.specs.declared.entry.Entry.{Entry}
 use Rattle.hose_graph.specs.declared.command.Command.{Command}
 use Rattle.hose_graph.specs.declared.reply.Reply.{Reply}
 use Rattle.hose_graph.specs.Network.{Network}
-use Rattle.hose_law.specs.Answer.{with_entry}
+use Rattle.hose_law.specs.Answer.{IsStepOf, with_entry}
 use Rattle.hose_law.specs.Book.{Book}
-use Rattle.hose_law.specs.History.{book_after, book_of, next_book, opening_book}
+use Rattle.hose_law.specs.History.{IsDecidedAt, book_after, book_of, next_book, opening_book}
 use Rattle.hose_law.specs.Quotes.{Held}
 use Rattle.hose_law.proofs.LiveIds.{next_epoch}
 use Rattle.hose_book.specs.Commit.{IsMet}
@@ -17,8 +22,9 @@ use Rattle.hose_book.specs.declared.committed.Committed.{Committed}
 use Rattle.hose_book.specs.declared.committed.Committed.TheVariants.{Done, Disk}
 use Rattle.hose_turn.specs.Faults.{end_of_count, rise}
 use Rattle.hose_turn.specs.Known.{Known}
-use Rattle.hose_shared.specs.Along.{StepsAlong, StepsAt, place_of}
+use Rattle.hose_shared.specs.Along.{HasEntryAt, IsCheapestEntry, StepsAlong}
 use Rattle.hose_shared.specs.Sharing.{HasSeenMore, IsSamePass}
+use Rattle.hose_shared.specs.Turns.{StepsAt, place_of}
 
 -- ---- beginnings
 
@@ -31,6 +37,12 @@ prefix_on one two three (rest, same) (more, there) = (rest ++ more, sym (append_
 pub prefix_joined : (all : List Entry) (joined : Option Entry) → IsPrefix all (with_entry all joined)
 prefix_joined all None = prefix_same all
 prefix_joined all (Some entry) = (entry ∷ [], refl)
+
+pub longer_seen : (one two : List Entry) → IsPrefix one two → length one ≤ length two
+longer_seen one two (rest, same) = let a = length-append one rest in let b = ap length same in omega arith
+
+pub front_of : (one two : List Entry) → IsPrefix one two → take (length one) two ≡ one
+front_of one two (rest, same) = ap (take (length one)) (sym same) ∙ take-append_seam one rest
 
 -- ---- epochs
 
@@ -71,30 +83,65 @@ more_on one two three here there = record { same = same_on one two three here.sa
 
 module _ (network : Network) (customer : List ℕ) (held : Held) (command : Command) (answer : Reply) where
   -- a step of a pass that had seen more
-  abbrev pub at_on : (before : List Entry) (one two three : Known) → HasSeenMore one two → StepsAt network customer held command answer before two three → StepsAt network customer held command answer before one three
-  at_on before one two three more at = record {
-    entry = at.entry;
-    joined = at.joined;
-    after = at.after;
-    step = at.step;
-    decided = at.decided;
-    cheapest = at.cheapest;
-    same = same_on one two three more.same at.same;
-    seen = at.seen;
-    own = at.own ∙ ap (λ (own : List ℕ). own ++ place_of before at.joined) more.own;
-    failed = λ is. let a = more.same.faults in let b = at.failed is in omega arith;
-  }
-
   abbrev pub along_on : (one two three : Known) → HasSeenMore one two → StepsAlong network customer held command answer two three → StepsAlong network customer held command answer one three
   along_on one two three more along = record {
-    before = along.before;
-    later = prefix_on one.seen two.seen along.before more.same.seen along.later;
-    at = at_on along.before one two three more along.at;
+    place = along.place;
+    next = along.next;
+    left = along.left;
+    added = along.added;
+    step = along.step;
+    entries = along.entries;
+    later = let a = longer_seen one.seen two.seen more.same.seen in let b = along.later in omega arith;
+    same = same_on one two three more.same along.same;
+    own = along.own ∙ ap (λ (own : List ℕ). own ++ along.added) more.own;
+    failed = λ is. let a = more.same.faults in let b = along.failed is in omega arith;
   }
 
-  -- a step at all that a pass has seen
+  pub moves : (before seen : List Entry) (joined : Option Entry) → IsPrefix (with_entry before joined) seen
+      → ((with_entry before joined ≡ take (length before) seen) × (length (with_entry before joined) ≡ length before) × (place_of before joined ≡ []))
+      ⊎ ((length before < length seen) × (with_entry before joined ≡ take (length before + 1) seen) × (length (with_entry before joined) ≡ length before + 1) × (place_of before joined ≡ length before ∷ []))
+  moves before seen None (rest, same) = inl (sym (ap (take (length before)) (sym same) ∙ take-append_seam before rest), refl, refl)
+  moves before seen (Some entry) (rest, same) =
+      let one : length (before ++ entry ∷ []) ≡ length before + 1 = length-append before (entry ∷ []) in
+      let all = length-append (before ++ entry ∷ []) rest in
+      let whole = ap length same in
+      inr (omega arith, sym (ap (λ (n : ℕ). take n seen) (sym one) ∙ ap (take (length (before ++ entry ∷ []))) (sym same) ∙ take-append_seam (before ++ entry ∷ []) rest), one, refl)
+
+  pub entry_there : (before seen : List Entry) (joined : Option Entry) → IsPrefix (with_entry before joined) seen → take (length before) seen ≡ before → IfSome joined (IsDecidedAt network (book_of 0 before))
+      → IfSome joined (IsCheapestEntry network (book_of 0 before)) → All (HasEntryAt network seen) (place_of before joined)
+  entry_there before seen None prefix front decided cheapest = All-nil (HasEntryAt network seen)
+  entry_there before seen (Some entry) (rest, same) front decided cheapest =
+      let split : before ++ entry ∷ rest ≡ seen = sym (append_assoc before (entry ∷ []) rest) ∙ same in
+      let within : length before < length (before ++ entry ∷ rest) = let a = length-append before (entry ∷ rest) in omega arith in
+      let there = slice_get-get_or (before ++ entry ∷ rest) (length before) entry within ∙ ap Some (get_or-append_seam before entry rest entry) in
+      All-cons (HasEntryAt network seen) (length before) [] (record {
+        entry = entry;
+        there = subst (λ (all : List Entry). slice_get all (length before) ≡ Some entry) split there;
+        decided = subst (λ (all : List Entry). IsDecidedAt network (book_of 0 all) entry) (sym front) decided;
+        cheapest = subst (λ (all : List Entry). IsCheapestEntry network (book_of 0 all) entry) (sym front) cheapest;
+      }) (All-nil (HasEntryAt network seen))
+
+  -- a step after all that a pass has seen is one along its history
   abbrev pub along_of : (one two three : Known) → HasSeenMore one two → StepsAt network customer held command answer two.seen two three → StepsAlong network customer held command answer one three
-  along_of one two three more at = record { before = two.seen; later = more.same.seen; at = at_on two.seen one two three more at }
+  along_of one two three more at =
+      let front : take (length two.seen) three.seen ≡ two.seen = front_of two.seen three.seen (prefix_on two.seen (with_entry two.seen at.joined) three.seen (prefix_joined two.seen at.joined) at.seen) in
+      record {
+        place = length two.seen;
+        next = length (with_entry two.seen at.joined);
+        left = at.after;
+        added = place_of two.seen at.joined;
+        step = record {
+          next = with_entry two.seen at.joined;
+          there = longer_seen two.seen three.seen (prefix_on two.seen (with_entry two.seen at.joined) three.seen (prefix_joined two.seen at.joined) at.seen);
+          step = (at.entry, subst (λ (all : List Entry). IsStepOf network 0 all customer held command answer at.entry (with_entry two.seen at.joined) at.after) (sym front) at.step);
+          moves = moves two.seen three.seen at.joined at.seen;
+        };
+        entries = entry_there two.seen three.seen at.joined at.seen front at.decided at.cheapest;
+        later = longer_seen one.seen two.seen more.same.seen;
+        same = same_on one two three more.same at.same;
+        own = at.own ∙ ap (λ (own : List ℕ). own ++ place_of two.seen at.joined) more.own;
+        failed = λ is. let a = more.same.faults in let b = at.failed is in omega arith;
+      }
 
 -- a pass that took its turn
 pub locked_more : (pass holder : Known) → holder ≡ record pass { seen = holder.seen } → IsPrefix pass.seen holder.seen → HasSeenMore pass holder

@@ -24,9 +24,9 @@ use Rattle.hose_store.specs.Store.{Kept as KeptStore}
 use Rattle.hose_turn.specs.declared.view.Origin.{Origin}
 use Rattle.hose_turn.specs.Faults.{rise}
 use Rattle.hose_turn.specs.Known.{Known}
-use Rattle.hose_shared.specs.Along.{IsCheapestEntry, StepsAt, place_of}
+use Rattle.hose_shared.specs.Along.{IsCheapestEntry}
 use Rattle.hose_shared.specs.Keeping.{StandsShared}
-use Rattle.hose_shared.specs.Turns.{faults_in, with_joined}
+use Rattle.hose_shared.specs.Turns.{StepsAt, faults_in, place_of, with_joined}
 use Rattle.hose_shared.proofs.Passes.{epoch_of, failed_rise, prefix_joined, prefix_same}
 
 -- ---- the entry that joined

@@ -1,6 +1,5 @@
 -- Commands that are answered along a history.
-use Rattle.std.specs.Prelude.{◌≡◌, ℕ, ◌<◌, Bool, List, [], ◌∷◌, ◌++◌, length, Option, None, Some, IfSome, Result, Ok, Err, ⊤}
-use mathlib.Core.List.{IsPrefix}
+use Rattle.std.specs.Prelude.{◌≡◌, ℕ, ◌<◌, ◌≤◌, All, Bool, List, ◌++◌, length, take, slice_get, Option, Some, Result, Ok, Err, ⊤}
 use Rattle.hose_graph.specs.Hose.{Endpoint}
 use Rattle.hose_graph.specs.Network.{Network}
 use Rattle.hose_graph.specs.Naming.{NamesPlaces}
@@ -9,13 +8,13 @@ use Rattle.hose_graph.specs.declared.command.Command.TheVariants.{Admit as Admit
 use Rattle.hose_graph.specs.declared.entry.Entry.{Entry}
 use Rattle.hose_graph.specs.declared.entry.Entry.TheVariants.{Admit, Release}
 use Rattle.hose_graph.specs.declared.reply.Reply.{Reply}
-use Rattle.hose_law.specs.Answer.{IsStepOf, with_entry}
 use Rattle.hose_law.specs.Book.{Book}
 use Rattle.hose_law.specs.Cheapest.{IsCheapest}
 use Rattle.hose_law.specs.Decision.{IsAllowed}
 use Rattle.hose_law.specs.History.{IsDecidedAt, book_of}
 use Rattle.hose_law.specs.Quotes.{Held}
 use Rattle.hose_law.specs.Room.{room_of}
+use Rattle.hose_law.specs.Script.{IsPlacedStep}
 use Rattle.hose_book.specs.declared.committed.Committed.TheVariants.{Disk}
 use Rattle.hose_core.specs.Holding.{AreHeld}
 use Rattle.hose_core.specs.Stepping.{committed_of}
@@ -30,41 +29,35 @@ IsCheapestEntry network book (Admit customer hose amounts) =
     × IsCheapest network set hose amounts
 IsCheapestEntry network book (Release customer id) = ⊤
 
--- the place of an entry that joined the history, if one did
-abbrev pub place_of : List Entry → Option Entry → List ℕ
-place_of before None = []
-place_of before (Some entry) = length before ∷ []
+-- An entry stands at this place of a history. It was decided there, and costs least where it is an
+-- admission.
+pub record HasEntryAt (network : Network) (history : List Entry) (place : ℕ) : Type 0 where
+  pub entry : Entry
+  pub there : slice_get history place ≡ Some entry
+  pub decided : IsDecidedAt network (book_of 0 (take place history)) entry
+  pub cheapest : IsCheapestEntry network (book_of 0 (take place history)) entry
 
--- A command of a customer who holds this was answered by a step at a place of the history, that
--- after these entries. The entry that joined the history there, if one did, was decided, and costs
--- least where it is an admission. It is the pass's own, and no other that it had not before. Where
--- the disk failed, the pass has met more faults.
-pub record StepsAt (network : Network) (customer : List ℕ) (held : Held) (command : Command)
-    (answer : Reply) (before : List Entry) (old new : Known) : Type 0 where
-  pub entry : Option Entry
-  pub joined : Option Entry
-  pub after : Held
-  pub step : IsStepOf network 0 before customer held command answer entry
-      (with_entry before joined) after
-  pub decided : IfSome joined (IsDecidedAt network (book_of 0 before))
-  pub cheapest : IfSome joined (IsCheapestEntry network (book_of 0 before))
-  pub same : IsSamePass old new
-  pub seen : IsPrefix (with_entry before joined) new.seen
-  pub own : new.own ≡ old.own ++ place_of before joined
-  pub failed : committed_of answer ≡ Disk → old.faults < new.faults
-
--- The place is one that the pass has seen then, not before what it had seen.
+-- A command of a customer who holds this was answered by a step at a place of the history that the
+-- pass has seen then, not before what it had seen. The step's entry, if it added one, is the pass's
+-- own, and no other that it had not before. Where the disk failed, the pass has met more faults.
 pub record StepsAlong (network : Network) (customer : List ℕ) (held : Held) (command : Command)
     (answer : Reply) (old new : Known) : Type 0 where
-  pub before : List Entry
-  pub later : IsPrefix old.seen before
-  pub at : StepsAt network customer held command answer before old new
+  pub place : ℕ
+  pub next : ℕ
+  pub left : Held
+  pub added : List ℕ
+  pub step : IsPlacedStep network 0 new.seen customer held command answer left place next added
+  pub entries : All (HasEntryAt network new.seen) added
+  pub later : length old.seen ≤ place
+  pub same : IsSamePass old new
+  pub own : new.own ≡ old.own ++ added
+  pub failed : committed_of answer ≡ Disk → old.faults < new.faults
 
 -- The same of a command that changes what the customer holds, which these quotes fit then.
 pub record StepsHolding (network : Network) (customer : List ℕ) (held : Held) (command : Command)
     (answer : Reply) (old new : Known) (quotes : List (Option Quote)) : Type 0 where
   pub along : StepsAlong network customer held command answer old new
-  pub holds : AreHeld network 0 new.seen along.at.after quotes
+  pub holds : AreHeld network 0 new.seen along.left quotes
 
 -- An admission was answered so, with a reply that names what is there; or its plan went stale, and
 -- the hose is still to be admitted.

@@ -8,10 +8,10 @@ ghost use Rattle.hose_store.specs.Commit.{store_books};
 ghost use Rattle.hose_core.specs.Claiming.{IsClaimOf};
 ghost use Rattle.hose_core.specs.Holding.{AreHeld, IsQuoteOf};
 ghost use Rattle.hose_turn.specs.Held.{floor_of, holder, value_of};
-ghost use Rattle.hose_shared.specs.Along.{StepsAt, StepsHolding};
+ghost use Rattle.hose_shared.specs.Along.{StepsHolding};
 ghost use Rattle.hose_shared.specs.Keeping.{StandsShared};
 ghost use Rattle.hose_shared.specs.Sharing.{IsPassOf};
-ghost use Rattle.hose_shared.specs.Turns.{faults_in};
+ghost use Rattle.hose_shared.specs.Turns.{StepsAt, faults_in};
 
 use crate::kept::{Begun, Kept};
 use crate::shared::Shared;
