@@ -1,5 +1,5 @@
 // The value under the lock.
-ghost use Rattle.std.specs.Prelude.{List};
+ghost use Rattle.std.specs.Prelude.{List, ⊤};
 ghost use Rattle.hose_graph.specs.declared.entry.Entry.{Entry};
 ghost use Rattle.hose_store.specs.Store.{Kept as KeptStore};
 
@@ -13,6 +13,13 @@ use std::marker::PhantomData;
 /// A caller who has to say later which store that was names it here.
 pub trait Begun<D: Disk> {
     ghost begins: { List Entry → KeptStore D → Type 0 };
+}
+
+/// No store is named: any may be shared.
+pub struct AnyStore;
+
+impl<D: Disk> Begun<D> for AnyStore {
+    ghost begins = { λ since store. ⊤ };
 }
 
 /// A store that many passes share.

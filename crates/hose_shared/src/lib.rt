@@ -5,7 +5,7 @@
 //! under it, where nothing is planned and no memory is taken.
 //!
 //! ```
-//! let (shared, mut pass) = Shared::<_, Any>::new(alloc, store)?;
+//! let (shared, mut pass) = Shared::<_, AnyStore>::new(alloc, store)?;
 //! let other = shared.split(&mut pass);      // for another thread
 //! let (reply, mut pass) =
 //!     shared.admit(rt, alloc, pass, &customer, hose, &mut PlainRows::new(), &PlainGate, 1);
@@ -23,5 +23,5 @@ mod quoting;
 mod shared;
 mod taking;
 
-pub use kept::{Begun, Kept};
+pub use kept::{AnyStore, Begun, Kept};
 pub use shared::Shared;
