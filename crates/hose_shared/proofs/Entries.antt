@@ -1,8 +1,10 @@
 -- Which entry joined, and what an admission's take and the replies without an entry are as steps.
-use Rattle.std.proofs.Common.{◌≡◌, ◌≢◌, ℕ, true, false, List, ◌++◌, length, take, Option, None, Some, IfSome, IsSome, MatchResult, Result, refl, sym, ap, subst, ◌∙◌, append-nil, arith}
+use Rattle.std.proofs.Common.{◌≡◌, ◌≢◌, ℕ, true, false, List, ◌++◌, length, take, Option, None, Some, IfSome, IsSome, MatchResult, Result, refl, sym, ap, subst, ◌∙◌, append-nil, arith, ◌≤◌, ◌<◌}
 use Rattle.std.specs.Prelude.{replicate}
-use Rattle.std.proofs.lemmas.List.{length-append, take-append-le, take_all}
+use Rattle.std.proofs.lemmas.List.{length-append, length-take-le, take-append-le, take_all}
 use mathlib.Core.List.{IsPrefix}
+use mathlib.Core.Logic.{dite}
+use native.Mathlib.Decide.{dec_le}
 use Rattle.hose_graph.specs.Amounts.{ReservedLink}
 use Rattle.hose_graph.specs.Hose.{Endpoint}
 use Rattle.hose_graph.specs.Naming.{NamesPlaces}
@@ -32,7 +34,7 @@ use Rattle.hose_shared.specs.Along.{StepsAlong, StepsHolding}
 use Rattle.hose_shared.specs.Planning.{HasTold, IsNotPlanned, IsPlannedFor, is_stale}
 use Rattle.hose_shared.specs.Sharing.{HasSeenMore}
 use Rattle.hose_shared.specs.Turns.{StepsAt, place_of}
-use Rattle.hose_shared.proofs.Passes.{along_of, prefix_same}
+use Rattle.hose_shared.proofs.Passes.{along_of, epoch_of, prefix_same}
 use Rattle.hose_shared.proofs.Turned.{joined_of, none_joined}
 
 -- what holds of an entry that was committed holds of the one that joined
@@ -130,6 +132,19 @@ module _ (network : Network) (history : List Entry) (customer : List ℕ) (held 
       absurd (grounds_same network (book_of 0 history) one.hose (subst (λ (all : List Entry). HaveEqualGrounds network (book_of 0 all) (book_of 0 history) one.hose → ⊥) whole differ))
   fresh_there here (reply.Stale seen now) (Some entry) next after step = absurd (taking (reply.Stale seen now) (Some entry) after step.0).1
   fresh_there here answer entry next after step = refl
+
+  -- a quote that is stale at a place was made at an earlier one
+  pub stale_later : one.place ≤ length history → (answer : Reply) (seen now : ℕ) (entry : Option Entry) (next : List Entry) (after : Held) → answer ≡ reply.Stale seen now → Taken answer entry next after → (seen < now) × (now ≡ length history)
+  stale_later within answer seen now None next after is step =
+      let told = taking (reply.Stale seen now) None after (subst (λ (r : Reply). Taken r None next after) is step).0 in
+      let made : seen ≡ one.place = told.0 ∙ epoch_of (take one.place history) ∙ length-take-le one.place history within in
+      let here : now ≡ length history = told.1 ∙ epoch_of history in
+      let before : seen < now = dite (dec_le now seen)
+      (λ later. let whole : take one.place history ≡ history = take_all one.place history (omega (arith, later, made, here)) in
+      absurd (grounds_same network (book_of 0 history) one.hose (subst (λ (all : List Entry). HaveEqualGrounds network (book_of 0 all) (book_of 0 history) one.hose → ⊥) whole told.2)))
+      (λ earlier. omega arith) in
+      (before, here)
+  stale_later within answer seen now (Some entry) next after is step = absurd (taking (reply.Stale seen now) (Some entry) after (subst (λ (r : Reply). Taken r (Some entry) next after) is step).0).1
 
   stale_stays : (answer : Reply) (entry : Option Entry) (next : List Entry) (after : Held) → is_stale answer ≡ true → Taken answer entry next after → next ≡ history
   stale_stays (reply.Stale seen now) None next after stale step = step.1

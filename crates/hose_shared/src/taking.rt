@@ -1,5 +1,5 @@
 // Taking what was quoted.
-ghost use Rattle.std.specs.Prelude.{◌≡◌, ◌≢◌, List, Option, Some, ℕ};
+ghost use Rattle.std.specs.Prelude.{◌≡◌, ◌≢◌, ◌<◌, ◌≤◌, List, Option, Some, ℕ, length};
 ghost use Rattle.hose_graph.specs.Naming.{NamesPlaces};
 ghost use Rattle.hose_graph.specs.declared.command.Command.{Command};
 ghost use Rattle.hose_graph.specs.declared.reply.Reply.{Reply};
@@ -42,6 +42,9 @@ impl<D: Disk, B: Begun<D>> Shared<D, B> {
         ensures steps { (held : HeldQuotes) → AreHeld self.now.network 0 pass.seen held quotes.old
             → StepsHolding self.now.network customer.now held (Command.Take quote) result.0
             pass result.1 quotes.new }
+        // Of a stale quote both numbers are of this history, and other entries came after it.
+        ensures stale { (seen now : ℕ) → result.0 ≡ Reply.Stale seen now
+            → (seen < now) × (now ≤ length result.1.seen) }
         ensures names { NamesPlaces self.now.network result.0 }
     {
         law_quotes();

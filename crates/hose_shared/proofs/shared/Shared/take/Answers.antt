@@ -1,12 +1,12 @@
-use Rattle.std.proofs.Common.{◌≤◌, ◌∙◌, IsSome, None, arith, refl, subst, sym}
+use Rattle.std.proofs.Common.{◌≤◌, ◌∙◌, IsSome, None, arith, refl, subst, sym, [], ◌∷◌, Some, length}
 use Rattle.hose_graph.specs.declared.command.Command.TheVariants.{Take}
 use Rattle.hose_graph.specs.declared.limits.TheConstants.{MOST_QUOTES}
 use Rattle.hose_graph.specs.declared.reply.Reply.TheVariants.{Memory, NoQuote}
 use Rattle.hose_law.specs.Quotes.{Held, at_number, with_number}
 use Rattle.hose_core.specs.Holding.{AreHeld}
 use Rattle.hose_turn.specs.Held.{holder}
-use Rattle.hose_shared.proofs.Entries.{no_quote, stays_holding, taken_after}
-use Rattle.hose_shared.proofs.Passes.{along_of, epoch_of, locked_more, more_same}
+use Rattle.hose_shared.proofs.Entries.{no_quote, stale_later, stays_holding, taken_after}
+use Rattle.hose_shared.proofs.Passes.{along_of, epoch_of, locked_more, longer_seen, more_same}
 use Rattle.hose_shared.proofs.shared.Shared.take.Goals as goal
 
 pub returns-in_default-clause-steps : goal.returns-in_default-clause-steps
@@ -72,3 +72,19 @@ returns-clause-steps g c = λ held are.
       holds = subst (λ (h : Held). AreHeld network 0 new.seen h c.clear.new.self) (sym after)
           (subst (AreHeld network 0 new.seen (with_number held number None)) (sym c.clear.ensures) cleared);
     }
+
+pub returns-clause-stale : goal.returns-clause-stale
+returns-clause-stale g c = λ seen now is.
+    let network = c.args.self.now.network in
+    let customer = c.args.customer.now in
+    let quotes = c.args.quotes.now in
+    let known = holder c.lock.result in
+    let longer = c.law_quotes.ensures.longer network 0 c.args.pass.seen known.seen c.requires.quotes.0 quotes c.lock.ensures.seen c.requires.quotes.1 in
+    let there = c.law_quotes.ensures.some network 0 known.seen c.requires.quotes.0 quotes c.args.quote c.in-Some.held.now longer c.in-Some.ensures.some in
+    let one = there.2.0 in
+    let answer = c.take_claimed-answered.result.0 in
+    let at = c.take_claimed-answered.ensures.steps customer (Some one ∷ []) 1 one c.in-Ok.ensures refl there.2.2 in
+    let told = stale_later network known.seen customer (Some one ∷ []) 1 one refl there.2.2.there answer seen now at.entry _ at.after is at.step in
+    let all = longer_seen known.seen c.take_claimed-answered.result.1.seen at.same.seen in
+    let last : now ≤ length c.take_claimed-answered.result.1.seen = omega (arith, told.1, all) in
+    (told.0, last)
