@@ -1,7 +1,13 @@
-//! Where a session of a server may be made to wait: the trait `Gate`, which tests use to order what
-//! sessions do, and the plain gate, which never does anything.
+//! What the sessions of a server share besides the book: rows that several workers make at once, and
+//! the points at which a session may be made to wait.
+//!
+//! ```
+//! let rows = all_rows(rt, alloc, &top, &links, 4)?;
+//! ```
 #![tactic(auto)]
 
 mod gate;
+mod rows;
 
 pub use gate::{Gate, PlainGate, Point};
+pub use rows::{MOST_WORKERS, all_rows};

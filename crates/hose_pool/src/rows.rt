@@ -1,0 +1,90 @@
+// Rows that several workers make at once.
+ghost use Rattle.std.specs.Prelude.{◌≡◌, ◌<◌, ◌≤◌, ℕ, IfOk, Option, Some, length, map, slice_index_or};
+ghost use Rattle.hose_graph.specs.Row.{Distances};
+ghost use Rattle.hose_pool.specs.Rows.{AreRows, IsMade};
+
+use hose_graph::{Row, Topology};
+use hose_links::LinkSet;
+use hose_paths::{PlainRows, RowMaker};
+use std::alloc::{AllocError, Global};
+use std::thread;
+use std::thread::Threads;
+
+/// The most workers.
+pub const MOST_WORKERS: u32 = 16;
+
+/// The rows of all nodes over a set of the topology's links, in order of nodes. They are made by 1
+/// to 16 workers at once, or by fewer where the system has no thread left.
+pub fn all_rows<T: Threads + Sync>(
+    rt: &T,
+    alloc: Global,
+    top: &Topology,
+    links: &LinkSet,
+    workers: u32,
+) -> Result<Vec<Row>, AllocError>
+    requires workers { (1 ≤ workers) × (workers ≤ MOST_WORKERS) }
+    requires places { length links.now ≡ length top.now.links }
+    ensures { IfOk result (λ rows. AreRows top.now links.now rows.items) }
+{
+    let nodes = top.nodes() as usize;
+    let mut made = no_rows(alloc, nodes)?;
+    make_rows(rt, alloc, top, links, workers, &mut made);
+    all_made(alloc, made)
+}
+
+// The rows, where each was made.
+fn all_made(alloc: Global, made: Vec<Option<Row>>) -> Result<Vec<Row>, AllocError>
+    ensures { IfOk result (λ rows. map Some rows.items ≡ made.items) }
+{
+    let mut rows = Vec::new(alloc);
+    for row in made {
+        rows.push(row.ok_or(AllocError)?)?;
+    }
+    Ok(rows)
+}
+
+// A place for the row of each node.
+fn no_rows(alloc: Global, nodes: usize) -> Result<Vec<Option<Row>>, AllocError>
+    ensures { IfOk result (λ places. length places.items ≡ nodes) }
+{
+    let mut places = Vec::new(alloc);
+    for _ in 0..nodes {
+        places.push(None)?;
+    }
+    Ok(places)
+}
+
+// Makes the row of each node, or none where memory is wanting.
+fn make_rows<T: Threads + Sync>(
+    rt: &T,
+    alloc: Global,
+    top: &Topology,
+    links: &LinkSet,
+    workers: u32,
+    made: &mut [Option<Row>],
+)
+    requires workers { 1 ≤ workers }
+    requires places { length links.now ≡ length top.now.links }
+    requires nodes { length made.old ≡ length top.now.nodes }
+    ensures nodes { length made.new ≡ length made.old }
+    ensures made { (root : ℕ) (none : Option Distances) → root < length made.old
+        → IsMade top.now links.now root (slice_index_or made.new root none) }
+{
+    thread::for_each_mut(
+        rt,
+        made,
+        workers as usize,
+        &|root, place| *place = row_of(alloc, top, links, root),
+    );
+}
+
+// The row of a node, or none where memory is wanting.
+fn row_of(alloc: Global, top: &Topology, links: &LinkSet, root: usize) -> Option<Row>
+    requires places { length links.now ≡ length top.now.links }
+    requires is_node { root < length top.now.nodes }
+    ensures { IsMade top.now links.now root result }
+{
+    // The call tells the proof that a network has few nodes, so that the cast keeps the number.
+    let _nodes = top.nodes();
+    PlainRows::new().row(alloc, top, links, root as u32).ok()
+}
