@@ -13,7 +13,8 @@
 //! `Books` is a book that takes entries, kept in memory alone (`Plain`) or elsewhere besides.
 #![tactic(auto)]
 
-ghost use Rattle.std.specs.Prelude.{◌≡◌, ◌≤◌, IfOk};
+ghost use Rattle.std.specs.Prelude.{◌≡◌, ◌≤◌, All, IfOk};
+ghost use Rattle.hose_book.specs.Ledger.{IsKept};
 ghost use Rattle.hose_graph.specs.Network.{IsNetwork};
 ghost use Rattle.hose_graph.specs.declared.limits.TheConstants.{MOST_EPOCH};
 ghost use Rattle.hose_law.specs.Book.{loads_of};
@@ -123,6 +124,7 @@ impl Book {
     pub fn live(&self) -> &[Vpn]
         ensures value { result.now ≡ self.now.book.live }
         ensures rise { Rise result.now }
+        ensures kept { All (IsKept self.now.network) result.now }
     {
         self.live.as_slice()
     }
