@@ -48,7 +48,7 @@ fn enters(alloc: Global, book: &mut Book, entry: &Entry, want: &str) -> Result<(
     tells(alloc, &judged, want)
 }
 
-fn admits(alloc: Global, book: &mut Book, words: &str, want: &str) -> Result<(), Fail> {
+pub fn admits(alloc: Global, book: &mut Book, words: &str, want: &str) -> Result<(), Fail> {
     let entry = admission(alloc, book.topology(), words)?;
     enters(alloc, book, &entry, want)
 }
