@@ -10,7 +10,7 @@ use hose_core::{
     Core, Planned, Quote, Quotes, admit_now, claim_release, claim_take, plan_beside, release_now,
     take_now,
 };
-use hose_graph::{Amounts, MOST_EPOCH, MOST_QUOTES};
+use hose_graph::{Amounts, Hose, MOST_EPOCH, MOST_QUOTES};
 use hose_links::LinkSet;
 use hose_paths::PlainRows;
 use hose_plan::Grounds;
