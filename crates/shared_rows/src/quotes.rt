@@ -1,6 +1,5 @@
 // Threads that quote on one shared book.
-ghost use Rattle.std.specs.Prelude.{◌≡◌, ◌-◌, ◌≤◌, IfOk};
-ghost use Rattle.std.specs.Thread.{IsSync};
+ghost use Rattle.std.specs.Prelude.{◌≡◌, ◌≤◌, All, IfOk};
 ghost use Rattle.hose_law.specs.Plan.{AreNodes};
 ghost use Rattle.hose_shared.specs.Sharing.{IsPassOf, IsSamePass};
 
@@ -59,7 +58,7 @@ pub fn quote_on<R: Wait + Threads + Sync, S: Source>(
 {
     let top = read(alloc, &mut LineReader::new(source))?;
     let (book, pass) = share(alloc, top)?;
-    Ok(quote_in_threads(rt, alloc, &book, pass, threads, count))
+    Ok(quote_in_threads(rt, alloc, &book, pass, threads, count)?)
 }
 
 // The book of a network on an empty disk in memory, and its first pass.
@@ -73,7 +72,7 @@ fn share(alloc: Global, top: Topology) -> Result<(Book, Pass), Trouble>
     }
 }
 
-// One thread for each share of the pass that is asked for, one at least.
+// How many hoses so many threads quote, each along a pass of its own.
 fn quote_in_threads<R: Wait + Threads + Sync>(
     rt: &R,
     alloc: Global,
@@ -81,25 +80,36 @@ fn quote_in_threads<R: Wait + Threads + Sync>(
     pass: Pass,
     threads: u64,
     count: u64,
-) -> u64
+) -> Result<u64, AllocError>
     requires of { IsPassOf book.now pass }
     requires share { threads ≤ pass.share }
 {
-    if threads < 2 {
-        return quote_often(rt, alloc, book, pass, count);
-    }
-    let mut pass = pass;
-    let other = book.split(&mut pass);
-    let (first, rest) = thread::join(
+    let passes = split(alloc, book, pass, threads)?;
+    let quoted = thread::map_vec(
         rt,
-        || -> u64
-            requires { IsSync R.row × IsPassOf book.now other }
-        { quote_often(rt, alloc, book, other, count) },
-        || -> u64
-            requires { IsSync R.row × IsPassOf book.now pass × (threads - 1 ≤ pass.share) }
-        { quote_in_threads(rt, alloc, book, pass, threads - 1, count) },
-    );
-    first.saturating_add(rest)
+        passes,
+        &|pass| quote_often(rt, alloc, book, pass, count),
+    )?;
+    Ok(
+        quoted
+            .iter()
+            .fold(0u64, |all, one| all.saturating_add(*one)),
+    )
+}
+
+// So many passes, one at least.
+fn split(alloc: Global, book: &Book, pass: Pass, passes: u64) -> Result<Vec<Pass>, AllocError>
+    requires of { IsPassOf book.now pass }
+    requires share { passes ≤ pass.share }
+    ensures { IfOk result (λ split. All (IsPassOf book.now) split.items) }
+{
+    let mut pass = pass;
+    let mut split = Vec::new(alloc);
+    for _ in 1..passes {
+        split.push(book.split(&mut pass))?;
+    }
+    split.push(pass)?;
+    Ok(split)
 }
 
 // Quotes hoses one after the other, and tells how many were quoted.
