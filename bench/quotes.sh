@@ -1,9 +1,10 @@
 #!/usr/bin/env bash
 # How many times as long four threads take that quote on one shared book as one thread does, for
 # 2,000 quotes by each thread: hoses of three endpoints, the same ones for each, on a random network
-# of 512 nodes and 2,048 links. At most 1.5 times is wanted on a machine with four processors. All
-# is seconds by the clock, the least of seven runs that are made by turns; other processes that run
-# meanwhile make the ratio greater.
+# of 512 nodes and 2,048 links. At most 1.5 times is wanted on a machine with four processors. The
+# reference is four programs of one thread at once, which share nothing: what the machine makes of
+# them, no lock can mend. All is seconds by the clock, the least of seven runs that are made by
+# turns; other processes that run meanwhile make the ratios greater.
 # usage: bench/quotes.sh [PROGRAM [SEED]]
 set -euo pipefail
 export LC_ALL=C
@@ -15,6 +16,7 @@ program=${1:-crates/shared_rows/out/shared_rows}
 python3 - "$program" "${2:-1}" <<'END'
 import subprocess
 import sys
+import tempfile
 import time
 
 program, seed = sys.argv[1:]
@@ -40,21 +42,30 @@ def link_line(number):
     return f"link n{a} n{b} {capacity} {length}"
 
 
-def seconds(threads):
-    """How long a run takes in which so many threads quote."""
+def run(threads):
     words = [program, "quotes", str(threads), str(QUOTES)]
+    with open(topology.name) as text:
+        return subprocess.Popen(words, stdin=text, stdout=subprocess.PIPE, text=True)
+
+
+def seconds(programs, threads):
+    """How long it takes so many programs at once, in each of which so many threads quote."""
     start = time.perf_counter()
-    done = subprocess.run(words, input=topology, check=True, capture_output=True, text=True)
+    runs = [run(threads) for _ in range(programs)]
+    told = [done.communicate()[0] for done in runs]
     taken = time.perf_counter() - start
-    assert done.stdout == f"{threads * QUOTES} quoted\n", done.stdout
+    assert told == [f"{threads * QUOTES} quoted\n"] * programs, told
     return taken
 
 
-lines = [f"node n{node}" for node in range(NODES)]
-lines += [link_line(number) for number in range(LINKS)]
-topology = "\n".join(lines + ["end", ""])
-runs = [(seconds(1), seconds(4)) for _ in range(RUNS)]
-one, four = (min(taken) for taken in zip(*runs))
+with tempfile.NamedTemporaryFile("w") as topology:
+    lines = [f"node n{node}" for node in range(NODES)]
+    lines += [link_line(number) for number in range(LINKS)]
+    topology.write("\n".join(lines + ["end", ""]))
+    topology.flush()
+    runs = [(seconds(1, 1), seconds(1, 4), seconds(4, 1)) for _ in range(RUNS)]
+one, four, apart = (min(taken) for taken in zip(*runs))
 print(f"quotes: {QUOTES} on one thread in {one:.3f} s, as many on each of four in {four:.3f} s")
 print(f"ratio {four / one:.2f}, and at most {WANTED} is wanted")
+print(f"reference: {apart:.3f} s by four programs of one thread, ratio {four / apart:.2f}")
 END
