@@ -1,5 +1,5 @@
 -- The log stands for its own list, since that list itself.
-use Rattle.std.proofs.Common.{refl, [], false}
+use Rattle.std.proofs.Common.{refl, []}
 use Rattle.thread_rows.proofs.turn.locked.Goals as goal
 
 pub from_ticket-requires : goal.from_ticket-requires
