@@ -130,3 +130,7 @@ held_now network epoch history holdings after old new customer quotes holds one 
     at : (here : Bool) → AreHeld network epoch history (if here then after else holdings name) (if here then quotes else quotes_in old name)
     at true = one
     at false = others name
+
+-- nothing is held by one who holds nothing
+pub none_are_held : (network : Network) (epoch : ℕ) (history : List Entry) → AreHeld network epoch history none_held none_held
+none_are_held network epoch history = record { numbers = refl; each = λ number. rw (at_none_held {X = HeldQuote} number, at_none_held {X = Quote} number) refl }

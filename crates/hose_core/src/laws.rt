@@ -6,7 +6,7 @@ ghost use Rattle.hose_graph.specs.declared.command.Command.{Command};
 ghost use Rattle.hose_graph.specs.declared.entry.Entry.{Entry};
 ghost use Rattle.hose_graph.specs.declared.reply.Reply.{Reply};
 ghost use Rattle.hose_law.specs.History.{IsDecidedAt, book_of};
-ghost use Rattle.hose_law.specs.Quotes.{Held, HeldQuote, at_number, free_number, with_number};
+ghost use Rattle.hose_law.specs.Quotes.{Held, HeldQuote, at_number, free_number, none_held, with_number};
 ghost use Rattle.hose_core.specs.Holding.{AreHeld, IsQuoteOf};
 ghost use Rattle.hose_core.specs.Stepping.{HasStepped, committed_of, history_with};
 ghost use Rattle.hose_core.specs.declared.quotes.Quote.{Quote};
@@ -23,10 +23,12 @@ pub fn law_step<K: Books>()
         × (stepped.next ≡ history_with history stepped.entry (committed_of answer)) }
 {}
 
-/// Of the quotes that a customer holds at a history: they are held at each longer one, the same
-/// numbers are free, what stands under a number is held there, and with one more or one less they
-/// are held still.
+/// Of the quotes that a customer holds at a history: at first there are none, they are held at each
+/// longer one, the same numbers are free, what stands under a number is held there, and with one
+/// more or one less they are held still.
 pub fn law_quotes()
+    ensures first { (network : Network) (epoch : ℕ) (history : List Entry)
+        → AreHeld network epoch history none_held none_held }
     ensures longer { (network : Network) (epoch : ℕ) (history next : List Entry) (held : Held)
         (quotes : List (Option Quote)) → IsPrefix history next
         → AreHeld network epoch history held quotes → AreHeld network epoch next held quotes }

@@ -8,6 +8,7 @@ pub mod Cheapest
 mod Counting
 pub mod Crossing
 pub mod Distances
+pub mod Fronts
 mod Halves
 pub mod Joined
 mod LeastRoot
@@ -28,6 +29,7 @@ pub mod Steps
 pub mod Sums
 mod TightTrees
 pub mod TightWays
+pub mod Transcripts
 pub mod Trees
 pub mod Unique
 pub mod Walks

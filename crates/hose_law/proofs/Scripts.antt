@@ -1,5 +1,5 @@
 -- Scripts and histories that go on by one line.
-use Rattle.std.proofs.Common.{◌≡◌, ℕ, zero, suc, List, [], ◌∷◌, ◌++◌, length, Option, None, Some, refl, sym, subst}
+use Rattle.std.proofs.Common.{◌≡◌, ℕ, zero, suc, ◌+◌, List, [], ◌∷◌, ◌++◌, length, Option, None, Some, refl, sym, subst, arith}
 use Rattle.hose_graph.specs.declared.entry.Entry.{Entry}
 use Rattle.hose_graph.specs.declared.command.Command.{Command}
 use Rattle.hose_graph.specs.declared.command.Command.TheVariants.{Admit, Quote, Take, Release, Show, Link}
@@ -10,7 +10,7 @@ use Rattle.hose_law.specs.Book.{Book}
 use Rattle.hose_law.specs.History.{AreFrom, EntryKind, next_book, book_after, book_of, opening_book, IsSound, IsSoundAt, IsDecidedAt, IsSoundFrom, IsDecided}
 use Rattle.hose_law.specs.Answer.{IsPlannedAnswer, IsAnswer, IsTakeAnswer}
 use Rattle.hose_law.specs.Quotes.{at_number, Held, HeldQuote, Holdings}
-use Rattle.hose_law.specs.Script.{ReadLine, IsLineStep, IsScript}
+use Rattle.hose_law.specs.Script.{ReadLine, IsLineStep, IsScript, disks_in, one_if_disk}
 
 -- the book after one entry more
 pub book_after_push : (book : Book) (entries : List Entry) (entry : Entry) → book_after book (entries ++ entry ∷ []) ≡ next_book (book_after book entries) entry
@@ -92,3 +92,7 @@ script_push network epoch history holdings (first ∷ lines) (answer ∷ replies
     (script.0, script.1, script.2, script_push network epoch script.0 script.1 lines replies middle between line reply last left script.3 step)
 script_push network epoch history holdings [] (answer ∷ replies) middle between line reply last left script step = absurd script
 script_push network epoch history holdings (first ∷ lines) [] middle between line reply last left script step = absurd script
+
+pub disks_push : (replies : List Reply) (reply : Reply) → disks_in (replies ++ reply ∷ []) ≡ disks_in replies + one_if_disk reply
+disks_push [] reply = refl
+disks_push (first ∷ replies) reply = omega (arith, disks_push replies reply)

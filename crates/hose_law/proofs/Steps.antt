@@ -6,7 +6,7 @@ use Rattle.hose_graph.specs.declared.command.Command.{Command}
 use Rattle.hose_graph.specs.declared.command.Command.TheVariants.{Admit, Quote, Take, Release, Show, Link}
 use Rattle.hose_graph.specs.declared.reply.Reply.{Reply}
 use Rattle.hose_graph.specs.declared.reply.Reply.TheVariants.{Welcome, Admitted, Quoted, Refused, Stale, Released, NoVpn, NoQuote, TooMany, Shown, LinkState, Full, Spent, Disk, Memory, Bad, Long, Bye}
-use Rattle.hose_law.specs.Answer.{IsAnswer, IsStepOf, IsTakeAnswer, with_entry}
+use Rattle.hose_law.specs.Answer.{ChangesHeld, IsAnswer, IsStepOf, IsTakeAnswer, with_entry}
 use Rattle.hose_law.specs.History.{IsDecidedAt, IsSoundAt, book_of}
 use Rattle.hose_law.specs.Quotes.{Held, HeldQuote, at_number}
 use Rattle.hose_law.proofs.Scripts.{answer_decided}
@@ -124,3 +124,18 @@ module _ (network : Network) (epoch : ℕ) (history : List Entry) (customer : Li
       at : IsIdle reply (Some entry) next after ⊎ IsAnswered command (Some entry) next after → IsDecidedAt network (book_of epoch history) entry
       at (inl idle) = absurd (cc idle.none)
       at (inr answered) = answer_decided network epoch history customer held after command answered.given entry sound answered.is
+
+  -- only a quote and a take change what is held
+  pub step_keeps : (command : Command) (reply : Reply) (entry : Option Entry) (next : List Entry) (after : Held) → ¬ ChangesHeld command → IsStepOf network epoch history customer held command reply entry next after → after ≡ held
+  step_keeps command reply entry next after others step = at (step_cases command reply entry next after step)
+    where
+      answer_keeps : (command : Command) (reply : Reply) → ¬ ChangesHeld command → IsAnswer network epoch history customer held command reply entry after → after ≡ held
+      answer_keeps (Admit hose) reply others answer = answer.1
+      answer_keeps (Quote hose) reply others answer = absurd (others tt)
+      answer_keeps (Take number) reply others answer = absurd (others tt)
+      answer_keeps (Release id) reply others answer = answer.1
+      answer_keeps (Show id) reply others answer = answer.1
+      answer_keeps (Link link) reply others answer = answer.1
+      at : IsIdle reply entry next after ⊎ IsAnswered command entry next after → after ≡ held
+      at (inl idle) = idle.keeps
+      at (inr answered) = answer_keeps command answered.given others answered.is

@@ -172,3 +172,9 @@ abbrev pub IsStep : Network → ℕ → List Entry → List ℕ → Held → Com
 IsStep network epoch history customer held command reply next after =
     (entry : Option Entry)
     × IsStepOf network epoch history customer held command reply entry next after
+
+-- the commands that may change what their customer holds
+abbrev pub ChangesHeld : Command → Type 0
+ChangesHeld (Quote hose) = ⊤
+ChangesHeld (Take number) = ⊤
+ChangesHeld _ = ⊥

@@ -14,6 +14,7 @@ pub mod Room
 pub mod Route
 pub mod Row
 pub mod Script
+pub mod Transcript
 pub mod Tree
 pub mod Walk
 pub use Rattle.hose_graph.specs.Ascending

@@ -1,5 +1,5 @@
--- Scripts of lines and their replies, and the transcript of one customer along a history.
-use Rattle.std.specs.Prelude.{◌≡◌, ◌⊎◌, ℕ, ◌+◌, ◌<◌, ◌≤◌, List, [], ◌∷◌, ◌++◌, length, take, All, ⊤}
+-- Scripts of lines and their replies.
+use Rattle.std.specs.Prelude.{◌≡◌, ℕ, ◌+◌, List, [], ◌∷◌, All, ⊤}
 use Rattle.hose_graph.specs.declared.entry.Entry.{Entry}
 use Rattle.hose_graph.specs.declared.command.Command.{Command}
 use Rattle.hose_graph.specs.declared.reply.Reply.{Reply}
@@ -63,31 +63,12 @@ WithoutMemory replies = All (λ reply. ¬ IsForMemory reply) replies
 abbrev pub WithoutDisk : List Reply → Type 0
 WithoutDisk replies = All (λ reply. ¬ IsForDisk reply) replies
 
--- A step of a customer's command at a place of a history, the place after it, and the places that
--- it adds to the customer's own: where it adds an entry, the history has that entry there.
-pub record IsPlacedStep (network : Network) (epoch : ℕ) (history : List Entry)
-    (customer : List ℕ) (held : Held) (command : Command) (reply : Reply) (left : Held)
-    (place after : ℕ) (own : List ℕ) : Type 0 where
-  pub next : List Entry
-  pub there : place ≤ length history
-  pub step : IsStep network epoch (take place history) customer held command reply next left
-  pub moves : ((next ≡ take place history) × (after ≡ place) × (own ≡ []))
-      ⊎ ((place < length history) × (next ≡ take (place + 1) history) × (after ≡ place + 1)
-      × (own ≡ place ∷ []))
+-- 1 for a reply that is for a failure of the disk
+abbrev pub one_if_disk : Reply → ℕ
+one_if_disk (Disk at) = 1
+one_if_disk _ = 0
 
--- The transcript of one customer's lines and replies along a history, from what the customer holds:
--- the places never go back, and `own` lists those of the customer's own entries, in order.
-abbrev pub IsTranscript : Network → ℕ → List Entry → List ℕ → Held → List ReadLine → List Reply
-    → ℕ → ℕ → List ℕ → Type 0
-IsTranscript network epoch history customer held [] [] from to own = (from ≡ to) × (own ≡ [])
-IsTranscript network epoch history customer held ((Asks name command) ∷ lines) (reply ∷ replies)
-    from to own =
-    (name ≡ customer) × (place : ℕ) × (after : ℕ) × (first : List ℕ) × (rest : List ℕ)
-    × (left : Held) × (from ≤ place)
-    × IsPlacedStep network epoch history customer held command reply left place after first
-    × IsTranscript network epoch history customer left lines replies after to rest
-    × (own ≡ first ++ rest)
-IsTranscript network epoch history customer held (line ∷ lines) (reply ∷ replies) from to own =
-    IsFixedReply line reply
-    × IsTranscript network epoch history customer held lines replies from to own
-IsTranscript network epoch history customer held lines replies from to own = ⊥
+-- how many of the replies are for a failure of the disk
+abbrev pub disks_in : List Reply → ℕ
+disks_in [] = 0
+disks_in (reply ∷ replies) = disks_in replies + one_if_disk reply

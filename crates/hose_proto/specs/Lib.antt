@@ -1,6 +1,7 @@
 pub mod Command
 pub mod Places
 pub mod Reading
+pub mod Replies
 pub mod ReplyGrammar
 pub mod ReplyText
 pub mod ReplyWords

@@ -34,7 +34,8 @@ use Rattle.hose_shared.specs.Along.{StepsAlong, StepsHolding}
 use Rattle.hose_shared.specs.Planning.{HasTold, IsNotPlanned, IsPlannedFor, is_stale}
 use Rattle.hose_shared.specs.Sharing.{HasSeenMore}
 use Rattle.hose_shared.specs.Turns.{StepsAt, place_of}
-use Rattle.hose_shared.proofs.Passes.{along_of, epoch_of, prefix_same}
+use Rattle.hose_law.proofs.Fronts.{prefix_same}
+use Rattle.hose_shared.proofs.Passes.{along_of, epoch_of}
 use Rattle.hose_shared.proofs.Turned.{joined_of, none_joined}
 
 -- what holds of an entry that was committed holds of the one that joined

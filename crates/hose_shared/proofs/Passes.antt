@@ -1,5 +1,5 @@
 -- Passes that go on.
-use Rattle.std.proofs.Common.{◌≡◌, ◌⊎◌, inl, inr, ℕ, ◌+◌, ◌<◌, ◌≤◌, All, List, [], ◌∷◌, ◌++◌, length, take, Option, None, Some, IfSome, refl, sym, ap, subst, ◌∙◌, arith, append_assoc, append-nil}
+use Rattle.std.proofs.Common.{◌≡◌, ◌⊎◌, inl, inr, ℕ, ◌+◌, ◌<◌, ◌≤◌, All, List, [], ◌∷◌, ◌++◌, length, take, Option, None, Some, IfSome, refl, sym, ap, subst, ◌∙◌, arith, append_assoc}
 use Rattle.std.specs.List.{slice_get}
 use Rattle.std.proofs.lemmas.Bool.Decides.{nat_tests}
 use Rattle.std.proofs.lemmas.List.{length-append}
@@ -16,6 +16,7 @@ use Rattle.hose_law.specs.Answer.{IsStepOf, with_entry}
 use Rattle.hose_law.specs.Book.{Book}
 use Rattle.hose_law.specs.History.{IsDecidedAt, book_after, book_of, next_book, opening_book}
 use Rattle.hose_law.specs.Quotes.{Held}
+use Rattle.hose_law.proofs.Fronts.{front_of, prefix_length, prefix_on, prefix_same}
 use Rattle.hose_law.proofs.LiveIds.{next_epoch}
 use Rattle.hose_book.specs.Commit.{IsMet}
 use Rattle.hose_book.specs.declared.committed.Committed.{Committed}
@@ -28,21 +29,9 @@ use Rattle.hose_shared.specs.Turns.{StepsAt, place_of}
 
 -- ---- beginnings
 
-pub prefix_same : (all : List Entry) → IsPrefix all all
-prefix_same all = ([], append-nil all)
-
-pub prefix_on : (one two three : List Entry) → IsPrefix one two → IsPrefix two three → IsPrefix one three
-prefix_on one two three (rest, same) (more, there) = (rest ++ more, sym (append_assoc one rest more) ∙ ap (λ (l : List Entry). l ++ more) same ∙ there)
-
 pub prefix_joined : (all : List Entry) (joined : Option Entry) → IsPrefix all (with_entry all joined)
 prefix_joined all None = prefix_same all
 prefix_joined all (Some entry) = (entry ∷ [], refl)
-
-pub longer_seen : (one two : List Entry) → IsPrefix one two → length one ≤ length two
-longer_seen one two (rest, same) = let a = length-append one rest in let b = ap length same in omega arith
-
-pub front_of : (one two : List Entry) → IsPrefix one two → take (length one) two ≡ one
-front_of one two (rest, same) = ap (take (length one)) (sym same) ∙ take-append_seam one rest
 
 -- ---- epochs
 
@@ -91,7 +80,7 @@ module _ (network : Network) (customer : List ℕ) (held : Held) (command : Comm
     added = along.added;
     step = along.step;
     entries = along.entries;
-    later = let a = longer_seen one.seen two.seen more.same.seen in let b = along.later in omega arith;
+    later = let a = prefix_length one.seen two.seen more.same.seen in let b = along.later in omega arith;
     same = same_on one two three more.same along.same;
     own = along.own ∙ ap (λ (own : List ℕ). own ++ along.added) more.own;
     failed = λ is. let a = more.same.faults in let b = along.failed is in omega arith;
@@ -132,12 +121,12 @@ module _ (network : Network) (customer : List ℕ) (held : Held) (command : Comm
         added = place_of two.seen at.joined;
         step = record {
           next = with_entry two.seen at.joined;
-          there = longer_seen two.seen three.seen (prefix_on two.seen (with_entry two.seen at.joined) three.seen (prefix_joined two.seen at.joined) at.seen);
+          there = prefix_length two.seen three.seen (prefix_on two.seen (with_entry two.seen at.joined) three.seen (prefix_joined two.seen at.joined) at.seen);
           step = (at.entry, subst (λ (all : List Entry). IsStepOf network 0 all customer held command answer at.entry (with_entry two.seen at.joined) at.after) (sym front) at.step);
           moves = moves two.seen three.seen at.joined at.seen;
         };
         entries = entry_there two.seen three.seen at.joined at.seen front at.decided at.cheapest;
-        later = longer_seen one.seen two.seen more.same.seen;
+        later = prefix_length one.seen two.seen more.same.seen;
         same = same_on one two three more.same at.same;
         own = at.own ∙ ap (λ (own : List ℕ). own ++ place_of two.seen at.joined) more.own;
         failed = λ is. let a = more.same.faults in let b = at.failed is in omega arith;

@@ -14,7 +14,7 @@ use Rattle.hose_law.specs.Decision.{IsAllowed}
 use Rattle.hose_law.specs.History.{IsDecidedAt, book_of}
 use Rattle.hose_law.specs.Quotes.{Held}
 use Rattle.hose_law.specs.Room.{room_of}
-use Rattle.hose_law.specs.Script.{IsPlacedStep}
+use Rattle.hose_law.specs.Transcript.{IsPlacedStep}
 use Rattle.hose_book.specs.declared.committed.Committed.TheVariants.{Disk}
 use Rattle.hose_core.specs.Holding.{AreHeld}
 use Rattle.hose_core.specs.Stepping.{committed_of}

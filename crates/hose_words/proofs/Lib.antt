@@ -9,6 +9,7 @@ pub mod Keywords
 pub mod Listing
 pub mod OnReading
 pub mod Passing
+pub mod Saying
 pub mod Spaced
 pub mod Until
 pub mod WordLemmas

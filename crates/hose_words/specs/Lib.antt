@@ -8,4 +8,5 @@ pub mod Kept
 pub mod Lines
 pub mod Number
 pub mod Reading
+pub mod Saying
 pub mod Words

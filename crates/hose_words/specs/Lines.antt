@@ -1,5 +1,5 @@
 -- Lines of a source, as a reader gives them.
-use Rattle.std.specs.Prelude.{◌≡◌, ◌≢◌, ◌⊎◌, ◌↔◌, ◌+◌, ◌^◌, ◌<◌, ◌≤◌, ℕ, Bool, IsTrue, IsFalse, ◌==◌, List, [], ◌∷◌, ◌++◌, length, All, Contains, ⊤, Option, None, Some, IfSome, OnSome, Result, Err, IsErr, IfOk, MatchResult}
+use Rattle.std.specs.Prelude.{◌≡◌, ◌≢◌, ◌⊎◌, ◌↔◌, ◌+◌, ◌<◌, ◌≤◌, ℕ, Bool, IsTrue, IsFalse, ◌==◌, List, [], ◌∷◌, ◌++◌, length, All, Contains, ⊤, Option, None, Some, IfSome, OnSome, Result, Err, IsErr, IfOk, MatchResult}
 use Rattle.std.specs.List.{before_first, after_first}
 use Rattle.hose_io.specs.Frame.{Rose, Stays}
 use Rattle.hose_io.specs.Stream.{Gives}

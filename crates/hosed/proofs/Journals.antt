@@ -29,7 +29,7 @@ use Rattle.hose_store.specs.declared.fault.StoreFault.TheVariants as store
 use Rattle.hosed.specs.Fault.{of_store}
 use Rattle.hosed.specs.OnDisk.{Held, IsRefused, IsUnopened, opening_of}
 use Rattle.hosed.specs.Serving.{Serves, TellsDisks}
-use Rattle.hosed.specs.ServingOnDisk.{HasServedInCabinet, HasServedOnDisk, IsNotOpened, IsNotServed, Refuses, ServesInCabinet, ServesOnDisk, first_of}
+use Rattle.hosed.specs.ServingOnDisk.{HasServedInCabinet, HasServedOnDisk, IsNotOpened, IsNotServed, Refuses, ServesInCabinet, ServesOnDisk}
 use Rattle.hosed.specs.declared.fault.Fault.{Fault}
 use Rattle.hosed.specs.declared.fault.Fault.TheVariants as fault
 

@@ -9,7 +9,9 @@ use Rattle.hose_law.specs.Script.{ReadLine, IsForMemory, IsLineStep, IsScript, W
 use Rattle.hose_law.specs.Script.ReadLine.{Asks, IsBad, IsLong, Unread}
 use Rattle.hose_law.proofs.Unique.{AllAnswer, script_unique}
 use Rattle.hosed.specs.Run.{IsRightFor}
-use Rattle.hosed.specs.Serving.{IsRead, SayLines, SayOneThingEach, texts_of}
+use Rattle.hose_proto.specs.Replies.{texts_of}
+use Rattle.hose_words.specs.Saying.{SayLines}
+use Rattle.hosed.specs.Serving.{IsRead, SaysNext, SayOneThingEach}
 use Rattle.hose_topo.specs.TopologyText.{IsTopologyText}
 use Rattle.hosed.proofs.OneReading.{lines_unique}
 
@@ -40,12 +42,12 @@ pub record OneInput (input : List ℕ) (network : Network) : Type 0 where
 
 -- an output that is right for an input and the history of a book is the only one
 pub right_alone : (network : Network) (since : List Entry) (input rest output : List ℕ) (lines : List ReadLine) (replies : List Reply) (history : List Entry) (left : Holdings) → IsNetwork network → OneInput input network
-    → IsTopologyText input network rest → SayLines network rest lines [] → IsScript network 0 since nothing_held lines replies history left → AllAnswer replies → IsRightFor since input output → output ≡ texts_of network replies
+    → IsTopologyText input network rest → SayLines (SaysNext network) rest lines [] → IsScript network 0 since nothing_held lines replies history left → AllAnswer replies → IsRightFor since input output → output ≡ texts_of network replies
 right_alone network since input rest output lines replies history left is one topology said script all right =
     let theirs = one.text right.network right.rest right.topology in
     let ours = (one.text network rest topology).1 in
     let same_rest : right.rest ≡ rest = theirs.1 ∙ sym ours in
-    let their_said : SayLines network rest right.lines [] = subst (λ (r : List ℕ). SayLines network r right.lines []) same_rest (subst (λ (n : Network). SayLines n right.rest right.lines []) theirs.0 right.said) in
+    let their_said : SayLines (SaysNext network) rest right.lines [] = subst (λ (r : List ℕ). SayLines (SaysNext network) r right.lines []) same_rest (subst (λ (n : Network). SayLines (SaysNext n) right.rest right.lines []) theirs.0 right.said) in
     let their_script : IsScript network 0 since nothing_held right.lines right.replies right.history right.left =
     subst (λ (n : Network). IsScript n 0 since nothing_held right.lines right.replies right.history right.left) theirs.0 right.script in
     let same_lines = lines_unique network rest right.lines lines (subst (λ (r : List ℕ). SayOneThingEach network r []) (sym ours) one.lines) their_said said

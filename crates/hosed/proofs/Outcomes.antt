@@ -26,7 +26,7 @@ use Rattle.hosed.specs.Ending.{IsOut, status_of_done}
 use Rattle.hosed.specs.OnDisk.{Held, IsRefused, IsToldAs, keeping_of}
 use Rattle.hosed.specs.Run.{HasRun, IsFor, IsRefusedText, IsRun, IsServable, Keeping, TellsNoNetwork}
 use Rattle.hosed.specs.RunOutcome.{EndsRefused, HasRead, InputStops, IsBroken, JournalIs, NoneFailed, RunLeaves}
-use Rattle.hosed.specs.Serving.{IsAllTaken, IsLeftOver}
+use Rattle.hose_words.specs.Saying.{IsAllTaken, IsLeftOver}
 use Rattle.hosed.specs.declared.fault.Fault.{Fault}
 use Rattle.hosed.specs.declared.fault.Fault.TheVariants.{Words, Topology, Read, Write, Other, Damaged, Cabinet, Memory, TooLong}
 

@@ -14,7 +14,7 @@ use Rattle.hose_graph.specs.declared.entry.Entry.{Entry}
 use Rattle.hose_graph.specs.declared.reply.Reply.{Reply}
 use Rattle.hose_graph.specs.declared.reply.Reply.TheVariants.{Welcome, Admitted, Quoted, Refused, Stale, Released, NoVpn, NoQuote, TooMany, Shown, LinkState, Full, Spent, Disk, Memory, Bad, Long, Bye}
 use Rattle.hose_law.specs.History.{IsDecidedAt}
-use Rattle.hose_law.specs.Script.{IsForDisk, ReadLine, WithoutDisk}
+use Rattle.hose_law.specs.Script.{IsForDisk, ReadLine, WithoutDisk, one_if_disk}
 use Rattle.hose_law.proofs.Cheapest.{decided_cheapest}
 use Rattle.hose_law.proofs.Lives.{live_held, stays_live}
 use Rattle.hose_law.proofs.Sold.{sold}
@@ -27,7 +27,9 @@ use Rattle.hose_io.specs.declared.sink.Sink.{Ghosts as SinkGhosts}
 use Rattle.hosed.specs.RunOutcome.{RunLeaves}
 use Rattle.hosed.specs.Fault.{of_topology}
 use Rattle.hosed.specs.Run.{HasRun, IsCutOff, IsRun, IsRunUpTo, Keeping, TellsNoNetwork}
-use Rattle.hosed.specs.Serving.{CutsLast, IsAllTaken, IsLeftOver, SayLines, SayOneThingEach, Serves, ServesUntil, ServesUpTo, TellsDisks, one_if_disk, texts_of}
+use Rattle.hose_words.specs.Saying.{IsAllTaken, IsLeftOver, SayLines}
+use Rattle.hose_proto.specs.Replies.{CutsLast, texts_of}
+use Rattle.hosed.specs.Serving.{SayOneThingEach, Serves, ServesUntil, ServesUpTo, TellsDisks, SaysNext}
 use Rattle.hose_topo.specs.Reading.{fault_of, KeepsFault, StopsInTopology}
 use Rattle.hose_topo.specs.TopologyText.{IsTopologyText, IsWrongAt}
 use Rattle.hosed.specs.declared.fault.Fault.{Fault}
@@ -102,7 +104,7 @@ run_of keeping old new network lines replies before after is one run out = recor
       (λ input left both output right.
       let text = both.1 in
       right_alone network run.since input text.0 output lines replies run.history run.left is both.0 text.2
-      (subst (SayLines network text.0 lines) text.4.0 text.3) run.script (record { memory = memory; disk = disk }) right);
+      (subst (SayLines (SaysNext network) text.0 lines) text.4.0 text.3) run.script (record { memory = memory; disk = disk }) right);
 }
 
 -- up to a reply that was cut off

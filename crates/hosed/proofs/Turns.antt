@@ -1,14 +1,11 @@
 -- Turns, one after another.
-use Rattle.std.proofs.Common.{◌≡◌, ◌≢◌, ◌⊎◌, inl, inr, ⊎_elim, ℕ, ◌+◌, ◌-◌, ◌^◌, ◌≤◌, List, [], ◌∷◌, ◌++◌, Option, None, Some, Ok, Err, false, refl, sym, ◌∙◌, ap, subst, arith, length, length-append, take, append-nil, append_assoc}
-use Rattle.std.proofs.lemmas.List.{nil_from_length}
-use Rattle.std.specs.Prelude.{IfSome, ⊤}
-use Rattle.std.specs.List.{before_first, after_first}
+use Rattle.std.proofs.Common.{◌≡◌, ◌⊎◌, inl, inr, ⊎_elim, ℕ, ◌+◌, ◌-◌, ◌^◌, ◌≤◌, List, [], ◌∷◌, ◌++◌, Option, None, Some, Ok, Err, false, refl, sym, ◌∙◌, ap, subst, arith, length, take, append-nil}
+use Rattle.std.specs.Prelude.{IfSome}
 use mathlib.Core.List.{IsPrefix}
-use Rattle.std.proofs.lemmas.Grind.{flat_map-append}
-use Rattle.hose_io.specs.Stream.{Stream, Grows}
+use Rattle.hose_io.specs.Stream.{Grows}
 use Rattle.hose_io.proofs.Streams.{Grows-nil, Grows-append}
 use Rattle.hose_io.specs.Writing.{GrowsInPart}
-use Rattle.hose_words.proofs.OnReading.{WhereTold-both, WhereTold-map, WhereTold-same, WhereTold-then}
+use Rattle.hose_words.proofs.OnReading.{WhereTold-same, WhereTold-then}
 use Rattle.hose_io.specs.declared.source.Source.{Ghosts}
 use Rattle.hose_io.specs.declared.sink.Sink.{Ghosts as SinkGhosts}
 use Rattle.hose_words.specs.declared.lines.LineFault.TheVariants as line_fault
@@ -16,7 +13,7 @@ use Rattle.hosed.specs.declared.fault.Fault.{Fault}
 use Rattle.hosed.specs.declared.fault.Fault.TheVariants as fault
 use Rattle.hose_words.specs.Grammar.{IsFirstNotAllowed}
 use Rattle.hose_words.specs.Words.{words_of}
-use Rattle.hose_words.specs.Lines.{is_line_feed, Shows, Reader, IsNext, GivesLine, IsAfterLines, StopsAfterLines}
+use Rattle.hose_words.specs.Lines.{Shows, Reader, IsNext, StopsAfterLines}
 use Rattle.hose_words.specs.declared.lines.LineFault.{LineFault}
 use Rattle.hose_words.specs.declared.lines.Line.{Line}
 use Rattle.hose_words.specs.declared.lines.Line.TheVariants as line
@@ -28,11 +25,15 @@ use Rattle.hose_graph.specs.Network.{Network}
 use Rattle.hose_law.specs.History.{book_of, IsDecided, IsDecidedAt, IsSound, IsSoundAt, IsSoundWith}
 use Rattle.hose_law.specs.Answer.{IsStepOf}
 use Rattle.hose_law.specs.Quotes.{nothing_held, with_held}
-use Rattle.hose_law.proofs.Scripts.{decided_end, decided_push, script_push}
-use Rattle.hose_law.specs.Script.{ReadLine, IsLineStep}
+use Rattle.hose_law.proofs.Fronts.{prefix_push}
+use Rattle.hose_law.proofs.Scripts.{decided_end, decided_push, disks_push, script_push}
+use Rattle.hose_law.specs.Script.{ReadLine, IsLineStep, one_if_disk}
 use Rattle.hose_law.specs.Script.ReadLine.{Asks, IsBad, IsLong, Unread}
 use Rattle.hosed.specs.ScriptLine.{IsAsking, WantsMemory, script_grammar}
 use Rattle.hose_words.specs.Reading.{WhereTold, ReadsOn}
+use Rattle.hose_words.specs.Saying.{IsAllTaken, IsLeftOver, IsOver, SayLines, SaysUpTo, StopsReading}
+use Rattle.hose_words.proofs.Saying.{flat_map-last, met_fault, rose_now, said_all, said_enough, said_more, said_none, said_until, takes_line}
+use Rattle.hose_proto.specs.Replies.{CutsLast, texts_of}
 use Rattle.hose_proto.specs.ReplyText.{line_of, reply_text}
 use Rattle.hose_io.specs.Frame.{Frame, Rose, Stays}
 use Rattle.hose_io.proofs.Frames.{Stays-next, Stays-none, Stays-same}
@@ -44,7 +45,7 @@ use Rattle.hose_book.specs.declared.committed.Committed.TheVariants.{Done, Disk 
 use Rattle.hose_book.specs.declared.books.Books.{Ghosts as BooksGhosts}
 use Rattle.hose_core.specs.Holding.{State}
 use Rattle.hose_core.specs.Stepping.{FitsHistory, Goes, committed_of, history_with}
-use Rattle.hosed.specs.Serving.{Says, SaysOneThing, SaysRead, SayLines, no_line, one_more, SayOneThingEach, none_said, line_more, TellsDisks, disks_in, one_if_disk, AnswersLine, AreAnswered, CutsLast, HasServed, IsAllTaken, IsLeftOver, IsOver, StopsReading, Serves, ServesLine, ServesUntil, ServesUpTo, TakesTurn, texts_of}
+use Rattle.hosed.specs.Serving.{Says, SaysNext, SaysOneThing, SaysRead, SayOneThingEach, none_said, line_more, TellsDisks, AnswersLine, AreAnswered, HasServed, Serves, ServesLine, ServesUntil, ServesUpTo, TakesTurn}
 
 -- what a reader shows of a line says what the line says
 pub says_shown : (network : Network) (shown : Line) (bytes : List ℕ) (said : ReadLine) → Shows shown bytes → SaysRead network shown said → Says network bytes said
@@ -58,25 +59,6 @@ says_shown network line.Long bytes (IsBad word) shows says = absurd says
 says_shown network line.Long bytes IsLong shows says = shows
 says_shown network line.Long bytes Unread shows says = absurd says
 
--- the next line of a reader says what is read from it, and nothing else
-line_said : {S : Type 0} (source : Ghosts S) (old new : Reader S) (network : Network) (shown : Line) (said : ReadLine) → IsNext source old new (Ok (Some shown)) → SaysRead network shown said
-    → ((bytes : List ℕ) → Shows shown bytes → SaysOneThing network bytes)
-    → WhereTold (source.content old.source) (source.content new.source) (λ was now. (old.pending ++ was ≢ [])
-    × Says network (before_first is_line_feed (old.pending ++ was)) said × SaysOneThing network (before_first is_line_feed (old.pending ++ was))
-    × (new.pending ++ now ≡ after_first is_line_feed (old.pending ++ was)))
-line_said source old new network shown said next says alone = at (source.content old.source) (source.content new.source) (next.answer next.fault.0)
-  where
-    at : (before after : Option Stream)
-        → IfSome before (λ b. IfSome after (λ a. GivesLine (Some shown) (old.pending ++ b.left) (new.pending ++ a.left)))
-        → WhereTold before after (λ was now. (old.pending ++ was ≢ [])
-        × Says network (before_first is_line_feed (old.pending ++ was)) said × SaysOneThing network (before_first is_line_feed (old.pending ++ was))
-        × (new.pending ++ now ≡ after_first is_line_feed (old.pending ++ was)))
-    at None after gives = tt
-    at (Some b) None gives = tt
-    at (Some b) (Some a) gives =
-        let line = before_first is_line_feed (old.pending ++ b.left) in
-        (gives.0, says_shown network shown line said gives.1 says, alone line gives.1, gives.2)
-
 -- a line that was read, and answered, makes a turn
 pub turn_of : {S : Type 0} (source : Ghosts S) (old new : Reader S) (network other : Network) (shown : Line) (reply : Reply) (Answers : ReadLine → Reply → Type 0) (puts : List ℕ → Type 0)
     → IsNext source old new (Ok (Some shown)) → (said : ReadLine) × SaysRead network shown said × Answers said reply
@@ -84,20 +66,11 @@ pub turn_of : {S : Type 0} (source : Ghosts S) (old new : Reader S) (network oth
 turn_of source old new network other shown reply Answers puts next answers alone same out = record {
   said = answers.0;
   reply = reply;
-  line = line_said source old new network shown answers.0 next answers.1 alone;
+  line = takes_line source old new shown (λ bytes. Says network bytes answers.0 × SaysOneThing network bytes) next (λ bytes shows. (says_shown network shown bytes answers.0 shows answers.1, alone bytes shows));
   answers = answers.2;
   out = subst (λ (n : Network). puts (line_of (reply_text n reply))) same out;
   progress = next.progress;
 }
-
--- a fault of reading that was not met before was met now
-pub rose_now : {S : Type 0} (source : Ghosts S) (old new : Reader S) → old.fault ≡ None → (old.fault ≡ Some line_fault.Read) ⊎ Rose (source.frame old.source) (source.frame new.source)
-    → Rose (source.frame old.source) (source.frame new.source)
-rose_now source old new none (inl read) = absurd (cc (none, read))
-rose_now source old new none (inr rose) = rose
-
-met_fault : {S : Type 0} (source : Ghosts S) (old new : Reader S) (met : LineFault) → old.fault ≡ None → IsNext source old new (Err met) → StopsReading source old new met
-met_fault source old new met none next = record { stops = next.answer none; before_end = next.before_end none refl; kept = next.fault }
 
 -- reading met a fault
 pub serves_read : {S O K R : Type 0} (source : Ghosts S) (sink : SinkGhosts O) (books : BooksGhosts K R) (old new : Reader S) (output : O) (core : State K) (met : LineFault) → old.fault ≡ None → IsNext source old new (Err met)
@@ -138,19 +111,12 @@ kept before after (Bad word) met = (Stays-same met, told_none before after met)
 kept before after Long met = (Stays-same met, told_none before after met)
 kept before after Bye met = (Stays-same met, told_none before after met)
 
-disks_push : (replies : List Reply) (reply : Reply) → disks_in (replies ++ reply ∷ []) ≡ disks_in replies + one_if_disk reply
-disks_push [] reply = refl
-disks_push (first ∷ replies) reply = omega (arith, disks_push replies reply)
-
 -- one reply more
 disks_more : (before : ℕ) (middle after : Frame) (replies : List Reply) (reply : Reply) → TellsDisks before replies middle.faults → Stays middle after → TellsOne middle reply after
     → TellsDisks before (replies ++ reply ∷ []) after.faults
 disks_more before middle after replies reply (inl told) stays (inl one) = inl (omega (arith, told, one, disks_push replies reply))
 disks_more before middle after replies reply (inl told) stays (inr most) = inr most
 disks_more before middle after replies reply (inr most) stays one = inr (omega (arith, most, stays.never_falls))
-
-prefix_push : (one all : List Entry) (entry : Entry) → IsPrefix one all → IsPrefix one (all ++ entry ∷ [])
-prefix_push one all entry (rest, same) = (rest ++ entry ∷ [], sym (append_assoc one rest (entry ∷ [])) ∙ ap (λ (l : List Entry). l ++ entry ∷ []) same)
 
 -- What is known of a history that books went on to.
 record Leads {K R : Type 0} (books : BooksGhosts K R) (network : Network) (since : List Entry) (first : K) (history : List Entry) (now : K) : Type 0 where
@@ -239,16 +205,12 @@ module _ {K R : Type 0} (books : BooksGhosts K R) (since : List Entry) (first ol
   answered_more IsLong reply answers = fixed_more IsLong reply (answers.0, refl, refl) (ap one_if_disk answers.0) answers.1
   answered_more Unread reply answers = fixed_more Unread reply (answers.0, refl, refl) (ap one_if_disk answers.0) answers.1
 
-texts_more : (network : Network) (replies : List Reply) (reply : Reply) → texts_of network (replies ++ reply ∷ []) ≡ texts_of network replies ++ line_of (reply_text network reply)
-texts_more network replies reply =
-    flat_map-append (λ r. line_of (reply_text network r)) replies (reply ∷ []) ∙ ap (λ (t : List ℕ). texts_of network replies ++ t) (append-nil (line_of (reply_text network reply)))
-
 pub nothing_served : {S K R : Type 0} (source : Ghosts S) (books : BooksGhosts K R) (reader : Reader S) (since : List Entry) (core : State K) (content : Option (List ℕ)) → IsSound (books.ledger core.books).network 0 since → FitsHistory books core 0 since nothing_held
     → HasServed source books reader reader since core core content content
 nothing_served source books reader since core content sound fits = record {
   lines = [];
   replies = [];
-  said = at (source.content reader.source);
+  said = said_none (SaysNext (books.ledger core.books).network) reader.pending (source.content reader.source);
   alone = WhereTold-same (source.content reader.source) _ (λ left. none_said);
   answered = record {
     history = since;
@@ -264,13 +226,6 @@ nothing_served source books reader since core content sound fits = record {
   network = refl;
   out = Grows-nil content;
 }
-  where
-    at : (content : Option Stream) → WhereTold content content (λ was left. SayLines (books.ledger core.books).network (reader.pending ++ was) [] (reader.pending ++ left))
-    at None = tt
-    at (Some stream) = no_line
-
-behind_nothing : (xs ys : List ℕ) → xs ++ ys ≡ [] → ys ≡ []
-behind_nothing xs ys none = nil_from_length ys (omega (arith, ap length none, length-append xs ys))
 
 module _ {S K R : Type 0} (source : Ghosts S) (books : BooksGhosts K R) (start now new : Reader S) (since : List Entry) (begun core next : State K) (first middle last : Option (List ℕ)) where
   abbrev top : Network
@@ -287,11 +242,9 @@ module _ {S K R : Type 0} (source : Ghosts S) (books : BooksGhosts K R) (start n
   here puts served turn = subst (λ (n : Network). TakesTurn source now new n (AnswersLine books core next) puts) served.network turn
 
   -- the line of a turn stands after those that were said
-  said_more : (puts : List ℕ → Type 0) (served : Served) → ReadsOn source start now → (turn : TakesTurn source now new top (AnswersLine books core next) puts)
-      → WhereTold (source.content start.source) (source.content new.source) (λ was left. SayLines top (start.pending ++ was) (served.lines ++ turn.said ∷ []) (new.pending ++ left))
-  said_more puts served reads turn =
-      WhereTold-then (source.content start.source) (source.content now.source) (source.content new.source) reads.takes.0 _ _ _ reads.takes.1 served.said turn.line
-      (λ a b c before here. subst (SayLines top (start.pending ++ a) (served.lines ++ turn.said ∷ [])) (sym here.3) (one_more turn.said before here.0 here.1))
+  said_after : (puts : List ℕ → Type 0) (served : Served) → ReadsOn source start now → (turn : TakesTurn source now new top (AnswersLine books core next) puts)
+      → WhereTold (source.content start.source) (source.content new.source) (λ was left. SayLines (SaysNext top) (start.pending ++ was) (served.lines ++ turn.said ∷ []) (new.pending ++ left))
+  said_after puts served reads turn = said_more source (SaysNext top) start now new served.lines served.said reads turn.said (λ bytes. Says top bytes turn.said × SaysOneThing top bytes) turn.line (λ bytes is. is.0)
 
   goes_on : (served : Served) → (puts : List ℕ → Type 0) (turn : TakesTurn source now new top (AnswersLine books core next) puts) → Answered books since begun next (served.lines ++ turn.said ∷ []) (served.replies ++ turn.reply ∷ [])
   goes_on served puts turn = answered_more books since begun core next served.lines served.replies (record { answered = served.answered; fits = served.fits; network = served.network }) turn.said turn.reply turn.answers
@@ -303,13 +256,13 @@ module _ {S K R : Type 0} (source : Ghosts S) (books : BooksGhosts K R) (start n
       let more = goes_on served (Grows middle last) turn in record {
         lines = served.lines ++ turn.said ∷ [];
         replies = served.replies ++ turn.reply ∷ [];
-        said = said_more (Grows middle last) served reads turn;
+        said = said_after (Grows middle last) served reads turn;
         alone = WhereTold-then (source.content start.source) (source.content now.source) (source.content new.source) reads.takes.0 _ _ _ reads.takes.1 served.alone turn.line
-            (λ a b c before here. subst (SayOneThingEach top (start.pending ++ a)) (sym here.3) (line_more before here.0 here.2));
+            (λ a b c before here. subst (SayOneThingEach top (start.pending ++ a)) (sym here.2) (line_more before here.0 here.1.1));
         answered = more.answered;
         fits = more.fits;
         network = more.network;
-        out = subst (Grows first last) (sym (texts_more top served.replies turn.reply))
+        out = subst (Grows first last) (sym (flat_map-last (λ reply. line_of (reply_text top reply)) served.replies turn.reply))
             (Grows-append first middle last (texts_of top served.replies) (line_of (reply_text top turn.reply)) served.out turn.out);
       }
 
@@ -323,8 +276,7 @@ module _ {S K R : Type 0} (source : Ghosts S) (books : BooksGhosts K R) (start n
       let more = goes_on served (GrowsInPart middle last) turn in record {
         lines = served.lines ++ turn.said ∷ [];
         replies = served.replies ++ turn.reply ∷ [];
-        said = WhereTold-map (source.content start.source) (source.content new.source) _ _ (said_more (GrowsInPart middle last) served reads turn)
-            (λ was left said. (new.pending ++ left, said, (new.pending, refl)));
+        said = said_enough source (SaysNext top) start new _ (said_after (GrowsInPart middle last) served reads turn);
         answered = more.answered;
         out = (
           served.replies,
@@ -339,31 +291,23 @@ module _ {S K R : Type 0} (source : Ghosts S) (books : BooksGhosts K R) (start n
       }
 
   -- no turn more is taken
-  served_up_to : (front : List ℕ → List ℕ → Type 0) (stops : List ℕ → List ℕ → List ℕ → Type 0) → Served → ReadsOn source start now
-      → WhereTold (source.content start.source) (source.content now.source) (λ was left. front (start.pending ++ was) (now.pending ++ left))
-      → WhereTold (source.content now.source) (source.content new.source) (λ was left. (text : List ℕ) → front text (now.pending ++ was) → stops text (now.pending ++ was) left)
-      → last ≡ middle → next ≡ core → UpTo stops (λ replies. Grows first last (texts_of top replies))
-  served_up_to front stops served reads fronts ends same stays = record {
+  served_up_to : (stops : List ℕ → List ℕ → List ℕ → Type 0) (served : Served) → SaysUpTo source start new (SaysNext top) served.lines stops → last ≡ middle → next ≡ core → UpTo stops (λ replies. Grows first last (texts_of top replies))
+  served_up_to stops served said same stays = record {
     lines = served.lines;
     replies = served.replies;
-    said = WhereTold-then (source.content start.source) (source.content now.source) (source.content new.source) reads.takes.0 _ _ _ reads.takes.1
-        (WhereTold-both (source.content start.source) (source.content now.source) _ _ served.said fronts) ends
-        (λ a b c told end. (now.pending ++ b, told.0, end (start.pending ++ a) told.1));
+    said = said;
     answered = subst (λ (s : State K). AreAnswered books top since begun.books s.books served.lines served.replies) (sym stays) served.answered;
     out = subst (λ (content : Option (List ℕ)). Grows first content (texts_of top served.replies)) (sym same) served.out;
   }
 
   -- reading ended
   served_over : Served → ReadsOn source start now → IsOver source now new → last ≡ middle → next ≡ core → UpTo IsAllTaken (λ replies. Grows first last (texts_of top replies))
-  served_over served reads over = served_up_to (λ _ _. ⊤) IsAllTaken served reads
-      (WhereTold-map (source.content start.source) (source.content now.source) _ _ served.said (λ _ _ _. tt))
-      (WhereTold-map (source.content now.source) (source.content new.source) _ _ over.ended (λ was left ended text _. (ended.0, behind_nothing new.pending left ended.1)))
+  served_over served reads over = served_up_to IsAllTaken served (said_all source (SaysNext top) start now new served.lines served.said reads over)
 
-  -- reading met a fault: the lines before all ended with line feeds, as a source is asked no more after one that did not
+  -- reading met a fault
   served_broke : (fault : LineFault) → Served → ReadsOn source start now → now.fault ≡ None → StopsReading source now new fault → last ≡ middle → next ≡ core
       → UpTo (StopsAfterLines fault) (λ replies. Grows first last (texts_of top replies))
-  served_broke fault served reads none met = served_up_to IsAfterLines (StopsAfterLines fault) served reads (reads.whole none met.before_end)
-      (WhereTold-map (source.content now.source) (source.content new.source) _ _ met.stops (λ was left stops text lines. (lines, stops)))
+  served_broke fault served reads none met = served_up_to (StopsAfterLines fault) served (said_until source (SaysNext top) start now new served.lines served.said reads fault none met)
 
 -- ---- what answering lines comes to
 

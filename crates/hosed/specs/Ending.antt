@@ -1,5 +1,5 @@
 -- How the program ends: its status, and the last line of its output.
-use Rattle.std.specs.Prelude.{◌≡◌, ◌⊎◌, ℕ, ◌<◌, List, ◌++◌, length, take, Option, Result, Ok, Err}
+use Rattle.std.specs.Prelude.{◌≡◌, ◌⊎◌, ℕ, List, Result, Ok, Err}
 use Rattle.hose_io.specs.Frame.{Rose}
 use Rattle.hose_io.specs.Stream.{Grows}
 use Rattle.hose_io.specs.Writing.{GrowsInPart}
@@ -23,8 +23,3 @@ IsOut sink was now text =
 abbrev pub IsLastLine : {T O : Type 0} → Ghosts O → O → O → Result T Fault → Type 0
 IsLastLine sink was now (Ok _) = now ≡ was
 IsLastLine sink was now (Err fault) = IsOut sink was now (last_line fault)
-
--- A text is out, and of a further one a part that is not all of it.
-abbrev pub GrowsShort : Option (List ℕ) → Option (List ℕ) → List ℕ → List ℕ → Type 0
-GrowsShort before after text more =
-    (count : ℕ) × (count < length more) × Grows before after (text ++ take count more)

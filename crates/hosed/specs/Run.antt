@@ -16,9 +16,10 @@ use Rattle.hose_law.specs.Quotes.{Holdings, nothing_held}
 use Rattle.hose_law.specs.Script.{ReadLine, IsScript, WithoutDisk, WithoutMemory}
 use Rattle.hose_topo.specs.TopologyText.{IsTopologyText, IsWrongAt}
 use Rattle.hose_words.specs.Reading.{WhereTold}
-use Rattle.hosed.specs.Ending.{GrowsShort}
 use Rattle.hose_proto.specs.ReplyText.{line_of, reply_text}
-use Rattle.hosed.specs.Serving.{IsAllTaken, IsLeftOver, SayLines, texts_of}
+use Rattle.hose_proto.specs.Replies.{GrowsShort, texts_of}
+use Rattle.hose_words.specs.Saying.{IsAllTaken, IsLeftOver, SayLines}
+use Rattle.hosed.specs.Serving.{SaysNext}
 
 -- Where a run keeps its book: the history with which it may begin, and what holds of that history,
 -- the one at the end and the replies.
@@ -43,7 +44,7 @@ pub record IsRightFor (since : List Entry) (input output : List ℕ) : Type 0 wh
   pub replies : List Reply
   pub history : List Entry
   pub topology : IsTopologyText input network rest
-  pub said : SayLines network rest lines []
+  pub said : SayLines (SaysNext network) rest lines []
   pub left : Holdings
   pub script : IsScript network 0 since nothing_held lines replies history left
   pub memory : WithoutMemory replies
@@ -66,7 +67,7 @@ pub record HasRun (keeping : Keeping) (old new : Option Stream) (network : Netwo
   pub begun : keeping.Begins network since
   pub begins : IsPrefix since history
   pub text : WhereTold old new (λ input left. (lines_text rest : List ℕ)
-      × IsTopologyText input network lines_text × SayLines network lines_text lines rest
+      × IsTopologyText input network lines_text × SayLines (SaysNext network) lines_text lines rest
       × stops input rest left)
   pub left : Holdings
   pub script : IsScript network 0 since nothing_held lines replies history left

@@ -1,6 +1,6 @@
 -- What the lines after a topology say, and what is answered to them.
-use Rattle.std.specs.Prelude.{◌≡◌, ◌≢◌, ◌⊎◌, ℕ, ◌+◌, ◌-◌, ◌^◌, ◌<◌, ◌≤◌, Bool, true, false, IsFalse, List, [], ◌∷◌, ◌++◌, length, Option, None, Some, Result, Ok, Err, ⊤}
-use Rattle.std.specs.List.{before_first, after_first, flat_map}
+use Rattle.std.specs.Prelude.{◌≡◌, ◌≢◌, ◌⊎◌, ℕ, ◌+◌, ◌-◌, ◌^◌, ◌<◌, ◌≤◌, Bool, true, false, IsFalse, List, [], ◌++◌, length, Option, None, Some, Result, Ok, Err, ⊤}
+use Rattle.std.specs.List.{before_first, after_first}
 use mathlib.Core.List.{IsPrefix}
 use Rattle.hose_io.specs.Frame.{Rose, Stays}
 use Rattle.hose_io.specs.Stream.{Grows}
@@ -9,7 +9,8 @@ use Rattle.hose_io.specs.declared.sink.Sink.{Ghosts as SinkGhosts}
 use Rattle.hose_io.specs.declared.source.Source.{Ghosts}
 use Rattle.hose_words.specs.Grammar.{IsFirstNotAllowed}
 use Rattle.hose_words.specs.Words.{words_of}
-use Rattle.hose_words.specs.Lines.{Reader, StopsAt, StopsAfterLines, is_line_feed}
+use Rattle.hose_words.specs.Lines.{Reader, StopsAfterLines, is_line_feed}
+use Rattle.hose_words.specs.Saying.{IsAllTaken, IsLeftOver, IsOver, SayLines, SaysUpTo, StopsReading, TakesLine}
 use Rattle.hose_words.specs.declared.limits.TheConstants.{LINE_LIMIT}
 use Rattle.hose_words.specs.declared.lines.LineFault.{LineFault}
 use Rattle.hose_words.specs.declared.lines.LineFault.TheVariants as line_fault
@@ -17,14 +18,13 @@ use Rattle.hose_words.specs.declared.lines.Line.{Line}
 use Rattle.hose_words.specs.declared.lines.Line.TheVariants as line
 use Rattle.hose_graph.specs.declared.entry.Entry.{Entry}
 use Rattle.hose_graph.specs.declared.reply.Reply.{Reply}
-use Rattle.hose_graph.specs.declared.reply.Reply.TheVariants.{Disk}
 use Rattle.hose_graph.specs.Network.{Network}
 use Rattle.hose_law.specs.History.{IsDecided, IsDecidedAt}
 use Rattle.hose_law.specs.Quotes.{Holdings, nothing_held}
-use Rattle.hose_law.specs.Script.{ReadLine, IsFixedReply, IsScript}
+use Rattle.hose_law.specs.Script.{ReadLine, IsFixedReply, IsScript, disks_in}
 use Rattle.hose_law.specs.Script.ReadLine.{Asks, IsBad, IsLong, Unread}
 use Rattle.hosed.specs.ScriptLine.{IsAsking, WantsMemory, script_grammar}
-use Rattle.hosed.specs.Ending.{GrowsShort}
+use Rattle.hose_proto.specs.Replies.{CutsLast, texts_of}
 use Rattle.hose_proto.specs.ReplyText.{line_of, reply_text}
 use Rattle.hose_book.specs.Commit.{Commits, IsMet, unfailing}
 use Rattle.hose_book.specs.GoingOn.{GoesOn}
@@ -66,13 +66,9 @@ abbrev pub SaysOneThing : Network → List ℕ → Type 0
 SaysOneThing network bytes = (one other : ReadLine) → Says network bytes one
     → Says network bytes other → IsRead one → IsRead other → one ≡ other
 
--- the lines at the front of a text say this, one after the other, and the rest of the text is left
-pub data SayLines (network : Network) : List ℕ → List ReadLine → List ℕ → Type 0 where
-  no_line : {text : List ℕ} → SayLines network text [] text
-  one_more : {text rest : List ℕ} {lines : List ReadLine} (line : ReadLine)
-      → SayLines network text lines rest → rest ≢ []
-      → Says network (before_first is_line_feed rest) line
-      → SayLines network text (lines ++ line ∷ []) (after_first is_line_feed rest)
+-- what a line of a script says rests on no line before it
+abbrev pub SaysNext : Network → List ReadLine → List ℕ → ReadLine → Type 0
+SaysNext network before = Says network
 
 -- each line between the start of a text and this rest of it says one thing
 pub data SayOneThingEach (network : Network) : List ℕ → List ℕ → Type 0 where
@@ -91,20 +87,6 @@ AnswersLine books old new (Asks customer command) answer =
     × ((books.ledger new.books).network ≡ (books.ledger old.books).network)
     × IsMet (books.frame old.books) (committed_of answer) (books.frame new.books)
 AnswersLine books old new line answer = IsFixedReply line answer × (new ≡ old)
-
--- the texts of replies, a line each
-abbrev pub texts_of : Network → List Reply → List ℕ
-texts_of network replies = flat_map (λ reply. line_of (reply_text network reply)) replies
-
--- 1 for a reply that is for a failure of a disk
-abbrev pub one_if_disk : Reply → ℕ
-one_if_disk (Disk at) = 1
-one_if_disk _ = 0
-
--- how many of the replies are for a failure of a disk
-abbrev pub disks_in : List Reply → ℕ
-disks_in [] = 0
-disks_in (reply ∷ replies) = disks_in replies + one_if_disk reply
 
 -- Failures of a disk were told at most as often as a count rose, or it stands at its type's end.
 abbrev pub TellsDisks : ℕ → List Reply → ℕ → Type 0
@@ -131,27 +113,10 @@ pub record TakesTurn {S : Type 0} (source : Ghosts S) (old new : Reader S) (netw
     (Answers : ReadLine → Reply → Type 0) (puts : List ℕ → Type 0) : Type 0 where
   pub said : ReadLine
   pub reply : Reply
-  pub line : WhereTold (source.content old.source) (source.content new.source) (λ was now.
-      (old.pending ++ was ≢ [])
-      × Says network (before_first is_line_feed (old.pending ++ was)) said
-      × SaysOneThing network (before_first is_line_feed (old.pending ++ was))
-      × (new.pending ++ now ≡ after_first is_line_feed (old.pending ++ was)))
+  pub line : TakesLine source old new (λ line. Says network line said × SaysOneThing network line)
   pub answers : Answers said reply
   pub out : puts (line_of (reply_text network reply))
   pub progress : length new.pending + old.taken < length old.pending + new.taken
-
--- No line was to come.
-pub record IsOver {S : Type 0} (source : Ghosts S) (old new : Reader S) : Type 0 where
-  pub ended : WhereTold (source.content old.source) (source.content new.source) (λ was now.
-      (old.pending ++ was ≡ []) × (new.pending ++ now ≡ []))
-
--- Reading met a fault before the next line ended and before the source did.
-pub record StopsReading {S : Type 0} (source : Ghosts S) (old new : Reader S)
-    (fault : LineFault) : Type 0 where
-  pub stops : WhereTold (source.content old.source) (source.content new.source) (λ was left.
-      StopsAt fault (old.pending ++ was) left)
-  pub before_end : IsFalse old.ended
-  pub kept : new.fault ≡ Some fault
 
 -- What the next line comes to: it has its reply; or there is none; or reading met a fault, and
 -- nothing is out; or the output failed in the reply.
@@ -183,7 +148,7 @@ pub record HasServed {S K R : Type 0} (source : Ghosts S) (books : BooksGhosts K
   pub lines : List ReadLine
   pub replies : List Reply
   pub said : WhereTold (source.content start.source) (source.content now.source) (λ was left.
-      SayLines (books.ledger first.books).network (start.pending ++ was) lines
+      SayLines (SaysNext (books.ledger first.books).network) (start.pending ++ was) lines
       (now.pending ++ left))
   pub alone : WhereTold (source.content start.source) (source.content now.source) (λ was left.
       SayOneThingEach (books.ledger first.books).network (start.pending ++ was)
@@ -194,20 +159,6 @@ pub record HasServed {S K R : Type 0} (source : Ghosts S) (books : BooksGhosts K
   pub network : (books.ledger core.books).network ≡ (books.ledger first.books).network
   pub out : Grows before after (texts_of (books.ledger first.books).network replies)
 
--- nothing comes after the lines of a text, and nothing is left
-abbrev pub IsAllTaken : List ℕ → List ℕ → List ℕ → Type 0
-IsAllTaken text rest left = (rest ≡ []) × (left ≡ [])
-
--- what is left is the end of what comes after the lines of a text
-abbrev pub IsLeftOver : List ℕ → List ℕ → List ℕ → Type 0
-IsLeftOver text rest left = (seen : List ℕ) × (rest ≡ seen ++ left)
-
--- the replies are out, but for a part of the last
-abbrev pub CutsLast : Network → Option (List ℕ) → Option (List ℕ) → List Reply → Type 0
-CutsLast network before after replies =
-    (whole : List Reply) × (reply : Reply) × (replies ≡ whole ++ reply ∷ [])
-    × GrowsShort before after (texts_of network whole) (line_of (reply_text network reply))
-
 -- Lines that were to come were answered from a history on, while the books went from the first to
 -- the last. `stops` says how the text that was to come stands to what comes after them and to what
 -- the source has left, and `puts` how much is out of the replies.
@@ -216,9 +167,7 @@ pub record ServesUpTo {S K R : Type 0} (source : Ghosts S) (books : BooksGhosts 
     (stops : List ℕ → List ℕ → List ℕ → Type 0) (puts : List Reply → Type 0) : Type 0 where
   pub lines : List ReadLine
   pub replies : List Reply
-  pub said : WhereTold (source.content start.source) (source.content now.source) (λ was left.
-      (rest : List ℕ) × SayLines network (start.pending ++ was) lines rest
-      × stops (start.pending ++ was) rest left)
+  pub said : SaysUpTo source start now (SaysNext network) lines stops
   pub answered : AreAnswered books network since first last lines replies
   pub out : puts replies
 

@@ -4,7 +4,7 @@ ghost use Rattle.hose_law.specs.Plan.{AreNodes};
 ghost use Rattle.hose_shared.specs.Sharing.{IsPassOf, IsSamePass};
 
 use crate::draws::Draws;
-use hose_core::Quotes;
+use hose_core::{Quotes, law_quotes};
 use hose_disk::MemDisk;
 use hose_graph::{Hose, HoseFault, Reply, Topology};
 use hose_io::Source;
@@ -138,6 +138,7 @@ fn quote<W: Wait>(rt: &W, alloc: Global, book: &Book, pass: Pass, hose: Hose) ->
     requires nodes { AreNodes book.now.network hose }
     ensures { IsSamePass pass result.1 }
 {
+    law_quotes();
     let mut quotes = Quotes::new();
     book.quote(rt, alloc, pass, &mut quotes, hose, &mut PlainRows::new())
 }

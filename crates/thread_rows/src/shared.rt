@@ -8,7 +8,7 @@ ghost use Rattle.hose_core.specs.Holding.{AreHeld};
 ghost use Rattle.hose_shared.specs.Sharing.{IsPassOf, IsSamePass};
 
 use hose_book::Book;
-use hose_core::Quotes;
+use hose_core::{Quotes, law_quotes};
 use hose_disk::{Failed, MemDisk};
 use hose_graph::{Endpoint, Hose, MOST_EPOCH, Name, Reply, Row, Topology};
 use hose_io::MemSource;
@@ -109,6 +109,7 @@ fn quote<W: Wait, R: RowMaker>(
     ensures same { IsSamePass pass result.1 }
     ensures quotes { (held : Held) × AreHeld star.now.network 0 result.1.seen held quotes.new }
 {
+    law_quotes();
     star.quote(rt, alloc, pass, quotes, hose, rows)
 }
 

@@ -1,7 +1,10 @@
 use Rattle.std.proofs.Common.{None, Some, refl}
 use Rattle.hose_law.proofs.Numbers.{some_at}
-use Rattle.hose_core.proofs.HeldQuotes.{free_alike, front_prefix, held_longer, held_with, none_alike, some_alike}
+use Rattle.hose_core.proofs.HeldQuotes.{free_alike, front_prefix, held_longer, held_with, none_alike, none_are_held, some_alike}
 use Rattle.hose_core.proofs.laws.law_quotes.Goals as goal
+
+pub returns-clause-first : goal.returns-clause-first
+returns-clause-first c = λ network epoch history. none_are_held network epoch history
 
 pub returns-clause-longer : goal.returns-clause-longer
 returns-clause-longer c = λ network epoch history next held quotes prefix are. held_longer network epoch history next (front_prefix history next prefix) held quotes are

@@ -1,7 +1,7 @@
-use Rattle.std.proofs.Common.{◌∙◌, inl, inr, Err, refl, sym, ap, subst, le_refl}
+use Rattle.std.proofs.Common.{inl, inr, Err, refl, sym, subst, le_refl}
 use Rattle.hose_law.specs.History.{IsSound}
 use Rattle.hose_store.specs.Store.{Kept}
-use Rattle.hosed.specs.ServingOnDisk.{ServesOnDisk, first_of}
+use Rattle.hosed.specs.ServingOnDisk.{ServesOnDisk}
 use Rattle.hosed.specs.declared.fault.Fault.{Fault}
 use Rattle.hosed.specs.OnDisk.{opening_of}
 use Rattle.hosed.proofs.Journals.{not_opened, served_on}

@@ -9,7 +9,7 @@ use Rattle.hosed.specs.RunOutcome.{RunLeaves}
 use Rattle.hose_topo.specs.Reading.{KeepsFault}
 use Rattle.hosed.proofs.Leaving.{leaves_in_cabinet, leaves_in_memory}
 use Rattle.hosed.proofs.Running.{leaves_topology, not_read, stopped_told, wrong_told}
-use Rattle.hosed.proofs.Turns.{rose_now}
+use Rattle.hose_words.proofs.Saying.{rose_now}
 use Rattle.hosed.proofs.run.run_lines.Goals as goal
 
 name_none : {A : Type 0} (view : A → List ℕ) (words : List A) → length words < 1 → name_of (map view words) ≡ None

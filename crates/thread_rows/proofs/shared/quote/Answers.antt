@@ -1,29 +1,22 @@
 -- Where no quote is held, nothing stands for it.
-use Rattle.std.proofs.Common.{◌≡◌, List, Option, [], refl, subst, sym}
+use Rattle.std.proofs.Common.{◌≡◌, List, Option, [], subst, sym}
 use Rattle.hose_graph.specs.Network.{Network}
 use Rattle.hose_graph.specs.declared.entry.Entry.{Entry}
-use Rattle.hose_law.specs.Quotes.{HeldQuote, none_held}
-use Rattle.hose_law.proofs.Numbers.{at_none_held}
+use Rattle.hose_law.specs.Quotes.{none_held}
 use Rattle.hose_core.specs.Holding.{AreHeld}
 use Rattle.hose_core.specs.declared.quotes.Quote.{Quote}
 use Rattle.thread_rows.proofs.shared.quote.Goals as goal
 
-held_none : (network : Network) (history : List Entry) → AreHeld network 0 history none_held none_held
-held_none network history = record {
-  numbers = refl;
-  each = λ number. rw (at_none_held {X = HeldQuote} number, at_none_held {X = Quote} number) refl;
-}
-
-held_by : (network : Network) (history : List Entry) (quotes : List (Option Quote)) → quotes ≡ none_held → AreHeld network 0 history none_held quotes
-held_by network history quotes none = subst (AreHeld network 0 history none_held) (sym none) (held_none network history)
+held_by : (network : Network) (history : List Entry) (quotes : List (Option Quote)) → AreHeld network 0 history none_held none_held → quotes ≡ none_held → AreHeld network 0 history none_held quotes
+held_by network history quotes first none = subst (AreHeld network 0 history none_held) (sym none) first
 
 pub quote-requires-clause-quotes : goal.quote-requires-clause-quotes
-quote-requires-clause-quotes g c = (none_held, held_by c.args.star.now.network c.args.pass.seen c.args.quotes.now c.requires.none)
+quote-requires-clause-quotes g c = (none_held, held_by c.args.star.now.network c.args.pass.seen c.args.quotes.now (c.law_quotes.ensures.first c.args.star.now.network 0 c.args.pass.seen) c.requires.none)
 
 pub returns-clause-same : goal.returns-clause-same
-returns-clause-same g c = (c.quote.ensures.steps [] none_held (held_by c.args.star.now.network c.args.pass.seen c.args.quotes.now c.requires.none)).along.same
+returns-clause-same g c = (c.quote.ensures.steps [] none_held (held_by c.args.star.now.network c.args.pass.seen c.args.quotes.now (c.law_quotes.ensures.first c.args.star.now.network 0 c.args.pass.seen) c.requires.none)).along.same
 
 pub returns-clause-quotes : goal.returns-clause-quotes
 returns-clause-quotes g c =
-    let steps = c.quote.ensures.steps [] none_held (held_by c.args.star.now.network c.args.pass.seen c.args.quotes.now c.requires.none) in
+    let steps = c.quote.ensures.steps [] none_held (held_by c.args.star.now.network c.args.pass.seen c.args.quotes.now (c.law_quotes.ensures.first c.args.star.now.network 0 c.args.pass.seen) c.requires.none) in
     (steps.along.left, steps.holds)

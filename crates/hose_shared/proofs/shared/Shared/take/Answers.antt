@@ -6,7 +6,8 @@ use Rattle.hose_law.specs.Quotes.{Held, at_number, with_number}
 use Rattle.hose_core.specs.Holding.{AreHeld}
 use Rattle.hose_turn.specs.Held.{holder}
 use Rattle.hose_shared.proofs.Entries.{no_quote, stale_later, stays_holding, taken_after}
-use Rattle.hose_shared.proofs.Passes.{along_of, epoch_of, locked_more, longer_seen, more_same}
+use Rattle.hose_shared.proofs.Passes.{along_of, epoch_of, locked_more, more_same}
+use Rattle.hose_law.proofs.Fronts.{prefix_length}
 use Rattle.hose_shared.proofs.shared.Shared.take.Goals as goal
 
 pub returns-in_default-clause-steps : goal.returns-in_default-clause-steps
@@ -85,6 +86,6 @@ returns-clause-stale g c = λ seen now is.
     let answer = c.take_claimed-answered.result.0 in
     let at = c.take_claimed-answered.ensures.steps customer (Some one ∷ []) 1 one c.in-Ok.ensures refl there.2.2 in
     let told = stale_later network known.seen customer (Some one ∷ []) 1 one refl there.2.2.there answer seen now at.entry _ at.after is at.step in
-    let all = longer_seen known.seen c.take_claimed-answered.result.1.seen at.same.seen in
+    let all = prefix_length known.seen c.take_claimed-answered.result.1.seen at.same.seen in
     let last : now ≤ length c.take_claimed-answered.result.1.seen = omega (arith, told.1, all) in
     (told.0, last)

@@ -1,0 +1,58 @@
+-- Transcripts along histories that go on.
+use Rattle.std.proofs.Common.{◌≡◌, inl, inr, ℕ, ◌+◌, ◌≤◌, List, length, take, sym, subst, ap, ◌∙◌, arith}
+use Rattle.std.proofs.lemmas.List.{take-append-le}
+use mathlib.Core.List.{IsPrefix}
+use Rattle.hose_graph.specs.declared.entry.Entry.{Entry}
+use Rattle.hose_graph.specs.declared.command.Command.{Command}
+use Rattle.hose_graph.specs.declared.reply.Reply.{Reply}
+use Rattle.hose_graph.specs.Network.{Network}
+use Rattle.hose_law.specs.Answer.{IsStep}
+use Rattle.hose_law.specs.Quotes.{Held}
+use Rattle.hose_law.specs.Transcript.{IsSessionStep, IsPlacedStep, IsTranscript, no_line, line_more, SessionLine, Stage}
+use Rattle.hose_law.specs.Transcript.SessionLine.{Greets, Asks, Leaves, IsBad, IsLong, Unread}
+use Rattle.hose_law.specs.Transcript.Stage.{Waiting, Serving, Refused, Left}
+use Rattle.hose_law.proofs.Fronts.{prefix_length}
+
+pub front_longer : (history next : List Entry) (place : ℕ) → IsPrefix history next → place ≤ length history → take place history ≡ take place next
+front_longer history next place (rest, same) there = sym (take-append-le place history rest there) ∙ ap (take place) same
+
+-- a step at a place of a history is one at that place of a longer one
+pub placed_longer : (network : Network) (epoch : ℕ) (history next : List Entry) (customer : List ℕ) (held : Held) (command : Command) (reply : Reply) (left : Held) (place after : ℕ) (own : List ℕ)
+    → IsPrefix history next → IsPlacedStep network epoch history customer held command reply left place after own → IsPlacedStep network epoch next customer held command reply left place after own
+placed_longer network epoch history next customer held command reply left place after own prefix step = record {
+  next = step.next;
+  there = omega (arith, step.there, longer);
+  step = subst (λ (h : List Entry). IsStep network epoch h customer held command reply step.next left) (front_longer history next place prefix step.there) step.step;
+  moves = elim step.moves [
+    | inl stays ↦ inl (stays.0 ∙ front_longer history next place prefix step.there, stays.1, stays.2)
+    | inr goes ↦ inr (omega (arith, goes.0, longer), goes.1 ∙ front_longer history next (place + 1) prefix (omega (arith, goes.0)), goes.2, goes.3)
+  ];
+}
+  where
+    longer : length history ≤ length next
+    longer = prefix_length history next prefix
+
+module _ (network : Network) (epoch : ℕ) (history longer : List Entry) (prefix : IsPrefix history longer) where
+  step_longer : (stage : Stage) (line : SessionLine) (reply : Reply) (next : Stage) (from after : ℕ) (own : List ℕ)
+      → IsSessionStep network epoch history stage line reply next from after own → IsSessionStep network epoch longer stage line reply next from after own
+  step_longer Waiting (Greets customer) reply next from after own (a, b, c, d, e) = (a, omega (arith, b, prefix_length history longer prefix), c, d, e)
+  step_longer Waiting (Asks command) reply next from after own is = is
+  step_longer Waiting Leaves reply next from after own is = is
+  step_longer Waiting (IsBad word) reply next from after own is = is
+  step_longer Waiting IsLong reply next from after own is = is
+  step_longer Waiting Unread reply next from after own is = is
+  step_longer (Serving customer held) (Asks command) reply next from after own (place, left, later, step, goes) =
+      (place, left, later, placed_longer network epoch history longer customer held command reply left place after own prefix step, goes)
+  step_longer (Serving customer held) (Greets other) reply next from after own is = is
+  step_longer (Serving customer held) Leaves reply next from after own is = is
+  step_longer (Serving customer held) (IsBad word) reply next from after own is = is
+  step_longer (Serving customer held) IsLong reply next from after own is = is
+  step_longer (Serving customer held) Unread reply next from after own is = is
+  step_longer Refused line reply next from after own is = is
+  step_longer Left line reply next from after own is = is
+
+  -- a transcript along a history is one along a longer one
+  pub transcript_longer : (from : ℕ) {lines : List SessionLine} {replies : List Reply} {stage : Stage} {place : ℕ} {own : List ℕ}
+      → IsTranscript network epoch history from lines replies stage place own → IsTranscript network epoch longer from lines replies stage place own
+  transcript_longer from no_line = no_line
+  transcript_longer from (line_more line reply added before is) = line_more line reply added (transcript_longer from before) (step_longer _ line reply _ _ _ added is)
