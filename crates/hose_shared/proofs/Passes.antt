@@ -2,9 +2,9 @@
 use Rattle.std.proofs.Common.{◌≡◌, ◌⊎◌, inl, inr, ℕ, ◌+◌, ◌<◌, ◌≤◌, All, List, [], ◌∷◌, ◌++◌, length, take, Option, None, Some, IfSome, refl, sym, ap, subst, ◌∙◌, arith, append_assoc}
 use Rattle.std.specs.List.{slice_get}
 use Rattle.std.proofs.lemmas.Bool.Decides.{nat_tests}
-use Rattle.std.proofs.lemmas.List.{length-append}
+use Rattle.std.proofs.lemmas.List.{get_or_append_left, length-append}
 use Rattle.std.proofs.lemmas.List.Elements.{All-cons, All-nil}
-use Rattle.std.proofs.lemmas.Option.{slice_get-get_or}
+use Rattle.std.proofs.lemmas.Option.{get_or_from_slice_get, slice_get-get_or, slice_get_within}
 use Rattle.std.proofs.Math.Seq.{get_or-append_seam, take-append_seam}
 use mathlib.Core.List.{IsPrefix}
 use Rattle.hose_io.specs.Frame.{Frame}
@@ -18,6 +18,7 @@ use Rattle.hose_law.specs.History.{IsDecidedAt, book_after, book_of, next_book, 
 use Rattle.hose_law.specs.Quotes.{Held}
 use Rattle.hose_law.proofs.Fronts.{front_of, prefix_length, prefix_on, prefix_same}
 use Rattle.hose_law.proofs.LiveIds.{next_epoch}
+use Rattle.hose_law.proofs.Transcripts.{front_longer}
 use Rattle.hose_book.specs.Commit.{IsMet}
 use Rattle.hose_book.specs.declared.committed.Committed.{Committed}
 use Rattle.hose_book.specs.declared.committed.Committed.TheVariants.{Done, Disk}
@@ -161,3 +162,21 @@ unlocked_more pass holder new more seen is = more_on pass holder new seen (recor
 -- a pass that took no turn
 pub more_same : (pass : Known) → HasSeenMore pass pass
 more_same pass = record { same = record { turn = refl; origin = refl; share = refl; seen = prefix_same pass.seen; faults = omega arith }; own = refl }
+
+-- ---- entries
+
+-- what stands at a place stands there in a longer history
+pub entry_longer : (network : Network) (history longer : List Entry) (place : ℕ) → IsPrefix history longer → HasEntryAt network history place → HasEntryAt network longer place
+entry_longer network history longer place (rest, same) at = record {
+  entry = at.entry;
+  there = subst (λ (all : List Entry). slice_get all place ≡ Some at.entry) same
+      (slice_get-get_or (history ++ rest) place at.entry (omega (arith, within, length-append history rest)) ∙ ap Some (get_or_append_left history rest at.entry place within ∙ get_or_from_slice_get history place at.entry at.entry at.there));
+  decided = subst (λ (all : List Entry). IsDecidedAt network (book_of 0 all) at.entry) front at.decided;
+  cheapest = subst (λ (all : List Entry). IsCheapestEntry network (book_of 0 all) at.entry) front at.cheapest;
+}
+  where
+    within : place < length history
+    within = slice_get_within history place at.entry at.there
+
+    front : take place history ≡ take place longer
+    front = front_longer history longer place (rest, same) (omega (arith, within))

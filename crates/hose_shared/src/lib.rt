@@ -18,10 +18,12 @@ mod admitting;
 mod asking;
 mod entering;
 mod kept;
+mod laws;
 mod planning;
 mod quoting;
 mod shared;
 mod taking;
 
 pub use kept::{AnyStore, Begun, Kept};
+pub use laws::law_passes;
 pub use shared::Shared;
