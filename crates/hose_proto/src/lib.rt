@@ -17,5 +17,6 @@ mod verb;
 
 pub use command::{read_command, read_command_at};
 pub use fault::ReadFault;
+pub use places::read_name;
 pub use reply_reader::read_reply;
 pub use reply_text::put_reply;

@@ -3,12 +3,29 @@ ghost use Rattle.std.specs.Prelude.{◌≡◌, ◌++◌, ◌∷◌, ℕ, decimal
 ghost use Rattle.hose_words.specs.Cursor.{Took, Misses};
 ghost use Rattle.hose_words.specs.Form.{IsChoice};
 ghost use Rattle.hose_graph.specs.Hose.{Endpoint};
+ghost use Rattle.hose_graph.specs.Name.{IsName};
 ghost use Rattle.hose_graph.specs.Network.{IsNetwork, IsLinkOf};
 ghost use Rattle.hose_proto.specs.Places.{end_word};
 ghost use Rattle.hose_proto.specs.Reading.{IsEndOf};
 
 use hose_graph::{Endpoint, MOST_RATE, Name, Topology};
 use hose_words::{Cursor, WrongWord, number};
+
+/// The name that the next word is.
+pub fn read_name(words: &mut Cursor<'_>) -> Result<Name, WrongWord>
+    ensures ok { IfOk result (λ name. Took words.old words.new name) }
+    ensures is_name { IfOk result IsName }
+    ensures wrong { IfErr result (λ wrong. Misses IsName words.old wrong.number) }
+{
+    let wrong = words.wrong();
+    let Some(word) = words.next() else {
+        return Err(wrong);
+    };
+    let Some(name) = Name::read(word) else {
+        return Err(wrong);
+    };
+    Ok(name)
+}
 
 // The link whose number the next word tells.
 pub(crate) fn read_link_number(top: &Topology, words: &mut Cursor<'_>) -> Result<u32, WrongWord>

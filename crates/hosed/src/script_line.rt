@@ -1,16 +1,14 @@
 // The lines of a script.
-ghost use Rattle.std.specs.Prelude.{◌≡◌, ℕ, [], Err, IfOk, IfErr};
-ghost use Rattle.hose_words.specs.Cursor.{Misses, Took};
+ghost use Rattle.std.specs.Prelude.{◌≡◌, ℕ, [], Err, IfOk};
 ghost use Rattle.hose_words.specs.Grammar.{IsFirstNotAllowed};
 ghost use Rattle.hose_words.specs.Words.{words_of};
-ghost use Rattle.hose_graph.specs.Name.{IsName};
 ghost use Rattle.hose_graph.specs.Naming.{AsksOf};
 ghost use Rattle.hosed.specs.ScriptLine.{IsAsking, WantsMemory, script_grammar};
 ghost use Rattle.hosed.specs.Serving.{SaysOneThing};
 
 use hose_graph::{Command, Name, Topology};
-use hose_proto::{ReadFault, read_command_at};
-use hose_words::{Cursor, WrongWord};
+use hose_proto::{ReadFault, read_command_at, read_name};
+use hose_words::Cursor;
 use std::alloc::Global;
 
 /// The customer of a line, and what it asks for.
@@ -28,20 +26,4 @@ pub fn read_line(alloc: Global, top: &Topology, line: &[u8]) -> Result<(Name, Co
     let customer = read_name(&mut words)?;
     let command = read_command_at(alloc, top, &mut words)?;
     Ok((customer, command))
-}
-
-// The name that the next word is.
-fn read_name(words: &mut Cursor<'_>) -> Result<Name, WrongWord>
-    ensures ok { IfOk result (λ name. Took words.old words.new name) }
-    ensures is_name { IfOk result IsName }
-    ensures wrong { IfErr result (λ wrong. Misses IsName words.old wrong.number) }
-{
-    let wrong = words.wrong();
-    let Some(word) = words.next() else {
-        return Err(wrong);
-    };
-    let Some(name) = Name::read(word) else {
-        return Err(wrong);
-    };
-    Ok(name)
 }
