@@ -136,6 +136,7 @@ module _ (network : Network) (epoch : ℕ) (history : List Entry) (customer : Li
       answer_keeps (Release id) reply others answer = answer.1
       answer_keeps (Show id) reply others answer = answer.1
       answer_keeps (Link link) reply others answer = answer.1
+
       at : IsIdle reply entry next after ⊎ IsAnswered command entry next after → after ≡ held
       at (inl idle) = idle.keeps
       at (inr answered) = answer_keeps command answered.given others answered.is
