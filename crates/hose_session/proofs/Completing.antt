@@ -1,0 +1,133 @@
+-- A whole session, over what is behind the borrow of its input, and to its end.
+use Rattle.std.proofs.Common.{◌≡◌, ◌⊎◌, inl, inr, ℕ, ◌<◌, List, [], ◌∷◌, ◌++◌, length, codes, MutBor, Option, None, Some, refl, sym, ap, subst, ◌∙◌, arith, length-append}
+use Rattle.std.specs.List.{before_first}
+use Rattle.hose_io.specs.Frame.{Frame, Rose}
+use Rattle.hose_io.specs.Stream.{Gives, Stream}
+use Rattle.hose_io.specs.declared.source.Source.{Ghosts as SourceGhosts}
+use Rattle.hose_io.specs.declared.sink.Sink.{Ghosts as SinkGhosts}
+use Rattle.hose_words.specs.Grammar.{IsFirstNotAllowed}
+use Rattle.hose_words.specs.Lines.{Reader, is_line_feed}
+use Rattle.hose_words.specs.Saying.{SayLines, no_line, one_more, SaysUpTo}
+use Rattle.hose_words.specs.Words.{words_of}
+use Rattle.hose_words.specs.declared.limits.TheConstants.{INPUT_LIMIT}
+use Rattle.hose_words.proofs.OnReading.{WhereTold-map}
+use Rattle.hose_graph.specs.Network.{Network}
+use Rattle.hose_graph.specs.declared.entry.Entry.{Entry}
+use Rattle.hose_graph.specs.declared.reply.Reply.{Reply}
+use Rattle.hose_law.specs.Transcript.{SessionLine, Stage}
+use Rattle.hose_law.specs.Transcript.SessionLine.{Greets, Asks, Leaves, IsBad, IsLong, Unread}
+use Rattle.hose_turn.specs.Known.{Known}
+use Rattle.hose_session.specs.Session.{AnswersUpTo, IsGreeted, IsSession, ServesAlong, ServesSession, Telling, TellsOf}
+use Rattle.hose_session.specs.SessionLines.{Says, SaysFirst, greeting_grammar}
+use Rattle.hose_session.specs.Turns.{ServesLines}
+use Rattle.hose_session.specs.declared.ending.SessionEnd.{SessionEnd}
+use Rattle.hose_session.specs.declared.ending.SessionEnd.TheVariants as session_end
+use Rattle.hose_session.proofs.Conversing.{BeginSo, IsGreets, begins_so}
+
+-- ---- in other words
+
+module _ (network : Network) (history : List Entry) (from : ℕ) (tells other : Telling) (moved : (stops : List ℕ → List ℕ → List ℕ → Type 0) (lines : List SessionLine) → tells stops lines → other stops lines) where
+  answers_moved : (stops : List ℕ → List ℕ → List ℕ → Type 0) (ends : Stage → Type 0) (puts : List Reply → Type 0) (replies : List Reply) (own : List ℕ) → AnswersUpTo network history from tells stops ends puts replies own
+      → AnswersUpTo network history from other stops ends puts replies own
+  answers_moved stops ends puts replies own answers = record {
+    lines = answers.lines;
+    stage = answers.stage;
+    last = answers.last;
+    said = moved stops answers.lines answers.said;
+    transcript = answers.transcript;
+    ended = answers.ended;
+    out = answers.out;
+  }
+
+  session_moved : (before after : Option (List ℕ)) (R R' W : Type 0) → (R → R') → (end : SessionEnd) (replies : List Reply) (own : List ℕ) → IsSession network history from tells before after R W end replies own
+      → IsSession network history from other before after R' W end replies own
+  session_moved before after R R' W rose session_end.End replies own is = answers_moved _ _ _ replies own is
+  session_moved before after R R' W rose session_end.Bye replies own is = answers_moved _ _ _ replies own is
+  session_moved before after R R' W rose session_end.NoHello replies own (inl is) = inl (answers_moved _ _ _ replies own is)
+  session_moved before after R R' W rose session_end.NoHello replies own (inr is) = inr (answers_moved _ _ _ replies own is)
+  session_moved before after R R' W rose session_end.Read replies own is = (answers_moved _ _ _ replies own is.0, rose is.1)
+  session_moved before after R R' W rose session_end.TooLong replies own is = answers_moved _ _ _ replies own is
+  session_moved before after R R' W rose session_end.Write replies own is = (answers_moved _ _ _ replies own is.0, is.1)
+
+-- what is read through a borrow is read of what is behind it, and from a start where nothing is pending
+pub session_behind : {T O : Type 0} (other : SourceGhosts T) (source : SourceGhosts (MutBor T)) (sink : SinkGhosts O) (network : Network) (start now : Reader (MutBor T)) (input behind : T) (output output' : O) (old new : Known) (end : SessionEnd)
+    → ((b : MutBor T) → source.content b ≡ other.content b.now) → ((b : MutBor T) → source.frame b ≡ record (other.frame b.now) { loan = b.ghost_name ∷ (other.frame b.now).loan })
+    → start.source.now ≡ input → now.source.now ≡ behind → start.pending ≡ [] → ServesLines source sink network start now output output' old new end → ServesSession other sink network input behind output output' old new end
+session_behind {T} {O} other source sink network start now input behind output output' old new end content frame front back none serves = record {
+  replies = serves.replies;
+  own = serves.own;
+  session = session_moved network new.seen (length old.seen) (λ stops lines. SaysUpTo source start now (Says network) lines stops) (TellsOf network (other.content input) (other.content behind)) moved (sink.content output) (sink.content output') _ _ _ rose end
+      serves.replies serves.own serves.session;
+  entries = serves.entries;
+  same = serves.same;
+  owns = serves.owns;
+  disks = serves.disks;
+}
+  where
+    moved : (stops : List ℕ → List ℕ → List ℕ → Type 0) (lines : List SessionLine) → SaysUpTo source start now (Says network) lines stops → TellsOf network (other.content input) (other.content behind) stops lines
+    moved stops lines says =
+        let told = WhereTold-map (source.content start.source) (source.content now.source) _ (λ text left. (rest : List ℕ) × SayLines (Says network) text lines rest × stops text rest left) says
+        (λ was left said. subst (λ (p : List ℕ). (rest : List ℕ) × SayLines (Says network) (p ++ was) lines rest × stops (p ++ was) rest left) none said) in
+        subst (λ (c : Option Stream). TellsOf network (other.content input) c stops lines) (content now.source ∙ ap other.content back)
+        (subst (λ (c : Option Stream). TellsOf network c (source.content now.source) stops lines) (content start.source ∙ ap other.content front) told)
+
+    rose : Rose (source.frame start.source) (source.frame now.source) → Rose (other.frame input) (other.frame behind)
+    rose more =
+        let shown : Rose (record (other.frame start.source.now) { loan = start.source.ghost_name ∷ (other.frame start.source.now).loan }) (record (other.frame now.source.now) { loan = now.source.ghost_name ∷ (other.frame now.source.now).loan }) =
+        subst (λ (f : Frame). Rose f (record (other.frame now.source.now) { loan = now.source.ghost_name ∷ (other.frame now.source.now).loan })) (frame start.source) (subst (λ (f : Frame). Rose (source.frame start.source) f) (frame now.source) more) in
+        let inner : Rose (other.frame start.source.now) (other.frame now.source.now) = record { rose = shown.rose } in
+        subst (λ (b : T). Rose (other.frame input) (other.frame b)) back (subst (λ (b : T). Rose (other.frame b) (other.frame now.source.now)) front inner)
+
+-- ---- a greeting is not refused
+
+module _ (network : Network) where
+  said_nothing : {text rest : List ℕ} {lines : List SessionLine} → SayLines (Says network) text lines rest → lines ≡ [] → rest ≡ text
+  said_nothing no_line none = refl
+  said_nothing (one_more {lines = lines} line before some says) none = absurd (omega (arith, ap length none, length-append lines (line ∷ [])))
+
+  sole_line : {text rest : List ℕ} {lines : List SessionLine} → SayLines (Says network) text lines rest → (sole : SessionLine) → lines ≡ sole ∷ [] → SaysFirst (before_first is_line_feed text) sole
+  sole_line no_line sole same = absurd (cc same)
+  sole_line {text} (one_more {rest = rest} {lines = lines} line before some says) sole same = at lines rest before says same
+    where
+      at : (lines : List SessionLine) (rest : List ℕ) → SayLines (Says network) text lines rest → Says network lines (before_first is_line_feed rest) line → lines ++ line ∷ [] ≡ sole ∷ [] → SaysFirst (before_first is_line_feed text) sole
+      at [] rest before says same = subst (SaysFirst (before_first is_line_feed text)) (cc same) (subst (λ (t : List ℕ). SaysFirst (before_first is_line_feed t) line) (said_nothing before refl) says)
+      at (one ∷ more) rest before says same = absurd (omega (arith, ap length same, length-append more (line ∷ [])))
+
+-- a line that is a greeting says nothing else
+greeting_alone : (bytes name : List ℕ) (line : SessionLine) → SaysFirst bytes (Greets name) → SaysFirst bytes line → IsGreets line
+greeting_alone bytes name (Greets other) greets says = tt
+greeting_alone bytes name (Asks command) greets says = absurd says
+greeting_alone bytes name Leaves greets says = absurd says
+greeting_alone bytes name Unread greets says = absurd says
+greeting_alone bytes name IsLong greets says = absurd (omega (arith, greets.0, says))
+greeting_alone bytes name (IsBad word) greets says = absurd (whole (subst (λ (w : List (List ℕ)). IsFirstNotAllowed greeting_grammar [] w word) greets.1.spelled says.1))
+  where
+    whole : IsFirstNotAllowed greeting_grammar [] (codes "hello" ∷ name ∷ []) word → ⊥
+    whole (inl (first, inl (second, wrong))) = wrong.0 refl
+    whole (inl (first, inr (none, at))) = none greets.1.is_name
+    whole (inr (none, at)) = none refl
+
+-- a session whose input begins with a greeting is served to its end, where nothing fails
+pub session_complete : (network : Network) (was now : Option Stream) (bytes : List ℕ) (before after : Option (List ℕ)) (R W : Type 0) (old new : Known) (end : SessionEnd) → Gives was now bytes → (end ≡ session_end.TooLong → INPUT_LIMIT < length bytes)
+    → ServesAlong network (TellsOf network was now) before after R W old new end → IsGreeted was → ¬ R → ¬ W → (end ≡ session_end.End) ⊎ (end ≡ session_end.Bye)
+session_complete network None now bytes before after R W old new end gives too_long serves greeted no_read no_write = absurd greeted
+session_complete network (Some was) None bytes before after R W old new end gives too_long serves greeted no_read no_write = absurd gives
+session_complete network (Some was) (Some now) bytes before after R W old new end gives too_long serves greeted no_read no_write = at end too_long serves.session
+  where
+    text : List ℕ
+    text = was.left
+
+    at : (end : SessionEnd) → (end ≡ session_end.TooLong → INPUT_LIMIT < length bytes) → IsSession network new.seen (length old.seen) (TellsOf network (Some was) (Some now)) before after R W end serves.replies serves.own
+        → (end ≡ session_end.End) ⊎ (end ≡ session_end.Bye)
+    at session_end.End too_long is = inl refl
+    at session_end.Bye too_long is = inr refl
+    at session_end.Read too_long is = absurd (no_read is.1)
+    at session_end.Write too_long is = absurd (no_write is.1)
+    at session_end.TooLong too_long is = absurd (omega (arith, too_long refl, greeted.1, ap length gives.left, length-append bytes now.left))
+    at session_end.NoHello too_long (inl is) =
+        let begun = subst (BeginSo is.lines) is.ended (begins_so network new.seen (length old.seen) is.transcript) in
+        absurd (begun.2 (greeting_alone (before_first is_line_feed text) greeted.0 begun.0 greeted.2 (sole_line network is.said.1 begun.0 begun.1)))
+    at session_end.NoHello too_long (inr is) =
+        let none = subst (BeginSo is.lines) is.ended (begins_so network new.seen (length old.seen) is.transcript) in
+        let empty : [] ≡ text = sym is.said.2.0 ∙ said_nothing network is.said.1 none in
+        absurd (cc (subst (λ (t : List ℕ). words_of (before_first is_line_feed t) ≡ codes "hello" ∷ greeted.0 ∷ []) (sym empty) greeted.2.1.spelled))

@@ -1,0 +1,4 @@
+mod Completing
+mod Conversing
+mod Telling
+mod Turning

@@ -1,0 +1,4 @@
+pub mod Ending
+pub mod Session
+pub mod SessionLines
+pub mod Turns

@@ -1,0 +1,130 @@
+-- What a session does.
+use Rattle.std.specs.Prelude.{◌≡◌, ◌⊎◌, ℕ, ◌+◌, ◌≤◌, All, List, ◌++◌, length, Option, Some, ⊤}
+use Rattle.std.specs.List.{before_first}
+use Rattle.hose_io.specs.Frame.{Rose}
+use Rattle.hose_io.specs.Stream.{Grows, Stream}
+use Rattle.hose_io.specs.declared.source.Source.{Ghosts as SourceGhosts}
+use Rattle.hose_io.specs.declared.sink.Sink.{Ghosts as SinkGhosts}
+use Rattle.hose_words.specs.Lines.{StopsAfterLines, is_line_feed}
+use Rattle.hose_words.specs.Reading.{WhereTold}
+use Rattle.hose_words.specs.Saying.{IsAllTaken, IsLeftOver, SayLines}
+use Rattle.hose_words.specs.declared.limits.TheConstants.{INPUT_LIMIT}
+use Rattle.hose_words.specs.declared.lines.LineFault.TheVariants as line_fault
+use Rattle.hose_graph.specs.Network.{Network}
+use Rattle.hose_graph.specs.declared.entry.Entry.{Entry}
+use Rattle.hose_graph.specs.declared.reply.Reply.{Reply}
+use Rattle.hose_law.specs.Script.{disks_in}
+use Rattle.hose_law.specs.Transcript.{IsTranscript, SessionLine, Stage}
+use Rattle.hose_law.specs.Transcript.SessionLine.{Greets}
+use Rattle.hose_law.specs.Transcript.Stage.{Left, Refused, Serving, Waiting}
+use Rattle.hose_proto.specs.Replies.{CutsLast, texts_of}
+use Rattle.hose_shared.specs.Along.{HasEntryAt}
+use Rattle.hose_shared.specs.Sharing.{IsSamePass}
+use Rattle.hose_turn.specs.Known.{Known}
+use Rattle.hose_session.specs.SessionLines.{Says, SaysFirst}
+use Rattle.hose_session.specs.declared.ending.SessionEnd.{SessionEnd}
+use Rattle.hose_session.specs.declared.ending.SessionEnd.TheVariants as session_end
+
+-- ---- how far a session is at its end
+
+-- no line has come
+abbrev pub IsWaiting : Stage → Type 0
+IsWaiting stage = stage ≡ Waiting
+
+-- a customer was greeted, and did not leave
+abbrev pub IsServing : Stage → Type 0
+IsServing (Serving customer held) = ⊤
+IsServing stage = ⊥
+
+-- its first line was no greeting
+abbrev pub IsRefused : Stage → Type 0
+IsRefused stage = stage ≡ Refused
+
+-- its customer left
+abbrev pub HasLeft : Stage → Type 0
+HasLeft stage = stage ≡ Left
+
+-- another line may come
+abbrev pub IsOpen : Stage → Type 0
+IsOpen stage = IsWaiting stage ⊎ IsServing stage
+
+-- ---- what is answered
+
+-- what a text says, as far as it is answered: these lines; the relation says how the text stands to
+-- what comes after them and to what is left of it
+abbrev pub Telling : Type 1
+Telling = (List ℕ → List ℕ → List ℕ → Type 0) → List SessionLine → Type 0
+
+-- what a source gave says
+abbrev pub TellsOf : Network → Option Stream → Option Stream → Telling
+TellsOf network old new stops lines = WhereTold old new (λ text left.
+    (rest : List ℕ) × SayLines (Says network) text lines rest × stops text rest left)
+
+-- Lines were answered along a history from a place on, as far as `stops` and `ends` say. `puts` says
+-- how much is out of the replies.
+pub record AnswersUpTo (network : Network) (history : List Entry) (from : ℕ) (tells : Telling)
+    (stops : List ℕ → List ℕ → List ℕ → Type 0) (ends : Stage → Type 0)
+    (puts : List Reply → Type 0) (replies : List Reply) (own : List ℕ) : Type 0 where
+  pub lines : List SessionLine
+  pub stage : Stage
+  pub last : ℕ
+  pub said : tells stops lines
+  pub transcript : IsTranscript network 0 history from lines replies stage last own
+  pub ended : ends stage
+  pub out : puts replies
+
+module _ (network : Network) (history : List Entry) (from : ℕ) (tells : Telling)
+    (before after : Option (List ℕ)) (ReadFails WriteFails : Type 0) where
+  -- all replies are out
+  abbrev pub IsOut : List Reply → Type 0
+  IsOut replies = Grows before after (texts_of network replies)
+
+  -- A session along a history from a place on ended so, with these replies and these places of its
+  -- own entries. All lines were answered that came up to the end of the input; or up to the first
+  -- `bye`; or up to a fault of the input, but for a part of a line; or the first line, if there is
+  -- one, is no greeting. Where the output failed, some first lines were answered, and the last reply
+  -- is not out whole.
+  abbrev pub IsSession : SessionEnd → List Reply → List ℕ → Type 0
+  IsSession session_end.End =
+      AnswersUpTo network history from tells IsAllTaken IsServing IsOut
+  IsSession session_end.Bye = AnswersUpTo network history from tells IsLeftOver HasLeft IsOut
+  IsSession session_end.NoHello = λ replies own.
+      AnswersUpTo network history from tells IsLeftOver IsRefused IsOut replies own
+      ⊎ AnswersUpTo network history from tells IsAllTaken IsWaiting IsOut replies own
+  IsSession session_end.Read = λ replies own.
+      AnswersUpTo network history from tells (StopsAfterLines line_fault.Read) IsOpen IsOut
+      replies own × ReadFails
+  IsSession session_end.TooLong =
+      AnswersUpTo network history from tells (StopsAfterLines line_fault.TooLong) IsOpen IsOut
+  IsSession session_end.Write = λ replies own.
+      AnswersUpTo network history from tells IsLeftOver (λ stage. ⊤)
+      (CutsLast network before after) replies own × WriteFails
+
+-- A session was served along a pass: it began at the place that the pass had seen, and its lines
+-- were answered along the history that the pass has seen since. The session's entries are the
+-- pass's own, and no others that it had not before; each was decided and costs least at its place.
+-- Failures of the disk were told no more often than the pass has met faults.
+pub record ServesAlong (network : Network) (tells : Telling) (before after : Option (List ℕ))
+    (ReadFails WriteFails : Type 0) (old new : Known) (end : SessionEnd) : Type 0 where
+  pub replies : List Reply
+  pub own : List ℕ
+  pub session : IsSession network new.seen (length old.seen) tells before after ReadFails WriteFails
+      end replies own
+  pub entries : All (HasEntryAt network new.seen) own
+  pub same : IsSamePass old new
+  pub owns : new.own ≡ old.own ++ own
+  pub disks : old.faults + disks_in replies ≤ new.faults
+
+-- the same of an input and an output
+abbrev pub ServesSession : {S O : Type 0} → SourceGhosts S → SinkGhosts O → Network → S → S → O → O
+    → Known → Known → SessionEnd → Type 0
+ServesSession source sink network input input' output output' =
+    ServesAlong network (TellsOf network (source.content input) (source.content input'))
+    (sink.content output) (sink.content output') (Rose (source.frame input) (source.frame input'))
+    (Rose (sink.frame output) (sink.frame output'))
+
+-- The input is told: its first line is a greeting, and it is not too long.
+abbrev pub IsGreeted : Option Stream → Type 0
+IsGreeted (Some stream) = (name : List ℕ) × (length stream.left ≤ INPUT_LIMIT)
+    × SaysFirst (before_first is_line_feed stream.left) (Greets name)
+IsGreeted content = ⊥

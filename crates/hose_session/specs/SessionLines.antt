@@ -1,0 +1,55 @@
+-- What the lines of a session say.
+use Rattle.std.specs.Prelude.{◌≡◌, ℕ, ◌<◌, ◌≤◌, List, [], ◌∷◌, codes, length}
+use Rattle.hose_words.specs.Form.{Form, IsChoice, finish, grammar_of, place, this}
+use Rattle.hose_words.specs.Grammar.{Grammar, IsFirst, IsFirstNotAllowed}
+use Rattle.hose_words.specs.Words.{words_of}
+use Rattle.hose_words.specs.declared.limits.TheConstants.{LINE_LIMIT}
+use Rattle.hose_graph.specs.Name.{IsName}
+use Rattle.hose_graph.specs.Network.{Network}
+use Rattle.hose_law.specs.Transcript.{SessionLine}
+use Rattle.hose_law.specs.Transcript.SessionLine.{Greets, Asks, Leaves, IsBad, IsLong, Unread}
+use Rattle.hose_proto.specs.Command.{IsCommand, TakesMemory, command_grammar, verb_word}
+
+-- `hello NAME`
+pub record IsGreeting (line name : List ℕ) : Type 0 where
+  pub spelled : words_of line ≡ codes "hello" ∷ name ∷ []
+  pub is_name : IsName name
+
+-- the form of a greeting
+abbrev pub greeting_form : Form
+greeting_form = this (codes "hello") (place IsName finish)
+
+abbrev pub greeting_grammar : Grammar
+greeting_grammar = grammar_of greeting_form
+
+-- `bye`
+abbrev pub IsBye : List ℕ → Type 0
+IsBye line = words_of line ≡ codes "bye" ∷ []
+
+-- What the first line of a session says: it is a greeting, or it has a first word that is not
+-- allowed there, or it is too long.
+abbrev pub SaysFirst : List ℕ → SessionLine → Type 0
+SaysFirst bytes (Greets name) = (length bytes ≤ LINE_LIMIT) × IsGreeting bytes name
+SaysFirst bytes (IsBad word) = (length bytes ≤ LINE_LIMIT)
+    × IsFirstNotAllowed greeting_grammar [] (words_of bytes) word
+SaysFirst bytes IsLong = LINE_LIMIT < length bytes
+SaysFirst bytes line = ⊥
+
+-- What a later line says: its only word is `bye`, or it asks for a command, or it has a first word
+-- that is not allowed, or it is too long; or it is left unread for want of memory, which its command
+-- may take.
+abbrev pub SaysLater : Network → List ℕ → SessionLine → Type 0
+SaysLater network bytes Leaves = (length bytes ≤ LINE_LIMIT) × IsBye bytes
+SaysLater network bytes (Asks command) =
+    (length bytes ≤ LINE_LIMIT) × IsCommand network (words_of bytes) command
+SaysLater network bytes (IsBad word) = (length bytes ≤ LINE_LIMIT) × (¬ IsBye bytes)
+    × IsFirstNotAllowed (command_grammar network) [] (words_of bytes) word
+SaysLater network bytes IsLong = LINE_LIMIT < length bytes
+SaysLater network bytes Unread =
+    (length bytes ≤ LINE_LIMIT) × IsFirst (IsChoice TakesMemory verb_word) (words_of bytes)
+SaysLater network bytes (Greets name) = ⊥
+
+-- what a line says after these lines
+abbrev pub Says : Network → List SessionLine → List ℕ → SessionLine → Type 0
+Says network [] bytes line = SaysFirst bytes line
+Says network (first ∷ before) bytes line = SaysLater network bytes line

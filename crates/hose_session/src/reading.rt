@@ -1,0 +1,73 @@
+// The lines of a session.
+ghost use Rattle.std.specs.Prelude.{◌≡◌, ◌↔◌, ℕ, [], Err, IfErr, IfOk, IsFalse, IsTrue, List};
+ghost use Rattle.std.specs.Borrow.{Bor};
+ghost use Rattle.hose_words.specs.Grammar.{IsFirst, IsFirstNotAllowed};
+ghost use Rattle.hose_words.specs.Form.{IsChoice};
+ghost use Rattle.hose_words.specs.Words.{words_of};
+ghost use Rattle.hose_graph.specs.Naming.{AsksOf};
+ghost use Rattle.hose_proto.specs.Command.{IsCommand, TakesMemory, command_grammar, verb_word};
+ghost use Rattle.hose_session.specs.SessionLines.{IsBye, IsGreeting, greeting_grammar};
+ghost use Rattle.hose_session.specs.Turns.{IsGreetedBy};
+
+use hose_graph::{Command, Name, Reply, Topology};
+use hose_proto::{ReadFault, read_command, read_name};
+use hose_words::{Cursor, Line, WrongWord};
+use std::alloc::Global;
+
+/// What the first line of a session is: a greeting, with this name, or else the reply to it.
+pub fn greeting_of(line: Line<'_>) -> Result<Name, Reply>
+    ensures { IsGreetedBy line.entry result }
+{
+    let Line::Text(text) = line else {
+        return Err(Reply::Long);
+    };
+    match read_greeting(text) {
+        Ok(name) => Ok(name),
+        Err(wrong) => Err(Reply::Bad { word: wrong.number }),
+    }
+}
+
+// The name in a greeting, `hello NAME`.
+fn read_greeting(line: &[u8]) -> Result<Name, WrongWord>
+    ensures ok { IfOk result (IsGreeting line.now) }
+    ensures bad { IfErr result
+        (λ wrong. IsFirstNotAllowed greeting_grammar [] (words_of line.now) wrong.number) }
+{
+    let mut words = Cursor::new(line);
+    words.expect(b"hello")?;
+    let name = read_name(&mut words)?;
+    words.finish()?;
+    Ok(name)
+}
+
+/// Whether the only word of a line is `bye`.
+pub fn says_bye(line: Line<'_>) -> bool
+    ensures bye { IsTrue result
+        → (text : Bor (List ℕ)) × (line.entry ≡ Line.Text text) × IsBye text.now }
+    ensures none { IsFalse result
+        → (text : Bor (List ℕ)) → line.entry ≡ Line.Text text → ¬ IsBye text.now }
+{
+    match line {
+        Line::Text(text) => is_bye(text),
+        Line::Long => false,
+    }
+}
+
+fn is_bye(line: &[u8]) -> bool
+    ensures { IsTrue result ↔ IsBye line.now }
+{
+    let mut words = Cursor::new(line);
+    words.expect(b"bye").is_ok() && words.finish().is_ok()
+}
+
+/// What a line asks for that is not `bye`.
+pub fn read_asked(alloc: Global, top: &Topology, line: &[u8]) -> Result<Command, ReadFault>
+    ensures ok { IfOk result (IsCommand top.now (words_of line.now)) }
+    ensures bad { (word : ℕ) → result ≡ Err (ReadFault.Bad word)
+        → IsFirstNotAllowed (command_grammar top.now) [] (words_of line.now) word }
+    ensures memory { result ≡ Err ReadFault.Memory
+        → IsFirst (IsChoice TakesMemory verb_word) (words_of line.now) }
+    ensures nodes { IfOk result (AsksOf top.now) }
+{
+    read_command(alloc, top, line, 0)
+}
