@@ -39,15 +39,15 @@ module _ (network : Network) (history : List Entry) (from : ℕ) (tells other : 
     out = answers.out;
   }
 
-  session_moved : (before after : Option (List ℕ)) (R R' W : Type 0) → (R → R') → (end : SessionEnd) (replies : List Reply) (own : List ℕ) → IsSession network history from tells before after R W end replies own
-      → IsSession network history from other before after R' W end replies own
-  session_moved before after R R' W rose session_end.End replies own is = answers_moved _ _ _ replies own is
-  session_moved before after R R' W rose session_end.Bye replies own is = answers_moved _ _ _ replies own is
-  session_moved before after R R' W rose session_end.NoHello replies own (inl is) = inl (answers_moved _ _ _ replies own is)
-  session_moved before after R R' W rose session_end.NoHello replies own (inr is) = inr (answers_moved _ _ _ replies own is)
-  session_moved before after R R' W rose session_end.Read replies own is = (answers_moved _ _ _ replies own is.0, rose is.1)
-  session_moved before after R R' W rose session_end.TooLong replies own is = answers_moved _ _ _ replies own is
-  session_moved before after R R' W rose session_end.Write replies own is = (answers_moved _ _ _ replies own is.0, is.1)
+  pub session_moved : (before after : Option (List ℕ)) (R R' W W' : Type 0) → (R → R') → (W → W') → (end : SessionEnd) (replies : List Reply) (own : List ℕ) → IsSession network history from tells before after R W end replies own
+      → IsSession network history from other before after R' W' end replies own
+  session_moved before after R R' W W' read wrote session_end.End replies own is = answers_moved _ _ _ replies own is
+  session_moved before after R R' W W' read wrote session_end.Bye replies own is = answers_moved _ _ _ replies own is
+  session_moved before after R R' W W' read wrote session_end.NoHello replies own (inl is) = inl (answers_moved _ _ _ replies own is)
+  session_moved before after R R' W W' read wrote session_end.NoHello replies own (inr is) = inr (answers_moved _ _ _ replies own is)
+  session_moved before after R R' W W' read wrote session_end.Read replies own is = (answers_moved _ _ _ replies own is.0, read is.1)
+  session_moved before after R R' W W' read wrote session_end.TooLong replies own is = answers_moved _ _ _ replies own is
+  session_moved before after R R' W W' read wrote session_end.Write replies own is = (answers_moved _ _ _ replies own is.0, wrote is.1)
 
 -- what is read through a borrow is read of what is behind it, and from a start where nothing is pending
 pub session_behind : {T O : Type 0} (other : SourceGhosts T) (source : SourceGhosts (MutBor T)) (sink : SinkGhosts O) (network : Network) (start now : Reader (MutBor T)) (input behind : T) (output output' : O) (old new : Known) (end : SessionEnd)
@@ -56,7 +56,7 @@ pub session_behind : {T O : Type 0} (other : SourceGhosts T) (source : SourceGho
 session_behind {T} {O} other source sink network start now input behind output output' old new end content frame front back none serves = record {
   replies = serves.replies;
   own = serves.own;
-  session = session_moved network new.seen (length old.seen) (λ stops lines. SaysUpTo source start now (Says network) lines stops) (TellsOf network (other.content input) (other.content behind)) moved (sink.content output) (sink.content output') _ _ _ rose end
+  session = session_moved network new.seen (length old.seen) (λ stops lines. SaysUpTo source start now (Says network) lines stops) (TellsOf network (other.content input) (other.content behind)) moved (sink.content output) (sink.content output') _ _ _ _ rose (λ wrote. wrote) end
       serves.replies serves.own serves.session;
   entries = serves.entries;
   same = serves.same;

@@ -1,3 +1,4 @@
+mod Accounting
 mod Completing
 mod Conversing
 mod Telling

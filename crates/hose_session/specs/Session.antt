@@ -60,8 +60,8 @@ abbrev pub TellsOf : Network → Option Stream → Option Stream → Telling
 TellsOf network old new stops lines = WhereTold old new (λ text left.
     (rest : List ℕ) × SayLines (Says network) text lines rest × stops text rest left)
 
--- Lines were answered along a history from a place on, as far as `stops` and `ends` say. `puts` says
--- how much is out of the replies.
+-- Lines were answered along a history from a place on, as far as `stops` and `ends` say. `puts`
+-- says how much is out of the replies.
 pub record AnswersUpTo (network : Network) (history : List Entry) (from : ℕ) (tells : Telling)
     (stops : List ℕ → List ℕ → List ℕ → Type 0) (ends : Stage → Type 0)
     (puts : List Reply → Type 0) (replies : List Reply) (own : List ℕ) : Type 0 where
@@ -82,8 +82,8 @@ module _ (network : Network) (history : List Entry) (from : ℕ) (tells : Tellin
   -- A session along a history from a place on ended so, with these replies and these places of its
   -- own entries. All lines were answered that came up to the end of the input; or up to the first
   -- `bye`; or up to a fault of the input, but for a part of a line; or the first line, if there is
-  -- one, is no greeting. Where the output failed, some first lines were answered, and the last reply
-  -- is not out whole.
+  -- one, is no greeting. Where the output failed, some first lines were answered, and the last
+  -- reply is not out whole.
   abbrev pub IsSession : SessionEnd → List Reply → List ℕ → Type 0
   IsSession session_end.End =
       AnswersUpTo network history from tells IsAllTaken IsServing IsOut

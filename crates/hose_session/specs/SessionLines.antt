@@ -36,8 +36,8 @@ SaysFirst bytes IsLong = LINE_LIMIT < length bytes
 SaysFirst bytes line = ⊥
 
 -- What a later line says: its only word is `bye`, or it asks for a command, or it has a first word
--- that is not allowed, or it is too long; or it is left unread for want of memory, which its command
--- may take.
+-- that is not allowed, or it is too long; or it is left unread for want of memory, which its
+-- command may take.
 abbrev pub SaysLater : Network → List ℕ → SessionLine → Type 0
 SaysLater network bytes Leaves = (length bytes ≤ LINE_LIMIT) × IsBye bytes
 SaysLater network bytes (Asks command) =

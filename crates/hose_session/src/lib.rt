@@ -15,8 +15,10 @@
 mod answering;
 mod client;
 mod ending;
+mod laws;
 mod reading;
 mod session;
 
 pub use ending::SessionEnd;
+pub use laws::law_accounts;
 pub use session::serve_session;

@@ -32,9 +32,9 @@ use std::sync::Wait;
 ///
 /// Each line has one reply, which is out before the source is asked for another line: first
 /// `welcome at N` to `hello NAME`, then one to each command, and `bye` to `bye`, where the session
-/// ends. It ends as well where a stream fails, where its first line is no greeting, which is answered
-/// `bad W` or `long`, and where more than 1 GiB was taken. Want of memory ends no session: it is the
-/// reply `memory` to one command.
+/// ends. It ends as well where a stream fails, where its first line is no greeting, to which the
+/// reply is `bad W` or `long`, and where more than 1 GiB was taken. Want of memory ends no session:
+/// it is the reply `memory` to one command.
 pub fn serve_session<W: Wait, S: Source, O: Sink, D: Disk, B: Begun<D>, R: RowMaker, G: Gate>(
     rt: &W,
     alloc: Global,

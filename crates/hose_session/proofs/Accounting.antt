@@ -1,0 +1,144 @@
+-- Connections that account for a pass.
+use Rattle.std.proofs.Common.{◌≡◌, ◌↔◌, ◌⊎◌, inl, inr, ℕ, ◌+◌, ◌<◌, ◌≤◌, List, [], ◌∷◌, ◌++◌, length, Option, Some, refl, sym, subst, arith, append-nil, append_assoc}
+use mathlib.Core.List.{IsPrefix}
+use Rattle.hose_io.specs.Frame.{Frame, Rose}
+use Rattle.hose_io.specs.Stream.{Gives, Stream}
+use Rattle.hose_io.specs.declared.source.Source.{Ghosts as SourceGhosts}
+use Rattle.hose_io.specs.declared.sink.Sink.{Ghosts as SinkGhosts}
+use Rattle.hose_words.specs.declared.limits.TheConstants.{INPUT_LIMIT}
+use Rattle.hose_graph.specs.Network.{Network}
+use Rattle.hose_graph.specs.declared.entry.Entry.{Entry}
+use Rattle.hose_graph.specs.declared.reply.Reply.{Reply}
+use Rattle.hose_law.specs.Script.{disks_in}
+use Rattle.hose_law.specs.Transcript.{Stage}
+use Rattle.hose_law.proofs.Fronts.{prefix_length}
+use Rattle.hose_law.proofs.Transcripts.{transcript_longer}
+use Rattle.hose_turn.specs.Known.{Known}
+use Rattle.hose_turn.specs.declared.view.Origin.{Origin}
+use Rattle.hose_session.specs.Accounts.{AccountFor, AreServedAlong, none_served, one_served, Connection, IsConnection, IsServedAlong}
+use Rattle.hose_session.specs.Session.{AnswersUpTo, IsSession, ServesSession, Telling, TellsOf}
+use Rattle.hose_session.specs.declared.ending.SessionEnd.{SessionEnd}
+use Rattle.hose_session.specs.declared.ending.SessionEnd.TheVariants as session_end
+use Rattle.hose_session.proofs.Completing.{session_moved}
+
+-- ---- a longer history
+
+module _ (network : Network) (history longer : List Entry) (prefix : IsPrefix history longer) where
+  module _ (from : ℕ) (tells : Telling) where
+    answers_longer : (stops : List ℕ → List ℕ → List ℕ → Type 0) (ends : Stage → Type 0) (puts : List Reply → Type 0) (replies : List Reply) (own : List ℕ) → AnswersUpTo network history from tells stops ends puts replies own
+        → AnswersUpTo network longer from tells stops ends puts replies own
+    answers_longer stops ends puts replies own answers = record {
+      lines = answers.lines;
+      stage = answers.stage;
+      last = answers.last;
+      said = answers.said;
+      transcript = transcript_longer network 0 history longer prefix from answers.transcript;
+      ended = answers.ended;
+      out = answers.out;
+    }
+
+    session_longer : (before after : Option (List ℕ)) (R W : Type 0) (end : SessionEnd) (replies : List Reply) (own : List ℕ) → IsSession network history from tells before after R W end replies own
+        → IsSession network longer from tells before after R W end replies own
+    session_longer before after R W session_end.End replies own is = answers_longer _ _ _ replies own is
+    session_longer before after R W session_end.Bye replies own is = answers_longer _ _ _ replies own is
+    session_longer before after R W session_end.NoHello replies own (inl is) = inl (answers_longer _ _ _ replies own is)
+    session_longer before after R W session_end.NoHello replies own (inr is) = inr (answers_longer _ _ _ replies own is)
+    session_longer before after R W session_end.Read replies own is = (answers_longer _ _ _ replies own is.0, is.1)
+    session_longer before after R W session_end.TooLong replies own is = answers_longer _ _ _ replies own is
+    session_longer before after R W session_end.Write replies own is = (answers_longer _ _ _ replies own is.0, is.1)
+
+  served_longer : (since : ℕ) (connection : Connection) (replies : List Reply) (own : List ℕ) → IsServedAlong network history since connection replies own → IsServedAlong network longer since connection replies own
+  served_longer since connection replies own is = record {
+    from = is.from;
+    later = is.later;
+    end = is.end;
+    session = session_longer is.from _ (Some []) (Some connection.given) (0 < connection.reading) (0 < connection.writing) is.end replies own is.session;
+    too_long = is.too_long;
+  }
+
+  all_longer : (since : ℕ) {connections : List Connection} {own : List ℕ} {disks : ℕ} → AreServedAlong network history since connections own disks → AreServedAlong network longer since connections own disks
+  all_longer since none_served = none_served
+  all_longer since (one_served connection replies added before is) = one_served connection replies added (all_longer since before) (served_longer since connection replies added is)
+
+-- ---- one list after the other
+
+module _ (network : Network) (history : List Entry) (since : ℕ) where
+  abbrev All : List Connection → List ℕ → ℕ → Type 0
+  All = AreServedAlong network history since
+
+  same_all : (connections others : List Connection) (own its : List ℕ) (disks more : ℕ) → connections ≡ others → own ≡ its → disks ≡ more → All connections own disks → All others its more
+  same_all connections others own its disks more same_connections same_own same_disks all =
+      subst (λ (c : List Connection). All c its more) same_connections (subst (λ (o : List ℕ). All connections o more) same_own (subst (λ (d : ℕ). All connections own d) same_disks all))
+
+  all_joined : (connections : List Connection) (own : List ℕ) (disks : ℕ) → All connections own disks → {others : List Connection} {its : List ℕ} {more : ℕ} → All others its more → All (connections ++ others) (own ++ its) (disks + more)
+  all_joined connections own disks all none_served = same_all connections (connections ++ []) own (own ++ []) disks (disks + 0) (sym (append-nil connections)) (sym (append-nil own)) (omega arith) all
+  all_joined connections own disks all (one_served {connections = others} {own = its} {disks = more} connection replies added before is) =
+      same_all ((connections ++ others) ++ connection ∷ []) (connections ++ (others ++ connection ∷ [])) ((own ++ its) ++ added) (own ++ (its ++ added)) ((disks + more) + disks_in replies) (disks + (more + disks_in replies)) (append_assoc connections others (connection ∷ []))
+      (append_assoc own its added) (omega arith) (one_served connection replies added (all_joined connections own disks all before) is)
+
+-- ---- passes
+
+-- what accounts for a pass, in the words of its first list
+account : (connections : List Connection) (origin : Origin) (pass : Known) (own : List ℕ) (disks : ℕ) → pass.origin ≡ origin → pass.own ≡ own → AreServedAlong origin.network pass.seen (length origin.since) connections own disks → disks ≤ pass.faults
+    → AccountFor connections pass
+account connections origin pass own disks same_origin same_own served told = record {
+  disks = disks;
+  served = subst (λ (o : Origin). AreServedAlong o.network pass.seen (length o.since) connections pass.own disks) (sym same_origin)
+      (subst (λ (o : List ℕ). AreServedAlong origin.network pass.seen (length origin.since) connections o disks) (sym same_own) served);
+  told = told;
+}
+
+pub none_accounts : (pass : Known) → pass.own ≡ [] → AccountFor [] pass
+none_accounts pass none = account [] pass.origin pass [] 0 refl none none_served (omega arith)
+
+failed_once : (before after : Frame) (faults : ℕ) → before.faults ≡ 0 → after.faults ≡ faults → Rose before after → 0 < faults
+failed_once before after faults none count rose = at rose.rose
+  where
+    at : (before.faults < after.faults) ⊎ (18446744073709551615 ≤ after.faults) → 0 < faults
+    at (inl more) = omega (arith, more, count)
+    at (inr most) = omega (arith, most, count)
+
+-- one connection more
+pub one_accounts : {S O : Type 0} (source : SourceGhosts S) (sink : SinkGhosts O) (connections : List Connection) (connection : Connection) (old new : Known) (input input' : S) (output output' : O) (end : SessionEnd) (bytes : List ℕ)
+    → IsPrefix old.origin.since old.seen → AccountFor connections old → IsConnection source sink input input' output output' connection → ServesSession source sink old.origin.network input input' output output' old new end
+    → Gives (source.content input) (source.content input') bytes → (end ≡ session_end.TooLong) ↔ (INPUT_LIMIT < length bytes) → AccountFor (connections ++ connection ∷ []) new
+one_accounts source sink connections connection old new input input' output output' end bytes began accounts is serves gives too_long =
+    account (connections ++ connection ∷ []) old.origin new (old.own ++ serves.own) (accounts.disks + disks_in serves.replies) serves.same.origin serves.owns
+    (one_served connection serves.replies serves.own (all_longer network old.seen new.seen serves.same.seen (length old.origin.since) accounts.served) served) (omega (arith, accounts.told, serves.disks))
+  where
+    network : Network
+    network = old.origin.network
+
+    fresh : Option Stream
+    fresh = Some (record { taken = []; left = connection.taken ++ connection.left })
+
+    ended : Option Stream
+    ended = Some (record { taken = connection.taken; left = connection.left })
+
+    session : IsSession network new.seen (length old.seen) (TellsOf network (source.content input) (source.content input')) (Some []) (Some connection.given) (0 < connection.reading) (0 < connection.writing) end serves.replies serves.own
+    session = session_moved network new.seen (length old.seen) (TellsOf network (source.content input) (source.content input')) (TellsOf network (source.content input) (source.content input')) (λ stops lines says. says) (Some []) (Some connection.given) _ _ _ _
+        (failed_once (source.frame input) (source.frame input') connection.reading is.unread is.reading) (failed_once (sink.frame output) (sink.frame output') connection.writing is.unwritten is.writing) end serves.replies serves.own
+        (subst (λ (o : Option (List ℕ)). IsSession network new.seen (length old.seen) (TellsOf network (source.content input) (source.content input')) o (Some connection.given) (Rose (source.frame input) (source.frame input')) (Rose (sink.frame output) (sink.frame output')) end serves.replies serves.own) is.empty
+        (subst (λ (o : Option (List ℕ)). IsSession network new.seen (length old.seen) (TellsOf network (source.content input) (source.content input')) (sink.content output) o (Rose (source.frame input) (source.frame input')) (Rose (sink.frame output) (sink.frame output')) end serves.replies serves.own) is.given serves.session))
+
+    given : Gives fresh ended bytes
+    given = subst (λ (s : Option Stream). Gives fresh s bytes) is.served (subst (λ (s : Option Stream). Gives s (source.content input') bytes) is.fresh gives)
+
+    served : IsServedAlong network new.seen (length old.origin.since) connection serves.replies serves.own
+    served = record {
+      from = length old.seen;
+      later = prefix_length old.origin.since old.seen began;
+      end = end;
+      session = subst (λ (s : Option Stream). IsSession network new.seen (length old.seen) (TellsOf network fresh s) (Some []) (Some connection.given) (0 < connection.reading) (0 < connection.writing) end serves.replies serves.own) is.served
+          (subst (λ (s : Option Stream). IsSession network new.seen (length old.seen) (TellsOf network s (source.content input')) (Some []) (Some connection.given) (0 < connection.reading) (0 < connection.writing) end serves.replies serves.own) is.fresh session);
+      too_long = subst (λ (b : List ℕ). (end ≡ session_end.TooLong) ↔ (INPUT_LIMIT < length b)) (sym given.taken) too_long;
+    }
+
+-- two passes that are joined
+pub joined_account : (connections others : List Connection) (one other both : Known) → AccountFor connections one → AccountFor others other → other.origin ≡ one.origin → both.origin ≡ one.origin → IsPrefix one.seen both.seen → IsPrefix other.seen both.seen
+    → both.own ≡ one.own ++ other.own → both.faults ≡ one.faults + other.faults → AccountFor (connections ++ others) both
+joined_account connections others one other both first second same_origin whole seen seen' own faults =
+    let theirs = subst (λ (o : Origin). AreServedAlong o.network other.seen (length o.since) others other.own second.disks) same_origin second.served in
+    account (connections ++ others) one.origin both (one.own ++ other.own) (first.disks + second.disks) whole own
+    (all_joined one.origin.network both.seen (length one.origin.since) connections one.own first.disks (all_longer one.origin.network one.seen both.seen seen (length one.origin.since) first.served)
+    (all_longer one.origin.network other.seen both.seen seen' (length one.origin.since) theirs)) (omega (arith, first.told, second.told, faults))

@@ -1,0 +1,76 @@
+-- Connections that ended, and the pass along which they were served.
+use Rattle.std.specs.Prelude.{◌≡◌, ◌↔◌, ℕ, ◌+◌, ◌<◌, ◌≤◌, List, [], ◌∷◌, ◌++◌, length, Some}
+use Rattle.hose_io.specs.declared.source.Source.{Ghosts as SourceGhosts}
+use Rattle.hose_io.specs.declared.sink.Sink.{Ghosts as SinkGhosts}
+use Rattle.hose_words.specs.declared.limits.TheConstants.{INPUT_LIMIT}
+use Rattle.hose_graph.specs.Network.{Network}
+use Rattle.hose_graph.specs.declared.entry.Entry.{Entry}
+use Rattle.hose_graph.specs.declared.reply.Reply.{Reply}
+use Rattle.hose_law.specs.Script.{disks_in}
+use Rattle.hose_turn.specs.Known.{Known}
+use Rattle.hose_session.specs.Session.{IsSession, TellsOf}
+use Rattle.hose_session.specs.declared.ending.SessionEnd.{SessionEnd}
+use Rattle.hose_session.specs.declared.ending.SessionEnd.TheVariants.{TooLong}
+
+-- A connection that ended: the bytes that were taken from its input, those that were left there,
+-- the bytes that its output was given, and how often each of them failed. At its start nothing was
+-- taken or given, and nothing had failed.
+pub record Connection : Type 0 where
+  pub taken : List ℕ
+  pub left : List ℕ
+  pub given : List ℕ
+  pub reading : ℕ
+  pub writing : ℕ
+
+-- these streams, at the start and at the end of a session, are the connection's
+pub record IsConnection {S O : Type 0} (source : SourceGhosts S) (sink : SinkGhosts O)
+    (input input' : S) (output output' : O) (connection : Connection) : Type 0 where
+  pub fresh : source.content input ≡ Some (record {
+    taken = [];
+    left = connection.taken ++ connection.left;
+  })
+  pub served : source.content input' ≡ Some (record {
+    taken = connection.taken;
+    left = connection.left;
+  })
+  pub empty : sink.content output ≡ Some []
+  pub given : sink.content output' ≡ Some connection.given
+  pub unread : (source.frame input).faults ≡ 0
+  pub reading : (source.frame input').faults ≡ connection.reading
+  pub unwritten : (sink.frame output).faults ≡ 0
+  pub writing : (sink.frame output').faults ≡ connection.writing
+
+-- The connection is that of a session along a history, from this place or a later one, with these
+-- replies and these places of its own entries.
+pub record IsServedAlong (network : Network) (history : List Entry) (since : ℕ)
+    (connection : Connection) (replies : List Reply) (own : List ℕ) : Type 0 where
+  pub from : ℕ
+  pub later : since ≤ from
+  pub end : SessionEnd
+  pub session : IsSession network history from (TellsOf network
+      (Some (record { taken = []; left = connection.taken ++ connection.left }))
+      (Some (record { taken = connection.taken; left = connection.left })))
+      (Some []) (Some connection.given) (0 < connection.reading) (0 < connection.writing) end
+      replies own
+  pub too_long : (end ≡ TooLong) ↔ (INPUT_LIMIT < length connection.taken)
+
+-- The connections are those of such sessions, whose own entries stand at these places, one after
+-- the other, and whose replies tell so many failures of the disk.
+pub data AreServedAlong (network : Network) (history : List Entry) (since : ℕ)
+    : List Connection → List ℕ → ℕ → Type 0 where
+  none_served : AreServedAlong network history since [] [] 0
+  one_served : {connections : List Connection} {own : List ℕ} {disks : ℕ}
+      (connection : Connection) (replies : List Reply) (added : List ℕ)
+      → AreServedAlong network history since connections own disks
+      → IsServedAlong network history since connection replies added
+      → AreServedAlong network history since (connections ++ connection ∷ []) (own ++ added)
+      (disks + disks_in replies)
+
+-- Connections account for a pass: they are those of sessions along the history that the pass has
+-- seen, from its first list on. Their own entries together are those of the pass, and they were
+-- told no more failures of the disk than the pass has met faults.
+pub record AccountFor (connections : List Connection) (pass : Known) : Type 0 where
+  pub disks : ℕ
+  pub served : AreServedAlong pass.origin.network pass.seen (length pass.origin.since) connections
+      pass.own disks
+  pub told : disks ≤ pass.faults
