@@ -28,16 +28,16 @@ use hose_words::Line;
 use std::alloc::Global;
 use std::sync::Wait;
 
-/// What a session works with beside its streams: the shared book, the gate that it passes, and its
+/// A session, but for its streams and its pass: the shared book, the gate that it passes, and its
 /// number there.
 #[derive(Drop)]
-pub struct Desk<'a, D: Disk, B: Begun<D>, G: Gate> {
+pub struct Session<'a, D: Disk, B: Begun<D>, G: Gate> {
     pub shared: &'a Shared<D, B>,
     pub gate: &'a G,
-    pub session: u64,
+    pub number: u64,
 }
 
-impl<'a, D: Disk, B: Begun<D>, G: Gate> Desk<'a, D, B, G> {
+impl<'a, D: Disk, B: Begun<D>, G: Gate> Session<'a, D, B, G> {
     /// The reply to a line that comes after the greeting and is not `bye`.
     pub fn answer_line<W: Wait, R: RowMaker>(
         &self,
@@ -102,7 +102,7 @@ impl<'a, D: Disk, B: Begun<D>, G: Gate> Desk<'a, D, B, G> {
                 hose,
                 rows,
                 self.gate,
-                self.session,
+                self.number,
             ),
             Command::Quote(hose) => shared.quote(rt, alloc, pass, &mut client.quotes, hose, rows),
             Command::Take(quote) => {
@@ -122,7 +122,7 @@ impl<'a, D: Disk, B: Begun<D>, G: Gate> Desk<'a, D, B, G> {
     {
         put_reply(output, self.shared.topology(), reply)?;
         self.gate.at(Point::Answered {
-            session: self.session,
+            session: self.number,
         });
         Ok(())
     }

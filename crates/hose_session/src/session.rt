@@ -11,7 +11,7 @@ ghost use Rattle.hose_session.specs.Session.{IsGreeted, ServesSession};
 ghost use Rattle.hose_session.specs.SessionLines.{SaysFirst, SaysLater};
 ghost use Rattle.hose_session.specs.Turns.{EndsAt, GoesOn, ServesLines};
 
-use crate::answering::Desk;
+use crate::answering::Session;
 use crate::client::Client;
 use crate::ending::SessionEnd;
 use crate::reading::{greeting_of, says_bye};
@@ -62,19 +62,19 @@ pub fn serve_session<W: Wait, S: Source, O: Sink, D: Disk, B: Begun<D>, R: RowMa
     ensures source { Stays (S.frame source.old) (S.frame source.new) }
     ensures sink { Stays (O.frame sink.old) (O.frame sink.new) }
 {
-    let desk = Desk {
+    let session = Session {
         shared,
         gate,
-        session,
+        number: session,
     };
     let mut lines = LineReader::new(source);
-    let ended = desk.serve(rt, alloc, &mut lines, sink, pass, rows);
+    let ended = session.serve(rt, alloc, &mut lines, sink, pass, rows);
     // What is known of the input again comes from here.
     let _ = lines.into_source();
     ended
 }
 
-impl<'a, D: Disk, B: Begun<D>, G: Gate> Desk<'a, D, B, G> {
+impl<'a, D: Disk, B: Begun<D>, G: Gate> Session<'a, D, B, G> {
     // Serves the customer of a reader that has taken nothing.
     fn serve<W: Wait, S: Source, O: Sink, R: RowMaker>(
         &self,

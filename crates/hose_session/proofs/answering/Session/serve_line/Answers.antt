@@ -9,7 +9,7 @@ use Rattle.hose_session.specs.SessionLines.{IsBye, SaysLater}
 use Rattle.hose_session.specs.Turns.{EndsAt}
 use Rattle.hose_session.proofs.Telling.{last_ends, put_failed, put_whole, takes_turn}
 use Rattle.hose_session.proofs.Turning.{bye_turn, text_is}
-use Rattle.hose_session.proofs.answering.Desk.serve_line.Goals as goal
+use Rattle.hose_session.proofs.answering.Session.serve_line.Goals as goal
 
 pub returns-then-says_bye-clause-serves : goal.returns-then-says_bye-clause-serves
 returns-then-says_bye-clause-serves g c = λ held are.

@@ -10,7 +10,7 @@ use Rattle.hose_session.specs.SessionLines.{SaysFirst}
 use Rattle.hose_session.specs.Turns.{EndsAt, IsGreetedBy}
 use Rattle.hose_session.proofs.Telling.{last_ends, put_failed, put_whole, takes_turn}
 use Rattle.hose_session.proofs.Turning.{greeted_turn, refused_turn}
-use Rattle.hose_session.proofs.answering.Desk.greet.Goals as goal
+use Rattle.hose_session.proofs.answering.Session.greet.Goals as goal
 
 pub returns-in-Err-greeting_of-clause-serves : goal.returns-in-Err-greeting_of-clause-serves
 returns-in-Err-greeting_of-clause-serves g c =

@@ -1,5 +1,5 @@
 use Rattle.hose_session.proofs.Turning.{turn_holding, turn_keeping}
-use Rattle.hose_session.proofs.answering.Desk.answer.Goals as goal
+use Rattle.hose_session.proofs.answering.Session.answer.Goals as goal
 
 pub returns-in-Admit-clause-turns : goal.returns-in-Admit-clause-turns
 returns-in-Admit-clause-turns g c = λ held are.

@@ -4,7 +4,7 @@ use Rattle.hose_law.specs.Quotes.{none_held}
 use Rattle.hose_law.specs.Transcript.Stage.{Serving, Waiting}
 use Rattle.hose_session.specs.SessionLines.{SaysFirst, SaysLater}
 use Rattle.hose_session.proofs.Conversing.{PassLaws, ends_so, first_fits, says_later, served_more, served_none}
-use Rattle.hose_session.proofs.answering.Desk.serve.Goals as goal
+use Rattle.hose_session.proofs.answering.Session.serve.Goals as goal
 
 pub returns-in-Err-clause-serves : goal.returns-in-Err-clause-serves
 returns-in-Err-clause-serves g c =

@@ -9,7 +9,7 @@ use Rattle.hose_law.specs.Transcript.SessionLine.{Asks, IsBad, IsLong, Unread}
 use Rattle.hose_proto.specs.Command.{IsCommand, TakesMemory, command_grammar, verb_word}
 use Rattle.hose_session.specs.SessionLines.{IsBye}
 use Rattle.hose_session.proofs.Turning.{bad_turn, long_turn, memory_turn, text_is}
-use Rattle.hose_session.proofs.answering.Desk.answer_line.Goals as goal
+use Rattle.hose_session.proofs.answering.Session.answer_line.Goals as goal
 
 pub returns-in_default-clause-turns : goal.returns-in_default-clause-turns
 returns-in_default-clause-turns g c = λ held are. (
