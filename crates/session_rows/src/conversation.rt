@@ -1,0 +1,162 @@
+// Two customers who each release what they are told is admitted, at once.
+ghost use Rattle.std.specs.Prelude.{◌≡◌, ◌<◌, ◌≤◌, IfOk, None, length};
+ghost use Rattle.hose_shared.specs.Sharing.{IsPassOf, IsSamePass};
+
+use crate::book::{Book, Found, found_after, serve, share};
+use crate::places::never_go_back;
+use crate::trouble::Trouble;
+use hose_io::{Failed, MemSink, MemSource, Sink, Source};
+use hose_turn::Pass;
+use hose_words::Cursor;
+use std::alloc::{AllocError, Global};
+use std::cell::Cell;
+use std::sync::Wait;
+use std::thread;
+use std::thread::Threads;
+
+/// How many entries and live VPNs the book has after two sessions, and how many of the two told a
+/// place before one that they had told.
+#[derive(Clone, Copy, Debug)]
+pub struct Pair {
+    pub at: u64,
+    pub live: usize,
+    pub back: u64,
+}
+
+// How often each of the two admits and releases.
+const TIMES: u64 = 10;
+
+/// Serves the two sessions, in two threads.
+pub fn converse_twice<R: Wait + Threads + Sync>(rt: &R, alloc: Global) -> Result<Pair, Trouble> {
+    let (book, mut pass) = share(alloc)?;
+    let other = book.split(&mut pass);
+    let (mine, theirs) = thread::join(
+        rt,
+        || converse(rt, alloc, &book, pass),
+        || converse(rt, alloc, &book, other),
+    );
+    let (mine, mut pass) = mine?;
+    let (theirs, other) = theirs?;
+    book.join(&mut pass, other);
+    let Found { at, live } = found_after(alloc, book, pass)?;
+    let back = u64::from(mine) + u64::from(theirs);
+    Ok(Pair { at, live, back })
+}
+
+// Serves a session of which each release is of what the admission before it was told. Answers
+// whether a reply tells a place before one that was told.
+fn converse<W: Wait>(
+    rt: &W,
+    alloc: Global,
+    book: &Book,
+    pass: Pass,
+) -> Result<(bool, Pass), Trouble>
+    requires { IsPassOf book.now pass }
+    ensures { IfOk result (λ served. IsSamePass pass served.1) }
+{
+    let told = Cell::new(0);
+    let mut source = Asking::new(alloc, &told)?;
+    let mut sink = Hearing {
+        stored: MemSink::new(alloc)?,
+        told: &told,
+    };
+    let (_end, pass) = serve(rt, alloc, &mut source, &mut sink, book, pass);
+    Ok((!never_go_back(sink.stored.bytes()), pass))
+}
+
+// A sink that keeps the number of the VPN that was admitted last.
+#[derive(Drop)]
+struct Hearing<'a> {
+    stored: MemSink,
+    told: &'a Cell<u64>,
+}
+
+impl Sink for Hearing<'_> {
+    ghost use Rattle.hose_io.specs.SinkState.{frame_of};
+
+    ghost frame = { λ s. frame_of s.stored };
+
+    ghost content = { λ _. None };
+
+    ghost pieces = { λ s. s.stored.pieces };
+
+    fn put(&mut self, bytes: &[u8]) -> Result<usize, Failed> {
+        let count = self.stored.put(bytes)?;
+        if let Some(id) = admitted(bytes) {
+            self.told.set(id);
+        }
+        Ok(count)
+    }
+}
+
+// The number of the VPN that a reply says is admitted.
+fn admitted(reply: &[u8]) -> Option<u64> {
+    let mut words = Cursor::new(reply);
+    words.expect(b"admitted").ok()?;
+    words.number().ok()
+}
+
+// A source that gives a greeting, and then by turns an admission and the release of what was
+// admitted last. Each line is made when the source is asked for it.
+#[derive(Drop)]
+struct Asking<'a> {
+    alloc: Global,
+    told: &'a Cell<u64>,
+    line: MemSource,
+    given: u64,
+    faults: u64,
+}
+
+impl<'a> Asking<'a> {
+    fn new(alloc: Global, told: &'a Cell<u64>) -> Result<Asking<'a>, AllocError> {
+        Ok(Asking {
+            alloc,
+            told,
+            line: MemSource::new(alloc, b"hello acme\n", 4_096)?,
+            given: 0,
+            faults: 0,
+        })
+    }
+
+    // Gives the rest of a line, or the next one.
+    fn give(&mut self, into: &mut [u8]) -> Result<usize, Failed>
+        requires { 0 < length into.old }
+        ensures room { IfOk result (λ count. count ≤ length into.new) }
+        ensures faults { self.new.faults ≡ self.old.faults }
+    {
+        if self.line.left().is_empty() && self.given < 2 * TIMES {
+            let Ok(line) = self.next_line() else {
+                return Err(Failed);
+            };
+            self.line = line;
+            self.given += 1;
+        }
+        self.line.take(into)
+    }
+
+    fn next_line(&self) -> Result<MemSource, AllocError> {
+        if self.given % 2 == 0 {
+            return MemSource::new(self.alloc, b"admit a:1 b:1\n", 4_096);
+        }
+        let told = self.told.get();
+        let line = format!(in self.alloc; "release {told}\n")?;
+        MemSource::new(self.alloc, line.as_bytes(), 4_096)
+    }
+}
+
+impl Source for Asking<'_> {
+    ghost use Rattle.std.specs.Prelude.{[]};
+    ghost use Rattle.hose_io.specs.Frame.{Frame};
+
+    ghost frame = { λ s. record { faults = s.faults; number = 0; loan = [] } };
+
+    ghost content = { λ _. None };
+
+    fn take(&mut self, into: &mut [u8]) -> Result<usize, Failed> {
+        let given = self.give(into);
+        if given.is_err() {
+            self.faults = self.faults.saturating_add(1);
+        }
+        given
+    }
+}
