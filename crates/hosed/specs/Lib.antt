@@ -1,5 +1,6 @@
 pub mod Ending
 pub mod Fault
+pub mod Offline
 pub mod OnDisk
 pub mod ProgramWords
 pub mod Run

@@ -19,6 +19,10 @@ abbrev pub AreRunWords : List (List ℕ) → Option (List ℕ) → Type 0
 AreRunWords words None = words ≡ codes "run" ∷ []
 AreRunWords words (Some name) = (words ≡ codes "run" ∷ name ∷ []) × IsFileName name
 
+-- the words are those of no command
+abbrev pub AreWrongWords : List (List ℕ) → Type 0
+AreWrongWords words = (journal : Option (List ℕ)) → ¬ AreRunWords words journal
+
 -- what the words may be
 abbrev pub words_form : Form
 words_form = this (codes "run") (maybe (place IsFileName finish))

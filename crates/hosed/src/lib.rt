@@ -16,14 +16,12 @@
 //! command, in order, and then at most the one that was being written.
 #![tactic(auto)]
 
-ghost use Rattle.std.specs.Prelude.{◌≡◌, ◌↔◌, ℕ, List, Option, None, map};
+ghost use Rattle.std.specs.Prelude.{◌≡◌, ℕ, List, None, map};
 ghost use Rattle.std.specs.String.{string_bytes};
 ghost use Rattle.hose_io.specs.Frame.{Stays};
 ghost use Rattle.hose_disk.specs.Cabinet.{object_of};
-ghost use Rattle.hosed.specs.Ending.{IsLastLine, IsOut, status_of_done};
-ghost use Rattle.hosed.specs.Fault.{last_line};
-ghost use Rattle.hosed.specs.ProgramWords.{AreRunWords, IsFirstWrong};
-ghost use Rattle.hosed.specs.RunOutcome.{RunOutcome};
+ghost use Rattle.hosed.specs.Ending.{IsLastLine, status_of_done};
+ghost use Rattle.hosed.specs.Offline.{OfflineOutcome};
 
 mod fault;
 mod journal;
@@ -54,20 +52,30 @@ pub fn hosed<I: Source, O: Sink, C: Cabinet>(
     cabinet: &mut C,
 ) -> u8
     requires { (C.frame cabinet.old).out ≡ None }
+    ensures outcome { OfflineOutcome I.Source O.Sink C.Cabinet C.Disk.Disk
+        (map string_bytes words.now) input.old input.new output.old output.new
+        cabinet.old cabinet.new result }
+    ensures back { (C.frame cabinet.new).out ≡ None }
+    ensures input { Stays (I.frame input.old) (I.frame input.new) }
+    ensures output { Stays (O.frame output.old) (O.frame output.new) }
+    ensures cabinet { Stays (object_of (C.frame cabinet.old)) (object_of (C.frame cabinet.new)) }
+{
+    offline(alloc, words, input, output, cabinet)
+}
 
-    // Wrong words take nothing of the input and of the cabinet, and the last line tells the first
-    // of them.
-    ensures words { (result ≡ 1) ↔ ((journal : Option (List ℕ))
-        → ¬ AreRunWords (map string_bytes words.now) journal) }
-    ensures wrong_words { result ≡ 1 → (input.new ≡ input.old) × (cabinet.new ≡ cabinet.old)
-        × ((word : ℕ) × IsFirstWrong (map string_bytes words.now) word
-        × IsOut O.Sink output.old output.new (last_line (Fault.Words word))) }
-
-    ensures run { (journal : Option (List ℕ)) → AreRunWords (map string_bytes words.now) journal
-        → RunOutcome I.Source O.Sink C.Cabinet C.Disk.Disk journal input.old input.new
-        output.old output.new cabinet.old cabinet.new result }
-    ensures in_memory { AreRunWords (map string_bytes words.now) None → cabinet.new ≡ cabinet.old }
-
+/// The same for every command that waits for nobody: it returns where the calls of its input, its
+/// output and its cabinet do.
+pub fn offline<I: Source, O: Sink, C: Cabinet>(
+    alloc: Global,
+    words: &[String],
+    input: &mut I,
+    output: &mut O,
+    cabinet: &mut C,
+) -> u8
+    requires { (C.frame cabinet.old).out ≡ None }
+    ensures outcome { OfflineOutcome I.Source O.Sink C.Cabinet C.Disk.Disk
+        (map string_bytes words.now) input.old input.new output.old output.new
+        cabinet.old cabinet.new result }
     ensures back { (C.frame cabinet.new).out ≡ None }
     ensures input { Stays (I.frame input.old) (I.frame input.new) }
     ensures output { Stays (O.frame output.old) (O.frame output.new) }

@@ -1,12 +1,11 @@
 // What the program's words choose: a text about itself, or the server.
-ghost use Rattle.std.specs.Prelude.{◌≡◌, ℕ, List, Option, None, map};
+ghost use Rattle.std.specs.Prelude.{◌≡◌, None, map};
 ghost use Rattle.std.specs.String.{string_bytes};
 ghost use Rattle.hose_io.specs.Frame.{Stays};
 ghost use Rattle.hose_disk.specs.Cabinet.{object_of};
 ghost use Rattle.hosed.specs.Ending.{IsOut};
 ghost use Rattle.hosed.specs.Fault.{last_line};
-ghost use Rattle.hosed.specs.ProgramWords.{AreRunWords, IsFirstWrong};
-ghost use Rattle.hosed.specs.RunOutcome.{RunOutcome};
+ghost use Rattle.hosed.specs.Offline.{OfflineOutcome};
 ghost use Rattle.hosed.specs.declared.fault.Fault.TheVariants as fault;
 ghost use Rattle.hosed_program.specs.Asked.{asked_of};
 ghost use Rattle.hosed_program.specs.Told.{IsTold};
@@ -41,15 +40,9 @@ pub fn program<I: Source, O: Sink, C: Cabinet>(
         × IsTold O.Sink output.old output.new VERSION.now result }
 
     // All else is as the server's one call says.
-    ensures run { (journal : Option (List ℕ)) → AreRunWords (map string_bytes words.now) journal
-        → RunOutcome I.Source O.Sink C.Cabinet C.Disk.Disk journal input.old input.new
-        output.old output.new cabinet.old cabinet.new result }
-    ensures in_memory { AreRunWords (map string_bytes words.now) None → cabinet.new ≡ cabinet.old }
-    ensures wrong_words { asked_of (map string_bytes words.now) ≡ Asked.Service
-        → ((journal : Option (List ℕ)) → ¬ AreRunWords (map string_bytes words.now) journal)
-        → (result ≡ 1) × (input.new ≡ input.old) × (cabinet.new ≡ cabinet.old)
-        × ((word : ℕ) × IsFirstWrong (map string_bytes words.now) word
-        × IsOut O.Sink output.old output.new (last_line (fault.Words word))) }
+    ensures service { asked_of (map string_bytes words.now) ≡ Asked.Service
+        → OfflineOutcome I.Source O.Sink C.Cabinet C.Disk.Disk (map string_bytes words.now)
+        input.old input.new output.old output.new cabinet.old cabinet.new result }
 
     ensures back { (C.frame cabinet.new).out ≡ None }
     ensures input { Stays (I.frame input.old) (I.frame input.new) }

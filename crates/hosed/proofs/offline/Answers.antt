@@ -1,11 +1,11 @@
-use Rattle.std.proofs.Common.{◌≡◌, ◌∙◌, ◌-◌, List, ℕ, [], ◌∷◌, Option, None, Some, length, take, drop, map, ap, subst}
+use Rattle.std.proofs.Common.{◌≡◌, ◌∙◌, ◌-◌, List, ℕ, [], ◌∷◌, Option, None, Some, length, take, drop, map, ap, rules, subst}
 use Rattle.std.proofs.lemmas.List.{take_rest}
 use Rattle.std.specs.String.{string_bytes}
 use Rattle.hosed.specs.Ending.{status_of_done}
 use Rattle.hosed.specs.ProgramWords.{AreRunWords, name_of}
 use Rattle.hosed.specs.RunOutcome.{RunOutcome, TakesWithinLimit}
 use Rattle.hosed.proofs.Outcomes.{completes, refuses, refused_ends, too_long_at_8}
-use Rattle.hosed.proofs.hosed.Goals as goal
+use Rattle.hosed.proofs.offline.Goals as goal
 
 -- the journal is that of the words after the first
 is_named : {A : Type 0} (view : A → List ℕ) (words : List A) (journal : Option (List ℕ)) → AreRunWords (map view words) journal → name_of (map view (take (length words - 1) (drop 1 words))) ≡ journal
@@ -14,8 +14,8 @@ is_named view [] (Some name) are = absurd (cc are.0)
 is_named view (word ∷ words) None are = ap (λ all. name_of (map view all)) (take_rest (word ∷ words) 1) ∙ ap (λ (w : List (List ℕ)). name_of (drop 1 w)) are
 is_named view (word ∷ words) (Some name) are = ap (λ all. name_of (map view all)) (take_rest (word ∷ words) 1) ∙ ap (λ (w : List (List ℕ)). name_of (drop 1 w)) are.0
 
-pub returns-clause-run : goal.returns-clause-run
-returns-clause-run g c = λ journal are.
+pub returns-clause-outcome : goal.returns-clause-outcome
+returns-clause-outcome g c =
     let source = g.I.Source in
     let sink = g.O.Sink in
     let cabinet = g.C.Cabinet in
@@ -37,7 +37,11 @@ returns-clause-run g c = λ journal are.
       run.takes.2,
       ((λ is. run.takes.3.0 (too_long_at_8 done is)), λ long. ap status_of_done (run.takes.3.1 long)),
     ) in
-    subst (λ (j : Option (List ℕ)). RunOutcome source sink cabinet disk j input input' output output' place place' c.end-2.result) (is_named string_bytes c.args.words.now journal are) (record {
+    record {
+      words_at_1 = search rules;
+      wrong_words = search rules;
+      run = λ journal are.
+        subst (λ (j : Option (List ℕ)). RunOutcome source sink cabinet disk j input input' output output' place place' c.end-2.result) (is_named string_bytes c.args.words.now journal are) (record {
       done = done;
       left = left;
       leaves = run.leaves;
@@ -49,4 +53,6 @@ returns-clause-run g c = λ journal are.
           (completes source sink cabinet disk named input input' output left output' place place' c.end-2.ensures.output run.takes.0 run.takes.1 servable held done run.leaves run.takes.3.0 told);
       refused_journal = λ servable some told held. rw status
           (refuses source sink cabinet disk named input input' output left output' place place' c.end-2.ensures.output run.takes.0 run.takes.1 servable held done run.leaves run.takes.3.0 some told);
-    })
+    });
+      in_memory = search rules;
+    }
