@@ -13,6 +13,7 @@ use Rattle.hose_graph.specs.declared.entry.Entry.{Entry}
 use Rattle.hose_graph.specs.declared.reply.Reply.{Reply}
 use Rattle.hose_law.specs.History.{IsDecidedAt}
 use Rattle.hose_book.specs.GoingOn.{GoesOn}
+use Rattle.hose_book.specs.Ledger.{Ledger}
 use Rattle.hose_disk.specs.Cabinet.{CabinetFrame, Has, IsDiskCall, after_back, object_of, where_told}
 use Rattle.hose_disk.specs.Disk.{IsCalled, NoneNew}
 use Rattle.hose_disk.specs.declared.cabinet.Cabinet.{Ghosts as CabinetGhosts}
@@ -26,6 +27,7 @@ use Rattle.hose_store.specs.Recovery.{IsHistoryOf, IsRecoveredAs}
 use Rattle.hose_store.specs.Store.{Kept}
 use Rattle.hose_store.specs.declared.fault.StoreFault.{StoreFault}
 use Rattle.hose_store.specs.declared.fault.StoreFault.TheVariants as store
+use Rattle.hosed.specs.Auditing.{AuditsBook, HasReadBook, IsLeftWith, ReadsBook, ReadsBookOnDisk}
 use Rattle.hosed.specs.Fault.{of_store}
 use Rattle.hosed.specs.OnDisk.{Held, IsRefused, IsUnopened, opening_of}
 use Rattle.hosed.specs.Serving.{Serves, TellsDisks}
@@ -231,3 +233,30 @@ module _ {C E : Type 0} (cabinet : CabinetGhosts C E) (disk : DiskGhosts E) (nam
     pub in_cabinet : (done : Result ⊤ Fault) → ServesOnDisk source sink disk start now output output' network opened left done → ServesInCabinet source sink cabinet disk name start now output output' old new network done
     in_cabinet done (inl (not, stays, same)) = inl (not_served done not, stays, same)
     in_cabinet done (inr (served, closing, has, told)) = inr (served, closing, served_in served closing has, told)
+
+  -- ---- an audit
+
+  -- the book was read
+  read_in : (ledger : Ledger) (closing : Result ⊤ Failed) → HasReadBook disk opened left network ledger closing → AuditsBook cabinet disk name old new network ledger closing
+  read_in ledger closing has = record {
+    history = has.history;
+    is = has.is;
+    audited = record {
+      begun = held_as (IsHistoryOf network has.history) has.read;
+      sound = has.sound;
+      met = counts closing has.told;
+      left = has_weaker was_tells (cabinet.held old name) _ _
+          (λ was is. has_weaker (cabinet.frame new).tells (cabinet.held new name) _ _
+          (λ now same. subst (IsLeftWith disk was network has.history) (sym same) (left_before was is)) held_left) taken_from;
+    };
+  }
+    where
+      left_before : (was : E) → TakenFrom was → IsLeftWith disk was network has.history left
+      left_before was is = record {
+        now = has.images.now;
+        moments = λ image since. at_opening was image is.0 is.1.0 (has.images.moments image (subst (λ (t : ℕ). disk.left_since left t image) (sym is.1.1) since));
+      }
+
+  pub audits_in : (done : Result (Ledger × Result ⊤ Failed) Fault) → ReadsBookOnDisk disk opened left network done → ReadsBook cabinet disk name old new network done
+  audits_in (Ok read) has = read_in read.0 read.1 has
+  audits_in (Err why) not = not_served (Err why) not

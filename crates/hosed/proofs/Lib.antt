@@ -1,7 +1,9 @@
+pub mod Audits
 pub mod Journals
 pub mod Leaving
 pub mod OneReading
 pub mod OneRun
 pub mod Outcomes
 pub mod Running
+pub mod Texts
 pub mod Turns

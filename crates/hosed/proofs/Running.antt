@@ -45,6 +45,13 @@ pub stopped_told : {S : Type 0} (source : Ghosts S) (start last : Reader S) (fau
 stopped_told source start last fault empty told = WhereTold-map (source.content start.source) (source.content last.source) _ _ told
     (λ a b stopped. subst (λ (p : List ℕ). StopsInTopology fault (p ++ a) b) empty stopped)
 
+-- the text of a network was read
+pub text_told : {S : Type 0} (source : Ghosts S) (start last : Reader S) (network : Network) → start.pending ≡ []
+    → WhereTold (source.content start.source) (source.content last.source) (λ input left. IsTopologyText (start.pending ++ input) network (last.pending ++ left))
+    → WhereTold (source.content start.source) (source.content last.source) (λ input _. (rest : List ℕ) × IsTopologyText input network rest)
+text_told source start last network empty told = WhereTold-map (source.content start.source) (source.content last.source) _ _ told
+    (λ a b is. (last.pending ++ b, subst (λ (p : List ℕ). IsTopologyText (p ++ a) network (last.pending ++ b)) empty is))
+
 -- the topology is wrong
 pub wrong_told : {S : Type 0} (source : Ghosts S) (start last : Reader S) (line word : ℕ) → start.pending ≡ []
     → WhereTold (source.content start.source) (source.content last.source) (λ before after. IsWrongAt (start.pending ++ before) line word (last.pending ++ after))
@@ -176,8 +183,7 @@ module _ {S O : Type 0} (source : Ghosts S) (sink : SinkGhosts O) (start middle 
 
   -- the text of a network was read
   pub text_read : WhereTold (source.content start.source) (source.content middle.source) (λ input _. (rest : List ℕ) × IsTopologyText input network rest)
-  text_read = WhereTold-map (source.content start.source) (source.content middle.source) _ _ text
-      (λ a b told. (middle.pending ++ b, subst (λ (p : List ℕ). IsTopologyText (p ++ a) network (middle.pending ++ b)) empty told))
+  text_read = text_told source start middle network empty text
 
   -- and then lines were answered
   module _ {K R : Type 0} (books : BooksGhosts K R) (keeping : Keeping) (since : List Entry) (first now : K) (begun : keeping.Begins network since)

@@ -49,6 +49,13 @@ of_topology topology.Read = Read
 of_topology topology.TooLong = TooLong
 of_topology topology.Memory = Memory
 
+-- the same where it was read of a text of the cabinet
+abbrev pub of_text : TopoFault → Fault
+of_text (topology.At line word) = Topology line word
+of_text topology.Read = Cabinet
+of_text topology.TooLong = TooLong
+of_text topology.Memory = Memory
+
 -- what a fault of opening a store is for a run
 abbrev pub of_store : StoreFault → Fault
 of_store store.Disk = Cabinet

@@ -1,3 +1,5 @@
+pub mod Auditing
+pub mod CabinetText
 pub mod Ending
 pub mod Fault
 pub mod Offline

@@ -4,7 +4,7 @@ ghost use Rattle.hex.specs.Hex.{encode_lower};
 ghost use Rattle.hose_io.specs.Gather.{IsAdded};
 ghost use Rattle.hose_io.specs.Writing.{IsPut};
 ghost use Rattle.hosed.specs.declared.fault.Fault.TheVariants.{Memory, Write};
-ghost use Rattle.hosed.specs.Fault.{status_of, last_line, of_line, of_store, of_topology};
+ghost use Rattle.hosed.specs.Fault.{status_of, last_line, of_line, of_store, of_text, of_topology};
 
 use hose_io::{Failed, Gather, Sink, write_all};
 use hose_store::StoreFault;
@@ -38,6 +38,18 @@ pub enum Fault {
 }
 
 impl Fault {
+    /// What a fault of reading a topology is, where it is read of a text of the cabinet.
+    pub fn of_text(fault: TopoFault) -> Fault
+        ensures { result ≡ of_text fault }
+    {
+        match fault {
+            TopoFault::At { line, word } => Fault::Topology { line, word },
+            TopoFault::Read => Fault::Cabinet,
+            TopoFault::TooLong => Fault::TooLong,
+            TopoFault::Memory => Fault::Memory,
+        }
+    }
+
     /// The status with which the program ends.
     pub fn status(self) -> u8
         ensures { result ≡ status_of self }

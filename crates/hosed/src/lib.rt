@@ -23,6 +23,8 @@ ghost use Rattle.hose_disk.specs.Cabinet.{object_of};
 ghost use Rattle.hosed.specs.Ending.{IsLastLine, status_of_done};
 ghost use Rattle.hosed.specs.Offline.{OfflineOutcome};
 
+mod audit;
+mod cabinet_text;
 mod fault;
 mod journal;
 mod run;

@@ -1,0 +1,237 @@
+-- An audit: the text of a topology in a cabinet, and the book of a journal on its disk.
+use Rattle.std.proofs.Common.{◌≡◌, ◌≢◌, ◌∙◌, ◌⊎◌, ◌↔◌, inl, inr, ℕ, ◌+◌, ◌<◌, ◌≤◌, List, [], ◌∷◌, ◌++◌, length, drop, Bool, Option, None, Some, IfSome, IsSome, IsTrue, Result, Ok, Err, is_err, refl, sym, ap, subst, arith, append-nil}
+use Rattle.std.specs.Prelude.{⊤}
+use Rattle.std.specs.Borrow.{GName}
+use Rattle.hose_io.specs.Frame.{Frame, Rose, Stays}
+use Rattle.hose_io.specs.Stream.{Stream, Gives}
+use Rattle.hose_io.specs.declared.Failed.{Failed}
+use Rattle.hose_io.specs.declared.source.Source.{Ghosts as SourceGhosts}
+use Rattle.hose_io.proofs.Frames.{Stays-next}
+use Rattle.hose_words.specs.Lines.{Reader}
+use Rattle.hose_words.specs.Reading.{ReadsOn, WhereTold}
+use Rattle.hose_words.specs.declared.limits.TheConstants.{INPUT_LIMIT}
+use Rattle.hose_words.specs.declared.lines.LineFault.{LineFault}
+use Rattle.hose_words.specs.declared.lines.LineFault.TheVariants as line
+use Rattle.hose_graph.specs.Network.{IsNetwork, Network}
+use Rattle.hose_graph.specs.declared.entry.Entry.{Entry}
+use Rattle.hose_law.specs.History.{IsSound, book_of}
+use Rattle.hose_book.specs.Ledger.{Ledger}
+use Rattle.hose_disk.specs.Cabinet.{CabinetFrame, IsTextCall, absent_after, object_of}
+use Rattle.hose_disk.specs.Disk.{IsCalled}
+use Rattle.hose_disk.specs.declared.cabinet.Cabinet.{Ghosts as CabinetGhosts}
+use Rattle.hose_disk.specs.declared.disk.Disk.{Ghosts as DiskGhosts}
+use Rattle.hose_journal.specs.Moments.{LeavesOnly}
+use Rattle.hose_store.specs.Commit.{Closes}
+use Rattle.hose_store.specs.Opening.{IsAtOpening, IsOpenedOn}
+use Rattle.hose_store.specs.Recovery.{IsHistoryOf}
+use Rattle.hose_store.specs.Store.{IsAmid, Kept}
+use Rattle.hose_topo.specs.Reading.{StopsInTopology, fault_of}
+use Rattle.hose_topo.specs.TopologyText.{IsTopologyText}
+use Rattle.hose_topo.specs.declared.fault.TopoFault.{TopoFault}
+use Rattle.hose_topo.specs.declared.fault.TopoFault.TheVariants as topo
+use Rattle.hosed.specs.Auditing.{CabinetFailed, CabinetHeld, HasReadBook, IsTextFault, IsTextOf, ReadsTopology}
+use Rattle.hosed.specs.CabinetText.{OnlyTextsRead, TextState, reading_frame, stream_at, text_stream, whole_text}
+use Rattle.hosed.specs.Fault.{of_text}
+use Rattle.hosed.specs.Run.{TellsNoNetwork}
+use Rattle.hosed.specs.declared.fault.Fault.{Fault}
+use Rattle.hosed.specs.declared.fault.Fault.TheVariants as fault
+
+-- ---- the book on a disk
+
+module _ {E : Type 0} (disk : DiskGhosts E) (network : Network) (old left : E) (store : Kept E) (ledger : Ledger) (closing : Result ⊤ Failed)
+    (counts_now : (d : E) (t : ℕ) (image : List ℕ) → t ≤ disk.moment d → disk.may_leave d image → disk.left_since d t image)
+    (opened : IsOpenedOn disk old network store) (opening : LeavesOnly disk old store.journal.disk (IsAtOpening disk old network))
+    (closes : Closes disk store left closing) (call : IsCalled (disk.frame store.journal.disk) (disk.frame left) closing) (is : ledger ≡ store.ledger) where
+  amid : LeavesOnly disk store.journal.disk left (IsAmid store.ledger.network opened.history None None)
+  amid = closes.any_moment opened.history None opened.has
+
+  stands : (image : List ℕ) → IsAmid store.ledger.network opened.history None None image → IsHistoryOf network opened.history image
+  stands image (inl is_history) = subst (λ (n : Network). IsHistoryOf n opened.history image) opened.network is_history
+  stands image (inr (inl none)) = absurd none
+  stands image (inr (inr none)) = absurd none
+
+  -- a store was opened and closed
+  pub read_on : HasReadBook disk old left network ledger closing
+  read_on = record {
+    history = opened.history;
+    read = opened.read;
+    sound = subst (λ (n : Network). IsSound n 0 opened.history) opened.network opened.has.sound;
+    is = is ∙ (ap (λ (n : Network). record { network = n; book = store.ledger.book }) opened.network ∙ ap (λ b. record { network = network; book = b }) opened.has.book);
+    told = call.told;
+    images = record {
+      now = λ image may. stands image (amid.each image (counts_now left (disk.moment store.journal.disk) image amid.later may));
+      moments = λ image since. at image (amid.before (disk.moment old) image opening.later since);
+    };
+  }
+    where
+      at : (image : List ℕ) → disk.left_since store.journal.disk (disk.moment old) image ⊎ IsAmid store.ledger.network opened.history None None image → IsAtOpening disk old network image
+      at image (inl before) = opening.each image before
+      at image (inr in_closing) = inr (opened.history, opened.read, stands image in_closing)
+
+-- ---- the text of a topology
+
+too_long_text : (why : TopoFault) → of_text why ≡ fault.TooLong → why ≡ topo.TooLong
+too_long_text (topo.At l word) same = absurd (cc same)
+too_long_text topo.Read same = absurd (cc same)
+too_long_text topo.TooLong same = refl
+too_long_text topo.Memory same = absurd (cc same)
+
+module _ {C E : Type 0} (cabinet : CabinetGhosts C E) (source : SourceGhosts (TextState C)) (names : C → List GName) (one : (a b : C) → names a ≡ names b → a ≡ b)
+    (content : (t : TextState C) → source.content t ≡ text_stream cabinet t.was t.name t.from) (frame : (t : TextState C) → source.frame t ≡ reading_frame cabinet (names t.was) t)
+    (old new : C) (name : List ℕ) (start last : Reader (TextState C))
+    (was : start.source.was ≡ old) (value : start.source.cabinet.now ≡ old) (named : start.source.name ≡ name) (from : start.source.from ≡ 0) (taken : start.taken ≡ 0)
+    (behind : last.source.cabinet.now ≡ new) (only : OnlyTextsRead cabinet last.source.was last.source.cabinet.now)
+    (absent : IsTrue (cabinet.frame last.source.was).tells → (cabinet.frame last.source.cabinet.now).absent ≡ (cabinet.frame last.source.was).absent)
+    (there : IsTrue (cabinet.frame old).tells → IsSome (cabinet.text old name)) (reads : ReadsOn source start last) (limit : last.taken ≤ INPUT_LIMIT + 1) where
+  -- what the text was read of is the cabinet that was lent
+  same_was : last.source.was ≡ old
+  same_was =
+      let loans : (reading_frame cabinet (names last.source.was) last.source).loan ≡ (reading_frame cabinet (names start.source.was) start.source).loan =
+          ap (λ (f : Frame). f.loan) (sym (frame last.source)) ∙ (reads.stays.loan ∙ ap (λ (f : Frame). f.loan) (frame start.source)) in
+      one last.source.was start.source.was (ap (drop 1) loans) ∙ was
+
+  only_here : OnlyTextsRead cabinet old new
+  only_here = subst (λ (c : C). OnlyTextsRead cabinet old c) behind (subst (λ (c : C). OnlyTextsRead cabinet c last.source.cabinet.now) same_was only)
+
+  absent_here : IsTrue (cabinet.frame old).tells → (cabinet.frame new).absent ≡ (cabinet.frame old).absent
+  absent_here = subst (λ (c : C). IsTrue (cabinet.frame old).tells → (cabinet.frame c).absent ≡ (cabinet.frame old).absent) behind
+      (subst (λ (c : C). IsTrue (cabinet.frame c).tells → (cabinet.frame last.source.cabinet.now).absent ≡ (cabinet.frame c).absent) same_was absent)
+
+  -- the text as it was
+  first_content : source.content start.source ≡ whole_text cabinet old name
+  first_content = content start.source
+      ∙ (ap (λ (c : C). text_stream cabinet c start.source.name start.source.from) was
+      ∙ (ap (λ (n : List ℕ). text_stream cabinet old n start.source.from) named ∙ ap (text_stream cabinet old name) from))
+
+  faults_of : (t : TextState C) → (source.frame t).faults ≡ (cabinet.frame t.cabinet.now).faults
+  faults_of t = ap (λ (f : Frame). f.faults) (frame t)
+
+  faults_first : (source.frame start.source).faults ≡ (cabinet.frame old).faults
+  faults_first = faults_of start.source ∙ ap (λ (c : C). (cabinet.frame c).faults) value
+
+  faults_last : (source.frame last.source).faults ≡ (cabinet.frame new).faults
+  faults_last = faults_of last.source ∙ ap (λ (c : C). (cabinet.frame c).faults) behind
+
+  held : source.frame last.source ≡ source.frame start.source → CabinetHeld cabinet old new
+  held same = ap (λ (n : ℕ). record { faults = n; number = 0; loan = [] }) (sym faults_last ∙ (ap (λ (f : Frame). f.faults) same ∙ faults_first))
+
+  failed : Rose (source.frame start.source) (source.frame last.source) → CabinetFailed cabinet old new
+  failed rose = record { rose = grind (arith, rose.rose, faults_first, faults_last) }
+
+  moved : (P : Option Stream → Option Stream → Type 0) → P (source.content start.source) (source.content last.source) → P (whole_text cabinet old name) (source.content last.source)
+  moved P is = subst (λ (c : Option Stream). P c (source.content last.source)) first_content is
+
+  -- a topology was read, or none
+  read_as : (done : Result Network Fault) → ((done ≡ Err fault.TooLong) ↔ (INPUT_LIMIT < last.taken)) → IsTextOf cabinet old new (whole_text cabinet old name) (source.content last.source) done
+      → ReadsTopology cabinet old new name done
+  read_as done long text = record {
+    taken = reads.takes.0;
+    left = source.content last.source;
+    gives = moved (λ a b. Gives a b reads.takes.0) reads.takes.1;
+    limit = omega (arith, limit, reads.takes.2, taken);
+    too_long = ((λ is. omega (arith, long.0 is, reads.takes.2, taken)), λ more. long.1 (omega (arith, more, reads.takes.2, taken)));
+    text = text;
+    only_texts = only_here;
+    absent = λ told some. absent_here told;
+    not_there = λ told none. absurd (none_there (cabinet.text old name) none (there told));
+  }
+    where
+      none_there : (found : Option (List ℕ)) → found ≡ None → IsSome found → ⊥
+      none_there None none some = absurd (cc some)
+      none_there (Some bytes) none some = cc none
+
+  pub read_ok : (network : Network) → IsNetwork network → (◌≡◌ {A = Result Network Fault} (Ok network) (Err fault.TooLong) ↔ (INPUT_LIMIT < last.taken)) → source.frame last.source ≡ source.frame start.source
+      → WhereTold (source.content start.source) (source.content last.source) (λ bytes _. (rest : List ℕ) × IsTopologyText bytes network rest) → ReadsTopology cabinet old new name (Ok network)
+  read_ok network is long same text = read_as (Ok network) long (is, held same, moved (λ a b. WhereTold a b (λ bytes _. (rest : List ℕ) × IsTopologyText bytes network rest)) text)
+
+  pub read_err : (why : TopoFault) → ((line word : ℕ) → why ≡ topo.At line word → TellsNoNetwork line word (source.content start.source) (source.content last.source))
+      → ((met : LineFault) → why ≡ fault_of met → WhereTold (source.content start.source) (source.content last.source) (StopsInTopology met))
+      → (why ≡ topo.Read → Rose (source.frame start.source) (source.frame last.source)) → ((why ≡ topo.Read → ⊥) → source.frame last.source ≡ source.frame start.source)
+      → (why ≡ topo.Memory → last ≡ start) → ((why ≡ topo.TooLong) ↔ (INPUT_LIMIT < last.taken)) → ReadsTopology cabinet old new name (Err (of_text why))
+  read_err why wrong stopped rose unfailed memory long = read_as (Err (of_text why))
+      ((λ is. long.0 (too_long_text why (cc is))), λ more. ap (λ (w : TopoFault). Err (of_text w)) (long.1 more))
+      (at why wrong stopped rose unfailed memory)
+    where
+      at : (met : TopoFault) → ((line word : ℕ) → met ≡ topo.At line word → TellsNoNetwork line word (source.content start.source) (source.content last.source))
+          → ((f : LineFault) → met ≡ fault_of f → WhereTold (source.content start.source) (source.content last.source) (StopsInTopology f))
+          → (met ≡ topo.Read → Rose (source.frame start.source) (source.frame last.source)) → ((met ≡ topo.Read → ⊥) → source.frame last.source ≡ source.frame start.source)
+          → (met ≡ topo.Memory → last ≡ start) → IsTextFault cabinet old new (whole_text cabinet old name) (source.content last.source) (of_text met)
+      at (topo.At l word) wrong stopped rose unfailed memory = (moved (TellsNoNetwork l word) (wrong l word refl), held (unfailed (λ is. absurd (cc is))))
+      at topo.Read wrong stopped rose unfailed memory = failed (rose refl)
+      at topo.TooLong wrong stopped rose unfailed memory = (moved (λ a b. WhereTold a b (StopsInTopology line.TooLong)) (stopped line.TooLong refl), held (unfailed (λ is. absurd (cc is))))
+      at topo.Memory wrong stopped rose unfailed memory = (ap (λ (r : Reader (TextState C)). source.content r.source) (memory refl) ∙ first_content, held (unfailed (λ is. absurd (cc is))))
+
+-- ---- the text is asked for once before
+
+module _ {C E : Type 0} (cabinet : CabinetGhosts C E) (old mid : C) (name : List ℕ) (texts : cabinet.text mid ≡ cabinet.text old) (disks : cabinet.held mid ≡ cabinet.held old)
+    (absent : IsTrue (cabinet.frame old).tells → (cabinet.frame mid).absent ≡ absent_after (cabinet.text old name) (cabinet.frame old).absent) where
+  only_asked : {T : Type 0} (result : Result T Failed) → IsTextCall (cabinet.frame old) (cabinet.frame mid) result → OnlyTextsRead cabinet old mid
+  only_asked result call = record { texts = texts; disks = disks; stays = call.met.stays; returned = call.returned; out = call.out; tells = call.tells }
+
+  kept_absent : (found : Option (List ℕ)) (count : ℕ) → IsSome found → absent_after found count ≡ count
+  kept_absent None count some = absurd (cc some)
+  kept_absent (Some bytes) count some = refl
+
+  absent_kept : IsTrue (cabinet.frame old).tells → IsSome (cabinet.text old name) → (cabinet.frame mid).absent ≡ (cabinet.frame old).absent
+  absent_kept told some = absent told ∙ kept_absent (cabinet.text old name) (cabinet.frame old).absent some
+
+  gives_nothing : (content : Option Stream) → Gives content content []
+  gives_nothing None = tt
+  gives_nothing (Some stream) = record { taken = sym (append-nil stream.taken); left = refl }
+
+  -- it is refused
+  pub not_given : {T : Type 0} (failed : Failed) → IsTextCall {T = T} (cabinet.frame old) (cabinet.frame mid) (Err failed) → ReadsTopology cabinet old mid name (Err fault.Cabinet)
+  not_given {T} failed call = record {
+    taken = [];
+    left = whole_text cabinet old name;
+    gives = gives_nothing (whole_text cabinet old name);
+    limit = omega arith;
+    too_long = ((λ is. absurd (cc is)), λ more. absurd (omega (arith, more)));
+    text = call.met.failed refl;
+    only_texts = only_asked {T = T} (Err failed) call;
+    absent = absent_kept;
+    not_there = λ told none. refl;
+  }
+
+  -- and then it is read
+  module _ {T : Type 0} (given : T) (new : C) (call : IsTextCall {T = T} (cabinet.frame old) (cabinet.frame mid) (Ok given)) where
+    same_text : whole_text cabinet mid name ≡ whole_text cabinet old name
+    same_text = ap (λ (b : Bool). stream_at 0 b (cabinet.text mid name)) call.tells ∙ ap (λ (t : List ℕ → Option (List ℕ)). stream_at 0 (cabinet.frame old).tells (t name)) texts
+
+    held_too : CabinetHeld cabinet mid new → CabinetHeld cabinet old new
+    held_too same = same ∙ call.met.ok
+
+    failed_too : CabinetFailed cabinet mid new → CabinetFailed cabinet old new
+    failed_too rose = subst (λ (f : Frame). Rose f (object_of (cabinet.frame new))) call.met.ok rose
+
+    text_too : (left : Option Stream) (done : Result Network Fault) → IsTextOf cabinet mid new (whole_text cabinet mid name) left done → IsTextOf cabinet old new (whole_text cabinet old name) left done
+    text_too left (Ok network) is = (is.0, held_too is.1, subst (λ (t : Option Stream). WhereTold t left (λ bytes _. (rest : List ℕ) × IsTopologyText bytes network rest)) same_text is.2)
+    text_too left (Err (fault.Topology l word)) is = (subst (λ (t : Option Stream). TellsNoNetwork l word t left) same_text is.0, held_too is.1)
+    text_too left (Err fault.TooLong) is = (subst (λ (t : Option Stream). WhereTold t left (StopsInTopology line.TooLong)) same_text is.0, held_too is.1)
+    text_too left (Err fault.Cabinet) is = failed_too is
+    text_too left (Err fault.Memory) is = (is.0 ∙ same_text, held_too is.1)
+    text_too left (Err (fault.Words word)) is = absurd is
+    text_too left (Err fault.Read) is = absurd is
+    text_too left (Err fault.Write) is = absurd is
+    text_too left (Err (fault.Other kept digest)) is = absurd is
+    text_too left (Err (fault.Damaged at)) is = absurd is
+
+    pub read_then : (done : Result Network Fault) → (IsTrue (cabinet.frame old).tells → cabinet.text old name ≡ None → ⊥) → ReadsTopology cabinet mid new name done → ReadsTopology cabinet old new name done
+    read_then done there reads = record {
+      taken = reads.taken;
+      left = reads.left;
+      gives = subst (λ (t : Option Stream). Gives t reads.left reads.taken) same_text reads.gives;
+      limit = reads.limit;
+      too_long = reads.too_long;
+      text = text_too reads.left done reads.text;
+      only_texts = record {
+        texts = reads.only_texts.texts ∙ texts;
+        disks = reads.only_texts.disks ∙ disks;
+        stays = Stays-next call.met.stays reads.only_texts.stays;
+        returned = reads.only_texts.returned ∙ call.returned;
+        out = reads.only_texts.out ∙ call.out;
+        tells = reads.only_texts.tells ∙ call.tells;
+      };
+      absent = λ told some. reads.absent (subst IsTrue (sym call.tells) told) (subst (λ (t : List ℕ → Option (List ℕ)). IsSome (t name)) (sym texts) some) ∙ absent_kept told some;
+      not_there = λ told none. absurd (there told none);
+    }

@@ -1,0 +1,87 @@
+// An audit: the book of a journal, as a text.
+ghost use Rattle.std.specs.Prelude.{◌≡◌, IsSome, IsTrue, None, Ok};
+ghost use Rattle.hose_io.specs.Frame.{Stays};
+ghost use Rattle.hose_disk.specs.Cabinet.{object_of};
+ghost use Rattle.hosed.specs.Auditing.{ReadsBook, ReadsBookOnDisk, ReadsTopology};
+
+use crate::cabinet_text::CabinetText;
+use crate::fault::Fault;
+use hose_book::Book;
+use hose_disk::{Cabinet, Disk};
+use hose_graph::Topology;
+use hose_io::Failed;
+use hose_store::{Store, law_one_meaning};
+use hose_topo::read;
+use hose_words::LineReader;
+use std::alloc::Global;
+
+// The topology of the text of a name.
+fn read_topology<C: Cabinet>(
+    alloc: Global,
+    name: &str,
+    cabinet: &mut C,
+) -> Result<Topology, Fault>
+    ensures reads { ReadsTopology C.Cabinet cabinet.old cabinet.new name.now result }
+{
+    // A text that is not there is told before a topology is looked for in it.
+    let Ok(_) = cabinet.text(name, 0, &mut [0]) else {
+        return Err(Fault::Cabinet);
+    };
+    read_text(alloc, name, cabinet)
+}
+
+// The same of a text that is there.
+fn read_text<C: Cabinet>(alloc: Global, name: &str, cabinet: &mut C) -> Result<Topology, Fault>
+    requires { IsTrue (C.frame cabinet.old).tells → IsSome (C.text cabinet.old name.now) }
+    ensures reads { ReadsTopology C.Cabinet cabinet.old cabinet.new name.now result }
+{
+    let mut lines = LineReader::new(CabinetText::new(cabinet, name));
+    let topology = read(alloc, &mut lines);
+    // What is known of the cabinet again comes from here.
+    let _ = lines.into_source().into_cabinet();
+    match topology {
+        Ok(topology) => Ok(topology),
+        Err(fault) => Err(Fault::of_text(fault)),
+    }
+}
+
+// The book of the journal of a name, and what closing it came to. The disk is back in the cabinet
+// then.
+fn read_book<C: Cabinet>(
+    alloc: Global,
+    name: &str,
+    topology: Topology,
+    cabinet: &mut C,
+) -> Result<(Book, Result<(), Failed>), Fault>
+    requires { (C.frame cabinet.old).out ≡ None }
+    ensures reads { ReadsBook C.Cabinet C.Disk.Disk name.now cabinet.old cabinet.new
+        topology result }
+    ensures back { (C.frame cabinet.new).out ≡ None }
+    ensures cabinet { Stays (object_of (C.frame cabinet.old)) (object_of (C.frame cabinet.new)) }
+{
+    let Ok(disk) = cabinet.disk(name) else {
+        return Err(Fault::Cabinet);
+    };
+    let read = read_book_on_disk(alloc, topology, disk);
+    cabinet.back(read.1);
+    read.0
+}
+
+// The same on a disk, which comes back.
+fn read_book_on_disk<D: Disk>(
+    alloc: Global,
+    topology: Topology,
+    disk: D,
+) -> (Result<(Book, Result<(), Failed>), Fault>, D)
+    ensures { ReadsBookOnDisk D.Disk disk result.1 topology result.0 }
+{
+    // What is known of each image of the disk comes from the law.
+    law_one_meaning(&topology);
+    match Store::open(alloc, disk, topology) {
+        Ok(store) => {
+            let (closed, disk, book) = store.close();
+            (Ok((book, closed)), disk)
+        }
+        Err(refused) => (Err(Fault::from(refused.0)), refused.1),
+    }
+}
