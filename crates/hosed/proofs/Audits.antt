@@ -1,8 +1,8 @@
 -- An audit: the text of a topology in a cabinet, and the book of a journal on its disk.
-use Rattle.std.proofs.Common.{◌≡◌, ◌≢◌, ◌∙◌, ◌⊎◌, ◌↔◌, inl, inr, ℕ, ◌+◌, ◌<◌, ◌≤◌, List, [], ◌∷◌, ◌++◌, length, drop, Bool, Option, None, Some, IfSome, IsSome, IsTrue, Result, Ok, Err, is_err, refl, sym, ap, subst, arith, append-nil}
+use Rattle.std.proofs.Common.{◌≡◌, ◌∙◌, ◌⊎◌, ◌↔◌, inl, inr, ℕ, ◌+◌, ◌<◌, ◌≤◌, List, [], drop, Bool, Option, None, Some, IfSome, IsSome, IsTrue, Result, Ok, Err, refl, sym, ap, subst, arith, append-nil}
 use Rattle.std.specs.Prelude.{⊤}
 use Rattle.std.specs.Borrow.{GName}
-use Rattle.hose_io.specs.Frame.{Frame, Rose, Stays}
+use Rattle.hose_io.specs.Frame.{Frame, Met, Rose}
 use Rattle.hose_io.specs.Stream.{Stream, Gives}
 use Rattle.hose_io.specs.declared.Failed.{Failed}
 use Rattle.hose_io.specs.declared.source.Source.{Ghosts as SourceGhosts}
@@ -14,12 +14,13 @@ use Rattle.hose_words.specs.declared.lines.LineFault.{LineFault}
 use Rattle.hose_words.specs.declared.lines.LineFault.TheVariants as line
 use Rattle.hose_graph.specs.Network.{IsNetwork, Network}
 use Rattle.hose_graph.specs.declared.entry.Entry.{Entry}
-use Rattle.hose_law.specs.History.{IsSound, book_of}
+use Rattle.hose_law.specs.History.{IsSound}
 use Rattle.hose_book.specs.Ledger.{Ledger}
-use Rattle.hose_disk.specs.Cabinet.{CabinetFrame, IsTextCall, absent_after, object_of}
+use Rattle.hose_disk.specs.Cabinet.{Has, IsTextCall, absent_after, object_of}
 use Rattle.hose_disk.specs.Disk.{IsCalled}
 use Rattle.hose_disk.specs.declared.cabinet.Cabinet.{Ghosts as CabinetGhosts}
 use Rattle.hose_disk.specs.declared.disk.Disk.{Ghosts as DiskGhosts}
+use Rattle.hose_journal.specs.Image.{Meaning, damaged, other}
 use Rattle.hose_journal.specs.Moments.{LeavesOnly}
 use Rattle.hose_store.specs.Commit.{Closes}
 use Rattle.hose_store.specs.Opening.{IsAtOpening, IsOpenedOn}
@@ -29,10 +30,12 @@ use Rattle.hose_topo.specs.Reading.{StopsInTopology, fault_of}
 use Rattle.hose_topo.specs.TopologyText.{IsTopologyText}
 use Rattle.hose_topo.specs.declared.fault.TopoFault.{TopoFault}
 use Rattle.hose_topo.specs.declared.fault.TopoFault.TheVariants as topo
-use Rattle.hosed.specs.Auditing.{CabinetFailed, CabinetHeld, HasReadBook, IsTextFault, IsTextOf, ReadsTopology}
+use Rattle.hosed.specs.Auditing.{HasAudited, HasReadBook, IsBookOf, IsTextFault, IsTextOf, ReadsBook, ReadsNamed, ReadsTopology}
 use Rattle.hosed.specs.CabinetText.{OnlyTextsRead, TextState, reading_frame, stream_at, text_stream, whole_text}
 use Rattle.hosed.specs.Fault.{of_text}
+use Rattle.hosed.specs.OnDisk.{CabinetFailed, CabinetHeld, Held, IsRefused, IsUnopened}
 use Rattle.hosed.specs.Run.{TellsNoNetwork}
+use Rattle.hosed.specs.ServingOnDisk.{IsNotServed}
 use Rattle.hosed.specs.declared.fault.Fault.{Fault}
 use Rattle.hosed.specs.declared.fault.Fault.TheVariants as fault
 
@@ -87,7 +90,7 @@ module _ {C E : Type 0} (cabinet : CabinetGhosts C E) (source : SourceGhosts (Te
   same_was : last.source.was ≡ old
   same_was =
       let loans : (reading_frame cabinet (names last.source.was) last.source).loan ≡ (reading_frame cabinet (names start.source.was) start.source).loan =
-          ap (λ (f : Frame). f.loan) (sym (frame last.source)) ∙ (reads.stays.loan ∙ ap (λ (f : Frame). f.loan) (frame start.source)) in
+      ap (λ (f : Frame). f.loan) (sym (frame last.source)) ∙ (reads.stays.loan ∙ ap (λ (f : Frame). f.loan) (frame start.source)) in
       one last.source.was start.source.was (ap (drop 1) loans) ∙ was
 
   only_here : OnlyTextsRead cabinet old new
@@ -235,3 +238,95 @@ module _ {C E : Type 0} (cabinet : CabinetGhosts C E) (old mid : C) (name : List
       absent = λ told some. reads.absent (subst IsTrue (sym call.tells) told) (subst (λ (t : List ℕ → Option (List ℕ)). IsSome (t name)) (sym texts) some) ∙ absent_kept told some;
       not_there = λ told none. absurd (there told none);
     }
+
+-- ---- both
+
+-- no store that is not opened is too long a text
+never_long : {C E : Type 0} (cabinet : CabinetGhosts C E) (disk : DiskGhosts E) (name : List ℕ) (old new : C) (network : Network) (done : Result (Ledger × Result ⊤ Failed) Fault) → ReadsBook cabinet disk name old new network done → done ≡ Err fault.TooLong → ⊥
+never_long cabinet disk name old new network (Ok read) reads long = cc long
+never_long cabinet disk name old new network (Err fault.TooLong) reads long = reads
+never_long cabinet disk name old new network (Err fault.Cabinet) reads long = cc long
+never_long cabinet disk name old new network (Err fault.Memory) reads long = cc long
+never_long cabinet disk name old new network (Err (fault.Words word)) reads long = reads
+never_long cabinet disk name old new network (Err (fault.Topology l word)) reads long = reads
+never_long cabinet disk name old new network (Err fault.Read) reads long = reads
+never_long cabinet disk name old new network (Err fault.Write) reads long = reads
+never_long cabinet disk name old new network (Err (fault.Other kept digest)) reads long = cc long
+never_long cabinet disk name old new network (Err (fault.Damaged at)) reads long = cc long
+
+module _ {C E : Type 0} (cabinet : CabinetGhosts C E) (disk : DiskGhosts E) (old mid new : C) (only : OnlyTextsRead cabinet old mid) where
+  has_before : (name : List ℕ) (P : E → Type 0) → Has (cabinet.frame mid).tells (cabinet.held mid name) P → Has (cabinet.frame old).tells (cabinet.held old name) P
+  has_before name P has = λ told.
+      let found = has (subst IsTrue (sym only.tells) told) in
+      (found.0, ap (λ (h : List ℕ → Option E). h name) (sym only.disks) ∙ found.1, found.2)
+
+  held_before : (name : List ℕ) (P : List ℕ → Type 0) → Held cabinet disk mid new name P → Held cabinet disk old new name P
+  held_before name P held = has_before name (λ was. IfSome (disk.content was) P) held
+
+  unopened_before : (network : Network) (name : List ℕ) → IsUnopened cabinet disk mid new network name → IsUnopened cabinet disk old new network name
+  unopened_before network name (inl same) = inl (same ∙ only.disks)
+  unopened_before network name (inr has) = inr (has_before name _ has)
+
+  refused_before : (network : Network) (name : List ℕ) (meaning : Meaning Entry) → IsRefused cabinet disk mid new network name meaning → IsRefused cabinet disk old new network name meaning
+  refused_before network name meaning refused = record {
+    means = held_before name _ refused.means;
+    none = held_before name _ refused.none;
+    unopened = unopened_before network name refused.unopened;
+  }
+
+  -- where no call of the cabinet failed before
+  module _ (same : CabinetHeld cabinet old mid) (name : List ℕ) (network : Network) where
+    audited_before : (history : List Entry) (closing : Result ⊤ Failed) → HasAudited cabinet disk name mid new network history closing → HasAudited cabinet disk name old new network history closing
+    audited_before history closing has = record {
+      begun = held_before name _ has.begun;
+      sound = has.sound;
+      met = subst (λ (f : Frame). Met f (object_of (cabinet.frame new)) closing) same has.met;
+      left = has_before name _ has.left;
+    }
+
+    not_served_before : (why : Fault) → IsNotServed cabinet disk name mid new network (Err why) → IsNotServed cabinet disk name old new network (Err why)
+    not_served_before fault.Cabinet not = (unopened_before network name not.0, subst (λ (f : Frame). Rose f (object_of (cabinet.frame new))) same not.1)
+    not_served_before (fault.Other kept given) not = (not.0, refused_before network name (other kept) not.1)
+    not_served_before (fault.Damaged at) not = refused_before network name (damaged at) not
+    not_served_before fault.Memory not = unopened_before network name not
+    not_served_before (fault.Words word) not = absurd not
+    not_served_before (fault.Topology l word) not = absurd not
+    not_served_before fault.Read not = absurd not
+    not_served_before fault.Write not = absurd not
+    not_served_before fault.TooLong not = absurd not
+
+module _ {C E : Type 0} (cabinet : CabinetGhosts C E) (disk : DiskGhosts E) (topology journal : List ℕ) (old : C) where
+  -- no topology was read
+  pub named_none : (new : C) (why : Fault) → ReadsTopology cabinet old new topology (Err why) → ReadsNamed cabinet disk topology journal old new (Err why)
+  named_none new why reads = record {
+    taken = reads.taken;
+    left = reads.left;
+    gives = reads.gives;
+    limit = reads.limit;
+    too_long = ((λ is. reads.too_long.0 (cc is)), λ more. cc (reads.too_long.1 more));
+    book = inl (reads.text, reads.only_texts.disks);
+    absent = reads.absent;
+    not_there = λ told none. cc (reads.not_there told none);
+  }
+
+  -- and then the book
+  pub named_then : (mid new : C) (network : Network) (done : Result (Ledger × Result ⊤ Failed) Fault) → ReadsTopology cabinet old mid topology (Ok network) → ReadsBook cabinet disk journal mid new network done
+      → (cabinet.frame new).absent ≡ (cabinet.frame mid).absent → ReadsNamed cabinet disk topology journal old new done
+  named_then mid new network done reads book absent = record {
+    taken = reads.taken;
+    left = reads.left;
+    gives = reads.gives;
+    limit = reads.limit;
+    too_long = ((λ is. absurd (never_long cabinet disk journal mid new network done book is)), λ more. absurd (cc (reads.too_long.1 more)));
+    book = at done book;
+    absent = λ told some. absent ∙ reads.absent told some;
+    not_there = λ told none. absurd (cc (reads.not_there told none));
+  }
+    where
+      at : (one : Result (Ledger × Result ⊤ Failed) Fault) → ReadsBook cabinet disk journal mid new network one → IsBookOf cabinet disk topology journal old new reads.left one
+      at (Ok read) has = record {
+        network = network;
+        text = reads.text.2;
+        is = record { history = has.history; is = has.is; audited = audited_before cabinet disk old mid new reads.only_texts reads.text.1 journal network has.history read.1 has.audited };
+      }
+      at (Err why) not = inr (record { network = network; text = reads.text.2; is = not_served_before cabinet disk old mid new reads.only_texts reads.text.1 journal network why not })

@@ -18,8 +18,8 @@ use Rattle.hose_store.specs.Commit.{store_books}
 use Rattle.hose_topo.specs.Reading.{StopsInTopology}
 use Rattle.hose_topo.specs.TopologyText.{IsTopologyText}
 use Rattle.hosed.specs.OnDisk.{keeping_of, on_disk}
-use Rattle.hosed.specs.Run.{IsCutOff, IsRun, IsRunUpTo, TellsNoNetwork, in_memory}
-use Rattle.hosed.specs.RunOutcome.{HasRead, IsBroken, IsStarved, RunLeaves}
+use Rattle.hosed.specs.Run.{HasRead, in_memory, IsCutOff, IsRun, IsRunUpTo, TellsNoNetwork}
+use Rattle.hosed.specs.RunOutcome.{IsBroken, IsStarved, RunLeaves}
 use Rattle.hosed.specs.Serving.{ServesInMemory, plain_books}
 use Rattle.hosed.specs.ServingOnDisk.{HasServedInCabinet, IsNotServed, ServesInCabinet, first_of}
 use Rattle.hosed.specs.declared.fault.Fault.{Fault}

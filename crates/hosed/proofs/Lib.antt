@@ -1,4 +1,6 @@
+pub mod Audited
 pub mod Audits
+pub mod Commands
 pub mod Journals
 pub mod Leaving
 pub mod OneReading

@@ -24,8 +24,8 @@ use Rattle.hose_law.specs.Script.{ReadLine}
 use Rattle.hose_topo.specs.TopologyText.{IsTopologyText}
 use Rattle.hosed.specs.Ending.{IsOut, status_of_done}
 use Rattle.hosed.specs.OnDisk.{Held, IsRefused, IsToldAs, keeping_of}
-use Rattle.hosed.specs.Run.{HasRun, IsFor, IsRefusedText, IsRun, IsServable, Keeping, TellsNoNetwork}
-use Rattle.hosed.specs.RunOutcome.{EndsRefused, HasRead, InputStops, IsBroken, JournalIs, NoneFailed, RunLeaves}
+use Rattle.hosed.specs.Run.{HasRead, HasRun, IsFor, IsRefusedText, IsRun, IsServable, Keeping, TellsNoNetwork}
+use Rattle.hosed.specs.RunOutcome.{EndsRefused, InputStops, IsBroken, JournalIs, NoneFailed, RunLeaves}
 use Rattle.hose_words.specs.Saying.{IsAllTaken, IsLeftOver}
 use Rattle.hosed.specs.declared.fault.Fault.{Fault}
 use Rattle.hosed.specs.declared.fault.Fault.TheVariants.{Words, Topology, Read, Write, Other, Damaged, Cabinet, Memory, TooLong}
@@ -48,16 +48,31 @@ too_long_at_8 (Err Cabinet) is = absurd (omega (arith, is))
 too_long_at_8 (Err Memory) is = absurd (omega (arith, is))
 too_long_at_8 (Err TooLong) is = refl
 
+-- ---- a command is not refused for its words
+
+pub run_not_1 : {I O C E : Type 0} (source : SourceGhosts I) (sink : SinkGhosts O) (cabinet : CabinetGhosts C E) (disk : DiskGhosts E) (journal : Option (List ℕ)) (input input' : I) (output left : O) (place place' : C)
+    (done : Result ⊤ Fault) → RunLeaves source sink cabinet disk journal input input' output left place place' done → status_of_done done ≡ 1 → ⊥
+run_not_1 source sink cabinet disk journal input input' output left place place' (Ok _) leaves is = omega (arith, is)
+run_not_1 source sink cabinet disk journal input input' output left place place' (Err (Words word)) leaves is = leaves
+run_not_1 source sink cabinet disk journal input input' output left place place' (Err (Topology line word)) leaves is = omega (arith, is)
+run_not_1 source sink cabinet disk journal input input' output left place place' (Err Read) leaves is = omega (arith, is)
+run_not_1 source sink cabinet disk journal input input' output left place place' (Err Write) leaves is = omega (arith, is)
+run_not_1 source sink cabinet disk journal input input' output left place place' (Err (Other old given)) leaves is = omega (arith, is)
+run_not_1 source sink cabinet disk journal input input' output left place place' (Err (Damaged at)) leaves is = omega (arith, is)
+run_not_1 source sink cabinet disk journal input input' output left place place' (Err Cabinet) leaves is = omega (arith, is)
+run_not_1 source sink cabinet disk journal input input' output left place place' (Err Memory) leaves is = omega (arith, is)
+run_not_1 source sink cabinet disk journal input input' output left place place' (Err TooLong) leaves is = omega (arith, is)
+
 -- ---- an input that can be served
 
 -- its topology is not refused
-not_refused : (line word : ℕ) (old new : Option Stream) (bytes : List ℕ) → Gives old new bytes → IsServable old → TellsNoNetwork line word old new → ⊥
+pub not_refused : (line word : ℕ) (old new : Option Stream) (bytes : List ℕ) → Gives old new bytes → IsServable old → TellsNoNetwork line word old new → ⊥
 not_refused line word (Some old) (Some new) bytes gives servable told = told.1 servable.0 servable.1 servable.2
 not_refused line word (Some old) None bytes gives servable told = gives
 not_refused line word None new bytes gives servable told = servable
 
 -- it is not too long
-not_long : (old new : Option Stream) (bytes : List ℕ) → Gives old new bytes → IsServable old → 2 ^ 30 < length bytes → ⊥
+pub not_long : (old new : Option Stream) (bytes : List ℕ) → Gives old new bytes → IsServable old → 2 ^ 30 < length bytes → ⊥
 not_long (Some old) (Some new) bytes gives servable long = omega (arith, servable.3, long, ap length gives.left, length-append bytes new.left)
 not_long (Some old) None bytes gives servable long = gives
 not_long None new bytes gives servable long = servable
@@ -70,7 +85,7 @@ no_run keeping (Some old) (Some new) network lines replies stops refused run = r
 no_run keeping (Some old) None network lines replies stops refused run = refused
 no_run keeping None new network lines replies stops refused run = refused
 
-no_network_read : (old new : Option Stream) (network : Network) → IsRefusedText old new → WhereTold old new (λ text _. (rest : List ℕ) × IsTopologyText text network rest) → ⊥
+pub no_network_read : (old new : Option Stream) (network : Network) → IsRefusedText old new → WhereTold old new (λ text _. (rest : List ℕ) × IsTopologyText text network rest) → ⊥
 no_network_read (Some old) (Some new) network refused text = refused network text.0 text.1
 no_network_read (Some old) None network refused text = refused
 no_network_read None new network refused text = refused
@@ -78,7 +93,7 @@ no_network_read None new network refused text = refused
 -- ---- a journal of a network
 
 -- what holds of each network of an input holds of the one that was read
-of_read : (old new : Option Stream) (bytes : List ℕ) (network : Network) (Is : Network → Type 0) → Gives old new bytes → WhereTold old new (λ text _. (rest : List ℕ) × IsTopologyText text network rest) → IsFor old Is → Is network
+pub of_read : (old new : Option Stream) (bytes : List ℕ) (network : Network) (Is : Network → Type 0) → Gives old new bytes → WhereTold old new (λ text _. (rest : List ℕ) × IsTopologyText text network rest) → IsFor old Is → Is network
 of_read (Some old) (Some new) bytes network Is gives text all = all network text.0 text.1
 of_read (Some old) None bytes network Is gives text all = absurd gives
 of_read None new bytes network Is gives text all = absurd all
@@ -94,7 +109,7 @@ module _ {C E : Type 0} (cabinet : CabinetGhosts C E) (disk : DiskGhosts E) (old
   some_is A a b same = cc same
 
   -- what a journal was read as, and what it was told to be
-  clash : (name : List ℕ) (P Q : List ℕ → Type 0) → ((bytes : List ℕ) → P bytes → Q bytes → ⊥) → Held cabinet disk old new name P → IsToldAs cabinet disk old new (Some name) Q → ⊥
+  pub clash : (name : List ℕ) (P Q : List ℕ → Type 0) → ((bytes : List ℕ) → P bytes → Q bytes → ⊥) → Held cabinet disk old new name P → IsToldAs cabinet disk old new (Some name) Q → ⊥
   clash name P Q apart held told =
       let found = held told.0 in
       let same : found.0 ≡ told.1 = some_is E found.0 told.1 (sym found.1 ∙ told.2) in

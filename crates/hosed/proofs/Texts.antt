@@ -1,5 +1,5 @@
 -- A text of a cabinet as a stream of bytes.
-use Rattle.std.proofs.Common.{◌≡◌, ◌∙◌, ◌⊎◌, ℕ, ◌+◌, ◌-◌, ◌≤◌, ◌^◌, List, [], ◌∷◌, ◌++◌, length, take, drop, Bool, true, false, Option, Some, None, IsTrue, refl, sym, ap, subst, arith, length-append, append_assoc}
+use Rattle.std.proofs.Common.{◌≡◌, ◌∙◌, ℕ, ◌+◌, ◌-◌, ◌≤◌, List, [], ◌++◌, length, take, drop, Bool, true, false, Option, Some, None, IsTrue, refl, sym, ap, subst, arith, append_assoc}
 use Rattle.std.proofs.lemmas.List.{drop-take, drop_all, length-take, take-append-drop, take-append-le}
 use Rattle.std.proofs.Math.Seq.{take-add, take-take, drop-drop}
 use base.Stored.{Gv, gnil, gnum, gcons}

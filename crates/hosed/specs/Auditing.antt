@@ -1,6 +1,6 @@
 -- What an audit does, step by step: it reads the text of a topology, and the book of a journal.
-use Rattle.std.specs.Prelude.{◌≡◌, ◌↔◌, ℕ, ◌+◌, ◌<◌, ◌≤◌, List, Option, None, IfSome, IsSome, IsTrue, Result, Ok, Err, is_err, length, ⊤}
-use Rattle.hose_io.specs.Frame.{Met, Rose}
+use Rattle.std.specs.Prelude.{◌≡◌, ◌⊎◌, ◌↔◌, ℕ, ◌+◌, ◌<◌, ◌≤◌, List, Option, None, IfSome, IsSome, IsTrue, Result, Ok, Err, is_err, length, ⊤}
+use Rattle.hose_io.specs.Frame.{Met}
 use Rattle.hose_io.specs.Stream.{Stream, Gives}
 use Rattle.hose_io.specs.declared.Failed.{Failed}
 use Rattle.hose_words.specs.Reading.{WhereTold}
@@ -19,8 +19,8 @@ use Rattle.hose_store.specs.Recovery.{IsHistoryOf}
 use Rattle.hose_topo.specs.Reading.{StopsInTopology}
 use Rattle.hose_topo.specs.TopologyText.{IsTopologyText}
 use Rattle.hosed.specs.CabinetText.{OnlyTextsRead, whole_text}
-use Rattle.hosed.specs.OnDisk.{Held}
-use Rattle.hosed.specs.Run.{TellsNoNetwork}
+use Rattle.hosed.specs.OnDisk.{CabinetFailed, CabinetHeld, Held}
+use Rattle.hosed.specs.Run.{HasRead, TellsNoNetwork}
 use Rattle.hosed.specs.ServingOnDisk.{IsNotOpened, IsNotServed}
 use Rattle.hosed.specs.declared.fault.Fault.{Fault}
 use Rattle.hosed.specs.declared.fault.Fault.TheVariants as fault
@@ -28,26 +28,19 @@ use Rattle.hosed.specs.declared.fault.Fault.TheVariants as fault
 -- ---- the topology
 
 module _ {C E : Type 0} (cabinet : CabinetGhosts C E) (old new : C) where
-  -- no call of the cabinet failed, or one did
-  abbrev pub CabinetHeld : Type 0
-  CabinetHeld = object_of (cabinet.frame new) ≡ object_of (cabinet.frame old)
-
-  abbrev pub CabinetFailed : Type 0
-  CabinetFailed = Rose (object_of (cabinet.frame old)) (object_of (cabinet.frame new))
-
   -- Why no topology was read of a text, of which this is left.
   abbrev pub IsTextFault : Option Stream → Option Stream → Fault → Type 0
   IsTextFault text left (fault.Topology line word) =
-      TellsNoNetwork line word text left × CabinetHeld
+      TellsNoNetwork line word text left × CabinetHeld cabinet old new
   IsTextFault text left fault.TooLong =
-      WhereTold text left (StopsInTopology line.TooLong) × CabinetHeld
-  IsTextFault text left fault.Cabinet = CabinetFailed
-  IsTextFault text left fault.Memory = (left ≡ text) × CabinetHeld
+      WhereTold text left (StopsInTopology line.TooLong) × CabinetHeld cabinet old new
+  IsTextFault text left fault.Cabinet = CabinetFailed cabinet old new
+  IsTextFault text left fault.Memory = (left ≡ text) × CabinetHeld cabinet old new
   IsTextFault text left _ = ⊥
 
   -- what a text came to: it begins with that of a network, or none was read
   abbrev pub IsTextOf : Option Stream → Option Stream → Result Network Fault → Type 0
-  IsTextOf text left (Ok network) = IsNetwork network × CabinetHeld
+  IsTextOf text left (Ok network) = IsNetwork network × CabinetHeld cabinet old new
       × WhereTold text left (λ bytes _. (rest : List ℕ) × IsTopologyText bytes network rest)
   IsTextOf text left (Err why) = IsTextFault text left why
 
@@ -122,3 +115,33 @@ ReadsBook cabinet disk name old new network (Ok read) =
     AuditsBook cabinet disk name old new network read.0 read.1
 ReadsBook cabinet disk name old new network (Err why) =
     IsNotServed cabinet disk name old new network (Err why)
+
+-- ---- both
+
+module _ {C E : Type 0} (cabinet : CabinetGhosts C E) (disk : DiskGhosts E)
+    (topology journal : List ℕ) (old new : C) where
+  -- No topology was read of the text, of which this is left, or no store was opened, and why.
+  abbrev pub IsNotAudited : Option Stream → Fault → Type 0
+  IsNotAudited left why = (IsTextFault cabinet old new (whole_text cabinet old topology) left why
+      × (cabinet.held new ≡ cabinet.held old))
+      ⊎ HasRead (whole_text cabinet old topology) left
+      (λ network. IsNotServed cabinet disk journal old new network (Err why))
+
+  -- the book of the journal was read, of the network that the text begins with; or not
+  abbrev pub IsBookOf : Option Stream → Result (Ledger × Result ⊤ Failed) Fault → Type 0
+  IsBookOf left (Ok read) = HasRead (whole_text cabinet old topology) left
+      (λ network. AuditsBook cabinet disk journal old new network read.0 read.1)
+  IsBookOf left (Err why) = IsNotAudited left why
+
+  -- the same, and what was taken of the text
+  pub record ReadsNamed (result : Result (Ledger × Result ⊤ Failed) Fault) : Type 0 where
+    pub taken : List ℕ
+    pub left : Option Stream
+    pub gives : Gives (whole_text cabinet old topology) left taken
+    pub limit : length taken ≤ INPUT_LIMIT + 1
+    pub too_long : (result ≡ Err fault.TooLong) ↔ (INPUT_LIMIT < length taken)
+    pub book : IsBookOf left result
+    pub absent : IsTrue (cabinet.frame old).tells → IsSome (cabinet.text old topology)
+        → (cabinet.frame new).absent ≡ (cabinet.frame old).absent
+    pub not_there : IsTrue (cabinet.frame old).tells → cabinet.text old topology ≡ None
+        → result ≡ Err fault.Cabinet

@@ -1,9 +1,10 @@
 -- How the program ends: its status, and the last line of its output.
-use Rattle.std.specs.Prelude.{◌≡◌, ◌⊎◌, ℕ, List, Result, Ok, Err}
+use Rattle.std.specs.Prelude.{◌≡◌, ◌⊎◌, ◌↔◌, ℕ, ◌+◌, ◌<◌, ◌≤◌, List, length, Option, Result, Ok, Err}
 use Rattle.hose_io.specs.Frame.{Rose}
-use Rattle.hose_io.specs.Stream.{Grows}
+use Rattle.hose_io.specs.Stream.{Gives, Grows, Stream}
 use Rattle.hose_io.specs.Writing.{GrowsInPart}
 use Rattle.hose_io.specs.declared.sink.Sink.{Ghosts}
+use Rattle.hose_words.specs.declared.limits.TheConstants.{INPUT_LIMIT}
 use Rattle.hosed.specs.Fault.{status_of, last_line}
 use Rattle.hosed.specs.declared.fault.Fault.{Fault}
 
@@ -23,3 +24,8 @@ IsOut sink was now text =
 abbrev pub IsLastLine : {T O : Type 0} → Ghosts O → O → O → Result T Fault → Type 0
 IsLastLine sink was now (Ok _) = now ≡ was
 IsLastLine sink was now (Err fault) = IsOut sink was now (last_line fault)
+
+-- at most a byte past the limit is taken, and more than the limit exactly where the status is 8
+abbrev pub TakesWithinLimit : Option Stream → Option Stream → ℕ → Type 0
+TakesWithinLimit old new status = (bytes : List ℕ) × Gives old new bytes
+    × (length bytes ≤ INPUT_LIMIT + 1) × ((status ≡ 8) ↔ (INPUT_LIMIT < length bytes))

@@ -1,3 +1,4 @@
+pub mod AuditOutcome
 pub mod Auditing
 pub mod CabinetText
 pub mod Ending

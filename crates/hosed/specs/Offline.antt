@@ -4,9 +4,10 @@ use Rattle.hose_io.specs.declared.source.Source.{Ghosts as SourceGhosts}
 use Rattle.hose_io.specs.declared.sink.Sink.{Ghosts as SinkGhosts}
 use Rattle.hose_disk.specs.declared.cabinet.Cabinet.{Ghosts as CabinetGhosts}
 use Rattle.hose_disk.specs.declared.disk.Disk.{Ghosts as DiskGhosts}
+use Rattle.hosed.specs.AuditOutcome.{AuditOutcome}
 use Rattle.hosed.specs.Ending.{IsOut}
 use Rattle.hosed.specs.Fault.{last_line}
-use Rattle.hosed.specs.ProgramWords.{AreRunWords, AreWrongWords, IsFirstWrong}
+use Rattle.hosed.specs.ProgramWords.{AreAuditWords, AreRunWords, AreWrongWords, IsFirstWrong}
 use Rattle.hosed.specs.RunOutcome.{RunOutcome}
 use Rattle.hosed.specs.declared.fault.Fault.TheVariants.{Words}
 
@@ -22,3 +23,6 @@ pub record OfflineOutcome {I O C E : Type 0} (source : SourceGhosts I) (sink : S
   pub run : (journal : Option (List ℕ)) → AreRunWords words journal
       → RunOutcome source sink cabinet disk journal input input' output output' place place' status
   pub in_memory : AreRunWords words None → place' ≡ place
+  pub audit : (topology journal : List ℕ) → AreAuditWords words topology journal
+      → (input' ≡ input) × AuditOutcome sink cabinet disk topology journal output output' place
+      place' status

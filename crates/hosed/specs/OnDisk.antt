@@ -1,6 +1,6 @@
 -- What a run does to the disk of its journal, which a cabinet holds under a name.
 use Rattle.std.specs.Prelude.{◌≡◌, ◌⊎◌, ℕ, List, Option, Some, None, IfSome, IsTrue, MatchOption, Result, is_some, ⊤}
-use Rattle.hose_io.specs.Frame.{Met}
+use Rattle.hose_io.specs.Frame.{Met, Rose}
 use Rattle.hose_io.specs.declared.Failed.{Failed}
 use Rattle.hose_graph.specs.Network.{Network}
 use Rattle.hose_graph.specs.declared.entry.Entry.{Entry}
@@ -37,6 +37,13 @@ pub record KeptOnDisk {C E : Type 0} (cabinet : CabinetGhosts C E) (disk : DiskG
       Has (cabinet.frame new).tells (cabinet.held new name) (λ left.
       HasLeft disk IsDecidedAt (disk.may_leave was) (opening_of disk network since was) history
       left closing))
+
+-- no call of the cabinet failed; or one did
+abbrev pub CabinetHeld : {C E : Type 0} → CabinetGhosts C E → C → C → Type 0
+CabinetHeld cabinet old new = object_of (cabinet.frame new) ≡ object_of (cabinet.frame old)
+
+abbrev pub CabinetFailed : {C E : Type 0} → CabinetGhosts C E → C → C → Type 0
+CabinetFailed cabinet old new = Rose (object_of (cabinet.frame old)) (object_of (cabinet.frame new))
 
 module _ {C E : Type 0} (cabinet : CabinetGhosts C E) (disk : DiskGhosts E) (old new : C) where
   -- as it was read at its opening, the disk of this name held bytes of this kind

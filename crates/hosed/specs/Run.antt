@@ -135,3 +135,9 @@ abbrev pub IsFor : Option Stream → (Network → Type 0) → Type 0
 IsFor None Is = ⊥
 IsFor (Some stream) Is =
     (network : Network) (rest : List ℕ) → IsTopologyText stream.left network rest → Is network
+
+-- a text began with the text of a network, for which this holds
+pub record HasRead (old new : Option Stream) (Is : Network → Type 0) : Type 0 where
+  pub network : Network
+  pub text : WhereTold old new (λ text _. (rest : List ℕ) × IsTopologyText text network rest)
+  pub is : Is network

@@ -1,34 +1,24 @@
 -- What stands after `run`, by what ended it.
-use Rattle.std.specs.Prelude.{◌≡◌, ◌⊎◌, ◌↔◌, ℕ, ◌+◌, ◌<◌, ◌≤◌, List, length, Option, IsSome, MatchOption, Result, Ok, Err, ⊤}
+use Rattle.std.specs.Prelude.{◌≡◌, ◌⊎◌, ℕ, List, Option, IsSome, MatchOption, Result, Ok, Err, ⊤}
 use Rattle.hose_io.specs.Frame.{Rose}
-use Rattle.hose_io.specs.Stream.{Stream, Gives}
 use Rattle.hose_io.specs.declared.Failed.{Failed}
 use Rattle.hose_io.specs.declared.source.Source.{Ghosts as SourceGhosts}
 use Rattle.hose_io.specs.declared.sink.Sink.{Ghosts as SinkGhosts}
 use Rattle.hose_words.specs.Reading.{WhereTold}
-use Rattle.hose_words.specs.declared.limits.TheConstants.{INPUT_LIMIT}
 use Rattle.hose_words.specs.declared.lines.LineFault.{LineFault}
 use Rattle.hose_words.specs.declared.lines.LineFault.TheVariants as line
 use Rattle.hose_graph.specs.Network.{Network}
 use Rattle.hose_graph.specs.declared.entry.Entry.{Entry}
-use Rattle.hose_disk.specs.Cabinet.{object_of}
 use Rattle.hose_disk.specs.declared.cabinet.Cabinet.{Ghosts as CabinetGhosts}
 use Rattle.hose_disk.specs.declared.disk.Disk.{Ghosts as DiskGhosts}
 use Rattle.hose_journal.specs.Image.{damaged, other}
 use Rattle.hose_store.specs.Recovery.{IsHistoryOf, digest_of}
 use Rattle.hose_topo.specs.Reading.{StopsInTopology}
-use Rattle.hose_topo.specs.TopologyText.{IsTopologyText}
-use Rattle.hosed.specs.Ending.{IsLastLine, status_of_done}
-use Rattle.hosed.specs.OnDisk.{IsRefused, IsToldAs, IsUnopened, keeping_of}
-use Rattle.hosed.specs.Run.{IsCutOff, IsFor, IsRefusedText, IsRun, IsRunUpTo, IsServable, Keeping, TellsNoNetwork}
+use Rattle.hosed.specs.Ending.{IsLastLine, TakesWithinLimit, status_of_done}
+use Rattle.hosed.specs.OnDisk.{CabinetFailed, IsRefused, IsToldAs, IsUnopened, keeping_of}
+use Rattle.hosed.specs.Run.{HasRead, IsCutOff, IsFor, IsRefusedText, IsRun, IsRunUpTo, IsServable, Keeping, TellsNoNetwork}
 use Rattle.hosed.specs.declared.fault.Fault.{Fault}
 use Rattle.hosed.specs.declared.fault.Fault.TheVariants.{Words, Topology, Read, Write, Other, Damaged, Cabinet, Memory, TooLong}
-
--- the input began with the text of a network, for which this holds
-pub record HasRead (old new : Option Stream) (Is : Network → Type 0) : Type 0 where
-  pub network : Network
-  pub text : WhereTold old new (λ text _. (rest : List ℕ) × IsTopologyText text network rest)
-  pub is : Is network
 
 module _ {I O C E : Type 0} (source : SourceGhosts I) (sink : SinkGhosts O)
     (cabinet : CabinetGhosts C E) (disk : DiskGhosts E) (journal : Option (List ℕ))
@@ -39,10 +29,6 @@ module _ {I O C E : Type 0} (source : SourceGhosts I) (sink : SinkGhosts O)
 
   abbrev pub OutputHeld : Type 0
   OutputHeld = sink.frame output' ≡ sink.frame output
-
-  -- the cabinet failed
-  abbrev pub CabinetRose : Type 0
-  CabinetRose = Rose (object_of (cabinet.frame place)) (object_of (cabinet.frame place'))
 
   -- where the book was, once closing the journal came to this
   abbrev pub keeping : Result ⊤ Failed → Keeping
@@ -99,7 +85,8 @@ module _ {I O C E : Type 0} (source : SourceGhosts I) (sink : SinkGhosts O)
       × InputHeld × (output' ≡ output))
       ⊎ (IsSome journal × (failed : Failed)
       × IsRun (keeping (Err failed)) (source.content input) (source.content input')
-      (sink.content output) (sink.content output') × InputHeld × OutputHeld)) × CabinetRose
+      (sink.content output) (sink.content output') × InputHeld × OutputHeld))
+      × CabinetFailed cabinet place place'
   RunLeaves (Err Memory) = IsStarved × InputHeld × (output' ≡ output)
   RunLeaves (Err TooLong) = IsBroken line.TooLong × InputHeld
 
@@ -108,17 +95,11 @@ module _ {I O C E : Type 0} (source : SourceGhosts I) (sink : SinkGhosts O)
   EndsRefused status = (status ≡ 2) ⊎ (((status ≡ 7) × (input' ≡ input))
       ⊎ (((status ≡ 3) × InputStops line.Read) ⊎ ((status ≡ 8) × InputStops line.TooLong)))
 
-  -- at most a byte past the limit is taken, and more than the limit exactly where the status is 8
-  abbrev pub TakesWithinLimit : ℕ → Type 0
-  TakesWithinLimit status = (bytes : List ℕ)
-      × Gives (source.content input) (source.content input') bytes
-      × (length bytes ≤ INPUT_LIMIT + 1) × ((status ≡ 8) ↔ (INPUT_LIMIT < length bytes))
-
   -- no call failed
   pub record NoneFailed : Type 0 where
     pub reading : ¬ Rose (source.frame input) (source.frame input')
     pub writing : ¬ Rose (sink.frame output) (sink.frame output')
-    pub keeping_it : ¬ CabinetRose
+    pub keeping_it : ¬ CabinetFailed cabinet place place'
 
   -- the journal, if there is one, is told, and is so for each network with whose text the input
   -- begins
@@ -137,8 +118,7 @@ pub record RunOutcome {I O C E : Type 0} (source : SourceGhosts I) (sink : SinkG
       done
   pub last_line : IsLastLine sink left output' done
   pub is_status : status ≡ status_of_done done
-  pub takes : TakesWithinLimit source sink cabinet disk journal input input' output output' place
-      place' status
+  pub takes : TakesWithinLimit (source.content input) (source.content input') status
   pub refused : IsRefusedText (source.content input) (source.content input')
       → EndsRefused source sink cabinet disk journal input input' output output' place place'
       status

@@ -1,6 +1,5 @@
 -- What answering lines by the book of a journal comes to, and what it does to the journal's disk.
 use Rattle.std.specs.Prelude.{◌≡◌, ◌⊎◌, ℕ, ◌≤◌, List, IfSome, true, Result, Ok, Err, is_err, ⊤}
-use Rattle.hose_io.specs.Frame.{Rose}
 use Rattle.hose_io.specs.declared.Failed.{Failed}
 use Rattle.hose_io.specs.declared.source.Source.{Ghosts as SourceGhosts}
 use Rattle.hose_io.specs.declared.sink.Sink.{Ghosts as SinkGhosts}
@@ -10,7 +9,6 @@ use Rattle.hose_graph.specs.declared.entry.Entry.{Entry}
 use Rattle.hose_graph.specs.declared.reply.Reply.{Reply}
 use Rattle.hose_law.specs.History.{IsDecidedAt}
 use Rattle.hose_book.specs.GoingOn.{GoesOn}
-use Rattle.hose_disk.specs.Cabinet.{object_of}
 use Rattle.hose_disk.specs.declared.cabinet.Cabinet.{Ghosts as CabinetGhosts}
 use Rattle.hose_disk.specs.declared.disk.Disk.{Ghosts as DiskGhosts}
 use Rattle.hose_journal.specs.Image.{Meaning, damaged, other}
@@ -20,7 +18,7 @@ use Rattle.hose_store.specs.Commit.{store_books}
 use Rattle.hose_store.specs.Opening.{IsAtOpening}
 use Rattle.hose_store.specs.Recovery.{IsHistoryOf, IsRecoveredAs, digest_of}
 use Rattle.hose_store.specs.Store.{Kept}
-use Rattle.hosed.specs.OnDisk.{Held, IsRefused, IsUnopened, KeptOnDisk, opening_of}
+use Rattle.hosed.specs.OnDisk.{CabinetFailed, Held, IsRefused, IsUnopened, KeptOnDisk, opening_of}
 use Rattle.hosed.specs.Serving.{Serves, TellsDisks}
 use Rattle.hosed.specs.declared.fault.Fault.{Fault}
 use Rattle.hosed.specs.declared.fault.Fault.TheVariants as fault
@@ -87,7 +85,7 @@ abbrev pub IsNotServed : {C E : Type 0} → CabinetGhosts C E → DiskGhosts E �
     → Network → Result ⊤ Fault → Type 0
 IsNotServed cabinet disk name old new network (Err fault.Cabinet) =
     IsUnopened cabinet disk old new network name
-    × Rose (object_of (cabinet.frame old)) (object_of (cabinet.frame new))
+    × CabinetFailed cabinet old new
 IsNotServed cabinet disk name old new network (Err (fault.Other kept given)) =
     (given ≡ digest_of network) × IsRefused cabinet disk old new network name (other kept)
 IsNotServed cabinet disk name old new network (Err (fault.Damaged at)) =

@@ -1,26 +1,84 @@
 // An audit: the book of a journal, as a text.
-ghost use Rattle.std.specs.Prelude.{◌≡◌, IsSome, IsTrue, None, Ok};
+ghost use Rattle.std.specs.Prelude.{◌≡◌, IsSome, IsTrue, None};
 ghost use Rattle.hose_io.specs.Frame.{Stays};
+ghost use Rattle.hose_audit.specs.Audit.{audit_text};
 ghost use Rattle.hose_disk.specs.Cabinet.{object_of};
-ghost use Rattle.hosed.specs.Auditing.{ReadsBook, ReadsBookOnDisk, ReadsTopology};
+ghost use Rattle.hosed.specs.AuditOutcome.{AuditOutcome, EndsTold};
+ghost use Rattle.hosed.specs.Auditing.{ReadsBook, ReadsBookOnDisk, ReadsNamed, ReadsTopology};
 
 use crate::cabinet_text::CabinetText;
+use crate::end;
 use crate::fault::Fault;
 use hose_book::Book;
 use hose_disk::{Cabinet, Disk};
 use hose_graph::Topology;
-use hose_io::Failed;
+use hose_io::{Failed, Sink};
 use hose_store::{Store, law_one_meaning};
 use hose_topo::read;
 use hose_words::LineReader;
 use std::alloc::Global;
 
-// The topology of the text of a name.
-fn read_topology<C: Cabinet>(
+/// Reads the topology of a text and the book of a journal, closes the journal, writes what the book
+/// holds, and gives the exit status. The book is told where closing failed too.
+pub fn audit<O: Sink, C: Cabinet>(
     alloc: Global,
-    name: &str,
+    topology: &str,
+    journal: &str,
+    output: &mut O,
     cabinet: &mut C,
-) -> Result<Topology, Fault>
+) -> u8
+    requires { (C.frame cabinet.old).out ≡ None }
+    ensures outcome { AuditOutcome O.Sink C.Cabinet C.Disk.Disk topology.now journal.now
+        output.old output.new cabinet.old cabinet.new result }
+    ensures back { (C.frame cabinet.new).out ≡ None }
+    ensures output { Stays (O.frame output.old) (O.frame output.new) }
+    ensures cabinet { Stays (object_of (C.frame cabinet.old)) (object_of (C.frame cabinet.new)) }
+{
+    match read_named(alloc, topology, journal, cabinet) {
+        Ok(read) => tell(&read.0, read.1, output),
+        Err(why) => end(Err(why), output),
+    }
+}
+
+// Writes what a book holds, once its journal came to this in closing, and gives the exit status.
+fn tell<O: Sink>(book: &Book, closing: Result<(), Failed>, output: &mut O) -> u8
+    ensures ends { EndsTold O.Sink output.old output.new result closing
+        (audit_text book.now.network book.now.book) }
+    ensures output { Stays (O.frame output.old) (O.frame output.new) }
+{
+    let told = hose_audit::audit(book, output);
+    match closing {
+        Ok(()) => match told {
+            Ok(()) => 0,
+            Err(_) => Fault::Write.status(),
+        },
+        // After a failed write nothing more is written.
+        Err(_) => match told {
+            Ok(()) => end(Err(Fault::Cabinet), output),
+            Err(_) => Fault::Cabinet.status(),
+        },
+    }
+}
+
+// The book of a journal of the network that a text tells, and what closing the journal came to.
+fn read_named<C: Cabinet>(
+    alloc: Global,
+    topology: &str,
+    journal: &str,
+    cabinet: &mut C,
+) -> Result<(Book, Result<(), Failed>), Fault>
+    requires { (C.frame cabinet.old).out ≡ None }
+    ensures reads { ReadsNamed C.Cabinet C.Disk.Disk topology.now journal.now
+        cabinet.old cabinet.new result }
+    ensures back { (C.frame cabinet.new).out ≡ None }
+    ensures cabinet { Stays (object_of (C.frame cabinet.old)) (object_of (C.frame cabinet.new)) }
+{
+    let topology = read_topology(alloc, topology, cabinet)?;
+    read_book(alloc, journal, topology, cabinet)
+}
+
+// The topology of the text of a name.
+fn read_topology<C: Cabinet>(alloc: Global, name: &str, cabinet: &mut C) -> Result<Topology, Fault>
     ensures reads { ReadsTopology C.Cabinet cabinet.old cabinet.new name.now result }
 {
     // A text that is not there is told before a topology is looked for in it.
@@ -56,6 +114,7 @@ fn read_book<C: Cabinet>(
     requires { (C.frame cabinet.old).out ≡ None }
     ensures reads { ReadsBook C.Cabinet C.Disk.Disk name.now cabinet.old cabinet.new
         topology result }
+    ensures absent { (C.frame cabinet.new).absent ≡ (C.frame cabinet.old).absent }
     ensures back { (C.frame cabinet.new).out ≡ None }
     ensures cabinet { Stays (object_of (C.frame cabinet.old)) (object_of (C.frame cabinet.new)) }
 {

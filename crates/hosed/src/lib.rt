@@ -2,7 +2,8 @@
 //!
 //! `hosed` does what the words of the program say and gives the exit status. With `run` it reads
 //! a topology text and then lines `CUSTOMER COMMAND`, and writes one reply line for each; with
-//! `run JOURNAL` it keeps its book in a journal, which outlives it:
+//! `run JOURNAL` it keeps its book in a journal, which outlives it; `audit TOPOLOGY JOURNAL` writes
+//! what the book of a journal holds:
 //!
 //! ```
 //! let input = &mut StdSource::new(stdin);
@@ -31,21 +32,25 @@ mod run;
 mod script_line;
 mod words;
 
+use audit::audit;
 use fault::Fault;
 use hose_disk::Cabinet;
 use hose_io::{Sink, Source};
+use run::run;
 use std::alloc::Global;
+use words::{Command, command_of};
 
 /// Does what the words say, and gives the exit status. The words are those after the program's
-/// name: `run`, and the name of a journal in the cabinet if the book is to be kept in one.
+/// name: `run`, and the name of a journal in the cabinet if the book is to be kept in one; or
+/// `audit`, the name of a text in the cabinet with a topology, and that of a journal of it.
 ///
 /// The status is 0 where all was read to its end, and the journal closed. Else it tells the first
 /// fault, and the last line of the output tells it too: 1 `words K`, the number of the first word
 /// that is not allowed; 2 `topology LINE WORD`, the first word of the topology that is not allowed;
 /// 3 `read`; 4 a failed output, which has no last line; 5 `journal other KEPT GIVEN`, a journal of
-/// another network, by both digests, or `journal damaged at P`, at this byte; 6 `cabinet`, a
-/// journal that could not be opened or closed; 7 `no memory`; 8 `too long`, an input of more than
-/// 1 GiB.
+/// another network, by both digests, or `journal damaged at P`, at this byte; 6 `cabinet`, a text
+/// that could not be read, or a journal that could not be opened or closed; 7 `no memory`; 8
+/// `too long`, an input or a topology of more than 1 GiB.
 pub fn hosed<I: Source, O: Sink, C: Cabinet>(
     alloc: Global,
     words: &[String],
@@ -83,11 +88,14 @@ pub fn offline<I: Source, O: Sink, C: Cabinet>(
     ensures output { Stays (O.frame output.old) (O.frame output.new) }
     ensures cabinet { Stays (object_of (C.frame cabinet.old)) (object_of (C.frame cabinet.new)) }
 {
-    if let Some(word) = words::first_not_allowed(words) {
-        return end(Err(Fault::Words(word)), output);
+    match command_of(words) {
+        Ok(Command::Run) => {
+            let done = run(alloc, &words[1..], input, output, cabinet);
+            end(done, output)
+        }
+        Ok(Command::Audit) => audit(alloc, words[1].as_str(), words[2].as_str(), output, cabinet),
+        Err(word) => end(Err(Fault::Words(word)), output),
     }
-    let done = run::run(alloc, &words[1..], input, output, cabinet);
-    end(done, output)
 }
 
 // The status of what was done, after its last line, if it has one.

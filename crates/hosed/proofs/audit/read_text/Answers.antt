@@ -1,4 +1,4 @@
-use Rattle.std.proofs.Common.{◌≡◌, ◌∙◌, ◌+◌, ◌≤◌, ℕ, List, [], ◌++◌, IsTrue, Err, refl, sym, ap, subst, arith, rules}
+use Rattle.std.proofs.Common.{◌≡◌, ◌∙◌, ◌+◌, ◌≤◌, IsTrue, Err, refl, sym, ap, subst, arith, rules}
 use Rattle.hose_words.specs.Lines.{Reader}
 use Rattle.hose_words.specs.declared.limits.TheConstants.{INPUT_LIMIT}
 use Rattle.hose_words.proofs.Saying.{rose_now}
@@ -31,9 +31,9 @@ returns-in-Ok g c =
     let told = c.in-Ok.ensures in
     record {
       reads = read_ok g.C.Cabinet text names (λ a b same. g.row.C.coded.inj a b (same_value _ _ same)) (λ t. refl) (λ t. refl) c.args.cabinet.now _ c.args.name.now first last
-      (ap (λ (t : TextState g.row.C.Denot). t.was) source ∙ c.new.ensures.was) (ap (λ (t : TextState g.row.C.Denot). t.cabinet.now) source ∙ c.new.ensures.value)
-      (ap (λ (t : TextState g.row.C.Denot). t.name) source ∙ c.new.ensures.name) (ap (λ (t : TextState g.row.C.Denot). t.from) source ∙ c.new.ensures.from) taken
-      (sym behind) only absent c.requires read.reads_on within c.in-Ok.topology told.network
+          (ap (λ (t : TextState g.row.C.Denot). t.was) source ∙ c.new.ensures.was) (ap (λ (t : TextState g.row.C.Denot). t.cabinet.now) source ∙ c.new.ensures.value)
+          (ap (λ (t : TextState g.row.C.Denot). t.name) source ∙ c.new.ensures.name) (ap (λ (t : TextState g.row.C.Denot). t.from) source ∙ c.new.ensures.from) taken
+          (sym behind) only absent c.requires read.reads_on within c.in-Ok.topology told.network
           ((λ is. absurd (cc is)), λ more. absurd (cc ((read.too_long (omega (arith, taken))).1 more, c.in-Ok.is)))
           (read.reads_on.unfailed (λ is. absurd (cc (is, told.fault.1))))
           (text_told text first last c.in-Ok.topology pending told.topology);
@@ -61,9 +61,9 @@ returns-in-Err g c =
     record {
       reads = subst (λ (f : Fault). ReadsTopology g.C.Cabinet c.args.cabinet.now c.cabinet-1.given.0 c.args.name.now (Err f)) (sym c.of_text.ensures)
           (read_err g.C.Cabinet text names (λ a b same. g.row.C.coded.inj a b (same_value _ _ same)) (λ t. refl) (λ t. refl) c.args.cabinet.now _ c.args.name.now first last
-      (ap (λ (t : TextState g.row.C.Denot). t.was) source ∙ c.new.ensures.was) (ap (λ (t : TextState g.row.C.Denot). t.cabinet.now) source ∙ c.new.ensures.value)
-      (ap (λ (t : TextState g.row.C.Denot). t.name) source ∙ c.new.ensures.name) (ap (λ (t : TextState g.row.C.Denot). t.from) source ∙ c.new.ensures.from) taken
-      (sym behind) only absent c.requires read.reads_on within why
+          (ap (λ (t : TextState g.row.C.Denot). t.was) source ∙ c.new.ensures.was) (ap (λ (t : TextState g.row.C.Denot). t.cabinet.now) source ∙ c.new.ensures.value)
+          (ap (λ (t : TextState g.row.C.Denot). t.name) source ∙ c.new.ensures.name) (ap (λ (t : TextState g.row.C.Denot). t.from) source ∙ c.new.ensures.from) taken
+          (sym behind) only absent c.requires read.reads_on within why
           (λ l word wrong. wrong_told text first last l word pending (read.wrong l word (at ∙ ap Err wrong)) (read.no_text l word (at ∙ ap Err wrong)))
           (λ met stopped. stopped_told text first last met pending (read.front fault met (at ∙ ap Err stopped)))
           (λ failed. rose_now text first last fault (read.read (at ∙ ap Err failed)))

@@ -1,9 +1,7 @@
-use Rattle.std.proofs.Common.{◌≡◌, ◌∙◌, ◌≤◌, ◌+◌, ◌-◌, ℕ, List, [], ◌++◌, Bool, Option, Ok, length, take, drop, sym, ap, subst, arith, rules}
+use Rattle.std.proofs.Common.{◌≡◌, ◌+◌, ℕ, List, [], ◌++◌, Option, take, drop, ap, subst, arith}
 use Rattle.std.proofs.lemmas.List.{length-take}
 use Rattle.hose_io.specs.Stream.{Gives, IsAtEnd}
-use Rattle.hose_words.specs.declared.limits.TheConstants.{INPUT_LIMIT}
-use Rattle.hose_disk.specs.Cabinet.{CabinetFrame, Has, IsTextAt}
-use Rattle.hosed.specs.CabinetText.{TextState, stream_at, text_stream}
+use Rattle.hosed.specs.CabinetText.{TextState, text_stream}
 use Rattle.hosed.proofs.Texts.{at_end, at_limit, gives_text, read_before}
 use Rattle.hosed.proofs.cabinet_text.CabinetTextSource.take.Goals as goal
 

@@ -1,0 +1,209 @@
+-- What an audit stands for, from what was read and what was told.
+use Rattle.std.proofs.Common.{◌≡◌, ◌≢◌, ◌∙◌, ◌⊎◌, inl, inr, ℕ, ◌<◌, List, ◌++◌, length, Option, IsErr, Result, Ok, Err, refl, sym, ap, subst, arith}
+use Rattle.std.specs.Prelude.{⊤}
+use Rattle.hose_io.specs.Frame.{Frame, Rose}
+use Rattle.hose_io.specs.Stream.{Grows, Stream}
+use Rattle.hose_io.specs.declared.Failed.{Failed}
+use Rattle.hose_io.specs.declared.sink.Sink.{Ghosts as SinkGhosts}
+use Rattle.hose_io.proofs.Streams.{Grows-append, GrowsInPart-after}
+use Rattle.hose_words.specs.declared.limits.TheConstants.{INPUT_LIMIT}
+use Rattle.hose_graph.specs.Network.{Network}
+use Rattle.hose_graph.specs.declared.entry.Entry.{Entry}
+use Rattle.hose_book.specs.Ledger.{Ledger}
+use Rattle.hose_audit.specs.Audit.{audit_text}
+use Rattle.hose_disk.specs.declared.cabinet.Cabinet.{Ghosts as CabinetGhosts}
+use Rattle.hose_disk.specs.declared.disk.Disk.{Ghosts as DiskGhosts}
+use Rattle.hose_store.specs.Recovery.{IsHistoryOf}
+use Rattle.hosed.specs.AuditOutcome.{AuditEnds, AuditOutcome, EndsRefused, EndsTold, JournalIs, NoneFailed}
+use Rattle.hosed.specs.Auditing.{IsNotAudited, ReadsNamed}
+use Rattle.hosed.specs.CabinetText.{whole_text}
+use Rattle.hosed.specs.Ending.{IsOut}
+use Rattle.hosed.specs.Fault.{last_line, status_of}
+use Rattle.hosed.specs.OnDisk.{CabinetFailed}
+use Rattle.hosed.specs.Run.{IsRefusedText, IsServable}
+use Rattle.hosed.specs.declared.fault.Fault.{Fault}
+use Rattle.hosed.specs.declared.fault.Fault.TheVariants.{Words, Topology, Read, Write, Other, Damaged, Cabinet, Memory, TooLong}
+use Rattle.hosed.proofs.Outcomes.{clash, no_network_read, not_long, not_refused, of_read}
+
+-- ---- what is out
+
+-- a line after a text
+pub out_after : {O : Type 0} (sink : SinkGhosts O) (was mid now : O) (text line : List ℕ) → Grows (sink.content was) (sink.content mid) text → sink.frame mid ≡ sink.frame was → IsOut sink mid now line → IsOut sink was now (text ++ line)
+out_after sink was mid now text line grows same (inl whole) = inl (Grows-append _ _ _ text line grows whole.0, whole.1 ∙ same)
+out_after sink was mid now text line grows same (inr part) = inr (subst (λ (f : Frame). Rose f (sink.frame now)) same part.0, GrowsInPart-after _ _ _ text line grows part.1)
+
+-- ---- statuses
+
+told_status : {O T : Type 0} (sink : SinkGhosts O) (output output' : O) (status : ℕ) (closing : Result T Failed) (text : List ℕ) → EndsTold sink output output' status closing text → (status ≡ 0) ⊎ ((status ≡ 4) ⊎ (status ≡ 6))
+told_status sink output output' status (Ok done) text (inl whole) = inl whole.0
+told_status sink output output' status (Ok done) text (inr part) = inr (inl part.0)
+told_status sink output output' status (Err failed) text ends = inr (inr ends.0)
+
+told_not : {O T : Type 0} (sink : SinkGhosts O) (output output' : O) (status : ℕ) (closing : Result T Failed) (text : List ℕ) (other : ℕ) → EndsTold sink output output' status closing text → other ≢ 0 → other ≢ 4 → other ≢ 6 → status ≡ other → ⊥
+told_not sink output output' status closing text other ends no_0 no_4 no_6 is = at (told_status sink output output' status closing text ends)
+  where
+    at : (status ≡ 0) ⊎ ((status ≡ 4) ⊎ (status ≡ 6)) → ⊥
+    at (inl zero_is) = no_0 (sym is ∙ zero_is)
+    at (inr (inl four_is)) = no_4 (sym is ∙ four_is)
+    at (inr (inr six_is)) = no_6 (sym is ∙ six_is)
+
+too_long_8 : (why : Fault) → status_of why ≡ 8 → why ≡ TooLong
+too_long_8 (Words word) is = absurd (omega (arith, is))
+too_long_8 (Topology line word) is = absurd (omega (arith, is))
+too_long_8 Read is = absurd (omega (arith, is))
+too_long_8 Write is = absurd (omega (arith, is))
+too_long_8 (Other old given) is = absurd (omega (arith, is))
+too_long_8 (Damaged at) is = absurd (omega (arith, is))
+too_long_8 Cabinet is = absurd (omega (arith, is))
+too_long_8 Memory is = absurd (omega (arith, is))
+too_long_8 TooLong is = refl
+
+module _ {O C E : Type 0} (sink : SinkGhosts O) (cabinet : CabinetGhosts C E) (disk : DiskGhosts E) (topology journal : List ℕ) (output output' : O) (place place' : C) where
+  abbrev Outcome : ℕ → Type 0
+  Outcome status = AuditOutcome sink cabinet disk topology journal output output' place place' status
+
+  abbrev Failing : Type 0
+  Failing = NoneFailed sink cabinet disk topology journal output output' place place'
+
+  abbrev Is : (Network → List ℕ → Type 0) → Type 0
+  Is P = JournalIs sink cabinet disk topology journal output output' place place' P
+
+  abbrev Refused : Option Stream → ℕ → Type 0
+  Refused left status = EndsRefused sink cabinet disk topology journal output output' place place' left status
+
+  -- ---- the book was read, and is told
+  pub is_told : (read : Ledger × Result ⊤ Failed) (status : ℕ) → ReadsNamed cabinet disk topology journal place place' (Ok read) → EndsTold sink output output' status read.1 (audit_text read.0.network read.0.book) → Outcome status
+  is_told read status reads ends = record {
+    left = reads.left;
+    takes = (
+      reads.taken,
+      reads.gives,
+      reads.limit,
+      ((λ is. absurd (not_here 8 (λ e. absurd (cc e)) (λ e. absurd (cc e)) (λ e. absurd (cc e)) is)), λ more. absurd (cc (reads.too_long.1 more))),
+    );
+    ends = inl (record {
+      network = reads.book.network;
+      text = reads.book.text;
+      is = (
+        reads.book.is.history,
+        read.1,
+        reads.book.is.audited,
+        subst (λ (l : Ledger). EndsTold sink output output' status read.1 (audit_text l.network l.book)) reads.book.is.is ends,
+      );
+    });
+    refused = λ refused. absurd (no_network_read _ _ reads.book.network refused reads.book.text);
+    not_there = λ told none. absurd (cc (reads.not_there told none));
+    absent = reads.absent;
+    complete = λ servable told held. at read.1 reads.book.is.audited.met.failed held ends;
+    refused_journal = λ servable told held. absurd (clash cabinet disk place place' journal _ _ (λ image history none. none reads.book.is.history history) reads.book.is.audited.begun
+        (of_read _ _ reads.taken reads.book.network _ reads.gives reads.book.text told));
+  }
+    where
+      not_here : (other : ℕ) → other ≢ 0 → other ≢ 4 → other ≢ 6 → status ≡ other → ⊥
+      not_here other = told_not sink output output' status read.1 (audit_text read.0.network read.0.book) other ends
+
+      at : (closing : Result ⊤ Failed) → (IsErr closing → CabinetFailed cabinet place place') → Failing → EndsTold sink output output' status closing (audit_text read.0.network read.0.book) → (status ≡ 0) ⊎ (status ≡ 7)
+      at (Ok done) rose held (inl whole) = inl whole.0
+      at (Ok done) rose held (inr part) = absurd (held.writing part.1)
+      at (Err failed) rose held one = absurd (held.keeping_it (rose refl))
+
+  -- ---- it was not read
+  pub is_not_told : (why : Fault) (status : ℕ) → ReadsNamed cabinet disk topology journal place place' (Err why) → status ≡ status_of why → IsOut sink output output' (last_line why) → Outcome status
+  is_not_told why status reads is out = record {
+    left = reads.left;
+    takes = (
+      reads.taken,
+      reads.gives,
+      reads.limit,
+      (
+        (λ at_8. reads.too_long.0 (ap Err (too_long_8 why (sym is ∙ at_8)))),
+        λ more.
+            let long : why ≡ TooLong = cc (reads.too_long.1 more) in
+            is ∙ ap status_of long,
+      ),
+    );
+    ends = inr (why, is, reads.book, out);
+    refused = λ refused. rw is (refused_by why refused reads.book);
+    not_there = λ told none.
+        let failed : why ≡ Cabinet = cc (reads.not_there told none) in
+        is ∙ ap status_of failed;
+    absent = reads.absent;
+    complete = λ servable told held. rw is (complete_by why servable told held reads.book (λ long. reads.too_long.0 (ap Err long)));
+    refused_journal = λ servable told held. rw is (journal_by why servable held reads.book (λ long. reads.too_long.0 (ap Err long)));
+  }
+    where
+      refused_by : (one : Fault) → IsRefusedText (whole_text cabinet place topology) reads.left → IsNotAudited cabinet disk topology journal place place' reads.left one → Refused reads.left (status_of one)
+      refused_by one refused (inr served) = absurd (no_network_read _ _ served.network refused served.text)
+      refused_by (Topology l word) refused (inl text) = inl refl
+      refused_by Memory refused (inl text) = inr (inl (refl, text.0.0))
+      refused_by Cabinet refused (inl text) = inr (inr (inl (refl, text.0)))
+      refused_by TooLong refused (inl text) = inr (inr (inr (refl, text.0.0)))
+      refused_by (Words word) refused (inl text) = absurd text.0
+      refused_by Read refused (inl text) = absurd text.0
+      refused_by Write refused (inl text) = absurd text.0
+      refused_by (Other kept given) refused (inl text) = absurd text.0
+      refused_by (Damaged at) refused (inl text) = absurd text.0
+
+      complete_by : (one : Fault) → IsServable (whole_text cabinet place topology) → Is (λ network bytes. (history : List Entry) × IsHistoryOf network history bytes) → Failing
+          → IsNotAudited cabinet disk topology journal place place' reads.left one → (one ≡ TooLong → INPUT_LIMIT < length reads.taken) → (status_of one ≡ 0) ⊎ (status_of one ≡ 7)
+      complete_by (Topology l word) servable told held (inl text) long = absurd (not_refused l word _ _ reads.taken reads.gives servable text.0.0)
+      complete_by Memory servable told held (inl text) long = inr refl
+      complete_by Cabinet servable told held (inl text) long = absurd (held.keeping_it text.0)
+      complete_by TooLong servable told held (inl text) long = absurd (not_long _ _ reads.taken reads.gives servable (long refl))
+      complete_by (Words word) servable told held (inl text) long = absurd text.0
+      complete_by Read servable told held (inl text) long = absurd text.0
+      complete_by Write servable told held (inl text) long = absurd text.0
+      complete_by (Other kept given) servable told held (inl text) long = absurd text.0
+      complete_by (Damaged at) servable told held (inl text) long = absurd text.0
+      complete_by Memory servable told held (inr served) long = inr refl
+      complete_by Cabinet servable told held (inr served) long = absurd (held.keeping_it served.is.1)
+      complete_by (Other kept given) servable told held (inr served) long = absurd (clash cabinet disk place place' journal _ _ (λ image none history. none history.0 history.1) served.is.1.none
+          (of_read _ _ reads.taken served.network _ reads.gives served.text told))
+      complete_by (Damaged at) servable told held (inr served) long = absurd (clash cabinet disk place place' journal _ _ (λ image none history. none history.0 history.1) served.is.none
+          (of_read _ _ reads.taken served.network _ reads.gives served.text told))
+      complete_by TooLong servable told held (inr served) long = absurd served.is
+      complete_by (Words word) servable told held (inr served) long = absurd served.is
+      complete_by (Topology l word) servable told held (inr served) long = absurd served.is
+      complete_by Read servable told held (inr served) long = absurd served.is
+      complete_by Write servable told held (inr served) long = absurd served.is
+
+      journal_by : (one : Fault) → IsServable (whole_text cabinet place topology) → Failing
+          → IsNotAudited cabinet disk topology journal place place' reads.left one → (one ≡ TooLong → INPUT_LIMIT < length reads.taken) → (status_of one ≡ 5) ⊎ (status_of one ≡ 7)
+      journal_by (Topology l word) servable held (inl text) long = absurd (not_refused l word _ _ reads.taken reads.gives servable text.0.0)
+      journal_by Memory servable held (inl text) long = inr refl
+      journal_by Cabinet servable held (inl text) long = absurd (held.keeping_it text.0)
+      journal_by TooLong servable held (inl text) long = absurd (not_long _ _ reads.taken reads.gives servable (long refl))
+      journal_by (Words word) servable held (inl text) long = absurd text.0
+      journal_by Read servable held (inl text) long = absurd text.0
+      journal_by Write servable held (inl text) long = absurd text.0
+      journal_by (Other kept given) servable held (inl text) long = inl refl
+      journal_by (Damaged at) servable held (inl text) long = inl refl
+      journal_by Memory servable held (inr served) long = inr refl
+      journal_by Cabinet servable held (inr served) long = absurd (held.keeping_it served.is.1)
+      journal_by (Other kept given) servable held (inr served) long = inl refl
+      journal_by (Damaged at) servable held (inr served) long = inl refl
+      journal_by TooLong servable held (inr served) long = absurd served.is
+      journal_by (Words word) servable held (inr served) long = absurd served.is
+      journal_by (Topology l word) servable held (inr served) long = absurd served.is
+      journal_by Read servable held (inr served) long = absurd served.is
+      journal_by Write servable held (inr served) long = absurd served.is
+
+  -- the words are not what is wrong
+  pub audit_not_1 : (status : ℕ) → Outcome status → status ≡ 1 → ⊥
+  audit_not_1 status outcome is = at outcome.ends
+    where
+      by : (why : Fault) → IsNotAudited cabinet disk topology journal place place' outcome.left why → status_of why ≡ 1 → ⊥
+      by (Words word) (inl text) one = text.0
+      by (Words word) (inr served) one = served.is
+      by (Topology l word) not one = omega (arith, one)
+      by Read not one = omega (arith, one)
+      by Write not one = omega (arith, one)
+      by (Other old given) not one = omega (arith, one)
+      by (Damaged at_byte) not one = omega (arith, one)
+      by Cabinet not one = omega (arith, one)
+      by Memory not one = omega (arith, one)
+      by TooLong not one = omega (arith, one)
+
+      at : AuditEnds sink cabinet disk topology journal output output' place place' outcome.left status → ⊥
+      at (inl told) = told_not sink output output' status told.is.1 _ 1 told.is.3 (λ e. absurd (cc e)) (λ e. absurd (cc e)) (λ e. absurd (cc e)) is
+      at (inr not) = by not.0 not.2 (sym not.1 ∙ is)
