@@ -3,6 +3,7 @@
 /// What `--help` is answered with.
 pub const HELP: &str = "\
 usage: hosed run [JOURNAL] < FILE
+       hosed audit TOPOLOGY JOURNAL
        hosed --help | --version
 
 hosed run reads a topology, in which lines that begin with # are passed over, and then a line for
@@ -38,6 +39,14 @@ is begun where it is not there. Without it the book is gone at the end.
     long                                the line has more than 4,096 bytes
     memory                              there was none, and nothing was done
 
+hosed audit reads a topology from the file TOPOLOGY, where what stands after `end` is not looked at,
+and the book of JOURNAL, and writes what it holds:
+
+    epoch N
+    link L A B capacity C cost K load X                     each link
+    vpn ID CUSTOMER cost C ends NAME:RATE .. links L:R ..   each VPN, as it was admitted
+    live K cost C                                           how many there are, and their cost
+
 epoch   how many admissions and releases there have been
 N       the epoch at which the reply holds: after an admission or a release, its own
 L       a link by its number; links and nodes count from 0, in the topology's order
@@ -56,10 +65,12 @@ status  comes                           last line
 4       the output failed               none
 5       a journal of another network    journal other KEPT GIVEN
         or a damaged one                journal damaged at BYTE
-6       a journal that another program
-        holds, or that failed           cabinet
+6       no file TOPOLOGY, a journal
+        that another program holds,
+        or a file that failed           cabinet
 7       no memory to begin              no memory
-8       input longer than 1 GiB         too long
+8       input or TOPOLOGY longer
+        than 1 GiB                      too long
 ";
 
 /// What `--version` is answered with.
@@ -67,5 +78,5 @@ pub const VERSION: &str = "hosed 0.1.0\n";
 
 /// What is said on standard error where the words are wrong.
 pub const USAGE: &str = "hosed takes `run`, which reads a topology and commands, and after it the \
-    name of a journal if the book is to be kept; or `--help`, which tells their forms, or \
-    `--version`.";
+    name of a journal if the book is to be kept; or `audit`, and after it the names of a topology \
+    and of a journal; or `--help`, which tells their forms, or `--version`.";

@@ -47,8 +47,6 @@ pub struct Journal {
     pub left: Option<Vec<u8>>,
     /// The calls of it that fail, by their kinds and their numbers, counted from 1.
     pub failing: Vec<(DiskCall, u64)>,
-    /// Whether the cabinet fails to give it out.
-    pub is_closed: bool,
     /// Whether the program is stopped after each call of it.
     pub stops: bool,
 }
@@ -63,6 +61,10 @@ pub struct Case {
     /// How many more bytes the input has.
     pub more: u64,
     pub output: Stream,
+    /// The text `t` of the cabinet. Where it has no byte, it is not there.
+    pub text: Vec<u8>,
+    /// The number of the cabinet's call for a text or a disk that fails, counted from 1.
+    pub failing: Option<u64>,
     pub journal: Journal,
     pub status: u64,
     pub taken: Option<u64>,
@@ -86,7 +88,6 @@ impl Journal {
             bytes: Vec::new(alloc),
             left: None,
             failing: Vec::new(alloc),
-            is_closed: false,
             stops: false,
         }
     }
@@ -101,6 +102,8 @@ impl Case {
             input: Stream::new(alloc),
             more: 0,
             output: Stream::new(alloc),
+            text: Vec::new(alloc),
+            failing: None,
             journal: Journal::new(alloc),
             status: 0,
             taken: None,
@@ -114,6 +117,7 @@ impl Case {
             Line::Nothing | Line::Case(_) => {}
             Line::Words(rest) => self.words = words_of(alloc, rest)?,
             Line::Input(pattern) => pattern.add_to(&mut self.input.bytes)?,
+            Line::Text(pattern) => pattern.add_to(&mut self.text)?,
             Line::More(count) => self.more = count,
             Line::Read(piece) => self.input.piece = Piece::new(piece)?,
             Line::Write(piece) => self.output.piece = Piece::new(piece)?,
@@ -121,7 +125,7 @@ impl Case {
             Line::WriteFails(rest) => self.output.failing = calls_of(alloc, rest)?,
             Line::Journal(rest) => self.journal.bytes = bytes_of(alloc, rest)?,
             Line::DiskFails(rest) => add_disk_calls(alloc, &mut self.journal.failing, rest)?,
-            Line::CabinetFails => self.journal.is_closed = true,
+            Line::CabinetFails(nth) => self.failing = Some(nth),
             Line::Stops => self.journal.stops = true,
             wanted => self.add_wanted(alloc, wanted)?,
         }

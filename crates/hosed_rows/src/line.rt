@@ -15,6 +15,8 @@ pub enum Line<'a> {
     Input(Pattern<'a>),
     /// Bytes of the output.
     Output(Pattern<'a>),
+    /// Bytes of the text `t` of the cabinet.
+    Text(Pattern<'a>),
     /// How many more bytes the input has, that are not stored.
     More(u64),
     /// How many bytes the input gives in a call.
@@ -35,8 +37,8 @@ pub enum Line<'a> {
     Left(&'a str),
     /// Which calls of a kind fail on that disk.
     DiskFails(&'a str),
-    /// That the cabinet fails to give that disk out.
-    CabinetFails,
+    /// Which call of the cabinet for a text or a disk fails.
+    CabinetFails(u64),
     /// That the program is stopped after each call of that disk.
     Stops,
 }
@@ -52,6 +54,9 @@ impl<'a> Line<'a> {
         }
         if let Some(rest) = line.strip_prefix('>') {
             return Ok(Line::Output(Pattern::read(rest)?));
+        }
+        if let Some(rest) = line.strip_prefix('=') {
+            return Ok(Line::Text(Pattern::read(rest)?));
         }
         let (word, rest) = line.split_once(' ').unwrap_or((line, ""));
         Line::read_setting(word, rest)
@@ -72,7 +77,7 @@ impl<'a> Line<'a> {
             "journal" => Ok(Line::Journal(rest)),
             "left" => Ok(Line::Left(rest)),
             "disk-fails" => Ok(Line::DiskFails(rest)),
-            "cabinet-fails" => Ok(Line::CabinetFails),
+            "cabinet-fails" => Ok(Line::CabinetFails(number(rest)?)),
             "stops" => Ok(Line::Stops),
             _ => Err(CaseFault::Word),
         }

@@ -3,7 +3,7 @@
 use crate::fault::CaseFault;
 use itoa::Buffer;
 
-/// What stands after `<` or `>` in a case file.
+/// What stands after `<`, `>` or `=` in a case file.
 #[derive(Clone, Copy, Debug, PartialEq, Eq)]
 pub struct Pattern<'a> {
     times: u64,

@@ -2,7 +2,7 @@
 ghost use Rattle.std.specs.Prelude.{◌≡◌, IfOk, None};
 ghost use Rattle.hose_disk.specs.CabinetState.{cabinet_frame};
 
-use crate::case::{Case, Journal};
+use crate::case::Case;
 use crate::streams::{LongSource, NarrowSink};
 use hose_disk::{Cabinet, Disk, MemCabinet, MemDisk};
 use hose_io::{MemSink, MemSource};
@@ -11,6 +11,9 @@ use std::alloc::{AllocError, Global};
 
 /// The name of the journal in the cabinet.
 pub const JOURNAL: &str = "j";
+
+// The name of the text in it.
+const TEXT: &str = "t";
 
 /// What came of a case.
 #[derive(Drop)]
@@ -27,7 +30,7 @@ pub struct Outcome {
 pub fn run_case(alloc: Global, case: &Case) -> Result<Outcome, AllocError> {
     let mut input = source_of(alloc, case)?;
     let mut output = sink_of(alloc, case)?;
-    let mut cabinet = cabinet_of(alloc, &case.journal)?;
+    let mut cabinet = cabinet_of(alloc, case)?;
     let status = program(alloc, &case.words, &mut input, &mut output, &mut cabinet);
     let taken = input.taken();
     Ok(Outcome {
@@ -64,17 +67,20 @@ fn sink_of(alloc: Global, case: &Case) -> Result<NarrowSink, AllocError> {
     Ok(NarrowSink::new(sink, case.output.piece))
 }
 
-// A cabinet with the journal.
-fn cabinet_of(alloc: Global, journal: &Journal) -> Result<MemCabinet, AllocError>
+// A cabinet with the journal, and the text if there is one.
+fn cabinet_of(alloc: Global, case: &Case) -> Result<MemCabinet, AllocError>
     ensures { IfOk result (λ cabinet. (cabinet_frame cabinet).out ≡ None) }
 {
-    let mut disk = disk_of(alloc, &journal.bytes)?;
-    for (kind, nth) in &journal.failing {
+    let mut disk = disk_of(alloc, &case.journal.bytes)?;
+    for (kind, nth) in &case.journal.failing {
         disk.fail(alloc, *kind, *nth)?;
     }
     let mut cabinet = MemCabinet::of(alloc, JOURNAL.as_bytes(), disk)?;
-    if journal.is_closed {
-        cabinet.fail(alloc, 1)?;
+    if !case.text.is_empty() {
+        cabinet.add_text(alloc, TEXT.as_bytes(), &case.text)?;
+    }
+    if let Some(nth) = case.failing {
+        cabinet.fail(alloc, nth)?;
     }
     Ok(cabinet)
 }
