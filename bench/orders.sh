@@ -2,9 +2,10 @@
 # Orders that are acknowledged in a second by a run with a new journal in FOLDER, admissions and
 # releases, beside a loop of the same writes and syncs on a file there; and how long a run without a
 # command takes to open a journal there of 20,000 live VPNs of 3 and of 64 endpoints, beside
-# sha256sum of its file, and a run without a journal: the least of some runs. A sync may take many
-# times as long at one moment as at another, so the orders and the loop go by short turns, and
-# their figures are those of all turns.
+# sha256sum of its file, and a run without a journal, and how long an audit of it takes, beside
+# sha256sum of its text: the least of some runs. An audit of 64 endpoints is to take less than a
+# second. A sync may take many times as long at one moment as at another, so the orders and the loop
+# go by short turns, and their figures are those of all turns.
 # usage: bench/orders.sh [FOLDER]     FOLDER: on a real disk; else the current one
 set -euo pipefail
 export LC_ALL=C
@@ -31,6 +32,7 @@ PROGRAM, PLACE = sys.argv[1:]
 TURNS, IN_A_TURN = 40, 100  # orders, of which every second one is a release
 VPNS, RUNS = 20_000, 5
 JOURNAL, LOOP = f"{PLACE}/journal", f"{PLACE}/loop"
+TOPOLOGY, AUDIT = f"{PLACE}/topology", f"{PLACE}/audit"
 HEAD = 39  # bytes of a journal without an entry, with its last gate
 OPEN, CLOSED = b"\1", b"\0"
 
@@ -179,6 +181,24 @@ def least_seconds(words, text):
     return min(seconds)
 
 
+# ---- Audits.
+
+
+def tell_audit(ends):
+    """How long the audit of the journal takes, whose last line tells all VPNs and what they cost."""
+    with open(TOPOLOGY, "w") as file:
+        file.write(star(ends))
+    words = [PROGRAM, "audit", TOPOLOGY, JOURNAL]
+    audited = least_seconds(words, "")
+    text = subprocess.run(words, capture_output=True, check=True).stdout
+    assert text.endswith(f"live {VPNS} cost {VPNS * ends}\n".encode()), text[-80:]
+    with open(AUDIT, "wb") as file:
+        file.write(text)
+    digest = least_seconds(["sha256sum", AUDIT], "")
+    print(f"audit: {audited:.4f} s for {VPNS:,} VPNs of {ends} endpoints, {len(text)} bytes")
+    print(f"reference: {digest:.4f} s for sha256sum, ratio {audited / digest:.2f}")
+
+
 def main():
     tell_orders(*measure_orders())
     for ends in (3, 64):
@@ -189,6 +209,7 @@ def main():
         print(f"opening: {opened:.4f} s for {VPNS:,} VPNs of {ends} endpoints, {size} bytes")
         print(f"reference: {digest:.4f} s for sha256sum, ratio {opened / digest:.2f}; "
               f"{without:.4f} s without a journal")
+        tell_audit(ends)
         os.remove(JOURNAL)
 
 

@@ -1,6 +1,9 @@
 #!/usr/bin/env python3
-"""Turns an audit into a graph for Graphviz: the wider a link, the more it carries, and its colour goes
-from green to red as it fills up. Reads the audit, and writes the graph's text."""
+"""Turns an audit into a graph for Graphviz: the wider a link, the more it carries, and its colour
+goes from green to red as it fills up. Reads the audit, and writes the graph's text.
+
+usage: hosed audit TOPOLOGY JOURNAL | demo/graph.py | dot -Tsvg > PICTURE
+"""
 import sys
 
 WIDEST = 12
