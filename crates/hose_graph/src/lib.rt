@@ -21,6 +21,8 @@ mod name;
 mod node_list;
 mod reply;
 mod row;
+mod row_copy;
+mod same_topology;
 mod step;
 mod topology;
 mod vpn;
