@@ -14,6 +14,8 @@ mod commands;
 #[cfg(test)]
 mod cores;
 #[cfg(test)]
+mod doors;
+#[cfg(test)]
 mod judging;
 #[cfg(test)]
 mod networks;

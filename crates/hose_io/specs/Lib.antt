@@ -1,4 +1,6 @@
+pub mod Connections
 pub mod Count
+pub mod DoorState
 pub mod FailingCalls
 pub mod Frame
 pub mod Gather

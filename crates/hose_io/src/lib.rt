@@ -2,8 +2,10 @@
 //! written, and what their failures are counted by.
 #![tactic(auto)]
 
+mod door;
 mod failing;
 mod gather;
+mod mem_door;
 mod mem_sink;
 mod mem_source;
 mod sink;
@@ -11,8 +13,10 @@ mod source;
 mod std_streams;
 mod writing;
 
+pub use door::Door;
 pub use failing::FailingCalls;
 pub use gather::{GATHER_LIMIT, Gather};
+pub use mem_door::{MemDone, MemDoor};
 pub use mem_sink::MemSink;
 pub use mem_source::MemSource;
 pub use sink::Sink;

@@ -58,6 +58,14 @@ impl MemSink {
         })
     }
 
+    /// The same sink, as that of the connection of this number.
+    pub(crate) fn with_number(mut self, number: u64) -> MemSink
+        ensures { result ≡ record self { number = number } }
+    {
+        self.number = number;
+        self
+    }
+
     /// What was given.
     pub fn bytes(&self) -> &[u8]
         ensures { result.now ≡ self.now.given }

@@ -58,6 +58,20 @@ impl MemSource {
         })
     }
 
+    /// The same source, as that of the connection of this number.
+    pub(crate) fn with_number(mut self, number: u64) -> MemSource
+        ensures { result ≡ record self { number = number } }
+    {
+        self.number = number;
+        self
+    }
+
+    pub(crate) fn number(&self) -> u64
+        ensures { result ≡ self.now.number }
+    {
+        self.number
+    }
+
     /// The bytes not yet taken.
     pub fn left(&self) -> &[u8]
         ensures { result.now ≡ self.now.content.left }

@@ -1,0 +1,36 @@
+-- What contracts see of a door over a port: nothing of what comes and goes there.
+use Rattle.std.specs.Prelude.{ℕ, [], Bool, Option, None}
+use Rattle.hose_io.specs.Connections.{Connection, Connections}
+use Rattle.hose_io.specs.Frame.{Frame}
+use Rattle.hose_io.specs.StdState.{StdSinkState, StdSourceState, sink_frame, source_frame, untold_stream, untold_text}
+use Rattle.hose_io.specs.declared.sink.Sink.{Ghosts as SinkGhosts}
+use Rattle.hose_io.specs.declared.source.Source.{Ghosts as SourceGhosts}
+
+-- how often it has failed, and whether it was opened
+pub record TcpState : Type 0 where
+  pub faults : ℕ
+  pub listens : Bool
+
+-- its frame
+abbrev pub frame_of : TcpState → Frame
+frame_of door = record { faults = door.faults; number = 0; loan = [] }
+
+-- it tells no connections
+abbrev pub untold_connections : Option Connections
+untold_connections = None
+
+-- nor what one came to that ended
+abbrev pub untold_connection : Option Connection
+untold_connection = None
+
+-- a source over a reader of std, as a source
+abbrev pub std_source : {R : Type 0} → SourceGhosts (StdSourceState R)
+std_source = record { frame = source_frame; content = λ _. untold_stream }
+
+-- a sink over a writer of std, as a sink
+abbrev pub std_sink : {W : Type 0} → SinkGhosts (StdSinkState W)
+std_sink = record {
+  frame = sink_frame;
+  content = λ _. untold_text;
+  pieces = λ sink. sink.pieces;
+}

@@ -1,0 +1,103 @@
+-- What contracts see of a door in memory, and what each of its calls does to that.
+use Rattle.std.specs.Prelude.{◌≡◌, ℕ, ◌+◌, List, [], ◌∷◌, ◌++◌, map, Some}
+use Rattle.hose_io.specs.Connections.{Connection, Connections}
+use Rattle.hose_io.specs.Count.{one_more}
+use Rattle.hose_io.specs.FailingCalls.{later_calls}
+use Rattle.hose_io.specs.Frame.{Frame}
+use Rattle.hose_io.specs.SinkState.{SinkState, frame_of as sink_frame}
+use Rattle.hose_io.specs.SourceState.{SourceState, frame_of as source_frame}
+use Rattle.hose_io.specs.declared.sink.Sink.{Ghosts as SinkGhosts}
+use Rattle.hose_io.specs.declared.source.Source.{Ghosts as SourceGhosts}
+
+-- a connection that ended: its number, its input and its output
+pub record DoneState : Type 0 where
+  pub number : ℕ
+  pub input : SourceState
+  pub output : SinkState
+
+-- its connections that are still to come, each as its input; how many it has accepted, those that
+-- ended and came back, its faults, and its calls that are to fail
+pub record DoorState : Type 0 where
+  pub coming : List SourceState
+  pub accepted : ℕ
+  pub ended : List DoneState
+  pub faults : ℕ
+  pub failing : List ℕ
+
+-- Nothing was taken from a source, and no call of it has failed.
+pub record IsFresh (source : SourceState) : Type 0 where
+  pub untaken : source.content.taken ≡ []
+  pub unfailed : source.faults ≡ 0
+
+-- a source in memory, as a source
+abbrev pub mem_source : SourceGhosts SourceState
+mem_source = record { frame = source_frame; content = λ source. Some source.content }
+
+-- a sink in memory, as a sink
+abbrev pub mem_sink : SinkGhosts SinkState
+mem_sink = record {
+  frame = sink_frame;
+  content = λ sink. Some sink.given;
+  pieces = λ sink. sink.pieces;
+}
+
+-- a sink that was given nothing
+abbrev pub fresh_sink : SinkState
+fresh_sink = record {
+  given = [];
+  faults = 0;
+  starved = 0;
+  pieces = 0;
+  failing = [];
+  number = 0;
+}
+
+-- ---- what a door tells
+
+-- its frame
+abbrev pub frame_of : DoorState → Frame
+frame_of door = record { faults = door.faults; number = 0; loan = [] }
+
+-- what a connection that ended came to
+abbrev pub outcome : DoneState → Connection
+outcome done = record {
+  taken = done.input.content.taken;
+  left = done.input.content.left;
+  given = done.output.given;
+  reading = done.input.faults;
+  writing = done.output.faults;
+}
+
+-- its connections
+abbrev pub connections_of : DoorState → Connections
+connections_of door = record {
+  accepted = door.accepted;
+  coming = map (λ source. source.content.left) door.coming;
+  ended = map outcome door.ended;
+}
+
+-- ---- what its calls do
+
+-- after a call of `open` or `accept` that succeeded and gave no connection
+abbrev pub after_call : DoorState → DoorState
+after_call door = record door { failing = later_calls door.failing }
+
+-- after a call that failed
+abbrev pub after_fault : DoorState → DoorState
+after_fault door = record (after_call door) { faults = one_more door.faults }
+
+-- A call of `accept` gave the next connection: its input and its output have its number.
+pub record IsHandedOut (old new : DoorState) (input : SourceState) (output : SinkState) :
+    Type 0 where
+  pub source : SourceState
+  pub first : old.coming ≡ source ∷ new.coming
+  pub reads : input ≡ record source { number = old.accepted + 1 }
+  pub writes : output ≡ record fresh_sink { number = old.accepted + 1 }
+  pub after : new ≡ record (after_call old) {
+    coming = new.coming;
+    accepted = old.accepted + 1;
+  }
+
+-- after a connection came back
+abbrev pub after_back : DoneState → DoorState → DoorState
+after_back done door = record door { ended = door.ended ++ done ∷ [] }
