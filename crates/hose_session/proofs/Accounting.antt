@@ -1,6 +1,7 @@
 -- Connections that account for a pass.
 use Rattle.std.proofs.Common.{◌≡◌, ◌↔◌, ◌⊎◌, inl, inr, ℕ, ◌+◌, ◌<◌, ◌≤◌, List, [], ◌∷◌, ◌++◌, length, Option, Some, refl, sym, subst, arith, append-nil, append_assoc}
 use mathlib.Core.List.{IsPrefix}
+use Rattle.hose_io.specs.Connections.{Connection}
 use Rattle.hose_io.specs.Frame.{Frame, Rose}
 use Rattle.hose_io.specs.Stream.{Gives, Stream}
 use Rattle.hose_io.specs.declared.source.Source.{Ghosts as SourceGhosts}
@@ -15,7 +16,7 @@ use Rattle.hose_law.proofs.Fronts.{prefix_length}
 use Rattle.hose_law.proofs.Transcripts.{transcript_longer}
 use Rattle.hose_turn.specs.Known.{Known}
 use Rattle.hose_turn.specs.declared.view.Origin.{Origin}
-use Rattle.hose_session.specs.Accounts.{AccountFor, AreServedAlong, none_served, one_served, Connection, IsConnection, IsServedAlong}
+use Rattle.hose_session.specs.Accounts.{AccountFor, AreServedAlong, none_served, one_served, ComeTo, IsServedAlong}
 use Rattle.hose_session.specs.Session.{AnswersUpTo, IsSession, ServesSession, Telling, TellsOf}
 use Rattle.hose_session.specs.declared.ending.SessionEnd.{SessionEnd}
 use Rattle.hose_session.specs.declared.ending.SessionEnd.TheVariants as session_end
@@ -100,7 +101,7 @@ failed_once before after faults none count rose = at rose.rose
 
 -- one connection more
 pub one_accounts : {S O : Type 0} (source : SourceGhosts S) (sink : SinkGhosts O) (connections : List Connection) (connection : Connection) (old new : Known) (input input' : S) (output output' : O) (end : SessionEnd) (bytes : List ℕ)
-    → IsPrefix old.origin.since old.seen → AccountFor connections old → IsConnection source sink input input' output output' connection → ServesSession source sink old.origin.network input input' output output' old new end
+    → IsPrefix old.origin.since old.seen → AccountFor connections old → ComeTo source sink input input' output output' connection → ServesSession source sink old.origin.network input input' output output' old new end
     → Gives (source.content input) (source.content input') bytes → (end ≡ session_end.TooLong) ↔ (INPUT_LIMIT < length bytes) → AccountFor (connections ++ connection ∷ []) new
 one_accounts source sink connections connection old new input input' output output' end bytes began accounts is serves gives too_long =
     account (connections ++ connection ∷ []) old.origin new (old.own ++ serves.own) (accounts.disks + disks_in serves.replies) serves.same.origin serves.owns

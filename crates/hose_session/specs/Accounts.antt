@@ -1,5 +1,6 @@
 -- Connections that ended, and the pass along which they were served.
 use Rattle.std.specs.Prelude.{◌≡◌, ◌↔◌, ℕ, ◌+◌, ◌<◌, ◌≤◌, List, [], ◌∷◌, ◌++◌, length, Some}
+use Rattle.hose_io.specs.Connections.{Connection}
 use Rattle.hose_io.specs.declared.source.Source.{Ghosts as SourceGhosts}
 use Rattle.hose_io.specs.declared.sink.Sink.{Ghosts as SinkGhosts}
 use Rattle.hose_words.specs.declared.limits.TheConstants.{INPUT_LIMIT}
@@ -12,18 +13,8 @@ use Rattle.hose_session.specs.Session.{IsSession, TellsOf}
 use Rattle.hose_session.specs.declared.ending.SessionEnd.{SessionEnd}
 use Rattle.hose_session.specs.declared.ending.SessionEnd.TheVariants.{TooLong}
 
--- A connection that ended: the bytes that were taken from its input, those that were left there,
--- the bytes that its output was given, and how often each of them failed. At its start nothing was
--- taken or given, and nothing had failed.
-pub record Connection : Type 0 where
-  pub taken : List ℕ
-  pub left : List ℕ
-  pub given : List ℕ
-  pub reading : ℕ
-  pub writing : ℕ
-
--- these streams, at the start and at the end of a session, are the connection's
-pub record IsConnection {S O : Type 0} (source : SourceGhosts S) (sink : SinkGhosts O)
+-- what these streams, at the start and at the end of a session, come to as a connection
+pub record ComeTo {S O : Type 0} (source : SourceGhosts S) (sink : SinkGhosts O)
     (input input' : S) (output output' : O) (connection : Connection) : Type 0 where
   pub fresh : source.content input ≡ Some (record {
     taken = [];

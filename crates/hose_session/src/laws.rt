@@ -1,9 +1,10 @@
 // What is true of connections that account for a pass.
 ghost use Rattle.std.specs.Prelude.{◌≡◌, ◌↔◌, ◌+◌, ◌++◌, ◌∷◌, ◌<◌, ℕ, List, [], length};
 ghost use mathlib.Core.List.{IsPrefix};
+ghost use Rattle.hose_io.specs.Connections.{Connection};
 ghost use Rattle.hose_io.specs.Stream.{Gives};
 ghost use Rattle.hose_turn.specs.Known.{Known};
-ghost use Rattle.hose_session.specs.Accounts.{AccountFor, Connection, IsConnection};
+ghost use Rattle.hose_session.specs.Accounts.{AccountFor, ComeTo};
 ghost use Rattle.hose_session.specs.Session.{ServesSession};
 ghost use Rattle.hose_session.specs.declared.ending.SessionEnd.{SessionEnd};
 ghost use Rattle.hose_session.specs.declared.ending.SessionEnd.TheVariants as session_end;
@@ -19,7 +20,7 @@ pub fn law_accounts<S: Source, O: Sink>()
     ensures one_more { (connections : List Connection) (connection : Connection) (old new : Known)
         (input input' : S) (output output' : O) (end : SessionEnd) (bytes : List ℕ)
         → IsPrefix old.origin.since old.seen → AccountFor connections old
-        → IsConnection S.Source O.Sink input input' output output' connection
+        → ComeTo S.Source O.Sink input input' output output' connection
         → ServesSession S.Source O.Sink old.origin.network input input' output output' old new end
         → Gives (S.content input) (S.content input') bytes
         → ((end ≡ session_end.TooLong) ↔ (INPUT_LIMIT < length bytes))
