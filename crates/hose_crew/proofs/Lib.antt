@@ -1,0 +1,5 @@
+mod Arriving
+mod Gathering
+mod GivingBack
+mod Serving
+mod Working

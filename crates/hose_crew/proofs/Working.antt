@@ -1,0 +1,31 @@
+-- What a worker has in hand after one connection more.
+use Rattle.std.proofs.Common.{◌≡◌, ◌∙◌, ◌+◌, List, [], ◌∷◌, ◌++◌, IsTrue, is_some, Option, Some, refl, sym, subst, arith, length-append}
+use Rattle.std.proofs.lemmas.List.{map-append}
+use mathlib.Core.List.{IsPrefix}
+use Rattle.hose_io.specs.Connections.{Connection, Connections}
+use Rattle.hose_law.proofs.Fronts.{prefix_on}
+use Rattle.hose_session.specs.Accounts.{AccountFor}
+use Rattle.hose_shared.specs.Sharing.{IsSamePass}
+use Rattle.hose_turn.specs.Known.{Known}
+use Rattle.hose_turn.specs.declared.view.Origin.{Origin}
+use Rattle.hose_crew.specs.Hands.{PlaceState, Works, part_of}
+
+module _ (told : Option Connections) (first : Known) (place next : PlaceState) (ended : List (Option Connection)) (done : Option Connection) where
+  pub works_more : IsPrefix first.origin.since first.seen → Works told first place ended → IsSamePass (part_of first) next.pass → next.parts ≡ place.parts → next.amount ≡ place.amount + 1
+      → (IsTrue (is_some told) → IsPrefix place.pass.origin.since place.pass.seen → (connections : List Connection) → AccountFor connections place.pass
+      → (connection : Connection) × (done ≡ Some connection) × AccountFor (connections ++ connection ∷ []) next.pass)
+      → Works told first next (ended ++ done ∷ [])
+  works_more since works same parts amount more = record {
+    same = same;
+    parts = parts ∙ works.parts;
+    amount = omega (arith, amount, works.amount, length-append ended (done ∷ []));
+    accounts = λ tells.
+        let old = works.accounts tells in
+        let began = subst (λ (origin : Origin). IsPrefix origin.since place.pass.seen) (sym works.same.origin) (prefix_on _ _ _ since works.same.seen) in
+        let one = more tells began old.connections old.account in
+        record {
+          connections = old.connections ++ one.0 ∷ [];
+          are = rw (old.are, one.1, map-append (λ (one : Connection). Some one) old.connections (one.0 ∷ [])) refl;
+          account = one.2;
+        };
+  }

@@ -1,0 +1,31 @@
+use Rattle.std.proofs.Common.{refl, rules}
+use Rattle.hose_crew.specs.Hands.{HasWorked}
+use Rattle.hose_crew.proofs.Gathering.{all_rest, none_gathered, none_returned}
+use Rattle.hose_crew.proofs.crew.gather.Goals as goal
+
+pub loop-hand-init : goal.loop-hand-init
+loop-hand-init g c =
+    let asked = c.requires in (
+      search rules,
+      search rules,
+      search rules,
+      none_gathered _ _ c.args.pass c.args.share.parts asked.pass (search rules) asked.share.0,
+      search rules,
+      refl,
+      none_returned g.N.Start.start.told (g.L.Door.told c.args.door) c.args.total.total c.args.share.amount c.args.pass asked.share.1 (c.law_accounts.ensures.none c.args.pass (search rules)),
+      refl,
+    )
+
+pub loop-hand-preserved : goal.loop-hand-preserved
+loop-hand-preserved g c =
+    let Worked = HasWorked g.L.Door.came_to g.N.Start.start.told c.args.first.now.value g.N.Start.start.connections in
+    let step = c.in-Some.ensures.steps.0 in (
+      search rules,
+      search rules,
+      all_rest Worked c.in-Some.hand c.next.new.self.rest.items (rw step at c.loop-hand.invariant.2),
+      search rules,
+      search rules,
+      search rules,
+      search rules,
+      search rules,
+    )

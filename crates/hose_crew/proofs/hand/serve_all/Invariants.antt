@@ -1,0 +1,18 @@
+use Rattle.std.proofs.Common.{◌≡◌, ◌≤◌, ◌-◌, length, map, vec_capacity}
+use Rattle.hose_crew.specs.Hands.{Works}
+use Rattle.hose_crew.proofs.hand.serve_all.Given as goal
+
+abbrev pub invariant-loop-one : goal.invariant-loop-one
+invariant-loop-one g l =
+    Works g.N.Start.start.told l.job.first.now.value
+    (record {
+      pass = l.place-inside.pass;
+      parts = l.place-inside.share.parts;
+      amount = l.place-inside.share.amount;
+    })
+    (map g.L.Door.came_to l.ended.items)
+    × (g.N.Start.start.connections ≤ vec_capacity l.ended)
+    × (vec_capacity l.ended ≡ vec_capacity l.initial.ended)
+
+abbrev pub decreases-loop-one : goal.decreases-loop-one
+decreases-loop-one g l = g.N.Start.start.connections - length l.ended.items

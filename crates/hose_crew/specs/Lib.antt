@@ -1,0 +1,3 @@
+pub mod Crew
+pub mod Desk
+pub mod Hands

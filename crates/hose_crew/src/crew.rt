@@ -1,0 +1,269 @@
+// A crew from its start to its end.
+ghost use Rattle.std.specs.Prelude.{◌≡◌, ◌⊎◌, ℕ, ◌+◌, ◌<◌, ◌≤◌, [], All, IfOk, length, slice_index_or};
+ghost use mathlib.Core.List.{IsPrefix};
+ghost use Rattle.hose_io.specs.Connections.{AreAccounted};
+ghost use Rattle.hose_shared.specs.Sharing.{IsPassOf};
+ghost use Rattle.hose_crew.specs.Crew.{ServesDoor};
+ghost use Rattle.hose_crew.specs.Desk.{AreArrived, HasStopped};
+ghost use Rattle.hose_crew.specs.Hands.{AreBack, HasWorked, IsGathered, IsIdle, part_of};
+
+use crate::desk::{Closed, Desk, Start};
+use crate::hand::{Hand, Place, Work};
+use hose_disk::Disk;
+use hose_io::{Door, Failed};
+use hose_pool::{Gate, MOST_WORKERS};
+use hose_session::law_accounts;
+use hose_shared::{Begun, Shared, law_passes};
+use hose_turn::Pass;
+use std::alloc::{AllocError, Global};
+use std::marker::Model;
+use std::snapshot::Snapshot;
+use std::sync::ledger::{Blank, Book, Share};
+use std::sync::{Mutex, Wait};
+use std::thread;
+use std::thread::Threads;
+
+/// Workers, with room for the connections that they are to serve.
+#[derive(Drop)]
+pub struct Crew<L: Door, N: Start> {
+    hands: Vec<Hand<L, N>>,
+    connections: u32,
+}
+
+impl<L: Door, N: Start> Model for Crew<L, N> {
+    ghost use Rattle.std.specs.Prelude.{◌<◌, ◌≤◌, All, length};
+    ghost use Rattle.hose_pool.specs.declared.rows.TheConstants.{MOST_WORKERS};
+    ghost use Rattle.hose_crew.specs.Crew.{CrewState};
+    ghost use Rattle.hose_crew.specs.Hands.{IsIdle};
+
+    ghost Value = { CrewState };
+
+    ghost view = { λ crew. record {
+      workers = length crew.hands.items;
+      connections = crew.connections;
+    } };
+
+    ghost invariant = { λ crew. (0 < length crew.hands.items)
+        × (length crew.hands.items ≤ MOST_WORKERS)
+        × All (IsIdle crew.connections) crew.hands.items };
+}
+
+impl<L: Door + Send, N: Start + Send + Sync> Crew<L, N> {
+    /// So many workers, from 1 to 16, with room for so many connections.
+    pub fn new(alloc: Global, workers: u32, connections: u32) -> Result<Crew<L, N>, AllocError>
+        requires workers { (1 ≤ workers) × (workers ≤ MOST_WORKERS) }
+        ensures { IfOk result
+            (λ crew. crew ≡ record { workers = workers; connections = connections }) }
+    {
+        let mut hands = Vec::new(alloc);
+        for _ in 0..workers {
+            hands.push(Hand::new(alloc, connections)?)?;
+        }
+        Ok(Crew { hands, connections })
+    }
+
+    /// Serves the connections of a door that is open, each in a session along a part of the pass,
+    /// until there are as many as the crew is for, or no more will come, or accepting fails. They
+    /// are given back to the door, and the pass comes back whole.
+    pub fn serve<R: Threads + Wait + Sync, D: Disk + Send, B: Begun<D> + Send, G: Gate + Sync>(
+        self,
+        rt: &R,
+        alloc: Global,
+        shared: &Shared<D, B>,
+        pass: Pass,
+        door: L,
+        blank: Blank,
+        gate: &G,
+    ) -> (Result<(), Failed>, Pass, L)
+        requires of { IsPassOf shared.now pass }
+        requires shares { self.workers < pass.share }
+        requires own { pass.own ≡ [] }
+        requires since { IsPrefix pass.origin.since pass.seen }
+        requires name { blank.name ≡ N.name }
+        requires parts { (blank.parts ≡ N.parts) × (blank.parts ≡ self.workers) }
+        requires start { N.start ≡ record {
+          frame = L.frame door;
+          told = L.told door;
+          connections = self.connections;
+        } }
+        requires accounted { AreAccounted (L.told door) }
+        ensures { ServesDoor L.Door door result.2 self.connections pass result.1 result.0 }
+    {
+        law_passes();
+        let Crew {
+            mut hands,
+            connections,
+        } = self;
+        let (total, mut share) = blank.open::<N>();
+        let mut pass = pass;
+        let first = &Snapshot::of(&pass);
+        let desk = Desk::new(door, connections, total);
+        take_places(shared, &mut pass, &mut share, &mut hands, first);
+        let job = Work {
+            rt,
+            alloc,
+            shared,
+            gate,
+            workers: hands.len() as u32,
+            first,
+        };
+        let Closed {
+            door,
+            total,
+            stopped,
+        } = serve_all(&job, desk, &mut hands);
+        let (pass, door) = gather(shared, pass, share, total, door, hands, first);
+        (stopped, pass, door)
+    }
+}
+
+// Each worker takes a part of the first pass.
+fn take_places<D: Disk, B: Begun<D>, L: Door, N: Start>(
+    shared: &Shared<D, B>,
+    pass: &mut Pass,
+    share: &mut Share<N>,
+    hands: &mut [Hand<L, N>],
+    first: &Snapshot<Pass>,
+)
+    requires of { IsPassOf shared.now first.now.value }
+    requires pass { pass.old ≡ first.now.value }
+    requires shares { length hands.old < first.now.value.share }
+    requires parts { (share.old.parts ≡ length hands.old) × (share.old.amount ≡ 0) }
+    requires idle { All (IsIdle N.start.connections) hands.old }
+    ensures pass { pass.new ≡ record first.now.value { share = pass.new.share } }
+    ensures left { pass.new.share + length hands.old ≡ first.now.value.share }
+    ensures parts { (share.new.parts ≡ 0) × (share.new.amount ≡ 0) }
+    ensures number { length hands.new ≡ length hands.old }
+    ensures works { All (HasWorked L.came_to N.start.told first.now.value N.start.connections)
+        hands.new }
+{
+    for number in 0..hands.len() {
+        let place = Place {
+            pass: shared.split(pass),
+            share: share.split_off(1, 0),
+        };
+        hands[number].take_place(place, first);
+    }
+}
+
+// All workers serve connections at once, until there is no more.
+fn serve_all<
+    R: Threads + Wait + Sync,
+    D: Disk + Send,
+    B: Begun<D> + Send,
+    G: Gate + Sync,
+    L: Door + Send,
+    N: Start + Send + Sync,
+>(job: &Work<'_, R, D, B, G>, desk: Desk<L, N>, hands: &mut [Hand<L, N>]) -> Closed<L, N>
+    requires workers { (1 ≤ job.now.workers) × (job.now.workers ≤ MOST_WORKERS) }
+    requires of { IsPassOf job.now.shared.now job.now.first.now.value }
+    requires since { IsPrefix job.now.first.now.value.origin.since job.now.first.now.value.seen }
+    requires works { All (HasWorked L.came_to N.start.told job.now.first.now.value N.start.connections)
+        hands.old }
+    ensures number { length hands.new ≡ length hands.old }
+    ensures works { All (HasWorked L.came_to N.start.told job.now.first.now.value N.start.connections)
+        hands.new }
+    ensures stopped { HasStopped N.start (L.frame result.door) (L.told result.door)
+        result.total.total result.stopped }
+    ensures arrived { AreArrived N.start.told (L.told result.door) result.total.total }
+    ensures few { result.total.total ≤ N.start.connections }
+{
+    let mut desk = desk;
+    for _ in job.rt.forever() {
+        // A worker stops where there is no more. The lock does not tell so, and the desk does.
+        desk = work_once(job, desk, hands);
+        match desk.close() {
+            Ok(closed) => return closed,
+            Err(going) => desk = going,
+        }
+    }
+    unreachable!()
+}
+
+// Each worker serves connections until there is no more.
+fn work_once<
+    R: Threads + Wait + Sync,
+    D: Disk + Send,
+    B: Begun<D> + Send,
+    G: Gate + Sync,
+    L: Door + Send,
+    N: Start + Send + Sync,
+>(job: &Work<'_, R, D, B, G>, desk: Desk<L, N>, hands: &mut [Hand<L, N>]) -> Desk<L, N>
+    requires workers { (1 ≤ job.now.workers) × (job.now.workers ≤ MOST_WORKERS) }
+    requires of { IsPassOf job.now.shared.now job.now.first.now.value }
+    requires since { IsPrefix job.now.first.now.value.origin.since job.now.first.now.value.seen }
+    requires works { All (HasWorked L.came_to N.start.told job.now.first.now.value N.start.connections)
+        hands.old }
+    ensures number { length hands.new ≡ length hands.old }
+    ensures works { All (HasWorked L.came_to N.start.told job.now.first.now.value N.start.connections)
+        hands.new }
+{
+    let desk = Mutex::new(desk);
+    // Its parts are known to be shared by threads, and the whole is not.
+    let Work {
+        rt,
+        alloc,
+        shared,
+        gate,
+        workers,
+        first,
+    } = *job;
+    let work = |_: usize, hand: &mut Hand<L, N>|
+        requires { (1 ≤ workers) × (workers ≤ MOST_WORKERS)
+            × IsPassOf shared.now first.now.value
+            × IsPrefix first.now.value.origin.since first.now.value.seen
+            × HasWorked L.came_to N.start.told first.now.value N.start.connections hand.now }
+    {
+        let job = Work {
+            rt,
+            alloc,
+            shared,
+            gate,
+            workers,
+            first,
+        };
+        hand.work(&job, &desk)
+    };
+    thread::for_each_mut(rt, hands, workers as usize, &work);
+    desk.into_inner()
+}
+
+// Each worker gives up its place, and the connections that it ended go back to the door.
+fn gather<D: Disk, B: Begun<D>, L: Door, N: Start>(
+    shared: &Shared<D, B>,
+    pass: Pass,
+    share: Share<N>,
+    total: Book<N>,
+    door: L,
+    hands: Vec<Hand<L, N>>,
+    first: &Snapshot<Pass>,
+) -> (Pass, L)
+    requires of { IsPassOf shared.now first.now.value }
+    requires own { first.now.value.own ≡ [] }
+    requires pass { pass ≡ record first.now.value { share = pass.share } }
+    requires left { pass.share + length hands.items ≡ first.now.value.share }
+    requires share { (share.parts ≡ 0) × (share.amount ≡ 0) }
+    requires parts { length hands.items ≡ N.parts }
+    requires works { All (HasWorked L.came_to N.start.told first.now.value N.start.connections)
+        hands.items }
+    requires accounted { AreAccounted N.start.told }
+    requires arrived { AreArrived N.start.told (L.told door) total.total }
+    ensures gathered { IsGathered N.parts first.now.value result.0 N.parts }
+    ensures back { AreBack (L.told door) (L.told result.1) total.total result.0 }
+    ensures frame { L.frame result.1 ≡ L.frame door }
+{
+    law_accounts::<L::In, L::Out>();
+    let mut pass = pass;
+    let mut share = share;
+    let mut total = total;
+    let was = Snapshot::of(&door);
+    let mut door = door;
+    for hand in hands {
+        hand.end(
+            shared, &mut pass, &mut share, &mut total, &mut door, first, &was,
+        );
+    }
+    // That the whole share is the total is told by this call.
+    total.audit(&mut share);
+    (pass, door)
+}

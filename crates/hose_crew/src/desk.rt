@@ -1,0 +1,157 @@
+// The door under its lock.
+ghost use Rattle.std.specs.Prelude.{◌≡◌, ◌+◌, ◌<◌, ◌≤◌, IfNone, IfOk, IfSome};
+ghost use Rattle.hose_crew.specs.Desk.{AreArrived, AreFresh, DeskState, HasStopped, Started};
+
+use hose_io::{Door, Failed};
+use std::marker::{Brand, Model};
+use std::sync::ledger::{Book, Ledger, Share};
+
+/// What a crew's door was at the start. A caller names it here, since a lock has no other way to
+/// tell what became of it.
+pub trait Start: Ledger {
+    ghost start: { Started };
+}
+
+// A caller's proof names the door.
+impl Start for Brand {
+    ghost use Rattle.std.specs.Prelude.{None, []};
+
+    ghost start = { record {
+      frame = record { faults = 0; number = 0; loan = [] };
+      told = None;
+      connections = 0;
+    } };
+}
+
+/// A connection that was accepted.
+#[derive(Drop)]
+pub struct Accepted<L: Door> {
+    /// Its number, counted from 1.
+    pub session: u64,
+    pub input: L::In,
+    pub output: L::Out,
+}
+
+/// What accepting came to, with the door and the total of what was accepted.
+pub struct Closed<L: Door, N: Start> {
+    pub door: L,
+    pub total: Book<N>,
+    pub stopped: Result<(), Failed>,
+}
+
+/// A door, and how many connections it has accepted.
+pub struct Desk<L: Door, N: Start> {
+    door: L,
+    connections: u32,
+    accepted: u32,
+    stopped: Option<Result<(), Failed>>,
+    total: Book<N>,
+}
+
+impl<L: Door, N: Start> Model for Desk<L, N> {
+    ghost use Rattle.hose_crew.specs.Desk.{DeskState, IsDesk};
+
+    ghost Value = { DeskState L };
+
+    ghost view = { λ desk. record {
+      door = desk.door;
+      connections = desk.connections;
+      accepted = desk.accepted;
+      stopped = desk.stopped;
+      total = desk.total.total;
+    } };
+
+    ghost invariant = { λ desk. IsDesk L.Door N.start (record {
+      door = desk.door;
+      connections = desk.connections;
+      accepted = desk.accepted;
+      stopped = desk.stopped;
+      total = desk.total.total;
+    }) };
+}
+
+impl<L: Door, N: Start> Desk<L, N> {
+    /// A door that is to accept so many connections.
+    pub fn new(door: L, connections: u32, total: Book<N>) -> Desk<L, N>
+        requires start { N.start ≡ record {
+          frame = L.frame door;
+          told = L.told door;
+          connections = connections;
+        } }
+        requires none { total.total ≡ 0 }
+    {
+        Desk {
+            door,
+            connections,
+            accepted: 0,
+            stopped: None,
+            total,
+        }
+    }
+
+    /// Waits for the next connection, which counts in the share; none where as many were accepted
+    /// as are to be, no more will come, or the door failed.
+    pub fn accept(&mut self, share: &mut Share<N>) -> Option<Accepted<L>>
+        requires { 0 < share.old.parts }
+        ensures parts { share.new.parts ≡ share.old.parts }
+        ensures none { IfNone result (share.new.amount ≡ share.old.amount) }
+        ensures one { IfSome result (λ one. share.new.amount ≡ share.old.amount + 1) }
+        ensures few { IfSome result (λ one. share.new.amount ≤ N.start.connections) }
+        ensures fresh { IfSome result (λ one. AreFresh L.In.Source L.Out.Sink N.start.told
+            one.input one.output) }
+    {
+        if self.stopped.is_some() {
+            return None;
+        }
+        if self.accepted == self.connections {
+            self.stopped = Some(Ok(()));
+            return None;
+        }
+        match self.door.accept() {
+            Ok(Some((input, output))) => {
+                self.accepted += 1;
+                self.total.add(share, 1);
+                // That a share is no more than the total is told by this call.
+                self.total.audit(share);
+                Some(Accepted {
+                    session: u64::from(self.accepted),
+                    input,
+                    output,
+                })
+            }
+            Ok(None) => {
+                self.stopped = Some(Ok(()));
+                None
+            }
+            Err(failed) => {
+                self.stopped = Some(Err(failed));
+                None
+            }
+        }
+    }
+
+    /// What accepting came to, or the desk where it goes on.
+    pub fn close(self) -> Result<Closed<L, N>, Desk<L, N>>
+        ensures stopped { IfOk result (λ closed. HasStopped N.start (L.frame closed.door)
+            (L.told closed.door) closed.total.total closed.stopped) }
+        ensures arrived { IfOk result
+            (λ closed. AreArrived N.start.told (L.told closed.door) closed.total.total) }
+        ensures few { IfOk result (λ closed. closed.total.total ≤ N.start.connections) }
+    {
+        let Some(stopped) = self.stopped else {
+            return Err(self);
+        };
+        let Desk {
+            door,
+            connections: _,
+            accepted: _,
+            stopped: _,
+            total,
+        } = self;
+        Ok(Closed {
+            door,
+            total,
+            stopped,
+        })
+    }
+}

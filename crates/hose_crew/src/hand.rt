@@ -1,0 +1,252 @@
+// A worker and what it has in hand.
+ghost use Rattle.std.specs.Prelude.{◌≡◌, ◌+◌, ◌<◌, ◌≤◌, ◌∷◌, [], ◌++◌, IfNone, IfOk, IfSome, IsTrue, List, Option, Some, is_some, map, vec_capacity};
+ghost use mathlib.Core.List.{IsPrefix};
+ghost use Rattle.hose_io.specs.Connections.{AreAccounted, Connection};
+ghost use Rattle.hose_session.specs.Accounts.{AccountFor};
+ghost use Rattle.hose_shared.specs.Sharing.{IsPassOf, IsSamePass};
+ghost use Rattle.hose_turn.specs.Known.{Known};
+ghost use Rattle.hose_crew.specs.Desk.{AreArrived, AreFresh};
+ghost use Rattle.hose_crew.specs.Hands.{AllComeBack, AllMayComeBack, AreBack, HasWorked, IsGathered, IsIdle, Works, part_of};
+
+use crate::desk::{Accepted, Desk, Start};
+use hose_disk::Disk;
+use hose_io::Door;
+use hose_paths::RowMaker;
+use hose_pool::{Gate, MOST_WORKERS, PoolRows};
+use hose_session::{law_accounts, serve_session};
+use hose_shared::{Begun, Shared, law_passes};
+use hose_turn::Pass;
+use std::alloc::{AllocError, Global};
+use std::marker::Model;
+use std::snapshot::Snapshot;
+use std::sync::ledger::{Book, Share};
+use std::sync::{Mutex, Wait};
+use std::thread::Threads;
+
+/// What all workers of a crew work with.
+#[derive(Clone, Copy)]
+pub struct Work<'a, W, D: Disk, B: Begun<D>, G> {
+    pub rt: &'a W,
+    pub alloc: Global,
+    pub shared: &'a Shared<D, B>,
+    pub gate: &'a G,
+    /// How many workers make the rows that a session plans with.
+    pub workers: u32,
+    /// The pass of which each worker has a part, as it was then.
+    pub first: &'a Snapshot<Pass>,
+}
+
+/// A worker's place: its pass, and its share of what was accepted.
+#[derive(Drop)]
+pub struct Place<N: Start> {
+    pub pass: Pass,
+    pub share: Share<N>,
+}
+
+impl<N: Start> Model for Place<N> {
+    ghost use Rattle.hose_crew.specs.Hands.{PlaceState};
+
+    ghost Value = { PlaceState };
+
+    ghost view = { λ place. record {
+      pass = place.pass;
+      parts = place.share.parts;
+      amount = place.share.amount;
+    } };
+}
+
+/// A worker.
+#[derive(Drop)]
+pub struct Hand<L: Door, N: Start> {
+    place: Option<Place<N>>,
+    ended: Vec<L::Done>,
+}
+
+impl<L: Door, N: Start> Model for Hand<L, N> {
+    ghost use Rattle.std.specs.Prelude.{vec_capacity};
+    ghost use Rattle.hose_crew.specs.Hands.{HandState};
+
+    ghost Value = { HandState L.Done };
+
+    ghost view = { λ hand. record {
+      place = hand.place;
+      ended = hand.ended.items;
+      room = vec_capacity hand.ended;
+    } };
+}
+
+impl<L: Door, N: Start> Hand<L, N> {
+    /// A worker with room for so many connections.
+    pub fn new(alloc: Global, connections: u32) -> Result<Hand<L, N>, AllocError>
+        ensures { IfOk result (IsIdle connections) }
+    {
+        Ok(Hand {
+            place: None,
+            ended: Vec::with_capacity(alloc, connections as usize)?,
+        })
+    }
+}
+
+impl<'a, W: Wait, D: Disk, B: Begun<D>, G: Gate> Work<'a, W, D, B, G> {
+    // Serves a connection to its end, along the pass.
+    fn serve<L: Door, N: Start, R: RowMaker>(
+        &self,
+        one: Accepted<L>,
+        pass: Pass,
+        rows: &mut R,
+    ) -> (L::Done, Pass)
+        requires of { IsPassOf self.now.shared.now pass }
+        requires fresh { AreFresh L.In.Source L.Out.Sink N.start.told one.input one.output }
+        ensures same { IsSamePass pass result.1 }
+        ensures accounts { IsTrue (is_some N.start.told)
+            → IsPrefix pass.origin.since pass.seen → (connections : List Connection)
+            → AccountFor connections pass → (connection : Connection)
+            × (L.came_to result.0 ≡ Some connection)
+            × AccountFor (connections ++ connection ∷ []) result.1 }
+    {
+        law_accounts::<L::In, L::Out>();
+        let Accepted {
+            session,
+            mut input,
+            mut output,
+        } = one;
+        let (_, pass) = serve_session(
+            self.rt,
+            self.alloc,
+            &mut input,
+            &mut output,
+            self.shared,
+            pass,
+            session,
+            rows,
+            self.gate,
+        );
+        (L::done(input, output), pass)
+    }
+}
+
+// Waits for the lock, and then for the next connection.
+fn next<W: Wait, L: Door, N: Start>(
+    rt: &W,
+    desk: &Mutex<Desk<L, N>>,
+    share: &mut Share<N>,
+) -> Option<Accepted<L>>
+    requires { 0 < share.old.parts }
+    ensures parts { share.new.parts ≡ share.old.parts }
+    ensures none { IfNone result (share.new.amount ≡ share.old.amount) }
+    ensures one { IfSome result (λ one. share.new.amount ≡ share.old.amount + 1) }
+    ensures few { IfSome result (λ one. share.new.amount ≤ N.start.connections) }
+    ensures fresh { IfSome result (λ one. AreFresh L.In.Source L.Out.Sink N.start.told
+        one.input one.output) }
+{
+    desk.lock(rt).accept(share)
+}
+
+// Serves one connection after another, until there is no more.
+fn serve_all<W: Threads + Wait + Sync, D: Disk, B: Begun<D>, G: Gate, L: Door, N: Start>(
+    job: &Work<'_, W, D, B, G>,
+    desk: &Mutex<Desk<L, N>>,
+    place: Place<N>,
+    ended: &mut Vec<L::Done>,
+) -> Place<N>
+    requires workers { (1 ≤ job.now.workers) × (job.now.workers ≤ MOST_WORKERS) }
+    requires of { IsPassOf job.now.shared.now job.now.first.now.value }
+    requires since { IsPrefix job.now.first.now.value.origin.since job.now.first.now.value.seen }
+    requires works { Works N.start.told job.now.first.now.value place (map L.came_to ended.old.items) }
+    requires room { N.start.connections ≤ vec_capacity ended.old }
+    ensures works { Works N.start.told job.now.first.now.value result
+        (map L.came_to ended.new.items) }
+    ensures room { vec_capacity ended.new ≡ vec_capacity ended.old }
+{
+    law_passes();
+    let mut rows = PoolRows::new(job.rt, job.workers);
+    let mut place = place;
+    while let Some(one) = next(job.rt, desk, &mut place.share) {
+        let (done, pass) = job.serve::<L, N, _>(one, place.pass, &mut rows);
+        place.pass = pass;
+        ended.push_reserved(done);
+    }
+    place
+}
+
+impl<L: Door, N: Start> Hand<L, N> {
+    /// Takes a place that is a part of the first pass, and of which nothing was made.
+    pub fn take_place(&mut self, place: Place<N>, first: &Snapshot<Pass>)
+        requires idle { IsIdle N.start.connections self.old }
+        requires pass { place.pass ≡ part_of first.now.value }
+        requires share { (place.parts ≡ 1) × (place.amount ≡ 0) }
+        ensures works { HasWorked L.came_to N.start.told first.now.value N.start.connections self.new }
+    {
+        law_passes();
+        law_accounts::<L::In, L::Out>();
+        // The first pass is there for the clauses alone.
+        let _ = first;
+        self.place = Some(place);
+    }
+
+    /// Serves one connection after another, until there is no more.
+    pub fn work<W: Threads + Wait + Sync, D: Disk, B: Begun<D>, G: Gate>(
+        &mut self,
+        job: &Work<'_, W, D, B, G>,
+        desk: &Mutex<Desk<L, N>>,
+    )
+        requires workers { (1 ≤ job.now.workers) × (job.now.workers ≤ MOST_WORKERS) }
+        requires of { IsPassOf job.now.shared.now job.now.first.now.value }
+        requires since { IsPrefix job.now.first.now.value.origin.since job.now.first.now.value.seen }
+        requires works { HasWorked L.came_to N.start.told job.now.first.now.value
+            N.start.connections self.old }
+        ensures works { HasWorked L.came_to N.start.told job.now.first.now.value
+            N.start.connections self.new }
+    {
+        if let Some(place) = self.place.take() {
+            self.place = Some(serve_all(job, desk, place, &mut self.ended));
+        }
+    }
+}
+
+impl<L: Door, N: Start> Hand<L, N> {
+    /// Gives up the place to the first pass, and the connections back to the door.
+    pub fn end<D: Disk, B: Begun<D>>(
+        self,
+        shared: &Shared<D, B>,
+        pass: &mut Pass,
+        share: &mut Share<N>,
+        total: &mut Book<N>,
+        door: &mut L,
+        first: &Snapshot<Pass>,
+        was: &Snapshot<L>,
+    )
+        requires of { IsPassOf shared.now first.now.value }
+        requires worked { HasWorked L.came_to N.start.told first.now.value N.start.connections self }
+        requires gathered { IsGathered N.parts first.now.value pass.old share.old.parts }
+        requires accounted { AreAccounted N.start.told }
+        requires arrived { AreArrived N.start.told (L.told was.now.value) total.old.total }
+        requires back { AreBack (L.told was.now.value) (L.told door.old) share.old.amount pass.old }
+        ensures gathered { IsGathered N.parts first.now.value pass.new share.new.parts }
+        ensures parts { share.new.parts ≡ share.old.parts + 1 }
+        ensures total { total.new.total ≡ total.old.total }
+        ensures back { AreBack (L.told was.now.value) (L.told door.new) share.new.amount pass.new }
+        ensures frame { L.frame door.new ≡ L.frame door.old }
+    {
+        law_accounts::<L::In, L::Out>();
+        let Hand { place, ended } = self;
+        if let Some(place) = place {
+            shared.join(pass, place.pass);
+            share.merge(place.share);
+            // That a share is no more than the total is told by this call.
+            total.audit(share);
+            give_back(door, ended);
+        }
+    }
+}
+
+// Gives connections back to the door that accepted them.
+fn give_back<L: Door>(door: &mut L, ended: Vec<L::Done>)
+    requires may { AllMayComeBack (L.told door.old) (map L.came_to ended.items) }
+    ensures back { AllComeBack (L.told door.old) (L.told door.new) (map L.came_to ended.items) }
+    ensures frame { L.frame door.new ≡ L.frame door.old }
+{
+    for done in ended {
+        door.back(done);
+    }
+}

@@ -1,0 +1,16 @@
+//! The workers of a server. Each accepts one connection of a door after another and serves its
+//! session, along a pass of its own over the book that all of them share.
+//!
+//! ```
+//! let crew = Crew::<_, N>::new(alloc, 4, 200)?;       // four workers, for 200 connections
+//! let (stopped, pass, door) =
+//!     crew.serve(rt, alloc, &shared, pass, door, Blank::new(4), &PlainGate);
+//! ```
+#![tactic(auto)]
+
+mod crew;
+mod desk;
+mod hand;
+
+pub use crew::Crew;
+pub use desk::Start;
