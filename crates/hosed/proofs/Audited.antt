@@ -14,7 +14,7 @@ use Rattle.hose_audit.specs.Audit.{audit_text}
 use Rattle.hose_disk.specs.declared.cabinet.Cabinet.{Ghosts as CabinetGhosts}
 use Rattle.hose_disk.specs.declared.disk.Disk.{Ghosts as DiskGhosts}
 use Rattle.hose_store.specs.Recovery.{IsHistoryOf}
-use Rattle.hosed.specs.AuditOutcome.{AuditEnds, AuditOutcome, EndsRefused, EndsTold, JournalIs, NoneFailed}
+use Rattle.hosed.specs.AuditOutcome.{AuditOutcome, EndsNamed, EndsRefused, EndsTold, IsTold, JournalIs, NamedOutcome, NoneFailed, closing_fault}
 use Rattle.hosed.specs.Auditing.{IsNotAudited, ReadsNamed}
 use Rattle.hosed.specs.CabinetText.{whole_text}
 use Rattle.hosed.specs.Ending.{IsOut}
@@ -22,7 +22,7 @@ use Rattle.hosed.specs.Fault.{last_line, status_of}
 use Rattle.hosed.specs.OnDisk.{CabinetFailed}
 use Rattle.hosed.specs.Run.{IsRefusedText, IsServable}
 use Rattle.hosed.specs.declared.fault.Fault.{Fault}
-use Rattle.hosed.specs.declared.fault.Fault.TheVariants.{Words, Topology, Read, Write, Other, Damaged, Cabinet, Memory, TooLong}
+use Rattle.hosed.specs.declared.fault.Fault.TheVariants.{Words, Topology, Read, Write, Other, Damaged, Cabinet, Memory, TooLong, Door}
 use Rattle.hosed.proofs.Outcomes.{clash, no_network_read, not_long, not_refused, of_read}
 
 -- ---- what is out
@@ -34,18 +34,19 @@ out_after sink was mid now text line grows same (inr part) = inr (subst (λ (f :
 
 -- ---- statuses
 
-told_status : {O T : Type 0} (sink : SinkGhosts O) (output output' : O) (status : ℕ) (closing : Result T Failed) (text : List ℕ) → EndsTold sink output output' status closing text → (status ≡ 0) ⊎ ((status ≡ 4) ⊎ (status ≡ 6))
-told_status sink output output' status (Ok done) text (inl whole) = inl whole.0
-told_status sink output output' status (Ok done) text (inr part) = inr (inl part.0)
-told_status sink output output' status (Err failed) text ends = inr (inr ends.0)
+pub told_status : {O T : Type 0} (sink : SinkGhosts O) (output output' : O) (status : ℕ) (done : Result T Fault) (text : List ℕ) → EndsTold sink output output' status done text → (other : ℕ) → other ≢ 0 → other ≢ 4 → ((why : Fault) → done ≡ Err why → status_of why ≢ other) → status ≡ other → ⊥
+told_status sink output output' status (Ok done) text (inl whole) other no_0 no_4 no_fault is = no_0 (sym is ∙ whole.0)
+told_status sink output output' status (Ok done) text (inr part) other no_0 no_4 no_fault is = no_4 (sym is ∙ part.0)
+told_status sink output output' status (Err why) text ends other no_0 no_4 no_fault is = no_fault why refl (sym ends.0 ∙ is)
 
-told_not : {O T : Type 0} (sink : SinkGhosts O) (output output' : O) (status : ℕ) (closing : Result T Failed) (text : List ℕ) (other : ℕ) → EndsTold sink output output' status closing text → other ≢ 0 → other ≢ 4 → other ≢ 6 → status ≡ other → ⊥
-told_not sink output output' status closing text other ends no_0 no_4 no_6 is = at (told_status sink output output' status closing text ends)
-  where
-    at : (status ≡ 0) ⊎ ((status ≡ 4) ⊎ (status ≡ 6)) → ⊥
-    at (inl zero_is) = no_0 (sym is ∙ zero_is)
-    at (inr (inl four_is)) = no_4 (sym is ∙ four_is)
-    at (inr (inr six_is)) = no_6 (sym is ∙ six_is)
+-- closing alone fails as the cabinet does
+closing_alone : (closing : Result ⊤ Failed) (why : Fault) → closing_fault closing ≡ Err why → why ≡ Cabinet
+closing_alone (Ok done) why is = cc is
+closing_alone (Err failed) why is = cc is
+
+told_not : {O : Type 0} (sink : SinkGhosts O) (output output' : O) (status : ℕ) (closing : Result ⊤ Failed) (text : List ℕ) (other : ℕ) → EndsTold sink output output' status (closing_fault closing) text → other ≢ 0 → other ≢ 4 → other ≢ 6 → status ≡ other → ⊥
+told_not sink output output' status closing text other ends no_0 no_4 no_6 is =
+    told_status sink output output' status (closing_fault closing) text ends other no_0 no_4 (λ why fault same. no_6 (sym same ∙ ap status_of (closing_alone closing why fault))) is
 
 too_long_8 : (why : Fault) → status_of why ≡ 8 → why ≡ TooLong
 too_long_8 (Words word) is = absurd (omega (arith, is))
@@ -57,13 +58,14 @@ too_long_8 (Damaged at) is = absurd (omega (arith, is))
 too_long_8 Cabinet is = absurd (omega (arith, is))
 too_long_8 Memory is = absurd (omega (arith, is))
 too_long_8 TooLong is = refl
+too_long_8 Door is = absurd (omega (arith, is))
 
 module _ {O C E : Type 0} (sink : SinkGhosts O) (cabinet : CabinetGhosts C E) (disk : DiskGhosts E) (topology journal : List ℕ) (output output' : O) (place place' : C) where
   abbrev Outcome : ℕ → Type 0
   Outcome status = AuditOutcome sink cabinet disk topology journal output output' place place' status
 
-  abbrev Failing : Type 0
-  Failing = NoneFailed sink cabinet disk topology journal output output' place place'
+  abbrev Failing : Type 0 → Type 0
+  Failing OthersHeld = NoneFailed sink cabinet disk topology journal output output' place place' OthersHeld
 
   abbrev Is : (Network → List ℕ → Type 0) → Type 0
   Is P = JournalIs sink cabinet disk topology journal output output' place place' P
@@ -72,7 +74,7 @@ module _ {O C E : Type 0} (sink : SinkGhosts O) (cabinet : CabinetGhosts C E) (d
   Refused left status = EndsRefused sink cabinet disk topology journal output output' place place' left status
 
   -- ---- the book was read, and is told
-  pub is_told : (read : Ledger × Result ⊤ Failed) (status : ℕ) → ReadsNamed cabinet disk topology journal place place' (Ok read) → EndsTold sink output output' status read.1 (audit_text read.0.network read.0.book) → Outcome status
+  pub is_told : (read : Ledger × Result ⊤ Failed) (status : ℕ) → ReadsNamed cabinet disk topology journal place place' (Ok read) → EndsTold sink output output' status (closing_fault read.1) (audit_text read.0.network read.0.book) → Outcome status
   is_told read status reads ends = record {
     left = reads.left;
     takes = (
@@ -88,7 +90,7 @@ module _ {O C E : Type 0} (sink : SinkGhosts O) (cabinet : CabinetGhosts C E) (d
         reads.book.is.history,
         read.1,
         reads.book.is.audited,
-        subst (λ (l : Ledger). EndsTold sink output output' status read.1 (audit_text l.network l.book)) reads.book.is.is ends,
+        subst (λ (l : Ledger). EndsTold sink output output' status (closing_fault read.1) (audit_text l.network l.book)) reads.book.is.is ends,
       );
     });
     refused = λ refused. absurd (no_network_read _ _ reads.book.network refused reads.book.text);
@@ -102,14 +104,15 @@ module _ {O C E : Type 0} (sink : SinkGhosts O) (cabinet : CabinetGhosts C E) (d
       not_here : (other : ℕ) → other ≢ 0 → other ≢ 4 → other ≢ 6 → status ≡ other → ⊥
       not_here other = told_not sink output output' status read.1 (audit_text read.0.network read.0.book) other ends
 
-      at : (closing : Result ⊤ Failed) → (IsErr closing → CabinetFailed cabinet place place') → Failing → EndsTold sink output output' status closing (audit_text read.0.network read.0.book) → (status ≡ 0) ⊎ (status ≡ 7)
+      at : (closing : Result ⊤ Failed) → (IsErr closing → CabinetFailed cabinet place place') → Failing ⊤ → EndsTold sink output output' status (closing_fault closing) (audit_text read.0.network read.0.book) → (status ≡ 0) ⊎ (status ≡ 7)
       at (Ok done) rose held (inl whole) = inl whole.0
       at (Ok done) rose held (inr part) = absurd (held.writing part.1)
       at (Err failed) rose held one = absurd (held.keeping_it (rose refl))
 
   -- ---- it was not read
-  pub is_not_told : (why : Fault) (status : ℕ) → ReadsNamed cabinet disk topology journal place place' (Err why) → status ≡ status_of why → IsOut sink output output' (last_line why) → Outcome status
-  is_not_told why status reads is out = record {
+  pub is_not_told : (Tells : ℕ → Network → Type 0) (Untouched OthersHeld : Type 0) (why : Fault) (status : ℕ) → ReadsNamed cabinet disk topology journal place place' (Err why) → status ≡ status_of why → IsOut sink output output' (last_line why) → Untouched
+      → NamedOutcome sink cabinet disk topology journal output output' place place' Tells Untouched OthersHeld status
+  is_not_told Tells Untouched OthersHeld why status reads is out untouched = record {
     left = reads.left;
     takes = (
       reads.taken,
@@ -122,7 +125,7 @@ module _ {O C E : Type 0} (sink : SinkGhosts O) (cabinet : CabinetGhosts C E) (d
             is ∙ ap status_of long,
       ),
     );
-    ends = inr (why, is, reads.book, out);
+    ends = inr (why, is, reads.book, out, untouched);
     refused = λ refused. rw is (refused_by why refused reads.book);
     not_there = λ told none.
         let failed : why ≡ Cabinet = cc (reads.not_there told none) in
@@ -143,8 +146,9 @@ module _ {O C E : Type 0} (sink : SinkGhosts O) (cabinet : CabinetGhosts C E) (d
       refused_by Write refused (inl text) = absurd text.0
       refused_by (Other kept given) refused (inl text) = absurd text.0
       refused_by (Damaged at) refused (inl text) = absurd text.0
+      refused_by Door refused (inl text) = absurd text.0
 
-      complete_by : (one : Fault) → IsServable (whole_text cabinet place topology) → Is (λ network bytes. (history : List Entry) × IsHistoryOf network history bytes) → Failing
+      complete_by : (one : Fault) → IsServable (whole_text cabinet place topology) → Is (λ network bytes. (history : List Entry) × IsHistoryOf network history bytes) → Failing OthersHeld
           → IsNotAudited cabinet disk topology journal place place' reads.left one → (one ≡ TooLong → INPUT_LIMIT < length reads.taken) → (status_of one ≡ 0) ⊎ (status_of one ≡ 7)
       complete_by (Topology l word) servable told held (inl text) long = absurd (not_refused l word _ _ reads.taken reads.gives servable text.0.0)
       complete_by Memory servable told held (inl text) long = inr refl
@@ -155,6 +159,7 @@ module _ {O C E : Type 0} (sink : SinkGhosts O) (cabinet : CabinetGhosts C E) (d
       complete_by Write servable told held (inl text) long = absurd text.0
       complete_by (Other kept given) servable told held (inl text) long = absurd text.0
       complete_by (Damaged at) servable told held (inl text) long = absurd text.0
+      complete_by Door servable told held (inl text) long = absurd text.0
       complete_by Memory servable told held (inr served) long = inr refl
       complete_by Cabinet servable told held (inr served) long = absurd (held.keeping_it served.is.1)
       complete_by (Other kept given) servable told held (inr served) long = absurd (clash cabinet disk place place' journal _ _ (λ image none history. none history.0 history.1) served.is.1.none
@@ -166,8 +171,9 @@ module _ {O C E : Type 0} (sink : SinkGhosts O) (cabinet : CabinetGhosts C E) (d
       complete_by (Topology l word) servable told held (inr served) long = absurd served.is
       complete_by Read servable told held (inr served) long = absurd served.is
       complete_by Write servable told held (inr served) long = absurd served.is
+      complete_by Door servable told held (inr served) long = absurd served.is
 
-      journal_by : (one : Fault) → IsServable (whole_text cabinet place topology) → Failing
+      journal_by : (one : Fault) → IsServable (whole_text cabinet place topology) → Failing OthersHeld
           → IsNotAudited cabinet disk topology journal place place' reads.left one → (one ≡ TooLong → INPUT_LIMIT < length reads.taken) → (status_of one ≡ 5) ⊎ (status_of one ≡ 7)
       journal_by (Topology l word) servable held (inl text) long = absurd (not_refused l word _ _ reads.taken reads.gives servable text.0.0)
       journal_by Memory servable held (inl text) long = inr refl
@@ -176,6 +182,7 @@ module _ {O C E : Type 0} (sink : SinkGhosts O) (cabinet : CabinetGhosts C E) (d
       journal_by (Words word) servable held (inl text) long = absurd text.0
       journal_by Read servable held (inl text) long = absurd text.0
       journal_by Write servable held (inl text) long = absurd text.0
+      journal_by Door servable held (inl text) long = absurd text.0
       journal_by (Other kept given) servable held (inl text) long = inl refl
       journal_by (Damaged at) servable held (inl text) long = inl refl
       journal_by Memory servable held (inr served) long = inr refl
@@ -187,10 +194,12 @@ module _ {O C E : Type 0} (sink : SinkGhosts O) (cabinet : CabinetGhosts C E) (d
       journal_by (Topology l word) servable held (inr served) long = absurd served.is
       journal_by Read servable held (inr served) long = absurd served.is
       journal_by Write servable held (inr served) long = absurd served.is
+      journal_by Door servable held (inr served) long = absurd served.is
 
   -- the words are not what is wrong
-  pub audit_not_1 : (status : ℕ) → Outcome status → status ≡ 1 → ⊥
-  audit_not_1 status outcome is = at outcome.ends
+  pub named_not_1 : (Tells : ℕ → Network → Type 0) (Untouched OthersHeld : Type 0) (status : ℕ) → ((network : Network) → Tells status network → status ≡ 1 → ⊥) → NamedOutcome sink cabinet disk topology journal output output' place place' Tells Untouched OthersHeld status
+      → status ≡ 1 → ⊥
+  named_not_1 Tells Untouched OthersHeld status never outcome is = at outcome.ends
     where
       by : (why : Fault) → IsNotAudited cabinet disk topology journal place place' outcome.left why → status_of why ≡ 1 → ⊥
       by (Words word) (inl text) one = text.0
@@ -203,7 +212,12 @@ module _ {O C E : Type 0} (sink : SinkGhosts O) (cabinet : CabinetGhosts C E) (d
       by Cabinet not one = omega (arith, one)
       by Memory not one = omega (arith, one)
       by TooLong not one = omega (arith, one)
+      by Door not one = omega (arith, one)
 
-      at : AuditEnds sink cabinet disk topology journal output output' place place' outcome.left status → ⊥
-      at (inl told) = told_not sink output output' status told.is.1 _ 1 told.is.3 (λ e. absurd (cc e)) (λ e. absurd (cc e)) (λ e. absurd (cc e)) is
+      at : EndsNamed sink cabinet disk topology journal output output' place place' (Tells status) Untouched outcome.left status → ⊥
+      at (inl told) = never told.network told.is is
       at (inr not) = by not.0 not.2 (sym not.1 ∙ is)
+
+  pub audit_not_1 : (status : ℕ) → Outcome status → status ≡ 1 → ⊥
+  audit_not_1 status outcome is = named_not_1 _ _ _ status
+      (λ network told one. told_not sink output output' status told.1 _ 1 told.3 (λ e. absurd (cc e)) (λ e. absurd (cc e)) (λ e. absurd (cc e)) one) outcome is

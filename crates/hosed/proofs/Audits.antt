@@ -7,6 +7,7 @@ use Rattle.hose_io.specs.Stream.{Stream, Gives}
 use Rattle.hose_io.specs.declared.Failed.{Failed}
 use Rattle.hose_io.specs.declared.source.Source.{Ghosts as SourceGhosts}
 use Rattle.hose_io.proofs.Frames.{Stays-next}
+use Rattle.hose_io.specs.declared.sink.Sink.{Ghosts as SinkGhosts}
 use Rattle.hose_words.specs.Lines.{Reader}
 use Rattle.hose_words.specs.Reading.{ReadsOn, WhereTold}
 use Rattle.hose_words.specs.declared.limits.TheConstants.{INPUT_LIMIT}
@@ -36,6 +37,9 @@ use Rattle.hosed.specs.Fault.{of_text}
 use Rattle.hosed.specs.OnDisk.{CabinetFailed, CabinetHeld, Held, IsRefused, IsUnopened}
 use Rattle.hosed.specs.Run.{TellsNoNetwork}
 use Rattle.hosed.specs.ServingOnDisk.{IsNotServed}
+use Rattle.hosed.specs.ServingDoor.{DoorSeen, HasKeptIn, ServesConnectionsIn, StaysInCabinet}
+use Rattle.hosed.specs.declared.serve.Served.{Served}
+use Rattle.hosed.specs.declared.serve.Served.TheVariants as served
 use Rattle.hosed.specs.declared.fault.Fault.{Fault}
 use Rattle.hosed.specs.declared.fault.Fault.TheVariants as fault
 
@@ -216,6 +220,7 @@ module _ {C E : Type 0} (cabinet : CabinetGhosts C E) (old mid : C) (name : List
     text_too left (Err (fault.Words word)) is = absurd is
     text_too left (Err fault.Read) is = absurd is
     text_too left (Err fault.Write) is = absurd is
+    text_too left (Err fault.Door) is = absurd is
     text_too left (Err (fault.Other kept digest)) is = absurd is
     text_too left (Err (fault.Damaged at)) is = absurd is
 
@@ -251,6 +256,7 @@ never_long cabinet disk name old new network (Err (fault.Words word)) reads long
 never_long cabinet disk name old new network (Err (fault.Topology l word)) reads long = reads
 never_long cabinet disk name old new network (Err fault.Read) reads long = reads
 never_long cabinet disk name old new network (Err fault.Write) reads long = reads
+never_long cabinet disk name old new network (Err fault.Door) reads long = reads
 never_long cabinet disk name old new network (Err (fault.Other kept digest)) reads long = cc long
 never_long cabinet disk name old new network (Err (fault.Damaged at)) reads long = cc long
 
@@ -294,6 +300,38 @@ module _ {C E : Type 0} (cabinet : CabinetGhosts C E) (disk : DiskGhosts E) (old
     not_served_before fault.Read not = absurd not
     not_served_before fault.Write not = absurd not
     not_served_before fault.TooLong not = absurd not
+    not_served_before fault.Door not = absurd not
+
+    -- connections were served
+    kept_before : (since history : List Entry) (closing : Result ⊤ Failed) → HasKeptIn cabinet disk name mid new network since history closing → HasKeptIn cabinet disk name old new network since history closing
+    kept_before since history closing has = record {
+      begun = held_before name _ has.begun;
+      begins = has.begins;
+      decided = has.decided;
+      met = subst (λ (f : Frame). Met f (object_of (cabinet.frame new)) closing) same has.met;
+      left = has_before name _ has.left;
+      none_oversold = has.none_oversold;
+      held = has.held;
+      kept = has.kept;
+      cheapest = has.cheapest;
+    }
+
+    stays_before : StaysInCabinet cabinet disk name mid new network → StaysInCabinet cabinet disk name old new network
+    stays_before stays = record { since = stays.since; closing = stays.closing; kept = kept_before stays.since stays.since stays.closing stays.kept }
+
+    pub connections_before : {O : Type 0} (sink : SinkGhosts O) (count : ℕ) (output output' : O) (door door' : DoorSeen) (done : Served) → ServesConnectionsIn cabinet disk sink name mid new network count output output' door door' (Ok done)
+        → ServesConnectionsIn cabinet disk sink name old new network count output output' door door' (Ok done)
+    connections_before sink count output output' door door' served.Starved (inl stays, rest, still) = (inl (stays_before stays), rest, still)
+    connections_before sink count output output' door door' served.Starved (inr lost, rest, still) = (inr lost, rest, still)
+    connections_before sink count output output' door door' served.Shut serves = (stays_before serves.0, serves.1, serves.2, serves.3)
+    connections_before sink count output output' door door' served.Unheard serves = (stays_before serves.0, serves.1, serves.2, serves.3)
+    connections_before sink count output output' door door' (served.Ended ledger accepting closing) serves =
+        let has = serves.0 in (
+          record { since = has.since; history = has.history; pass = has.pass; kept = kept_before has.since has.history closing has.kept; along = has.along; served = has.served; is = has.is },
+          serves.1,
+          serves.2,
+          serves.3,
+        )
 
 module _ {C E : Type 0} (cabinet : CabinetGhosts C E) (disk : DiskGhosts E) (topology journal : List ℕ) (old : C) where
   -- no topology was read

@@ -1,5 +1,5 @@
 -- A run over a journal: on its disk, and in the cabinet that holds the disk.
-use Rattle.std.proofs.Common.{◌≡◌, ◌∙◌, ◌⊎◌, inl, inr, ⊎_elim, ℕ, ◌≤◌, ◌<◌, ◌-◌, ◌^◌, if◌then◌else◌, List, [], Bool, true, false, Option, Some, None, IfSome, IsTrue, is_err, Result, Ok, Err, refl, sym, ap, subst, arith}
+use Rattle.std.proofs.Common.{◌≡◌, ◌∙◌, ◌⊎◌, inl, inr, ⊎_elim, ℕ, ◌≤◌, ◌<◌, ◌-◌, ◌^◌, if◌then◌else◌, List, [], Bool, true, false, Option, Some, None, IfSome, IsTrue, is_err, Result, Ok, Err, length, refl, sym, ap, subst, arith}
 use Rattle.std.specs.Prelude.{⊤}
 use Rattle.std.proofs.lemmas.Bool.{cases_lt}
 use Rattle.hose_io.specs.Count.{one_more}
@@ -8,10 +8,13 @@ use Rattle.hose_io.specs.declared.Failed.{Failed}
 use Rattle.hose_io.specs.declared.source.Source.{Ghosts as SourceGhosts}
 use Rattle.hose_io.specs.declared.sink.Sink.{Ghosts as SinkGhosts}
 use Rattle.hose_words.specs.Lines.{Reader}
-use Rattle.hose_graph.specs.Network.{Network}
+use Rattle.hose_graph.specs.Network.{IsNetwork, Network}
 use Rattle.hose_graph.specs.declared.entry.Entry.{Entry}
 use Rattle.hose_graph.specs.declared.reply.Reply.{Reply}
 use Rattle.hose_law.specs.History.{IsDecidedAt}
+use Rattle.hose_law.proofs.Cheapest.{decided_cheapest}
+use Rattle.hose_law.proofs.Lives.{live_held, stays_live}
+use Rattle.hose_law.proofs.Sold.{sold}
 use Rattle.hose_book.specs.GoingOn.{GoesOn}
 use Rattle.hose_book.specs.Ledger.{Ledger}
 use Rattle.hose_disk.specs.Cabinet.{CabinetFrame, Has, IsDiskCall, after_back, object_of, where_told}
@@ -30,7 +33,11 @@ use Rattle.hose_store.specs.declared.fault.StoreFault.TheVariants as store
 use Rattle.hosed.specs.Auditing.{AuditsBook, HasReadBook, IsLeftWith, ReadsBook, ReadsBookOnDisk}
 use Rattle.hosed.specs.Fault.{of_store}
 use Rattle.hosed.specs.OnDisk.{Held, IsRefused, IsUnopened, opening_of}
+use Rattle.hose_turn.specs.Faults.{end_of_count}
 use Rattle.hosed.specs.Serving.{Serves, TellsDisks}
+use Rattle.hosed.specs.ServingDoor.{DoorSeen, HasKept, HasKeptIn, ServesByJournal, ServesConnectionsIn, StaysAsRead, StaysInCabinet, as_fault}
+use Rattle.hosed.specs.declared.serve.Served.{Served}
+use Rattle.hosed.specs.declared.serve.Served.TheVariants as served
 use Rattle.hosed.specs.ServingOnDisk.{HasServedInCabinet, HasServedOnDisk, IsNotOpened, IsNotServed, Refuses, ServesInCabinet, ServesOnDisk}
 use Rattle.hosed.specs.declared.fault.Fault.{Fault}
 use Rattle.hosed.specs.declared.fault.Fault.TheVariants as fault
@@ -193,6 +200,7 @@ module _ {C E : Type 0} (cabinet : CabinetGhosts C E) (disk : DiskGhosts E) (nam
   not_served (Err fault.Read) not = absurd not.why
   not_served (Err fault.Write) not = absurd not.why
   not_served (Err fault.TooLong) not = absurd not.why
+  not_served (Err fault.Door) not = absurd not.why
   not_served (Err (fault.Other old_one given)) not = (not.why.0, refuses (other old_one) (unopened not.images) not.why.1)
   not_served (Err (fault.Damaged at)) not = refuses (damaged at) (unopened not.images) not.why
   not_served (Err fault.Cabinet) not = (unopened not.images, risen not.why)
@@ -260,3 +268,70 @@ module _ {C E : Type 0} (cabinet : CabinetGhosts C E) (disk : DiskGhosts E) (nam
   pub audits_in : (done : Result (Ledger × Result ⊤ Failed) Fault) → ReadsBookOnDisk disk opened left network done → ReadsBook cabinet disk name old new network done
   audits_in (Ok read) has = read_in read.0 read.1 has
   audits_in (Err why) not = not_served (Err why) not
+
+  -- ---- connections
+
+  had_before : (since history : List Entry) (closing : Result ⊤ Failed) (was : E) → TakenFrom was → HasLeft disk IsDecidedAt (disk.may_leave opened) (opening_of disk network since opened) history left closing
+      → HasLeft disk IsDecidedAt (disk.may_leave was) (opening_of disk network since was) history left closing
+  had_before since history closing was is one = record {
+    now = one.now;
+    closed = one.closed;
+    moments = λ image later. ⊎_elim (λ part. inl part) (λ had. inr (is.1.0 image had)) (one.moments image (subst (λ (t : ℕ). disk.left_since left t image) (sym is.1.1) later));
+  }
+
+  kept_in : (since history : List Entry) (closing : Result ⊤ Failed) → IsNetwork network → HasKept disk opened left network since history closing → HasKeptIn cabinet disk name old new network since history closing
+  kept_in since history closing is has = record {
+    begun = held_as (IsHistoryOf network since) has.read;
+    begins = has.begins;
+    decided = has.decided;
+    met = counts closing has.told;
+    left = has_weaker was_tells (cabinet.held old name) _ _
+        (λ was from. has_weaker (cabinet.frame new).tells (cabinet.held new name) _ _
+        (λ now same. subst (λ (d : E). HasLeft disk IsDecidedAt (disk.may_leave was) (opening_of disk network since was) history d closing) (sym same)
+        (had_before since history closing was from has.leaves)) held_left) taken_from;
+    none_oversold = λ place l. sold network 0 history place l has.decided.sound;
+    held = live_held 0 history;
+    kept = stays_live 0 history;
+    cheapest = decided_cheapest network is 0 (length since) history has.decided;
+  }
+
+  stays_in : IsNetwork network → StaysAsRead disk opened left network → StaysInCabinet cabinet disk name old new network
+  stays_in is stays = record { since = stays.since; closing = stays.closing; kept = kept_in stays.since stays.since stays.closing is stays.kept }
+
+  -- connections were served by the store
+  pub connections_in : {O : Type 0} (sink : SinkGhosts O) (count : ℕ) (output output' : O) (door door' : DoorSeen) (done : Result Served StoreFault) → IsNetwork network → ServesByJournal disk sink opened (Some left) network count output output' door door' done
+      → ServesConnectionsIn cabinet disk sink name old new network count output output' door door' (as_fault done)
+  connections_in sink count output output' door door' (Err why) is not = (not_served (Err (of_store why)) not.0, not.1, not.2)
+  connections_in sink count output output' door door' (Ok served.Starved) is serves = (inl (stays_in is serves.0), serves.1, serves.2)
+  connections_in sink count output output' door door' (Ok served.Shut) is serves = (stays_in is serves.0, serves.1, serves.2, serves.3)
+  connections_in sink count output output' door door' (Ok served.Unheard) is serves = (stays_in is serves.0, serves.1, serves.2, serves.3)
+  connections_in sink count output output' door door' (Ok (served.Ended ledger accepting closing)) is serves =
+      let has = serves.0 in (
+        record {
+          since = has.since;
+          history = has.history;
+          pass = has.pass;
+          kept = kept_in has.since has.history closing is has.kept;
+          along = record {
+            of = has.along.of;
+            began = has.along.began;
+            seen = has.along.seen;
+            own = has.along.own;
+            met = subst (λ (n : ℕ). (has.pass.faults ≤ n) ⊎ (end_of_count ≤ n)) (sym (ap (λ (f : CabinetFrame). f.returned) after)) has.along.met;
+          };
+          served = has.served;
+          is = has.is;
+        },
+        serves.1,
+        serves.2,
+        serves.3,
+      )
+
+-- the disk is not back
+pub connections_lost : {C E O : Type 0} (cabinet : CabinetGhosts C E) (disk : DiskGhosts E) (name : List ℕ) (old new : C) (network : Network) (opened : E) (sink : SinkGhosts O) (count : ℕ) (output output' : O) (door door' : DoorSeen) (done : Result Served StoreFault)
+    → (cabinet.frame new).out ≡ Some name → ServesByJournal disk sink opened None network count output output' door door' done → ServesConnectionsIn cabinet disk sink name old new network count output output' door door' (as_fault done)
+connections_lost cabinet disk name old new network opened sink count output output' door door' (Err why) out serves = absurd serves
+connections_lost cabinet disk name old new network opened sink count output output' door door' (Ok served.Starved) out serves = (inr out, serves.0, serves.1)
+connections_lost cabinet disk name old new network opened sink count output output' door door' (Ok served.Shut) out serves = absurd serves
+connections_lost cabinet disk name old new network opened sink count output output' door door' (Ok served.Unheard) out serves = absurd serves
+connections_lost cabinet disk name old new network opened sink count output output' door door' (Ok (served.Ended ledger accepting closing)) out serves = absurd serves

@@ -83,6 +83,7 @@ module _ {S O C E : Type 0} (source : Ghosts S) (sink : SinkGhosts O) (cabinet :
     not_served (Err fault.Read) stays same why = absurd why
     not_served (Err fault.Write) stays same why = absurd why
     not_served (Err fault.TooLong) stays same why = absurd why
+    not_served (Err fault.Door) stays same why = absurd why
     not_served (Err (fault.Other kept given)) stays same why = (has_read _ stays why, input_held stays, same)
     not_served (Err (fault.Damaged at)) stays same why = (has_read _ stays why, input_held stays, same)
     not_served (Err fault.Cabinet) stays same why = (inl (has_read _ stays why.0, input_held stays, same), why.1)
@@ -138,6 +139,7 @@ module _ {T O C E : Type 0} (other : Ghosts T) (source : Ghosts (MutBor T)) (sin
   left_behind (Err fault.Cabinet) (inr run, failed) = (inr (run.0, run.1, moved_run (Err run.1) run.2, held run.3, run.4), failed)
   left_behind (Err fault.Memory) leaves = (moved_starved leaves.0, held leaves.1, leaves.2)
   left_behind (Err fault.TooLong) leaves = (moved_broken line.TooLong leaves.0, held leaves.1)
+  left_behind (Err fault.Door) leaves = absurd leaves
 
   -- what is left of the borrow is left of what is behind it
   pub leaves_behind : (before : T) → input.now ≡ before → (done : Result ⊤ Fault) → RunLeaves source sink cabinet disk journal input input' output output' place place' done → RunLeaves other sink cabinet disk journal before behind output output' place place' done

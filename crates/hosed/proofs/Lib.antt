@@ -7,5 +7,7 @@ pub mod OneReading
 pub mod OneRun
 pub mod Outcomes
 pub mod Running
+pub mod Served
+pub mod Sharing
 pub mod Texts
 pub mod Turns

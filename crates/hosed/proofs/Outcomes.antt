@@ -28,7 +28,7 @@ use Rattle.hosed.specs.Run.{HasRead, HasRun, IsFor, IsRefusedText, IsRun, IsServ
 use Rattle.hosed.specs.RunOutcome.{EndsRefused, InputStops, IsBroken, JournalIs, NoneFailed, RunLeaves}
 use Rattle.hose_words.specs.Saying.{IsAllTaken, IsLeftOver}
 use Rattle.hosed.specs.declared.fault.Fault.{Fault}
-use Rattle.hosed.specs.declared.fault.Fault.TheVariants.{Words, Topology, Read, Write, Other, Damaged, Cabinet, Memory, TooLong}
+use Rattle.hosed.specs.declared.fault.Fault.TheVariants.{Words, Topology, Read, Write, Other, Damaged, Cabinet, Memory, TooLong, Door}
 
 -- a text that was put is out, or a part of it
 pub out_from_put : {O T : Type 0} (sink : SinkGhosts O) (was now : O) (text : List ℕ) (result : Result T Failed) → IsPut sink was now text result → IsOut sink was now text
@@ -47,6 +47,7 @@ too_long_at_8 (Err (Damaged at)) is = absurd (omega (arith, is))
 too_long_at_8 (Err Cabinet) is = absurd (omega (arith, is))
 too_long_at_8 (Err Memory) is = absurd (omega (arith, is))
 too_long_at_8 (Err TooLong) is = refl
+too_long_at_8 (Err Door) is = absurd (omega (arith, is))
 
 -- ---- a command is not refused for its words
 
@@ -62,6 +63,7 @@ run_not_1 source sink cabinet disk journal input input' output left place place'
 run_not_1 source sink cabinet disk journal input input' output left place place' (Err Cabinet) leaves is = omega (arith, is)
 run_not_1 source sink cabinet disk journal input input' output left place place' (Err Memory) leaves is = omega (arith, is)
 run_not_1 source sink cabinet disk journal input input' output left place place' (Err TooLong) leaves is = omega (arith, is)
+run_not_1 source sink cabinet disk journal input input' output left place place' (Err Door) leaves is = leaves
 
 -- ---- an input that can be served
 
@@ -143,6 +145,7 @@ module _ {I O C E : Type 0} (source : SourceGhosts I) (sink : SinkGhosts O) (cab
   refused_ends (Err Cabinet) (inr run, rose) refused = absurd (no_run _ _ _ run.2.network run.2.lines run.2.replies IsAllTaken refused run.2.run)
   refused_ends (Err Read) leaves refused = inr (inr (inl (refl, stops_refused line.Read refused leaves.0)))
   refused_ends (Err TooLong) leaves refused = inr (inr (inr (refl, stops_refused line.TooLong refused leaves.0)))
+  refused_ends (Err Door) leaves refused = absurd leaves
 
   module _ (stays : Stays (sink.frame left) (sink.frame output')) (bytes : List ℕ) (gives : Gives (source.content input) (source.content input') bytes)
       (servable : IsServable (source.content input)) (held : NoneFailed source sink cabinet disk journal input input' output output' place place') where
@@ -171,6 +174,7 @@ module _ {I O C E : Type 0} (source : SourceGhosts I) (sink : SinkGhosts O) (cab
     completes (Err Cabinet) leaves long told = absurd (held.keeping_it leaves.1)
     completes (Err Memory) leaves long told = inr refl
     completes (Err TooLong) leaves long told = absurd (not_long _ _ bytes gives servable (long refl))
+    completes (Err Door) leaves long told = absurd leaves
 
     -- no run is over a journal that stands for no history
     no_such_run : (closing : Result ⊤ Failed) → IsSome journal → IsRun (keeping_of cabinet disk place place' journal closing) (source.content input) (source.content input') (sink.content output) (sink.content left)
@@ -193,3 +197,4 @@ module _ {I O C E : Type 0} (source : SourceGhosts I) (sink : SinkGhosts O) (cab
     refuses (Err Cabinet) leaves long some told = absurd (held.keeping_it leaves.1)
     refuses (Err Memory) leaves long some told = inr refl
     refuses (Err TooLong) leaves long some told = absurd (not_long _ _ bytes gives servable (long refl))
+    refuses (Err Door) leaves long some told = absurd leaves

@@ -238,6 +238,7 @@ module _ {S O : Type 0} (source : Ghosts S) (sink : SinkGhosts O) (start middle 
     ran P to_end at_read at_too_long at_write (Err (fault.Other kept given)) served = absurd served
     ran P to_end at_read at_too_long at_write (Err (fault.Damaged at)) served = absurd served
     ran P to_end at_read at_too_long at_write (Err fault.Cabinet) served = absurd served
+    ran P to_end at_read at_too_long at_write (Err fault.Door) served = absurd served
     ran P to_end at_read at_too_long at_write (Err fault.Read) served = at_read (run_until line.Read served.0) served.0.held (rw held_before at served.1)
     ran P to_end at_read at_too_long at_write (Err fault.TooLong) served = at_too_long (run_until line.TooLong served) served.held (held_over (λ read. absurd (cc (served.kept, read))))
     ran P to_end at_read at_too_long at_write (Err fault.Write) served = at_write

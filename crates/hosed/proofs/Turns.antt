@@ -337,6 +337,7 @@ module _ {S O K R : Type 0} (source : Ghosts S) (sink : SinkGhosts O) (books : B
   serves_fault T (fault.Other old given) line = absurd line
   serves_fault T (fault.Damaged at) line = absurd line
   serves_fault T fault.Cabinet line = absurd line
+  serves_fault T fault.Door line = absurd line
   serves_fault T fault.Read line = (until line_fault.Read line.0 line.2 line.3, rw source_held at line.1)
   serves_fault T fault.TooLong line = until line_fault.TooLong line.0 line.1 line.2
   serves_fault T fault.Write line =

@@ -24,17 +24,22 @@ use Rattle.hosed.specs.Run.{HasRead, IsFor, IsRefusedText, IsServable}
 use Rattle.hosed.specs.declared.fault.Fault.{Fault}
 use Rattle.hosed.specs.declared.fault.Fault.TheVariants.{Cabinet}
 
--- How the text of a book ends, by what closing the journal came to. Where that was well, the text
--- is out, or the output failed and a part of it is. Else the last line follows the text, or the
--- output failed and a part of both is out.
-abbrev pub EndsTold : {O T : Type 0} → SinkGhosts O → O → O → ℕ → Result T Failed → List ℕ → Type 0
+-- what closing a journal came to, as a fault of the program
+abbrev pub closing_fault : Result ⊤ Failed → Result ⊤ Fault
+closing_fault (Ok _) = Ok tt
+closing_fault (Err _) = Err Cabinet
+
+-- How the text of a book ends, by what was met before. Where all was well, the text is out, or the
+-- output failed and a part of it is. Else the last line of the fault follows the text, or the output
+-- failed and a part of both is out.
+abbrev pub EndsTold : {O T : Type 0} → SinkGhosts O → O → O → ℕ → Result T Fault → List ℕ → Type 0
 EndsTold sink output output' status (Ok _) text =
     ((status ≡ 0) × Grows (sink.content output) (sink.content output') text
     × (sink.frame output' ≡ sink.frame output))
     ⊎ ((status ≡ 4) × Rose (sink.frame output) (sink.frame output')
     × GrowsInPart (sink.content output) (sink.content output') text)
-EndsTold sink output output' status (Err _) text =
-    (status ≡ 6) × IsOut sink output output' (text ++ last_line Cabinet)
+EndsTold sink output output' status (Err why) text =
+    (status ≡ status_of why) × IsOut sink output output' (text ++ last_line why)
 
 module _ {O C E : Type 0} (sink : SinkGhosts O) (cabinet : CabinetGhosts C E) (disk : DiskGhosts E)
     (topology journal : List ℕ) (output output' : O) (place place' : C) where
@@ -47,14 +52,16 @@ module _ {O C E : Type 0} (sink : SinkGhosts O) (cabinet : CabinetGhosts C E) (d
   abbrev pub IsTold : ℕ → Network → Type 0
   IsTold status network = (history : List Entry) × (closing : Result ⊤ Failed)
       × HasAudited cabinet disk journal place place' network history closing
-      × EndsTold sink output output' status closing (audit_text network (book_of 0 history))
+      × EndsTold sink output output' status (closing_fault closing)
+      (audit_text network (book_of 0 history))
 
-  -- The book is told; or it was not read, and nothing but the last line is out, which tells why.
-  abbrev pub AuditEnds : Option Stream → ℕ → Type 0
-  AuditEnds left status = HasRead text left (IsTold status)
+  -- The topology and the journal that were named were read, and this is told of the network; or not,
+  -- and nothing but the last line is out, which tells why, and the rest is untouched.
+  abbrev pub EndsNamed : (Network → Type 0) → Type 0 → Option Stream → ℕ → Type 0
+  EndsNamed Tells Untouched left status = HasRead text left Tells
       ⊎ ((why : Fault) × (status ≡ status_of why)
       × IsNotAudited cabinet disk topology journal place place' left why
-      × IsOut sink output output' (last_line why))
+      × IsOut sink output output' (last_line why) × Untouched)
 
   -- A topology that is refused gives 2, but for want of memory, a cabinet that failed, and a text
   -- that is too long before it is refused.
@@ -63,21 +70,24 @@ module _ {O C E : Type 0} (sink : SinkGhosts O) (cabinet : CabinetGhosts C E) (d
       ⊎ (((status ≡ 6) × CabinetFailed cabinet place place')
       ⊎ ((status ≡ 8) × WhereTold text left (StopsInTopology line.TooLong))))
 
-  -- no call failed
-  pub record NoneFailed : Type 0 where
+  -- no call failed, and the others held too
+  pub record NoneFailed (OthersHeld : Type 0) : Type 0 where
     pub writing : ¬ Rose (sink.frame output) (sink.frame output')
     pub keeping_it : ¬ CabinetFailed cabinet place place'
+    pub others : OthersHeld
 
   -- the journal is told, and is so for each network with whose text the topology begins
   abbrev pub JournalIs : (Network → List ℕ → Type 0) → Type 0
   JournalIs Is = IsFor text (λ network.
       IsToldAs cabinet disk place place' (Some journal) (Is network))
 
-  -- Of the text this is left.
-  pub record AuditOutcome (status : ℕ) : Type 0 where
+  -- What comes of a command that names a topology and a journal, and that tells this of them. Of
+  -- the text of the topology this is left.
+  pub record NamedOutcome (Tells : ℕ → Network → Type 0) (Untouched OthersHeld : Type 0)
+      (status : ℕ) : Type 0 where
     pub left : Option Stream
     pub takes : TakesWithinLimit text left status
-    pub ends : AuditEnds left status
+    pub ends : EndsNamed (Tells status) Untouched left status
     pub refused : IsRefusedText text left → EndsRefused left status
     -- a text that is not there is a failure of the cabinet, and one that is there is not absent
     pub not_there : IsTrue (cabinet.frame place).tells → cabinet.text place topology ≡ None
@@ -88,8 +98,12 @@ module _ {O C E : Type 0} (sink : SinkGhosts O) (cabinet : CabinetGhosts C E) (d
     -- where a call failed
     pub complete : IsServable text
         → JournalIs (λ network bytes. (history : List Entry) × IsHistoryOf network history bytes)
-        → NoneFailed → (status ≡ 0) ⊎ (status ≡ 7)
+        → NoneFailed OthersHeld → (status ≡ 0) ⊎ (status ≡ 7)
     -- a journal that stands for no history of the network is refused
     pub refused_journal : IsServable text
         → JournalIs (λ network bytes. (history : List Entry) → ¬ IsHistoryOf network history bytes)
-        → NoneFailed → (status ≡ 5) ⊎ (status ≡ 7)
+        → NoneFailed OthersHeld → (status ≡ 5) ⊎ (status ≡ 7)
+
+  -- an audit tells the book of the journal
+  abbrev pub AuditOutcome : ℕ → Type 0
+  AuditOutcome = NamedOutcome IsTold ⊤ ⊤

@@ -9,7 +9,7 @@ use Rattle.hose_store.specs.declared.fault.StoreFault.{StoreFault}
 use Rattle.hose_store.specs.declared.fault.StoreFault.TheVariants as store
 use Rattle.hose_proto.specs.ReplyText.{line_of}
 use Rattle.hosed.specs.declared.fault.Fault.{Fault}
-use Rattle.hosed.specs.declared.fault.Fault.TheVariants.{Words, Topology, Read, Write, Other, Damaged, Cabinet, Memory, TooLong}
+use Rattle.hosed.specs.declared.fault.Fault.TheVariants.{Words, Topology, Read, Write, Other, Damaged, Cabinet, Memory, TooLong, Door}
 
 -- the status
 abbrev pub status_of : Fault → ℕ
@@ -22,6 +22,7 @@ status_of (Damaged at) = 5
 status_of Cabinet = 6
 status_of Memory = 7
 status_of TooLong = 8
+status_of Door = 9
 
 -- the last line, with its line feed; none where the output failed
 abbrev pub last_line : Fault → List ℕ
@@ -36,6 +37,7 @@ last_line (Damaged at) = line_of (codes "journal damaged at " ++ decimal at)
 last_line Cabinet = line_of (codes "cabinet")
 last_line Memory = line_of (codes "no memory")
 last_line TooLong = line_of (codes "too long")
+last_line Door = line_of (codes "door")
 
 -- what a fault of reading lines is for a run
 abbrev pub of_line : LineFault → Fault

@@ -18,7 +18,7 @@ use Rattle.hosed.specs.Ending.{IsLastLine, TakesWithinLimit, status_of_done}
 use Rattle.hosed.specs.OnDisk.{CabinetFailed, IsRefused, IsToldAs, IsUnopened, keeping_of}
 use Rattle.hosed.specs.Run.{HasRead, IsCutOff, IsFor, IsRefusedText, IsRun, IsRunUpTo, IsServable, Keeping, TellsNoNetwork}
 use Rattle.hosed.specs.declared.fault.Fault.{Fault}
-use Rattle.hosed.specs.declared.fault.Fault.TheVariants.{Words, Topology, Read, Write, Other, Damaged, Cabinet, Memory, TooLong}
+use Rattle.hosed.specs.declared.fault.Fault.TheVariants.{Words, Topology, Read, Write, Other, Damaged, Cabinet, Memory, TooLong, Door}
 
 module _ {I O C E : Type 0} (source : SourceGhosts I) (sink : SinkGhosts O)
     (cabinet : CabinetGhosts C E) (disk : DiskGhosts E) (journal : Option (List ℕ))
@@ -89,6 +89,7 @@ module _ {I O C E : Type 0} (source : SourceGhosts I) (sink : SinkGhosts O)
       × CabinetFailed cabinet place place'
   RunLeaves (Err Memory) = IsStarved × InputHeld × (output' ≡ output)
   RunLeaves (Err TooLong) = IsBroken line.TooLong × InputHeld
+  RunLeaves (Err Door) = ⊥
 
   -- A topology that is refused gives 2, but for want of memory and an input that stopped inside it.
   abbrev pub EndsRefused : ℕ → Type 0

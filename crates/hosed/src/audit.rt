@@ -3,7 +3,7 @@ ghost use Rattle.std.specs.Prelude.{◌≡◌, IsSome, IsTrue, None};
 ghost use Rattle.hose_io.specs.Frame.{Stays};
 ghost use Rattle.hose_audit.specs.Audit.{audit_text};
 ghost use Rattle.hose_disk.specs.Cabinet.{object_of};
-ghost use Rattle.hosed.specs.AuditOutcome.{AuditOutcome, EndsTold};
+ghost use Rattle.hosed.specs.AuditOutcome.{AuditOutcome, EndsTold, closing_fault};
 ghost use Rattle.hosed.specs.Auditing.{ReadsBook, ReadsBookOnDisk, ReadsNamed, ReadsTopology};
 
 use crate::cabinet_text::CabinetText;
@@ -35,28 +35,39 @@ pub fn audit<O: Sink, C: Cabinet>(
     ensures cabinet { Stays (object_of (C.frame cabinet.old)) (object_of (C.frame cabinet.new)) }
 {
     match read_named(alloc, topology, journal, cabinet) {
-        Ok(read) => tell(&read.0, read.1, output),
+        Ok(read) => tell(&read.0, as_fault(read.1), output),
         Err(why) => end(Err(why), output),
     }
 }
 
-// Writes what a book holds, once its journal came to this in closing, and gives the exit status.
-fn tell<O: Sink>(book: &Book, closing: Result<(), Failed>, output: &mut O) -> u8
-    ensures ends { EndsTold O.Sink output.old output.new result closing
+/// Writes what a book holds, and the last line of a fault that was met before, if one was; gives
+/// the exit status.
+pub fn tell<O: Sink>(book: &Book, done: Result<(), Fault>, output: &mut O) -> u8
+    ensures ends { EndsTold O.Sink output.old output.new result done
         (audit_text book.now.network book.now.book) }
     ensures output { Stays (O.frame output.old) (O.frame output.new) }
 {
     let told = hose_audit::audit(book, output);
-    match closing {
+    match done {
         Ok(()) => match told {
             Ok(()) => 0,
             Err(_) => Fault::Write.status(),
         },
         // After a failed write nothing more is written.
-        Err(_) => match told {
-            Ok(()) => end(Err(Fault::Cabinet), output),
-            Err(_) => Fault::Cabinet.status(),
+        Err(why) => match told {
+            Ok(()) => end(Err(why), output),
+            Err(_) => why.status(),
         },
+    }
+}
+
+// What closing a journal came to, as a fault of the program.
+fn as_fault(closing: Result<(), Failed>) -> Result<(), Fault>
+    ensures { result ≡ closing_fault closing }
+{
+    match closing {
+        Ok(()) => Ok(()),
+        Err(_) => Err(Fault::Cabinet),
     }
 }
 
@@ -77,8 +88,12 @@ fn read_named<C: Cabinet>(
     read_book(alloc, journal, topology, cabinet)
 }
 
-// The topology of the text of a name.
-fn read_topology<C: Cabinet>(alloc: Global, name: &str, cabinet: &mut C) -> Result<Topology, Fault>
+/// The topology of the text of a name.
+pub fn read_topology<C: Cabinet>(
+    alloc: Global,
+    name: &str,
+    cabinet: &mut C,
+) -> Result<Topology, Fault>
     ensures reads { ReadsTopology C.Cabinet cabinet.old cabinet.new name.now result }
 {
     // A text that is not there is told before a topology is looked for in it.

@@ -35,6 +35,8 @@ pub enum Fault {
     Memory,
     /// The input is too long.
     TooLong,
+    /// The door could not be opened, or it failed.
+    Door,
 }
 
 impl Fault {
@@ -63,6 +65,7 @@ impl Fault {
             Fault::Cabinet => 6,
             Fault::Memory => 7,
             Fault::TooLong => 8,
+            Fault::Door => 9,
         }
     }
 
@@ -81,6 +84,7 @@ impl Fault {
             Fault::Cabinet => write_all(output, b"cabinet\n"),
             Fault::Memory => write_all(output, b"no memory\n"),
             Fault::TooLong => write_all(output, b"too long\n"),
+            Fault::Door => write_all(output, b"door\n"),
         }
     }
 }

@@ -3,12 +3,14 @@
 //! `hosed` does what the words of the program say and gives the exit status. With `run` it reads
 //! a topology text and then lines `CUSTOMER COMMAND`, and writes one reply line for each; with
 //! `run JOURNAL` it keeps its book in a journal, which outlives it; `audit TOPOLOGY JOURNAL` writes
-//! what the book of a journal holds:
+//! what the book of a journal holds; `serve TOPOLOGY JOURNAL PORT CONNECTIONS WORKERS` serves
+//! customers at a port, each in a session, by the book of a journal that they share:
 //!
 //! ```
 //! let input = &mut StdSource::new(stdin);
 //! let output = &mut StdSink::new(stdout);
-//! let status = hosed(alloc, &words, input, output, &mut DirCabinet::new(rt));
+//! let (cabinet, door) = (&mut DirCabinet::new(rt), &mut TcpDoor::new(rt));
+//! let status = hosed(&rt, alloc, &words, input, output, cabinet, door, &PlainGate);
 //! ```
 //!
 //! Each reply is the sequential book's at its place in one history; each admitted tree's
@@ -17,12 +19,15 @@
 //! command, in order, and then at most the one that was being written.
 #![tactic(auto)]
 
-ghost use Rattle.std.specs.Prelude.{◌≡◌, ℕ, List, None, map};
+ghost use Rattle.std.specs.Prelude.{◌≡◌, ◌↔◌, ◌⊎◌, IsTrue, None, map};
 ghost use Rattle.std.specs.String.{string_bytes};
 ghost use Rattle.hose_io.specs.Frame.{Stays};
 ghost use Rattle.hose_disk.specs.Cabinet.{object_of};
 ghost use Rattle.hosed.specs.Ending.{IsLastLine, status_of_done};
+ghost use Rattle.hosed.specs.Hosed.{HosedOutcome};
 ghost use Rattle.hosed.specs.Offline.{OfflineOutcome};
+ghost use Rattle.hosed.specs.ProgramWords.{AsksToServe};
+ghost use Rattle.hosed.specs.ServingDoor.{seen_of};
 
 mod audit;
 mod cabinet_text;
@@ -30,19 +35,26 @@ mod fault;
 mod journal;
 mod run;
 mod script_line;
+mod serve;
 mod words;
 
 use audit::audit;
 use fault::Fault;
 use hose_disk::Cabinet;
-use hose_io::{Sink, Source};
+use hose_io::{Door, Sink, Source};
+use hose_pool::Gate;
 use run::run;
+use serve::serve;
 use std::alloc::Global;
+use std::sync::Wait;
+use std::thread::Threads;
+pub use words::MOST_CONNECTIONS;
 use words::{Command, command_of};
 
 /// Does what the words say, and gives the exit status. The words are those after the program's
-/// name: `run`, and the name of a journal in the cabinet if the book is to be kept in one; or
-/// `audit`, the name of a text in the cabinet with a topology, and that of a journal of it.
+/// name: `run`, and the name of a journal in the cabinet if the book is to be kept in one; `audit`,
+/// the name of a text in the cabinet with a topology, and that of a journal of it; or `serve`, the
+/// same names, a port, how many connections are to be served, and by how many workers.
 ///
 /// The status is 0 where all was read to its end, and the journal closed. Else it tells the first
 /// fault, and the last line of the output tells it too: 1 `words K`, the number of the first word
@@ -50,28 +62,61 @@ use words::{Command, command_of};
 /// 3 `read`; 4 a failed output, which has no last line; 5 `journal other KEPT GIVEN`, a journal of
 /// another network, by both digests, or `journal damaged at P`, at this byte; 6 `cabinet`, a text
 /// that could not be read, or a journal that could not be opened or closed; 7 `no memory`; 8
-/// `too long`, an input or a topology of more than 1 GiB.
-pub fn hosed<I: Source, O: Sink, C: Cabinet>(
+/// `too long`, an input or a topology of more than 1 GiB; 9 `door`, a port that could not be opened,
+/// or a connection that could not be accepted.
+///
+/// With `serve` it waits for customers, and for threads of its own: what it promises it keeps if it
+/// returns. It writes `ready` once the port is open, and what the book holds once all is closed.
+pub fn hosed<
+    R: Threads + Wait + Sync,
+    I: Source,
+    O: Sink,
+    C: Cabinet,
+    L: Door + Send,
+    G: Gate + Sync,
+>(
+    rt: &R,
     alloc: Global,
     words: &[String],
     input: &mut I,
     output: &mut O,
     cabinet: &mut C,
+    door: &mut L,
+    gate: &G,
 ) -> u8
     requires { (C.frame cabinet.old).out ≡ None }
-    ensures outcome { OfflineOutcome I.Source O.Sink C.Cabinet C.Disk.Disk
+    ensures outcome { HosedOutcome I.Source O.Sink C.Cabinet C.Disk.Disk
         (map string_bytes words.now) input.old input.new output.old output.new
-        cabinet.old cabinet.new result }
-    ensures back { (C.frame cabinet.new).out ≡ None }
+        cabinet.old cabinet.new
+        (seen_of (L.frame door.old) (L.told door.old))
+        (seen_of (L.frame door.new) (L.told door.new)) result }
+    // The disk of a journal is not put back where there was no memory to share it.
+    ensures back { ((C.frame cabinet.new).out ≡ None)
+        ⊎ (AsksToServe (map string_bytes words.now) × (result ≡ 7)) }
     ensures input { Stays (I.frame input.old) (I.frame input.new) }
     ensures output { Stays (O.frame output.old) (O.frame output.new) }
     ensures cabinet { Stays (object_of (C.frame cabinet.old)) (object_of (C.frame cabinet.new)) }
+    ensures door { Stays (L.frame door.old) (L.frame door.new) }
 {
-    offline(alloc, words, input, output, cabinet)
+    if !asks_to_serve(words) {
+        return offline(alloc, words, input, output, cabinet);
+    }
+    match command_of(words) {
+        Ok(Command::Serve(service)) => {
+            let (topology, journal) = (words[1].as_str(), words[2].as_str());
+            let (status, _) = serve(
+                rt, alloc, topology, journal, service, output, cabinet, door, gate,
+            );
+            status
+        }
+        Err(wrong) => end(Err(Fault::Words(wrong)), output),
+        // These words do not begin with `serve`.
+        Ok(_) => unreachable!(),
+    }
 }
 
-/// The same for every command that waits for nobody: it returns where the calls of its input, its
-/// output and its cabinet do.
+/// The same for every command that waits for nobody, and for wrong words that do not begin with
+/// `serve`: it returns where the calls of its input, its output and its cabinet do.
 pub fn offline<I: Source, O: Sink, C: Cabinet>(
     alloc: Global,
     words: &[String],
@@ -79,7 +124,8 @@ pub fn offline<I: Source, O: Sink, C: Cabinet>(
     output: &mut O,
     cabinet: &mut C,
 ) -> u8
-    requires { (C.frame cabinet.old).out ≡ None }
+    requires none_out { (C.frame cabinet.old).out ≡ None }
+    requires waits_for_nobody { ¬ AsksToServe (map string_bytes words.now) }
     ensures outcome { OfflineOutcome I.Source O.Sink C.Cabinet C.Disk.Disk
         (map string_bytes words.now) input.old input.new output.old output.new
         cabinet.old cabinet.new result }
@@ -94,6 +140,8 @@ pub fn offline<I: Source, O: Sink, C: Cabinet>(
             end(done, output)
         }
         Ok(Command::Audit) => audit(alloc, words[1].as_str(), words[2].as_str(), output, cabinet),
+        // These words begin with `serve`.
+        Ok(Command::Serve(_)) => unreachable!(),
         Err(word) => end(Err(Fault::Words(word)), output),
     }
 }
@@ -111,5 +159,15 @@ fn end<O: Sink>(done: Result<(), Fault>, output: &mut O) -> u8
             let _ = fault.put(output);
             fault.status()
         }
+    }
+}
+
+// Whether the first word is `serve`.
+fn asks_to_serve(words: &[String]) -> bool
+    ensures { IsTrue result ↔ AsksToServe (map string_bytes words.now) }
+{
+    match words {
+        [first, ..] => first.as_str() == "serve",
+        [] => false,
     }
 }

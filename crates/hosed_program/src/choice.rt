@@ -1,19 +1,24 @@
 // What the program's words choose: a text about itself, or the server.
-ghost use Rattle.std.specs.Prelude.{◌≡◌, None, map};
+ghost use Rattle.std.specs.Prelude.{◌≡◌, ◌⊎◌, None, map};
 ghost use Rattle.std.specs.String.{string_bytes};
 ghost use Rattle.hose_io.specs.Frame.{Stays};
 ghost use Rattle.hose_disk.specs.Cabinet.{object_of};
 ghost use Rattle.hosed.specs.Ending.{IsOut};
 ghost use Rattle.hosed.specs.Fault.{last_line};
-ghost use Rattle.hosed.specs.Offline.{OfflineOutcome};
+ghost use Rattle.hosed.specs.Hosed.{HosedOutcome};
+ghost use Rattle.hosed.specs.ProgramWords.{AsksToServe};
+ghost use Rattle.hosed.specs.ServingDoor.{seen_of};
 ghost use Rattle.hosed.specs.declared.fault.Fault.TheVariants as fault;
 ghost use Rattle.hosed_program.specs.Asked.{asked_of};
 ghost use Rattle.hosed_program.specs.Told.{IsTold};
 
 use crate::texts::{HELP, VERSION};
 use hose_disk::Cabinet;
-use hose_io::{Sink, Source, write_all};
+use hose_io::{Door, Sink, Source, write_all};
+use hose_pool::Gate;
 use std::alloc::Global;
+use std::sync::Wait;
+use std::thread::Threads;
 
 /// What the program's words ask for.
 #[derive(Clone, Copy)]
@@ -25,34 +30,50 @@ pub enum Asked {
 }
 
 /// Does what the words say, and gives the exit status.
-pub fn program<I: Source, O: Sink, C: Cabinet>(
+pub fn program<
+    R: Threads + Wait + Sync,
+    I: Source,
+    O: Sink,
+    C: Cabinet,
+    L: Door + Send,
+    G: Gate + Sync,
+>(
+    rt: &R,
     alloc: Global,
     words: &[String],
     input: &mut I,
     output: &mut O,
     cabinet: &mut C,
+    door: &mut L,
+    gate: &G,
 ) -> u8
     requires { (C.frame cabinet.old).out ≡ None }
     ensures help { asked_of (map string_bytes words.now) ≡ Asked.Help → (input.new ≡ input.old)
-        × (cabinet.new ≡ cabinet.old) × IsTold O.Sink output.old output.new HELP.now result }
+        × (cabinet.new ≡ cabinet.old) × (door.new ≡ door.old)
+        × IsTold O.Sink output.old output.new HELP.now result }
     ensures version { asked_of (map string_bytes words.now) ≡ Asked.Version
-        → (input.new ≡ input.old) × (cabinet.new ≡ cabinet.old)
+        → (input.new ≡ input.old) × (cabinet.new ≡ cabinet.old) × (door.new ≡ door.old)
         × IsTold O.Sink output.old output.new VERSION.now result }
 
     // All else is as the server's one call says.
     ensures service { asked_of (map string_bytes words.now) ≡ Asked.Service
-        → OfflineOutcome I.Source O.Sink C.Cabinet C.Disk.Disk (map string_bytes words.now)
-        input.old input.new output.old output.new cabinet.old cabinet.new result }
+        → HosedOutcome I.Source O.Sink C.Cabinet C.Disk.Disk (map string_bytes words.now)
+        input.old input.new output.old output.new cabinet.old cabinet.new
+        (seen_of (L.frame door.old) (L.told door.old))
+        (seen_of (L.frame door.new) (L.told door.new)) result }
 
-    ensures back { (C.frame cabinet.new).out ≡ None }
+    // The disk of a journal is not put back where there was no memory to share it.
+    ensures back { ((C.frame cabinet.new).out ≡ None)
+        ⊎ (AsksToServe (map string_bytes words.now) × (result ≡ 7)) }
     ensures input { Stays (I.frame input.old) (I.frame input.new) }
     ensures output { Stays (O.frame output.old) (O.frame output.new) }
     ensures cabinet { Stays (object_of (C.frame cabinet.old)) (object_of (C.frame cabinet.new)) }
+    ensures door { Stays (L.frame door.old) (L.frame door.new) }
 {
     match asked_by(words) {
         Asked::Help => tell(output, HELP),
         Asked::Version => tell(output, VERSION),
-        Asked::Service => hosed::hosed(alloc, words, input, output, cabinet),
+        Asked::Service => hosed::hosed(rt, alloc, words, input, output, cabinet, door, gate),
     }
 }
 

@@ -1,9 +1,10 @@
 //! What the program does with its words: a text about itself, or the server's one call. The program
-//! hands it the real streams and files, and cases of `hosed_rows` hand it those in memory:
+//! hands it the real streams, files and port, and cases of `hosed_rows` hand it those in memory:
 //!
 //! ```
 //! let words = program_words(&rt, alloc)?;
-//! let status = program(alloc, &words, &mut input, &mut output, &mut cabinet);
+//! let (input, output) = (&mut input, &mut output);
+//! let status = program(&rt, alloc, &words, input, output, &mut cabinet, &mut door, &PlainGate);
 //! ```
 #![tactic(auto)]
 

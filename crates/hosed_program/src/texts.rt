@@ -4,6 +4,7 @@
 pub const HELP: &str = "\
 usage: hosed run [JOURNAL] < FILE
        hosed audit TOPOLOGY JOURNAL
+       hosed serve TOPOLOGY JOURNAL PORT CONNECTIONS WORKERS
        hosed --help | --version
 
 hosed run reads a topology, in which lines that begin with # are passed over, and then a line for
@@ -47,6 +48,20 @@ and the book of JOURNAL, and writes what it holds:
     vpn ID CUSTOMER cost C ends NAME:RATE .. links L:R ..   each VPN, as it was admitted
     live K cost C                                           how many there are, and their cost
 
+hosed serve reads a topology from the file TOPOLOGY, as audit does, and writes
+
+    ready
+
+once it listens at 127.0.0.1:PORT. It accepts CONNECTIONS connections, which WORKERS workers serve
+side by side by the book of JOURNAL; then it closes JOURNAL, and writes what audit writes. Each
+connection is a session of one customer, with one line in reply to each:
+
+    hello NAME                          the first line; the reply is: welcome at N
+    admit NAME:RATE ..                  and so on: the commands of run, without CUSTOMER
+    bye                                 ends the session; the reply is: bye
+
+PORT is 1 to 65535, CONNECTIONS is 1 to 10000, WORKERS is 1 to 16.
+
 epoch   how many admissions and releases there have been
 N       the epoch at which the reply holds: after an admission or a release, its own
 L       a link by its number; links and nodes count from 0, in the topology's order
@@ -71,6 +86,8 @@ status  comes                           last line
 7       no memory to begin              no memory
 8       input or TOPOLOGY longer
         than 1 GiB                      too long
+9       the port could not be opened,
+        or accepting failed             door
 ";
 
 /// What `--version` is answered with.
@@ -79,4 +96,5 @@ pub const VERSION: &str = "hosed 0.1.0\n";
 /// What is said on standard error where the words are wrong.
 pub const USAGE: &str = "hosed takes `run`, which reads a topology and commands, and after it the \
     name of a journal if the book is to be kept; or `audit`, and after it the names of a topology \
-    and of a journal; or `--help`, which tells their forms, or `--version`.";
+    and of a journal; or `serve`, and after it these two names, a port, and how many connections \
+    and workers; or `--help`, which tells their forms, or `--version`.";

@@ -3,7 +3,7 @@ ghost use Rattle.std.specs.Prelude.{◌≡◌, ◌≤◌, ◌↔◌, IfOk, IsErr
 
 use crate::fault::CaseFault;
 use crate::line::Line;
-use crate::pattern::number;
+use crate::pattern::{Pattern, number};
 use hose_disk::DiskCall;
 use std::alloc::{AllocError, Global};
 
@@ -39,6 +39,15 @@ pub struct Stream {
     pub failing: Vec<u64>,
 }
 
+/// A connection of the door, which is accepted after those before it.
+#[derive(Clone, Debug, Drop)]
+pub struct Connection {
+    /// What it gives.
+    pub bytes: Vec<u8>,
+    /// What it must be given.
+    pub wanted: Vec<u8>,
+}
+
 /// The disk of the journal `j`, in the cabinet of a case.
 #[derive(Clone, Debug, Drop)]
 pub struct Journal {
@@ -66,6 +75,9 @@ pub struct Case {
     /// The number of the cabinet's call for a text or a disk that fails, counted from 1.
     pub failing: Option<u64>,
     pub journal: Journal,
+    pub connections: Vec<Connection>,
+    /// The numbers of the door's calls that fail, counted from 1.
+    pub door_failing: Vec<u64>,
     pub status: u64,
     pub taken: Option<u64>,
     /// Whether it says what must come of it.
@@ -105,6 +117,8 @@ impl Case {
             text: Vec::new(alloc),
             failing: None,
             journal: Journal::new(alloc),
+            connections: Vec::new(alloc),
+            door_failing: Vec::new(alloc),
             status: 0,
             taken: None,
             compares: false,
@@ -127,6 +141,11 @@ impl Case {
             Line::DiskFails(rest) => add_disk_calls(alloc, &mut self.journal.failing, rest)?,
             Line::CabinetFails(nth) => self.failing = Some(nth),
             Line::Stops => self.journal.stops = true,
+            Line::Says(nth, pattern) => {
+                add_connections(alloc, &mut self.connections, nth)?;
+                add_said(&mut self.connections, nth, pattern)?;
+            }
+            Line::DoorFails(rest) => self.door_failing = calls_of(alloc, rest)?,
             wanted => self.add_wanted(alloc, wanted)?,
         }
         Ok(())
@@ -139,10 +158,53 @@ impl Case {
             Line::Status(status) => self.status = status,
             Line::Taken(taken) => self.taken = Some(taken),
             Line::Left(rest) => self.journal.left = Some(bytes_of(alloc, rest)?),
+            Line::Told(nth, pattern) => {
+                add_connections(alloc, &mut self.connections, nth)?;
+                add_told(&mut self.connections, nth, pattern)?;
+            }
             _ => return Ok(()),
         }
         self.compares = true;
         Ok(())
+    }
+}
+
+// Adds the connection of this number, where it is the next.
+fn add_connections(
+    alloc: Global,
+    connections: &mut Vec<Connection>,
+    nth: u64,
+) -> Result<(), AllocError> {
+    if nth == (connections.len() as u64).saturating_add(1) {
+        connections.push(Connection {
+            bytes: Vec::new(alloc),
+            wanted: Vec::new(alloc),
+        })?;
+    }
+    Ok(())
+}
+
+// Adds bytes that the connection of this number gives.
+fn add_said(
+    connections: &mut Vec<Connection>,
+    nth: u64,
+    pattern: Pattern<'_>,
+) -> Result<(), CaseFault> {
+    match connections.get_mut(nth.wrapping_sub(1) as usize) {
+        Some(connection) => pattern.add_to(&mut connection.bytes),
+        None => Err(CaseFault::Connection),
+    }
+}
+
+// Adds bytes that the connection of this number must be given.
+fn add_told(
+    connections: &mut Vec<Connection>,
+    nth: u64,
+    pattern: Pattern<'_>,
+) -> Result<(), CaseFault> {
+    match connections.get_mut(nth.wrapping_sub(1) as usize) {
+        Some(connection) => pattern.add_to(&mut connection.wanted),
+        None => Err(CaseFault::Connection),
     }
 }
 

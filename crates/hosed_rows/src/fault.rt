@@ -18,7 +18,10 @@ pub enum CaseFault {
     Digits,
     #[error("a call of a disk is len, read, write, cut or sync")]
     Kind,
-    #[error("the case says nothing of status, output, what is taken or what is left")]
+    #[error("connections are counted from 1, and begin in order")]
+    Connection,
+    #[error("the case says nothing of status, output, what is taken, what is left or what a \
+            connection is given")]
     NothingToCompare,
     #[error("the file has no case")]
     NoCase,

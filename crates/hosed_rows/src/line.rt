@@ -17,6 +17,10 @@ pub enum Line<'a> {
     Output(Pattern<'a>),
     /// Bytes of the text `t` of the cabinet.
     Text(Pattern<'a>),
+    /// Bytes that the connection of this number gives.
+    Says(u64, Pattern<'a>),
+    /// Bytes that the connection of this number is given.
+    Told(u64, Pattern<'a>),
     /// How many more bytes the input has, that are not stored.
     More(u64),
     /// How many bytes the input gives in a call.
@@ -39,6 +43,8 @@ pub enum Line<'a> {
     DiskFails(&'a str),
     /// Which call of the cabinet for a text or a disk fails.
     CabinetFails(u64),
+    /// Which calls of the door fail.
+    DoorFails(&'a str),
     /// That the program is stopped after each call of that disk.
     Stops,
 }
@@ -57,6 +63,12 @@ impl<'a> Line<'a> {
         }
         if let Some(rest) = line.strip_prefix('=') {
             return Ok(Line::Text(Pattern::read(rest)?));
+        }
+        if let Some((connection, rest)) = numbered(line, '<') {
+            return Ok(Line::Says(connection, Pattern::read(rest)?));
+        }
+        if let Some((connection, rest)) = numbered(line, '>') {
+            return Ok(Line::Told(connection, Pattern::read(rest)?));
         }
         let (word, rest) = line.split_once(' ').unwrap_or((line, ""));
         Line::read_setting(word, rest)
@@ -78,8 +90,15 @@ impl<'a> Line<'a> {
             "left" => Ok(Line::Left(rest)),
             "disk-fails" => Ok(Line::DiskFails(rest)),
             "cabinet-fails" => Ok(Line::CabinetFails(number(rest)?)),
+            "door-fails" => Ok(Line::DoorFails(rest)),
             "stops" => Ok(Line::Stops),
             _ => Err(CaseFault::Word),
         }
     }
+}
+
+// The number before a mark, where the line begins with one, and what stands after the mark.
+fn numbered(line: &str, mark: char) -> Option<(u64, &str)> {
+    let (digits, rest) = line.split_once(mark)?;
+    Some((number(digits).ok()?, rest))
 }

@@ -2,8 +2,8 @@
 //! they say.
 //!
 //! The folder in which it runs holds the files; `data/README.md` describes them. Each case is one
-//! call of `hosed_program::program` over streams in memory. What is printed is compared with the
-//! file `stdout` of this crate.
+//! call of `hosed_program::program` over streams, a cabinet and a door in memory. What is printed is
+//! compared with the file `stdout` of this crate.
 #![tactic(auto)]
 
 mod case;
@@ -21,6 +21,8 @@ use fault::RowsError;
 use file::read_cases;
 use std::process::ExitCode;
 use std::rt::Files;
+use std::sync::Wait;
+use std::thread::Threads;
 use std::{fs, io};
 
 // How the name of a file of cases ends.
@@ -45,7 +47,9 @@ fn main(rt: HostRuntime) -> ExitCode {
 }
 
 // Runs all files of cases in the folder, by name, and prints how many cases there were.
-fn run_folder<R: Files + Print + AllocGlobal + Clone + Drop>(rt: &R) -> Result<(), RowsError> {
+fn run_folder<R: Files + Print + AllocGlobal + Threads + Wait + Sync + Clone + Drop>(
+    rt: &R,
+) -> Result<(), RowsError> {
     let names = case_files(rt)?;
     if names.is_empty() {
         return Err(RowsError::NoFile);
@@ -78,7 +82,7 @@ fn case_files<R: Files + AllocGlobal + Clone + Drop>(rt: &R) -> io::Result<Vec<S
 }
 
 // Runs the cases of a file, and tells of each; or why the file was refused.
-fn run_file<R: Files + Print + AllocGlobal>(
+fn run_file<R: Files + Print + AllocGlobal + Threads + Wait + Sync>(
     rt: &R,
     name: &str,
     count: &mut Count,

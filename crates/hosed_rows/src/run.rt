@@ -1,19 +1,29 @@
 // The run of a case.
-ghost use Rattle.std.specs.Prelude.{◌≡◌, IfOk, None};
+ghost use Rattle.std.specs.Prelude.{◌≡◌, All, IfOk, None};
 ghost use Rattle.hose_disk.specs.CabinetState.{cabinet_frame};
+ghost use Rattle.hose_io.specs.DoorState.{IsFresh};
 
 use crate::case::Case;
 use crate::streams::{LongSource, NarrowSink};
 use hose_disk::{Cabinet, Disk, MemCabinet, MemDisk};
-use hose_io::{MemSink, MemSource};
+use hose_io::{MemDoor, MemSink, MemSource};
+use hose_pool::PlainGate;
 use hosed_program::program;
 use std::alloc::{AllocError, Global};
+use std::sync::Wait;
+use std::thread::Threads;
 
 /// The name of the journal in the cabinet.
 pub const JOURNAL: &str = "j";
 
 // The name of the text in it.
 const TEXT: &str = "t";
+
+// The status at which the disk of the journal may be gone: there was no memory to share it.
+const NO_MEMORY: u8 = 7;
+
+// How many bytes a connection gives in a call.
+const PIECE: u64 = 4_096;
 
 /// What came of a case.
 #[derive(Drop)]
@@ -24,20 +34,79 @@ pub struct Outcome {
     pub taken: u64,
     /// The disk of the journal, as it was put back.
     pub disk: Option<MemDisk>,
+    pub door: MemDoor,
+}
+
+impl Outcome {
+    /// What the connection of this number was given, counted from 1: nothing where it did not end.
+    pub fn given(&self, connection: u64) -> &[u8] {
+        for done in self.door.ended() {
+            if done.number == connection {
+                return done.output.bytes();
+            }
+        }
+        &[]
+    }
+}
+
+// What the connections of a case give, in the order in which they are accepted.
+#[derive(Drop)]
+struct Peers {
+    sources: Vec<MemSource>,
+    ghost fresh: { All IsFresh sources.items },
+}
+
+impl Peers {
+    fn new(alloc: Global) -> Peers {
+        Peers {
+            sources: Vec::new(alloc),
+        }
+    }
+
+    // One connection more, which gives these bytes.
+    fn add(&mut self, alloc: Global, bytes: &[u8]) -> Result<(), AllocError> {
+        let source = MemSource::new(alloc, bytes, PIECE)?;
+        self.sources.push(source)?;
+        Ok(())
+    }
+
+    fn into_door(self, alloc: Global) -> Result<MemDoor, AllocError> {
+        MemDoor::new(alloc, self.sources)
+    }
 }
 
 /// Runs the program as the case says.
-pub fn run_case(alloc: Global, case: &Case) -> Result<Outcome, AllocError> {
+pub fn run_case<R: Threads + Wait + Sync>(
+    rt: &R,
+    alloc: Global,
+    case: &Case,
+) -> Result<Outcome, AllocError> {
     let mut input = source_of(alloc, case)?;
     let mut output = sink_of(alloc, case)?;
     let mut cabinet = cabinet_of(alloc, case)?;
-    let status = program(alloc, &case.words, &mut input, &mut output, &mut cabinet);
+    let mut door = door_of(alloc, case)?;
+    let status = program(
+        rt,
+        alloc,
+        &case.words,
+        &mut input,
+        &mut output,
+        &mut cabinet,
+        &mut door,
+        &PlainGate,
+    );
     let taken = input.taken();
+    let disk = if status == NO_MEMORY {
+        None
+    } else {
+        cabinet.disk(JOURNAL).ok()
+    };
     Ok(Outcome {
         status,
         output,
         taken,
-        disk: cabinet.disk(JOURNAL).ok(),
+        disk,
+        door,
     })
 }
 
@@ -83,6 +152,19 @@ fn cabinet_of(alloc: Global, case: &Case) -> Result<MemCabinet, AllocError>
         cabinet.fail(alloc, nth)?;
     }
     Ok(cabinet)
+}
+
+// A door that the connections of a case come to.
+fn door_of(alloc: Global, case: &Case) -> Result<MemDoor, AllocError> {
+    let mut peers = Peers::new(alloc);
+    for connection in &case.connections {
+        peers.add(alloc, &connection.bytes)?;
+    }
+    let mut door = peers.into_door(alloc)?;
+    for nth in &case.door_failing {
+        door.fail(*nth)?;
+    }
+    Ok(door)
 }
 
 // A disk on which these bytes are durable.

@@ -3,6 +3,8 @@ use crate::case::Case;
 use crate::run::{Outcome, held, run_case};
 use hose_disk::{MemDisk, Pick};
 use std::alloc::{AllocError, Global};
+use std::sync::Wait;
+use std::thread::Threads;
 
 // What a stop may leave of bytes that no sync made durable.
 const PICKS: [Pick; 5] = [
@@ -16,17 +18,21 @@ const PICKS: [Pick; 5] = [
 /// After how many stops of a case another history is found than that of the lines that were
 /// answered, or that with the entry of the next line. A stop is one after any call of the journal's
 /// disk, with any of the picks.
-pub fn stops_that_differ(alloc: Global, case: &Case) -> Result<u64, AllocError> {
+pub fn stops_that_differ<R: Threads + Wait + Sync>(
+    rt: &R,
+    alloc: Global,
+    case: &Case,
+) -> Result<u64, AllocError> {
     if !case.journal.stops {
         return Ok(0);
     }
     let mut lost = 0u64;
     // A journal that is there at first was written and synced.
     let mut from = if case.journal.bytes.is_empty() { 0 } else { 2 };
-    let mut answered = run_front(alloc, case, 0)?;
+    let mut answered = run_front(rt, alloc, case, 0)?;
     for lines in 0..lines_of(case) {
-        let next = run_front(alloc, case, lines.saturating_add(1))?;
-        let differ = differ_within(alloc, case, from, &answered, &next)?;
+        let next = run_front(rt, alloc, case, lines.saturating_add(1))?;
+        let differ = differ_within(rt, alloc, case, from, &answered, &next)?;
         lost = lost.saturating_add(differ);
         from = calls_of(&next);
         answered = next;
@@ -44,7 +50,8 @@ fn calls_of(outcome: &Outcome) -> u64 {
 
 // After how many stops from a call on up to the next reply neither the history that was answered is
 // found, nor the next.
-fn differ_within(
+fn differ_within<R: Threads + Wait + Sync>(
+    rt: &R,
     alloc: Global,
     case: &Case,
     from: u64,
@@ -61,7 +68,7 @@ fn differ_within(
     let mut differ = 0u64;
     for calls in from..=calls_of(next) {
         for pick in PICKS {
-            let found = epoch_after(alloc, case, disk, calls, pick)?;
+            let found = epoch_after(rt, alloc, case, disk, calls, pick)?;
             if !wanted.contains(&found) {
                 differ = differ.saturating_add(1);
             }
@@ -71,7 +78,8 @@ fn differ_within(
 }
 
 // The epoch that a run after a stop finds.
-fn epoch_after(
+fn epoch_after<R: Threads + Wait + Sync>(
+    rt: &R,
     alloc: Global,
     case: &Case,
     disk: &MemDisk,
@@ -86,18 +94,23 @@ fn epoch_after(
     again.input.bytes.extend_from_slice(b"x link 0\n")?;
     let mut image = disk.stop_image(alloc, calls, pick)?;
     again.journal.bytes = held(alloc, &mut image)?;
-    Ok(epoch_of(run_case(alloc, &again)?.output.bytes()))
+    Ok(epoch_of(run_case(rt, alloc, &again)?.output.bytes()))
 }
 
 // What comes of the topology and the first lines of a case.
-fn run_front(alloc: Global, case: &Case, lines: usize) -> Result<Outcome, AllocError> {
+fn run_front<R: Threads + Wait + Sync>(
+    rt: &R,
+    alloc: Global,
+    case: &Case,
+    lines: usize,
+) -> Result<Outcome, AllocError> {
     let mut front = case.clone()?;
     let mut end = topology_of(&case.input.bytes);
     for _ in 0..lines {
         end = end.saturating_add(line_at(&case.input.bytes, end));
     }
     front.input.bytes.truncate(end);
-    run_case(alloc, &front)
+    run_case(rt, alloc, &front)
 }
 
 // How many lines come after the topology.

@@ -2,7 +2,6 @@ use Rattle.std.proofs.Common.{inr, refl}
 use Rattle.hose_audit.specs.Audit.{audit_text}
 use Rattle.hose_io.proofs.Streams.{GrowsInPart-append}
 use Rattle.hosed.specs.Fault.{last_line}
-use Rattle.hosed.specs.declared.fault.Fault.TheVariants.{Cabinet}
 use Rattle.hosed.proofs.Audited.{out_after}
 use Rattle.hosed.proofs.audit.tell.Goals as goal
 
@@ -10,10 +9,10 @@ pub returns-in-Ok-told-2-clause-ends : goal.returns-in-Ok-told-2-clause-ends
 returns-in-Ok-told-2-clause-ends g c =
     let put = c.in-Ok-told-2.ensures in
     let text = audit_text c.args.book.now.network c.args.book.now.book in
-    rw c.in-Err.is (c.end.ensures.status, out_after g.O.Sink c.args.output.now c.audit-told.new.sink c.end.new.output text (last_line Cabinet) put.ok put.met.ok c.end.ensures.last_line)
+    rw c.in-Err.is (c.end.ensures.status, out_after g.O.Sink c.args.output.now c.audit-told.new.sink c.end.new.output text (last_line c.in-Err.why) put.ok put.met.ok c.end.ensures.last_line)
 
 pub returns-in-Err-told-2-clause-ends : goal.returns-in-Err-told-2-clause-ends
 returns-in-Err-told-2-clause-ends g c =
     let put = c.in-Err-told-2.ensures in
     let text = audit_text c.args.book.now.network c.args.book.now.book in
-    rw c.in-Err.is (c.status-in-Err-told-2.ensures, inr (put.met.failed refl, GrowsInPart-append _ _ text (last_line Cabinet) put.err))
+    rw c.in-Err.is (c.status-in-Err-told-2.ensures, inr (put.met.failed refl, GrowsInPart-append _ _ text (last_line c.in-Err.why) put.err))

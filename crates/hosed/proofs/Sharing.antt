@@ -1,0 +1,172 @@
+-- A store that was shared, from its opening to its closing.
+use Rattle.std.proofs.Common.{◌≡◌, ◌∙◌, ◌⊎◌, inl, inr, ⊎_elim, ℕ, ◌≤◌, ◌<◌, List, [], ◌∷◌, ◌++◌, length, Bool, true, false, Option, Some, None, is_some, ◌↔◌, IfOk, IfErr, MatchResult, Result, Ok, Err, nat_le, nat_lt, refl, sym, ap, subst, arith, append-nil, length-append}
+use Rattle.std.specs.Prelude.{⊤, if◌then◌else◌}
+use mathlib.Core.List.{IsPrefix}
+use Rattle.hose_io.specs.Frame.{Frame, Met, Rose}
+use Rattle.hose_io.specs.Stream.{Grows}
+use Rattle.hose_io.specs.declared.Failed.{Failed}
+use Rattle.hose_io.specs.declared.sink.Sink.{Ghosts as SinkGhosts}
+use Rattle.hose_graph.specs.Network.{Network}
+use Rattle.hose_graph.specs.declared.entry.Entry.{Entry}
+use Rattle.hose_law.specs.Book.{Book}
+use Rattle.hose_law.specs.History.{IsDecidedAt, IsSound, book_of}
+use Rattle.hose_law.proofs.Fronts.{prefix_same}
+use Rattle.hose_book.specs.Ledger.{Ledger}
+use Rattle.hose_disk.specs.Disk.{IsCalled}
+use Rattle.hose_disk.specs.declared.disk.Disk.{Ghosts as DiskGhosts}
+use Rattle.hose_shared.specs.Closing.{HasShared}
+use Rattle.hose_store.specs.Beginning.{Beginning, HasLeft, StandsFor}
+use Rattle.hose_store.specs.Commit.{Closes}
+use Rattle.hose_journal.specs.Image.{Meaning}
+use Rattle.hose_journal.specs.Moments.{LeavesOnly}
+use Rattle.hose_journal.specs.Opening.{KeepsDisk}
+use Rattle.hose_store.specs.Opening.{IsAtOpening, IsOpenedOn, IsRefused}
+use Rattle.hose_store.specs.Recovery.{IsRecoveredAs}
+use Rattle.hose_store.specs.Store.{Kept}
+use Rattle.hose_store.specs.declared.fault.StoreFault.{StoreFault}
+use Rattle.hose_turn.specs.Faults.{end_of_count}
+use Rattle.hose_turn.specs.Known.{Known}
+use Rattle.hose_turn.specs.Places.{HasPlaces, one_within}
+use Rattle.hosed.specs.Fault.{of_store}
+use Rattle.hosed.specs.OnDisk.{opening_of}
+use Rattle.hosed.specs.ServingOnDisk.{IsNotOpened}
+use Rattle.hosed.proofs.Journals.{not_opened}
+use Rattle.hosed.specs.ServingDoor.{DoorSeen, HasKept, HasServedConnections, IsMadeAlong, IsOpening, OpensAt, ServesByStore, ServesOpened, StaysAsRead, served_of}
+use Rattle.hosed.specs.declared.serve.Opened.{Opened}
+use Rattle.hosed.specs.declared.serve.Opened.TheVariants as opened
+
+-- a history without a place after its beginning is that beginning
+no_more : (since history : List Entry) → IsPrefix since history → HasPlaces (length since) (length history) [] → history ≡ since
+no_more since history ([], same) none = sym same ∙ append-nil since
+no_more since history (entry ∷ more, same) none = absurd (at (nat_lt (length since) (length history)) refl)
+  where
+    longer : length since < length history
+    longer = let size = ap length same in let parts = length-append since (entry ∷ more) in omega (arith, size, parts)
+
+    at : (one : Bool) → nat_lt (length since) (length history) ≡ one → ⊥
+    at one is = let here = none (length since) in grind (arith, longer, here)
+
+ledger_is : (ledger : Ledger) (network : Network) (book : Book) → ledger.network ≡ network → ledger.book ≡ book → ledger ≡ record { network = network; book = book }
+ledger_is ledger network book same_network same_book = rw (sym same_network, sym same_book) refl
+
+-- a store stands for a history since any images that are no fewer
+stands_had : {E : Type 0} (disk : DiskGhosts E) (Had Has : List ℕ → Type 0) (beginning : Beginning) (history : List Entry) (store : Kept E) → ((image : List ℕ) → Had image → Has image) → StandsFor disk IsDecidedAt Had beginning history store
+    → StandsFor disk IsDecidedAt Has beginning history store
+stands_had disk Had Has beginning history store more stands = record {
+  doubt = stands.doubt;
+  network = stands.network;
+  has = stands.has;
+  since = stands.since;
+  added = stands.added;
+  doubtful = stands.doubtful;
+  later = stands.later;
+  moments = λ image left. ⊎_elim (λ part. inl part) (λ had. inr (more image had)) (stands.moments image left);
+  tells = stands.tells;
+}
+
+-- a disk that is named by its images, its content and its moment
+module _ {E : Type 0} (disk : DiskGhosts E) (was : E) (Had : List ℕ → Type 0) (content : Option (List ℕ)) (moment : ℕ) (named network : Network) (had : (image : List ℕ) → Had image ↔ disk.may_leave was image) (is_content : content ≡ disk.content was)
+    (is_moment : moment ≡ disk.moment was) (is_network : named ≡ network) (since : List Entry) (store : Kept E) where
+  abbrev beginning : Beginning
+  beginning = record { since = since; network = named; moment = moment; tells = is_some content }
+
+  same_beginning : beginning ≡ opening_of disk network since was
+  same_beginning = rw (is_content, is_moment, is_network) refl
+
+  pub opens_at : IsOpening disk was network since store → OpensAt disk Had content moment named since store
+  opens_at opening = record {
+    read = rw (is_content, is_network) opening.read;
+    stands = subst (λ (b : Beginning). StandsFor disk IsDecidedAt Had b since store) (sym same_beginning)
+        (stands_had disk (disk.may_leave was) Had (opening_of disk network since was) since store (λ image one. (had image).1 one) opening.stands);
+  }
+
+  pub is_opening : OpensAt disk Had content moment named since store → IsOpening disk was network since store
+  is_opening opens = record {
+    read = rw (sym is_content, sym is_network) opens.read;
+    stands = subst (λ (b : Beginning). StandsFor disk IsDecidedAt (disk.may_leave was) b since store) same_beginning
+        (stands_had disk Had (disk.may_leave was) beginning since store (λ image one. (had image).0 one) opens.stands);
+  }
+
+module _ {E : Type 0} (disk : DiskGhosts E) (was left : E) (network : Network) (closing : Result ⊤ Failed)
+    (law : (since history : List Entry) (store : Kept E) → StandsFor disk IsDecidedAt (disk.may_leave was) (opening_of disk network since was) history store → Closes disk store left closing
+    → HasLeft disk IsDecidedAt (disk.may_leave was) (opening_of disk network since was) history left closing) where
+  kept_from : (since history : List Entry) (first store : Kept E) → IsOpening disk was network since first → StandsFor disk IsDecidedAt (disk.may_leave was) (opening_of disk network since was) history store → Closes disk store left closing
+      → IsCalled (disk.frame store.journal.disk) (disk.frame left) closing → HasKept disk was left network since history closing
+  kept_from since history first store opening stands closes call = record {
+    read = opening.read;
+    begins = stands.since;
+    decided = record { sound = subst (λ (n : Network). IsSound n 0 history) stands.network stands.has.sound; decided = stands.added };
+    told = call.told;
+    leaves = law since history store stands closes;
+  }
+
+  -- a store that was opened and closed
+  pub closed_at_once : (since : List Entry) (store : Kept E) → IsOpening disk was network since store → Closes disk store left closing → IsCalled (disk.frame store.journal.disk) (disk.frame left) closing → StaysAsRead disk was left network
+  closed_at_once since store opening closes call = record { since = since; closing = closing; kept = kept_from since since store store opening opening.stands closes call }
+
+  -- a store that was shared between
+  module _ (Begins : List Entry → Kept E → Type 0) (named : (since : List Entry) (store : Kept E) → Begins since store → IsOpening disk was network since store) (pass : Known) (first store : Kept E)
+      (of : pass.origin.network ≡ network) (began : Begins pass.origin.since first) (shared : HasShared disk Begins pass store)
+      (met : (pass.faults ≤ (disk.frame store.journal.disk).faults) ⊎ (end_of_count ≤ (disk.frame store.journal.disk).faults))
+      (closes : Closes disk store left closing) (call : IsCalled (disk.frame store.journal.disk) (disk.frame left) closing) where
+    abbrev since : List Entry
+    since = pass.origin.since
+
+    kept : HasKept disk was left network since shared.history closing
+    kept = kept_from since shared.history first store (named since first began)
+        (shared.stands (opening_of disk network since was) was refl (sym of) (λ one begins. (named since one begins).stands)) closes call
+
+    along : IsMadeAlong network since shared.history pass (disk.frame left).faults
+    along = record {
+      of = of;
+      began = refl;
+      seen = shared.whole.seen;
+      own = shared.whole.own;
+      met = ⊎_elim (λ few. inl (omega (arith, few, call.met.stays.never_falls))) (λ most. inr (omega (arith, most, call.met.stays.never_falls))) met;
+    }
+
+    stays : pass.own ≡ [] → StaysAsRead disk was left network
+    stays none = record {
+      since = since;
+      closing = closing;
+      kept = subst (λ (history : List Entry). HasKept disk was left network since history closing)
+          (no_more since shared.history kept.begins (subst (HasPlaces (length since) (length shared.history)) none shared.whole.own)) kept;
+    }
+
+    pub served_by : {O : Type 0} (sink : SinkGhosts O) (count : ℕ) (output output' : O) (door door' : DoorSeen) (ledger : Ledger) (old : Known) (done : Opened) → old.own ≡ [] → store.ledger ≡ ledger → ServesOpened sink count output output' door door' old pass done
+        → ServesByStore disk sink was (Some left) network count output output' door door' (served_of done ledger closing)
+    served_by sink count output output' door door' ledger old opened.Shut none is serves = (stays (ap (λ (p : Known). p.own) serves.0 ∙ none), serves.1, serves.2, serves.3)
+    served_by sink count output output' door door' ledger old opened.Unheard none is serves = (stays (ap (λ (p : Known). p.own) serves.0 ∙ none), serves.1, serves.2, serves.3)
+    served_by sink count output output' door door' ledger old (opened.Ended accepting) none is serves = (
+      record {
+        since = since;
+        history = shared.history;
+        pass = pass;
+        kept = kept;
+        along = along;
+        served = serves.0;
+        is = sym is ∙ ledger_is store.ledger network (book_of 0 shared.history) (shared.whole.stood.network ∙ of) shared.whole.stood.book;
+      },
+      serves.1,
+      serves.2,
+      serves.3,
+    )
+
+-- ---- a store that is opened
+
+module _ {E : Type 0} (disk : DiskGhosts E) (old : E) (network : Network) where
+  pub opens_of : (result : Result (Kept E) (StoreFault × E)) → IfOk result (IsOpenedOn disk old network)
+      → MatchResult result (λ store. LeavesOnly disk old store.journal.disk (IsAtOpening disk old network)) (λ refused. LeavesOnly disk old refused.1 (IsAtOpening disk old network))
+      → MatchResult result (λ store. KeepsDisk disk old store.journal.disk) (λ refused. KeepsDisk disk old refused.1)
+      → ((store : Kept E) (opened : IsOpenedOn disk old network store) → LeavesOnly disk old store.journal.disk (IsAtOpening disk old network) → KeepsDisk disk old store.journal.disk
+      → StandsFor disk IsDecidedAt (disk.may_leave old) (opening_of disk network opened.history old) opened.history store)
+      → IfOk result (λ store. (since : List Entry) × IsOpening disk old network since store)
+  opens_of (Ok store) opened leaves keeps law = (opened.history, record { read = opened.read; stands = law store opened leaves keeps })
+  opens_of (Err refused) opened leaves keeps law = tt
+
+  pub refused_of : (result : Result (Kept E) (StoreFault × E)) → ((image : List ℕ) (one two : Meaning Entry) → IsRecoveredAs network image one → IsRecoveredAs network image two → one ≡ two)
+      → MatchResult result (λ store. LeavesOnly disk old store.journal.disk (IsAtOpening disk old network)) (λ refused. LeavesOnly disk old refused.1 (IsAtOpening disk old network))
+      → IfErr result (λ refused. IsRefused disk old refused.1 network refused.0)
+      → IfErr result (λ refused. IsNotOpened disk old refused.1 network (Err (of_store refused.0)))
+  refused_of (Ok store) one leaves refused = tt
+  refused_of (Err why) one leaves refused = not_opened disk network old why.1 why.0 one leaves refused
