@@ -7,7 +7,7 @@ use hose_book::Books;
 use hose_disk::Disk;
 use hose_store::Store;
 use hose_turn::Stands;
-use std::marker::{Brand, PhantomData};
+use std::marker::PhantomData;
 
 /// What is known of the store with which a lock is made, and of the list for which it stood then.
 /// A caller who has to say later which store that was names it here.
@@ -19,11 +19,6 @@ pub trait Begun<D: Disk> {
 pub struct AnyStore;
 
 impl<D: Disk> Begun<D> for AnyStore {
-    ghost begins = { λ since store. ⊤ };
-}
-
-// A caller's proof may name what it likes here.
-impl<D: Disk> Begun<D> for Brand {
     ghost begins = { λ since store. ⊤ };
 }
 

@@ -119,8 +119,8 @@ impl<D: Disk, B: Begun<D>> Shared<D, B> {
     }
 }
 
-// The entries that are added are decided.
-struct Decided;
+/// What is told of each entry that passes add: it is decided.
+pub struct Decided;
 
 impl Premises for Decided {
     ghost use Rattle.hose_law.specs.History.{IsDecidedAt};

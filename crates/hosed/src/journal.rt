@@ -11,7 +11,8 @@ use hose_core::Core;
 use hose_disk::{Cabinet, Disk};
 use hose_graph::Topology;
 use hose_io::{Failed, Sink, Source};
-use hose_store::{Premises, Store, law_closed, law_one_meaning, law_opened, law_run};
+use hose_shared::Decided;
+use hose_store::{Store, law_closed, law_one_meaning, law_opened, law_run};
 use hose_words::{INPUT_LIMIT, LineReader};
 use std::alloc::Global;
 
@@ -84,13 +85,4 @@ fn first_fault(served: Result<(), Fault>, closing: Result<(), Failed>) -> Result
         Ok(()) => served,
         Err(_) => served.and(Err(Fault::Cabinet)),
     }
-}
-
-// The entries that a run adds are decided.
-struct Decided;
-
-impl Premises for Decided {
-    ghost use Rattle.hose_law.specs.History.{IsDecidedAt};
-
-    ghost kind = { IsDecidedAt };
 }

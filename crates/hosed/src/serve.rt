@@ -23,8 +23,8 @@ use hose_disk::{Cabinet, Disk};
 use hose_graph::Topology;
 use hose_io::{Door, Failed, Sink, write_all};
 use hose_pool::{Gate, MOST_WORKERS};
-use hose_shared::{Begun, Shared, law_passes};
-use hose_store::{Premises, Store, StoreFault, law_closed, law_one_meaning, law_opened, law_run};
+use hose_shared::{Begun, Decided, Shared, law_passes};
+use hose_store::{Store, StoreFault, law_closed, law_one_meaning, law_opened, law_run};
 use hose_turn::Pass;
 use std::alloc::Global;
 use std::marker::{Brand, PhantomData};
@@ -85,15 +85,6 @@ impl<D: Disk, N: AtOpening> Begun<D> for JustOpened<N> {
     ghost use Rattle.hosed.specs.ServingDoor.{OpensAt};
 
     ghost begins = { OpensAt D.Disk N.had N.content N.moment N.network };
-}
-
-// The entries that sessions add are decided.
-struct Decided;
-
-impl Premises for Decided {
-    ghost use Rattle.hose_law.specs.History.{IsDecidedAt};
-
-    ghost kind = { IsDecidedAt };
 }
 
 /// What came of opening a door and serving its connections along a pass.
