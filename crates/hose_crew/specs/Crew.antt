@@ -35,8 +35,8 @@ AreServed (Some was) (Some now) count pass result = HaveBeenServed was now count
 
 -- A crew served so many connections of a door along a pass, which comes back whole: all that was
 -- answered is along what it has seen.
-pub record ServesDoor {L In Out Done T : Type 0} (door : DoorGhosts L In Out Done) (was now : L) (count : ℕ)
-    (old new : Known) (result : Result T Failed) : Type 0 where
+pub record ServesDoor {L In Out Done T : Type 0} (door : DoorGhosts L In Out Done) (was now : L)
+    (count : ℕ) (old new : Known) (result : Result T Failed) : Type 0 where
   pub met : Met (door.frame was) (door.frame now) result
   pub same : IsSamePass old new
   pub served : AreServed (door.told was) (door.told now) count new result

@@ -158,11 +158,11 @@ fn serve_all<
     requires workers { (1 ≤ job.now.workers) × (job.now.workers ≤ MOST_WORKERS) }
     requires of { IsPassOf job.now.shared.now job.now.first.now.value }
     requires since { IsPrefix job.now.first.now.value.origin.since job.now.first.now.value.seen }
-    requires works { All (HasWorked L.came_to N.start.told job.now.first.now.value N.start.connections)
-        hands.old }
+    requires works { All (HasWorked L.came_to N.start.told job.now.first.now.value
+        N.start.connections) hands.old }
     ensures number { length hands.new ≡ length hands.old }
-    ensures works { All (HasWorked L.came_to N.start.told job.now.first.now.value N.start.connections)
-        hands.new }
+    ensures works { All (HasWorked L.came_to N.start.told job.now.first.now.value
+        N.start.connections) hands.new }
     ensures stopped { HasStopped N.start (L.frame result.door) (L.told result.door)
         result.total.total result.stopped }
     ensures arrived { AreArrived N.start.told (L.told result.door) result.total.total }
@@ -192,11 +192,11 @@ fn work_once<
     requires workers { (1 ≤ job.now.workers) × (job.now.workers ≤ MOST_WORKERS) }
     requires of { IsPassOf job.now.shared.now job.now.first.now.value }
     requires since { IsPrefix job.now.first.now.value.origin.since job.now.first.now.value.seen }
-    requires works { All (HasWorked L.came_to N.start.told job.now.first.now.value N.start.connections)
-        hands.old }
+    requires works { All (HasWorked L.came_to N.start.told job.now.first.now.value
+        N.start.connections) hands.old }
     ensures number { length hands.new ≡ length hands.old }
-    ensures works { All (HasWorked L.came_to N.start.told job.now.first.now.value N.start.connections)
-        hands.new }
+    ensures works { All (HasWorked L.came_to N.start.told job.now.first.now.value
+        N.start.connections) hands.new }
 {
     let desk = Mutex::new(desk);
     // Its parts are known to be shared by threads, and the whole is not.

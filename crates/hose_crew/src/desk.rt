@@ -1,5 +1,5 @@
 // The door under its lock.
-ghost use Rattle.std.specs.Prelude.{◌≡◌, ◌+◌, ◌<◌, ◌≤◌, IfNone, IfOk, IfSome};
+ghost use Rattle.std.specs.Prelude.{◌≡◌, ◌+◌, ◌<◌, ◌≤◌, IfNone, IfOk, IfSome, IsSome};
 ghost use Rattle.hose_crew.specs.Desk.{AreArrived, AreFresh, DeskState, HasStopped, Started};
 
 use hose_io::{Door, Failed};
@@ -99,6 +99,7 @@ impl<L: Door, N: Start> Desk<L, N> {
         ensures few { IfSome result (λ one. share.new.amount ≤ N.start.connections) }
         ensures fresh { IfSome result (λ one. AreFresh L.In.Source L.Out.Sink N.start.told
             one.input one.output) }
+        ensures stopped { IfNone result (IsSome self.new.stopped) }
     {
         if self.stopped.is_some() {
             return None;

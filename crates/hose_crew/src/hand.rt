@@ -152,7 +152,8 @@ fn serve_all<W: Threads + Wait + Sync, D: Disk, B: Begun<D>, G: Gate, L: Door, N
     requires workers { (1 ≤ job.now.workers) × (job.now.workers ≤ MOST_WORKERS) }
     requires of { IsPassOf job.now.shared.now job.now.first.now.value }
     requires since { IsPrefix job.now.first.now.value.origin.since job.now.first.now.value.seen }
-    requires works { Works N.start.told job.now.first.now.value place (map L.came_to ended.old.items) }
+    requires works { Works N.start.told job.now.first.now.value place
+        (map L.came_to ended.old.items) }
     requires room { N.start.connections ≤ vec_capacity ended.old }
     ensures works { Works N.start.told job.now.first.now.value result
         (map L.came_to ended.new.items) }
@@ -175,7 +176,8 @@ impl<L: Door, N: Start> Hand<L, N> {
         requires idle { IsIdle N.start.connections self.old }
         requires pass { place.pass ≡ part_of first.now.value }
         requires share { (place.parts ≡ 1) × (place.amount ≡ 0) }
-        ensures works { HasWorked L.came_to N.start.told first.now.value N.start.connections self.new }
+        ensures works { HasWorked L.came_to N.start.told first.now.value N.start.connections
+            self.new }
     {
         law_passes();
         law_accounts::<L::In, L::Out>();
@@ -192,7 +194,8 @@ impl<L: Door, N: Start> Hand<L, N> {
     )
         requires workers { (1 ≤ job.now.workers) × (job.now.workers ≤ MOST_WORKERS) }
         requires of { IsPassOf job.now.shared.now job.now.first.now.value }
-        requires since { IsPrefix job.now.first.now.value.origin.since job.now.first.now.value.seen }
+        requires since { IsPrefix job.now.first.now.value.origin.since
+            job.now.first.now.value.seen }
         requires works { HasWorked L.came_to N.start.told job.now.first.now.value
             N.start.connections self.old }
         ensures works { HasWorked L.came_to N.start.told job.now.first.now.value
@@ -217,7 +220,8 @@ impl<L: Door, N: Start> Hand<L, N> {
         was: &Snapshot<L>,
     )
         requires of { IsPassOf shared.now first.now.value }
-        requires worked { HasWorked L.came_to N.start.told first.now.value N.start.connections self }
+        requires worked { HasWorked L.came_to N.start.told first.now.value N.start.connections
+            self }
         requires gathered { IsGathered N.parts first.now.value pass.old share.old.parts }
         requires accounted { AreAccounted N.start.told }
         requires arrived { AreArrived N.start.told (L.told was.now.value) total.old.total }

@@ -30,8 +30,8 @@ closing_fault (Ok _) = Ok tt
 closing_fault (Err _) = Err Cabinet
 
 -- How the text of a book ends, by what was met before. Where all was well, the text is out, or the
--- output failed and a part of it is. Else the last line of the fault follows the text, or the output
--- failed and a part of both is out.
+-- output failed and a part of it is. Else the last line of the fault follows the text, or the
+-- output failed and a part of both is out.
 abbrev pub EndsTold : {O T : Type 0} → SinkGhosts O → O → O → ℕ → Result T Fault → List ℕ → Type 0
 EndsTold sink output output' status (Ok _) text =
     ((status ≡ 0) × Grows (sink.content output) (sink.content output') text
@@ -55,8 +55,8 @@ module _ {O C E : Type 0} (sink : SinkGhosts O) (cabinet : CabinetGhosts C E) (d
       × EndsTold sink output output' status (closing_fault closing)
       (audit_text network (book_of 0 history))
 
-  -- The topology and the journal that were named were read, and this is told of the network; or not,
-  -- and nothing but the last line is out, which tells why, and the rest is untouched.
+  -- The topology and the journal that were named were read, and this is told of the network; or
+  -- not, and nothing but the last line is out, which tells why, and the rest is untouched.
   abbrev pub EndsNamed : (Network → Type 0) → Type 0 → Option Stream → ℕ → Type 0
   EndsNamed Tells Untouched left status = HasRead text left Tells
       ⊎ ((why : Fault) × (status ≡ status_of why)

@@ -38,8 +38,8 @@ EndsServed sink output output' status (served.Ended ledger accepting closing) =
 module _ {O C E : Type 0} (sink : SinkGhosts O) (cabinet : CabinetGhosts C E) (disk : DiskGhosts E)
     (topology journal : List ℕ) (count : ℕ) (output output' : O) (place place' : C)
     (door door' : DoorSeen) where
-  -- Connections were served by the journal, which left the output as `mid` is, and then the rest was
-  -- told.
+  -- Connections were served by the journal, which left the output as `mid` is, and then the rest
+  -- was told.
   pub record IsServed (status : ℕ) (network : Network) : Type 0 where
     pub mid : O
     pub done : Served

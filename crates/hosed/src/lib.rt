@@ -62,8 +62,8 @@ use words::{Command, command_of};
 /// 3 `read`; 4 a failed output, which has no last line; 5 `journal other KEPT GIVEN`, a journal of
 /// another network, by both digests, or `journal damaged at P`, at this byte; 6 `cabinet`, a text
 /// that could not be read, or a journal that could not be opened or closed; 7 `no memory`; 8
-/// `too long`, an input or a topology of more than 1 GiB; 9 `door`, a port that could not be opened,
-/// or a connection that could not be accepted.
+/// `too long`, an input or a topology of more than 1 GiB; 9 `door`, a port that could not be
+/// opened, or a connection that could not be accepted.
 ///
 /// With `serve` it waits for customers, and for threads of its own: what it promises it keeps if it
 /// returns. It writes `ready` once the port is open, and what the book holds once all is closed.

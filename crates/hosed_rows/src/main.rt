@@ -2,8 +2,8 @@
 //! they say.
 //!
 //! The folder in which it runs holds the files; `data/README.md` describes them. Each case is one
-//! call of `hosed_program::program` over streams, a cabinet and a door in memory. What is printed is
-//! compared with the file `stdout` of this crate.
+//! call of `hosed_program::program` over streams, a cabinet and a door in memory. What is printed
+//! is compared with the file `stdout` of this crate.
 #![tactic(auto)]
 
 mod case;
