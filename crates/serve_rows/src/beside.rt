@@ -1,7 +1,9 @@
 // Two sessions beside each other: the first is held until the second has been answered.
 use crate::inputs::Inputs;
-use crate::serving::{Outcome, serve};
+use crate::networks::BACKBONE;
+use crate::serving::{Served, Service, serve};
 use crate::trouble::Trouble;
+use hose_io::MemDoor;
 use hose_pool::{Gate, Point};
 use std::alloc::Global;
 use std::sync::Wait;
@@ -14,11 +16,12 @@ const MOST_LOOKS: u64 = 1_000_000_000;
 /// What the two sessions left, and whether one went on before the other had come so far.
 #[derive(Drop)]
 pub struct Pair {
-    pub outcome: Outcome,
+    pub served: Served,
+    pub door: MemDoor,
     pub is_alone: bool,
 }
 
-/// Serves two customers by two workers. A crew that serves one session after the other cannot pass:
+/// Serves two customers by two workers. A server of one session after the other cannot pass:
 /// session 1 waits for a session that is not accepted yet, and goes on when it has looked often
 /// enough.
 pub fn serve_pair<R: Threads + Wait + Sync>(rt: &R, alloc: Global) -> Result<Pair, Trouble> {
@@ -28,16 +31,24 @@ pub fn serve_pair<R: Threads + Wait + Sync>(rt: &R, alloc: Global) -> Result<Pai
         "hello acme\nadmit sea:400 lax:600 chi:500 nyc:1000\nbye\n",
     )?;
     inputs.add(alloc, "hello beta\nadmit hou:300 was:200\nbye\n")?;
+    let mut door = inputs.into_door(alloc)?;
     let gate = HoldingGate::new();
-    let outcome = serve(rt, alloc, 2, 2, inputs.into_door(alloc)?, &gate)?;
+    let service = Service {
+        port: 7_000,
+        connections: 2,
+        workers: 2,
+    };
+    let served = serve(rt, alloc, BACKBONE, service, &mut door, &gate)?;
     Ok(Pair {
-        outcome,
+        served,
+        door,
         is_alone: gate.is_alone.load(Ordering::SeqCst),
     })
 }
 
 // Holds session 1, whose hose is planned, until session 2 has been welcomed and answered; and
-// session 2, once it is welcomed, until the hose of session 1 is planned. So both are welcomed at 0.
+// session 2, once it is welcomed, until the hose of session 1 is planned. So both are welcomed
+// at 0.
 #[derive(Drop)]
 struct HoldingGate {
     is_planned: AtomicBool,

@@ -1,6 +1,4 @@
 // Why the program stops before all cases are done.
-use hose_store::StoreFault;
-use hose_topo::TopoFault;
 use std::alloc::{AllocError, AllocFailed};
 use std::io;
 use thiserror::Error;
@@ -10,14 +8,10 @@ use thiserror::Error;
 pub enum Trouble {
     #[error("no memory")]
     Memory,
-    #[error("the network is not read: {0}")]
-    Network(TopoFault),
-    #[error("the store is not opened: {0}")]
-    Store(StoreFault),
-    #[error("the door is not opened")]
-    Door,
-    #[error("the store is not closed")]
-    Close,
+    #[error("no port is free")]
+    Port,
+    #[error("no thread")]
+    Thread,
     #[error("{0}")]
     System(#[from] io::Error),
 }
@@ -31,11 +25,5 @@ impl From<AllocError> for Trouble {
 impl<T: Drop> From<AllocFailed<T>> for Trouble {
     fn from(_error: AllocFailed<T>) -> Trouble {
         Trouble::Memory
-    }
-}
-
-impl From<TopoFault> for Trouble {
-    fn from(fault: TopoFault) -> Trouble {
-        Trouble::Network(fault)
     }
 }

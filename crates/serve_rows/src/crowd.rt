@@ -1,24 +1,22 @@
 // Many short sessions by many workers, judged by the rules of replies.
 use crate::inputs::Inputs;
-use crate::serving::{Outcome, serve};
+use crate::networks::BACKBONE;
+use crate::serving::{Served, Service, serve};
 use crate::trouble::Trouble;
+use hose_io::MemDoor;
 use hose_pool::PlainGate;
 use std::alloc::Global;
 use std::sync::Wait;
 use std::thread::Threads;
 
 /// What came of many sessions: how many ids they were told that were admitted, no two the same; how
-/// many sessions were told anything else than they should; and what the crew left.
+/// many sessions were told anything else than they should; and what the server left.
 #[derive(Drop)]
 pub struct Crowd {
     pub admitted: usize,
     pub wrong: u64,
-    pub outcome: Outcome,
+    pub served: Served,
 }
-
-const SESSIONS: u32 = 200;
-
-const WORKERS: u32 = 16;
 
 const PAIRS: [(&str, &str); 4] = [
     ("sea", "nyc"),
@@ -27,35 +25,40 @@ const PAIRS: [(&str, &str); 4] = [
     ("den", "atl"),
 ];
 
-/// Serves the sessions, and judges what each was answered.
+/// Serves 200 sessions by 16 workers, and judges what each was answered.
 pub fn serve_crowd<R: Threads + Wait + Sync>(rt: &R, alloc: Global) -> Result<Crowd, Trouble> {
+    let service = Service {
+        port: 7_000,
+        connections: 200,
+        workers: 16,
+    };
     let mut inputs = Inputs::new(alloc);
-    for number in 0..SESSIONS {
+    for number in 0..service.connections {
         let (from, to) = PAIRS[number as usize % 4];
         let text = format!(in alloc; "hello c{number}\nadmit {from}:1 {to}:1\nrelease 999\nbye\n")?;
         inputs.add(alloc, &text)?;
     }
-    let door = inputs.into_door(alloc)?;
-    judge(
-        alloc,
-        serve(rt, alloc, WORKERS, SESSIONS, door, &PlainGate)?,
-    )
+    let mut door = inputs.into_door(alloc)?;
+    let served = serve(rt, alloc, BACKBONE, service, &mut door, &PlainGate)?;
+    let (admitted, wrong) = judge(alloc, &door)?;
+    Ok(Crowd {
+        admitted,
+        wrong,
+        served,
+    })
 }
 
-fn judge(alloc: Global, outcome: Outcome) -> Result<Crowd, Trouble> {
+// How many ids were told that were admitted, and how many sessions were told anything else.
+fn judge(alloc: Global, door: &MemDoor) -> Result<(usize, u64), Trouble> {
     let mut ids = Vec::new(alloc);
     let mut wrong = 0u64;
-    for done in outcome.door.ended() {
+    for done in door.ended() {
         match told(str::from_utf8(done.output.bytes()).unwrap_or("")) {
             Some(id) if !ids.contains(&id) => ids.push(id)?,
             _ => wrong = wrong.saturating_add(1),
         }
     }
-    Ok(Crowd {
-        admitted: ids.len(),
-        wrong,
-        outcome,
-    })
+    Ok((ids.len(), wrong))
 }
 
 // The id that a session was told, where its replies are as they should: a welcome, an admission,
