@@ -7,21 +7,9 @@
 # second. A sync may take many times as long at one moment as at another, so the orders and the loop
 # go by short turns, and their figures are those of all turns.
 # usage: bench/orders.sh [FOLDER]     FOLDER: on a real disk; else the current one
-set -euo pipefail
-export LC_ALL=C
-folder=$(realpath "${1:-.}")
-cd "$(dirname "${BASH_SOURCE[0]}")/.."
-# The script ./hosed may build the program. The program itself is what is measured.
-./hosed --version >/dev/null
-place=$(mktemp -d -p "$folder")
-trap 'rm -rf "$place"' EXIT
+. "$(dirname "$0")/place.sh"
 
-kind=$(df --output=fstype "$place" | tail -n 1)
-case $kind in
-    tmpfs | ramfs) echo "orders: on $kind, which syncs in no time: no figure of a disk" ;;
-    *) echo "orders: on $kind" ;;
-esac
-python3 - crates/hosed_main/out/hosed_main "$place" <<'END'
+python3 - "$program" "$place" <<'END'
 import os
 import statistics
 import subprocess

@@ -1,35 +1,101 @@
 #!/usr/bin/env bash
-# How many replies a second customers at a port are given, by 1, 4 and 16 workers with as many
-# connections at once: to questions after a link, and to admissions and releases by turns, with a
-# journal on a real file. Each customer waits for a reply before the next line. Beside it stands
-# what as many customers get of a bare echo server, a process for each connection, in the same run.
-# The clients are processes in Python on the same machine, so these are figures of both together;
-# the greatest of three runs that are made by turns. Ends with status 1 where a reply is not as
-# wanted.
-# usage: bench/serve.sh [PROGRAM]
-. "$(dirname "$0")/setup.sh"
+# How fast customers at a port are served, with a journal on a real file in FOLDER, by 1, 4 and 16
+# workers with as many customers at once, each of whom waits for a reply before the next line:
+# replies a second to questions after a link, beside a bare echo server with a process for each
+# connection; orders a second, admissions and releases by turns, beside a loop of the same writes
+# and syncs; and sessions a second that say `hello` and `bye`, beside the echo of these two lines.
+# Then 1,000 customers connect at once to 16 workers: the seconds until the last one has its replies,
+# beside the same of 16 processes that echo; and the most memory that the server had, beside that of
+# one which served a single customer. Of so many, most connect again and again until the system lets
+# them in, which takes whole seconds.
+# The customers are processes in Python on the same machine, so these are figures of both together:
+# the greatest of the runs, which are made by turns, and the least and greatest ratio. Ends with
+# status 1 where a reply is not as wanted.
+# usage: bench/serve.sh [FOLDER]     FOLDER: on a real disk; else the current one
+. "$(dirname "$0")/place.sh"
 
-printf 'node a\nnode b\nlink a b 1000 1\nend\n' >"$work/topology"
-
-python3 - "$program" "$work" <<'END'
+python3 - "$program" "$place" <<'END'
 import multiprocessing
 import os
+import selectors
 import socket
 import subprocess
 import sys
 import time
 
-PROGRAM, WORK = sys.argv[1:]
-TOPOLOGY = os.path.join(WORK, "topology")
-HOST, RUNS = "127.0.0.1", 3
-QUESTIONS, ORDERS = 2000, 200  # of each customer
+PROGRAM, PLACE = sys.argv[1:]
+TOPOLOGY, JOURNAL, LOOP = (os.path.join(PLACE, name) for name in ("topology", "journal", "loop"))
+HOST, RUNS = "127.0.0.1", 5
+QUESTIONS, ORDERS, SESSIONS = 2000, 400, 200  # of each customer
+MOST, ASKED = 1000, 20  # connections at once, and questions of each
+WAITING = 128  # connections that wait to be accepted, as with the program's listener
 SECONDS = 120  # after which a program hangs
 
+QUESTION, ANSWER = b"link 0", b"link 0 a b capacity 1000 cost 1 load 0 at "
 
-def free_port():
-    with socket.socket() as probe:
-        probe.bind((HOST, 0))
-        return probe.getsockname()[1]
+
+def want(reply, start):
+    if not reply.startswith(start):
+        sys.exit(f"{reply!r} begins otherwise than {start!r}")
+
+
+# ---- Servers: the program, and processes that give back what they are sent.
+
+
+class Server:
+    """The program with a new journal, listening."""
+
+    def __init__(self, connections, workers):
+        if os.path.exists(JOURNAL):
+            os.remove(JOURNAL)
+        with socket.socket() as probe:
+            probe.bind((HOST, 0))
+            self.port = probe.getsockname()[1]
+        words = [PROGRAM, "serve", TOPOLOGY, JOURNAL, str(self.port), str(connections)]
+        self.process = subprocess.Popen(words + [str(workers)], stdout=subprocess.PIPE, text=True)
+        want(self.process.stdout.readline(), "ready\n")
+
+    def peak(self):
+        """The most KiB that it had in memory so far."""
+        with open(f"/proc/{self.process.pid}/status") as status:
+            return int(next(line for line in status if line.startswith("VmHWM")).split()[1])
+
+    def end(self):
+        text = self.process.communicate(timeout=SECONDS)[0]
+        if self.process.returncode != 0 or not text.endswith("live 0 cost 0\n"):
+            sys.exit(f"the server ended with {self.process.returncode}: {text!r}")
+
+
+def echo(listener, count):
+    """Gives back what so many connections send, one after the other."""
+    for _ in range(count):
+        connection, _ = listener.accept()
+        with connection:
+            connection.setsockopt(socket.IPPROTO_TCP, socket.TCP_NODELAY, 1)
+            while piece := connection.recv(4096):
+                connection.sendall(piece)
+
+
+class Echo:
+    """So many processes that echo connections."""
+
+    def __init__(self, connections, workers):
+        self.listener = socket.create_server((HOST, 0), backlog=WAITING)
+        self.port = self.listener.getsockname()[1]
+        shares = [len(range(worker, connections, workers)) for worker in range(workers)]
+        self.workers = [
+            multiprocessing.Process(target=echo, args=(self.listener, share)) for share in shares
+        ]
+        for worker in self.workers:
+            worker.start()
+
+    def end(self):
+        for worker in self.workers:
+            worker.join(SECONDS)
+        self.listener.close()
+
+
+# ---- Customers, each in a process of its own.
 
 
 class Peer:
@@ -50,15 +116,13 @@ class Peer:
         reply, _, self.left = self.left.partition(b"\n")
         return reply
 
-
-def want(reply, start):
-    if not reply.startswith(start):
-        sys.exit(f"{reply!r} begins otherwise than {start!r}")
+    def say(self, line, reply):
+        want(self.ask(line), reply)
 
 
 def ask_links(peer):
     for _ in range(QUESTIONS):
-        want(peer.ask(b"link 0"), b"link 0 a b capacity 1000 cost 1 load 0 at ")
+        peer.say(QUESTION, ANSWER)
     return QUESTIONS
 
 
@@ -67,35 +131,45 @@ def give_orders(peer):
         reply = peer.ask(b"admit a:1 b:1")
         want(reply, b"admitted ")
         number = reply.split()[1]
-        want(peer.ask(b"release " + number), b"released " + number + b" at ")
+        peer.say(b"release " + number, b"released " + number + b" at ")
     return ORDERS
 
 
 def ask_echo(peer):
     for _ in range(QUESTIONS):
-        want(peer.ask(b"link 0"), b"link 0")
+        peer.say(QUESTION, QUESTION)
     return QUESTIONS
 
 
-def be_customer(port, name, work, greets, gate, told):
+def be_customer(port, work, greets, gate, told):
     peer = Peer(port)
     if greets:
-        want(peer.ask(b"hello " + name.encode()), b"welcome at ")
+        peer.say(b"hello acme", b"welcome at ")
     gate.wait()
     start = time.perf_counter()
-    replies = work(peer)
-    told.put((replies, start, time.perf_counter()))
+    count = work(peer)
+    told.put((count, start, time.perf_counter()))
     if greets:
-        want(peer.ask(b"bye"), b"bye")
+        peer.say(b"bye", b"bye")
 
 
-def replies_a_second(port, customers, work, greets):
+def come_and_go(port, welcome, gate, told):
+    gate.wait()
+    start = time.perf_counter()
+    for _ in range(SESSIONS):
+        peer = Peer(port)
+        peer.say(b"hello acme", welcome)
+        peer.say(b"bye", b"bye")
+        peer.socket.close()
+    told.put((SESSIONS, start, time.perf_counter()))
+
+
+def rate(customers, customer, *words):
+    """How much a second so many customers get done together."""
     gate, told = multiprocessing.Barrier(customers), multiprocessing.Queue()
     peers = [
-        multiprocessing.Process(
-            target=be_customer, args=(port, f"c{number}", work, greets, gate, told)
-        )
-        for number in range(customers)
+        multiprocessing.Process(target=customer, args=(*words, gate, told))
+        for _ in range(customers)
     ]
     for peer in peers:
         peer.start()
@@ -104,60 +178,157 @@ def replies_a_second(port, customers, work, greets):
         peer.join()
         if peer.exitcode != 0:
             sys.exit("a customer was answered otherwise than wanted")
-    replies, starts, stops = zip(*ends)
-    return sum(replies) / (max(stops) - min(starts))
+    counts, starts, stops = zip(*ends)
+    return sum(counts) / (max(stops) - min(starts))
 
 
-def served(workers, work):
-    """How many replies a second the program gives with so many workers."""
-    port, journal = free_port(), os.path.join(WORK, "journal")
-    if os.path.exists(journal):
-        os.remove(journal)
-    words = [PROGRAM, "serve", TOPOLOGY, journal, str(port), str(workers), str(workers)]
-    server = subprocess.Popen(words, stdout=subprocess.PIPE, text=True)
-    if server.stdout.readline() != "ready\n":
-        sys.exit("the server is not ready")
-    rate = replies_a_second(port, workers, work, True)
-    text = server.communicate(timeout=SECONDS)[0]
-    if server.returncode != 0 or not text.endswith("live 0 cost 0\n"):
-        sys.exit(f"the server ended with {server.returncode}: {text!r}")
-    return rate
+def rate_at(server, customers, customer, *words):
+    found = rate(customers, customer, server.port, *words)
+    server.end()
+    return found
 
 
-def echo_one(listener):
-    """Gives back what one connection sends, until it ends."""
-    connection, _ = listener.accept()
-    connection.setsockopt(socket.IPPROTO_TCP, socket.TCP_NODELAY, 1)
-    while piece := connection.recv(4096):
-        connection.sendall(piece)
+# ---- The journal's limit.
 
 
-def echoed(connections):
-    """The same of as many processes that give back what they are sent."""
-    with socket.create_server((HOST, 0)) as listener:
-        port = listener.getsockname()[1]
-        peers = [
-            multiprocessing.Process(target=echo_one, args=(listener,)) for _ in range(connections)
-        ]
-        for peer in peers:
-            peer.start()
-        rate = replies_a_second(port, connections, ask_echo, False)
-        for peer in peers:
-            peer.join()
-        return rate
+def loop_rate(orders):
+    """Orders a second of a loop that writes and syncs as the journal does for each."""
+    with open(LOOP, "wb") as file:
+        number, gate = file.fileno(), 38
+        start = time.perf_counter()
+        for order in range(orders):
+            # The lengths are those of an admission and of a release of acme.
+            record = bytes(32 if order % 2 == 0 else 15)
+            os.pwrite(number, record, gate + 1)
+            os.fdatasync(number)
+            os.pwrite(number, b"\1", gate)
+            os.fdatasync(number)
+            gate += len(record)
+        return orders / (time.perf_counter() - start)
+
+
+# ---- Many connections at once.
+
+
+def ask_at_once(port, count, first, last):
+    """Connects all at once, and has each one say its lines; the seconds until all have their
+    replies, and how many the system had not let in, and reset: they connect again."""
+    lines = [b"hello acme\n", *[QUESTION + b"\n"] * ASKED, b"bye\n"]
+    waiting, replies, resets = selectors.DefaultSelector(), {}, 0
+
+    def come():
+        peer = socket.socket()
+        peer.setblocking(False)
+        peer.connect_ex((HOST, port))
+        waiting.register(peer, selectors.EVENT_WRITE)
+        replies[peer] = b""
+
+    def leave(peer):
+        waiting.unregister(peer)
+        peer.close()
+
+    def go_on(peer, events):
+        if events & selectors.EVENT_WRITE:
+            peer.send(lines[0])
+            waiting.modify(peer, selectors.EVENT_READ)
+        elif piece := peer.recv(4096):
+            replies[peer] += piece
+            told = replies[peer].count(b"\n")
+            if told == len(lines):
+                peer.shutdown(socket.SHUT_WR)
+            elif piece.endswith(b"\n"):
+                peer.send(lines[told])
+        else:
+            leave(peer)
+
+    start = time.perf_counter()
+    for _ in range(count):
+        come()
+    while waiting.get_map():
+        ready = waiting.select(SECONDS)
+        if not ready:
+            sys.exit("the connections hang")
+        for key, events in ready:
+            try:
+                go_on(key.fileobj, events)
+            except ConnectionError:
+                if replies.pop(key.fileobj):
+                    sys.exit("a connection was reset after its first reply")
+                leave(key.fileobj)
+                resets += 1
+                come()
+    seconds = time.perf_counter() - start
+    for text in replies.values():
+        told = text.splitlines()
+        if len(told) != len(lines):
+            sys.exit(f"{len(told)} replies of {len(lines)}")
+        want(told[0], first)
+        want(told[-2], last)
+    return seconds, resets
+
+
+def serve_at_once(count, workers):
+    """The seconds for so many connections, how many were reset, and the most memory, before one
+    connection more ends it."""
+    server = Server(count + 1, workers)
+    seconds, resets = ask_at_once(server.port, count, b"welcome at 0", ANSWER)
+    peak, last = server.peak(), Peer(server.port)
+    last.say(b"hello acme", b"welcome at 0")
+    last.say(b"bye", b"bye")
+    server.end()
+    return seconds, resets, peak
+
+
+def echo_at_once(count, workers):
+    server = Echo(count, workers)
+    seconds, resets = ask_at_once(server.port, count, b"hello acme", QUESTION)
+    server.end()
+    return seconds, resets
+
+
+# ---- Figures.
+
+
+def tell(name, rates, beside, references):
+    ratios = [one / other for one, other in zip(rates, references)]
+    print(
+        f"    {name}: {max(rates):,.0f} a second; {beside} {max(references):,.0f}, "
+        f"ratio {min(ratios):.2f} to {max(ratios):.2f}"
+    )
+
+
+def tell_workers(workers):
+    links, echoes, orders, loops, sessions, echoed = ([] for _ in range(6))
+    for _ in range(RUNS):
+        echoes.append(rate_at(Echo(workers, workers), workers, be_customer, ask_echo, False))
+        links.append(rate_at(Server(workers, workers), workers, be_customer, ask_links, True))
+        loops.append(loop_rate(workers * ORDERS))
+        orders.append(rate_at(Server(workers, workers), workers, be_customer, give_orders, True))
+        count = workers * SESSIONS
+        echoed.append(rate_at(Echo(count, workers), workers, come_and_go, b"hello acme"))
+        sessions.append(rate_at(Server(count, workers), workers, come_and_go, b"welcome at 0"))
+    print(f"{workers} workers and customers")
+    tell("questions", links, "echo", echoes)
+    tell("orders", orders, "loop", loops)
+    tell("sessions", sessions, "echo", echoed)
+
+
+def tell_at_once():
+    *_, alone = serve_at_once(1, 16)
+    runs = [(*echo_at_once(MOST, 16), *serve_at_once(MOST, 16)) for _ in range(RUNS)]
+    echoes, echo_resets, seconds, resets, peaks = zip(*runs)
+    print(f"{MOST:,} customers at once, 16 workers, {MOST * (ASKED + 2):,} replies")
+    print(f"    {min(seconds):.3f} to {max(seconds):.3f} s, {max(resets)} connected again at most")
+    print(f"    echo {min(echoes):.3f} to {max(echoes):.3f} s, {max(echo_resets)} again at most")
+    print(f"    {max(peaks):,} KiB of memory; {alone:,} KiB for one customer")
 
 
 def main():
+    with open(TOPOLOGY, "w") as file:
+        file.write("node a\nnode b\nlink a b 1000 1\nend\n")
     for workers in (1, 4, 16):
-        runs = [
-            (echoed(workers), served(workers, ask_links), served(workers, give_orders))
-            for _ in range(RUNS)
-        ]
-        echo, links, orders = (max(rates) for rates in zip(*runs))
-        print(
-            f"{workers} workers: {links:.0f} questions a second ({links / echo:.2f} of the echo), "
-            f"{orders:.0f} orders a second ({orders / echo:.2f}); echo {echo:.0f}"
-        )
+        tell_workers(workers)
+    tell_at_once()
 
 
 main()
