@@ -1,10 +1,11 @@
 -- What a worker has in hand: its pass, its part of the total, and the connections that it ended.
-use Rattle.std.specs.Prelude.{◌≡◌, ℕ, ◌+◌, ◌≤◌, List, [], ◌++◌, IfSome, IsTrue, is_some, length, map, Option, None, Some, ⊤}
+use Rattle.std.specs.Prelude.{◌≡◌, ℕ, ◌+◌, ◌≤◌, List, [], ◌++◌, All, IfSome, IsTrue, is_some, length, map, Option, None, Some, ⊤}
 use mathlib.Core.List.{IsPrefix}
 use Rattle.hose_io.specs.Connections.{Connection, Connections}
 use Rattle.hose_session.specs.Accounts.{AccountFor}
 use Rattle.hose_shared.specs.Sharing.{IsSamePass}
 use Rattle.hose_turn.specs.Known.{Known}
+use Rattle.hose_crew.specs.Desk.{Started}
 
 -- a pass, and a share of the total: its parts, and how many connections were accepted by it
 pub record PlaceState : Type 0 where
@@ -43,14 +44,18 @@ pub record Works (told : Option Connections) (first : Known) (place : PlaceState
   pub amount : place.amount ≡ length ended
   pub accounts : IsTrue (is_some told) → Accounts ended place.pass
 
--- The same of what it has in hand, where there is room for so many connections.
-pub record HasWorked {Done : Type 0} (came_to : Done → Option Connection)
-    (told : Option Connections) (first : Known) (connections : ℕ) (hand : HandState Done)
-    : Type 0 where
+-- The same of what it has in hand, where there is room for all connections.
+pub record HasWorked {Done : Type 0} (came_to : Done → Option Connection) (start : Started)
+    (first : Known) (hand : HandState Done) : Type 0 where
   pub place : PlaceState
   pub has : hand.place ≡ Some place
-  pub works : Works told first place (map came_to hand.ended)
-  pub room : connections ≤ hand.room
+  pub works : Works start.told first place (map came_to hand.ended)
+  pub room : start.connections ≤ hand.room
+
+-- so did each of these workers
+abbrev pub HaveWorked : {Done : Type 0} → (Done → Option Connection) → Started → Known
+    → List (HandState Done) → Type 0
+HaveWorked came_to start first hands = All (HasWorked came_to start first) hands
 
 -- ---- giving back
 

@@ -5,7 +5,7 @@ ghost use Rattle.hose_io.specs.Connections.{AreAccounted};
 ghost use Rattle.hose_shared.specs.Sharing.{IsPassOf};
 ghost use Rattle.hose_crew.specs.Crew.{ServesDoor};
 ghost use Rattle.hose_crew.specs.Desk.{AreArrived, HasStopped};
-ghost use Rattle.hose_crew.specs.Hands.{AreBack, HasWorked, IsGathered, IsIdle, part_of};
+ghost use Rattle.hose_crew.specs.Hands.{AreBack, HasWorked, HaveWorked, IsGathered, IsIdle, part_of};
 
 use crate::desk::{Closed, Desk, Start};
 use crate::hand::{Hand, Place, Work};
@@ -134,8 +134,7 @@ fn take_places<D: Disk, B: Begun<D>, L: Door, N: Start>(
     ensures left { pass.new.share + length hands.old ≡ first.now.value.share }
     ensures parts { (share.new.parts ≡ 0) × (share.new.amount ≡ 0) }
     ensures number { length hands.new ≡ length hands.old }
-    ensures works { All (HasWorked L.came_to N.start.told first.now.value N.start.connections)
-        hands.new }
+    ensures works { HaveWorked L.came_to N.start first.now.value hands.new }
 {
     for number in 0..hands.len() {
         let place = Place {
@@ -158,11 +157,9 @@ fn serve_all<
     requires workers { (1 ≤ job.now.workers) × (job.now.workers ≤ MOST_WORKERS) }
     requires of { IsPassOf job.now.shared.now job.now.first.now.value }
     requires since { IsPrefix job.now.first.now.value.origin.since job.now.first.now.value.seen }
-    requires works { All (HasWorked L.came_to N.start.told job.now.first.now.value
-        N.start.connections) hands.old }
+    requires works { HaveWorked L.came_to N.start job.now.first.now.value hands.old }
     ensures number { length hands.new ≡ length hands.old }
-    ensures works { All (HasWorked L.came_to N.start.told job.now.first.now.value
-        N.start.connections) hands.new }
+    ensures works { HaveWorked L.came_to N.start job.now.first.now.value hands.new }
     ensures stopped { HasStopped N.start (L.frame result.door) (L.told result.door)
         result.total.total result.stopped }
     ensures arrived { AreArrived N.start.told (L.told result.door) result.total.total }
@@ -192,11 +189,9 @@ fn work_once<
     requires workers { (1 ≤ job.now.workers) × (job.now.workers ≤ MOST_WORKERS) }
     requires of { IsPassOf job.now.shared.now job.now.first.now.value }
     requires since { IsPrefix job.now.first.now.value.origin.since job.now.first.now.value.seen }
-    requires works { All (HasWorked L.came_to N.start.told job.now.first.now.value
-        N.start.connections) hands.old }
+    requires works { HaveWorked L.came_to N.start job.now.first.now.value hands.old }
     ensures number { length hands.new ≡ length hands.old }
-    ensures works { All (HasWorked L.came_to N.start.told job.now.first.now.value
-        N.start.connections) hands.new }
+    ensures works { HaveWorked L.came_to N.start job.now.first.now.value hands.new }
 {
     let desk = Mutex::new(desk);
     // Its parts are known to be shared by threads, and the whole is not.
@@ -212,7 +207,7 @@ fn work_once<
         requires { (1 ≤ workers) × (workers ≤ MOST_WORKERS)
             × IsPassOf shared.now first.now.value
             × IsPrefix first.now.value.origin.since first.now.value.seen
-            × HasWorked L.came_to N.start.told first.now.value N.start.connections hand.now }
+            × HasWorked L.came_to N.start first.now.value hand.now }
     {
         let job = Work {
             rt,
@@ -244,8 +239,7 @@ fn gather<D: Disk, B: Begun<D>, L: Door, N: Start>(
     requires left { pass.share + length hands.items ≡ first.now.value.share }
     requires share { (share.parts ≡ 0) × (share.amount ≡ 0) }
     requires parts { length hands.items ≡ N.parts }
-    requires works { All (HasWorked L.came_to N.start.told first.now.value N.start.connections)
-        hands.items }
+    requires works { HaveWorked L.came_to N.start first.now.value hands.items }
     requires accounted { AreAccounted N.start.told }
     requires arrived { AreArrived N.start.told (L.told door) total.total }
     ensures gathered { IsGathered N.parts first.now.value result.0 N.parts }

@@ -176,8 +176,7 @@ impl<L: Door, N: Start> Hand<L, N> {
         requires idle { IsIdle N.start.connections self.old }
         requires pass { place.pass ≡ part_of first.now.value }
         requires share { (place.parts ≡ 1) × (place.amount ≡ 0) }
-        ensures works { HasWorked L.came_to N.start.told first.now.value N.start.connections
-            self.new }
+        ensures works { HasWorked L.came_to N.start first.now.value self.new }
     {
         law_passes();
         law_accounts::<L::In, L::Out>();
@@ -196,10 +195,8 @@ impl<L: Door, N: Start> Hand<L, N> {
         requires of { IsPassOf job.now.shared.now job.now.first.now.value }
         requires since { IsPrefix job.now.first.now.value.origin.since
             job.now.first.now.value.seen }
-        requires works { HasWorked L.came_to N.start.told job.now.first.now.value
-            N.start.connections self.old }
-        ensures works { HasWorked L.came_to N.start.told job.now.first.now.value
-            N.start.connections self.new }
+        requires works { HasWorked L.came_to N.start job.now.first.now.value self.old }
+        ensures works { HasWorked L.came_to N.start job.now.first.now.value self.new }
     {
         if let Some(place) = self.place.take() {
             self.place = Some(serve_all(job, desk, place, &mut self.ended));
@@ -220,8 +217,7 @@ impl<L: Door, N: Start> Hand<L, N> {
         was: &Snapshot<L>,
     )
         requires of { IsPassOf shared.now first.now.value }
-        requires worked { HasWorked L.came_to N.start.told first.now.value N.start.connections
-            self }
+        requires worked { HasWorked L.came_to N.start first.now.value self }
         requires gathered { IsGathered N.parts first.now.value pass.old share.old.parts }
         requires accounted { AreAccounted N.start.told }
         requires arrived { AreArrived N.start.told (L.told was.now.value) total.old.total }

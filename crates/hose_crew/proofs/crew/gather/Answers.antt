@@ -18,7 +18,7 @@ loop-hand-init g c =
 
 pub loop-hand-preserved : goal.loop-hand-preserved
 loop-hand-preserved g c =
-    let Worked = HasWorked g.L.Door.came_to g.N.Start.start.told c.args.first.now.value g.N.Start.start.connections in
+    let Worked = HasWorked g.L.Door.came_to g.N.Start.start c.args.first.now.value in
     let step = c.in-Some.ensures.steps.0 in (
       search rules,
       search rules,

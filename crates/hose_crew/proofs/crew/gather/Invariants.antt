@@ -1,12 +1,12 @@
-use Rattle.std.proofs.Common.{◌≡◌, ◌+◌, All, length}
-use Rattle.hose_crew.specs.Hands.{AreBack, HasWorked, IsGathered}
+use Rattle.std.proofs.Common.{◌≡◌, ◌+◌, length}
+use Rattle.hose_crew.specs.Hands.{AreBack, HaveWorked, IsGathered}
 use Rattle.hose_crew.proofs.crew.gather.Given as goal
 
 abbrev pub invariant-loop-hand : goal.invariant-loop-hand
 invariant-loop-hand g l =
     (goal.iterator-loop-hand g).can_next l.hand-iterator
     × (goal.iterator-loop-hand g).is_finite l.hand-iterator
-    × All (HasWorked g.L.Door.came_to g.N.Start.start.told l.fn.first.value g.N.Start.start.connections) l.hand-iterator.rest.items
+    × HaveWorked g.L.Door.came_to g.N.Start.start l.fn.first.value l.hand-iterator.rest.items
     × IsGathered g.N.Ledger.parts l.fn.first.value l.pass l.share.parts
     × (l.share.parts + length l.hand-iterator.rest.items ≡ g.N.Ledger.parts)
     × (l.total.total ≡ l.fn.total.total)
