@@ -3,7 +3,8 @@ use Rattle.std.specs.Prelude.{◌≡◌, ℕ, ◌+◌, ◌≤◌, List, [], ◌+
 use mathlib.Core.List.{IsPrefix}
 use Rattle.hose_io.specs.Connections.{Connection, Connections}
 use Rattle.hose_session.specs.Accounts.{AccountFor}
-use Rattle.hose_shared.specs.Sharing.{IsSamePass}
+use Rattle.hose_pool.specs.declared.rows.TheConstants.{MOST_WORKERS}
+use Rattle.hose_shared.specs.Sharing.{IsPassOf, IsSamePass, SharedBook}
 use Rattle.hose_turn.specs.Known.{Known}
 use Rattle.hose_crew.specs.Desk.{Started}
 
@@ -56,6 +57,14 @@ pub record HasWorked {Done : Type 0} (came_to : Done → Option Connection) (sta
 abbrev pub HaveWorked : {Done : Type 0} → (Done → Option Connection) → Started → Known
     → List (HandState Done) → Type 0
 HaveWorked came_to start first hands = All (HasWorked came_to start first) hands
+
+-- So many workers may serve along parts of the first pass of a shared book, and each may make rows
+-- by as many.
+pub record MayServe (workers : ℕ) (shared : SharedBook) (first : Known) : Type 0 where
+  pub some : 1 ≤ workers
+  pub few : workers ≤ MOST_WORKERS
+  pub of : IsPassOf shared first
+  pub since : IsPrefix first.origin.since first.seen
 
 -- ---- giving back
 

@@ -5,7 +5,7 @@ ghost use Rattle.hose_io.specs.Connections.{AreAccounted};
 ghost use Rattle.hose_shared.specs.Sharing.{IsPassOf};
 ghost use Rattle.hose_crew.specs.Crew.{ServesDoor};
 ghost use Rattle.hose_crew.specs.Desk.{AreArrived, HasStopped};
-ghost use Rattle.hose_crew.specs.Hands.{AreBack, HasWorked, HaveWorked, IsGathered, IsIdle, part_of};
+ghost use Rattle.hose_crew.specs.Hands.{AreBack, HasWorked, HaveWorked, IsGathered, IsIdle, MayServe, part_of};
 
 use crate::desk::{Closed, Desk, Start};
 use crate::hand::{Hand, Place, Work};
@@ -154,9 +154,7 @@ fn serve_all<
     L: Door + Send,
     N: Start + Send + Sync,
 >(job: &Work<'_, R, D, B, G>, desk: Desk<L, N>, hands: &mut [Hand<L, N>]) -> Closed<L, N>
-    requires workers { (1 ≤ job.now.workers) × (job.now.workers ≤ MOST_WORKERS) }
-    requires of { IsPassOf job.now.shared.now job.now.first.now.value }
-    requires since { IsPrefix job.now.first.now.value.origin.since job.now.first.now.value.seen }
+    requires may { MayServe job.now.workers job.now.shared.now job.now.first.now.value }
     requires works { HaveWorked L.came_to N.start job.now.first.now.value hands.old }
     ensures number { length hands.new ≡ length hands.old }
     ensures works { HaveWorked L.came_to N.start job.now.first.now.value hands.new }
@@ -186,9 +184,7 @@ fn work_once<
     L: Door + Send,
     N: Start + Send + Sync,
 >(job: &Work<'_, R, D, B, G>, desk: Desk<L, N>, hands: &mut [Hand<L, N>]) -> Desk<L, N>
-    requires workers { (1 ≤ job.now.workers) × (job.now.workers ≤ MOST_WORKERS) }
-    requires of { IsPassOf job.now.shared.now job.now.first.now.value }
-    requires since { IsPrefix job.now.first.now.value.origin.since job.now.first.now.value.seen }
+    requires may { MayServe job.now.workers job.now.shared.now job.now.first.now.value }
     requires works { HaveWorked L.came_to N.start job.now.first.now.value hands.old }
     ensures number { length hands.new ≡ length hands.old }
     ensures works { HaveWorked L.came_to N.start job.now.first.now.value hands.new }
@@ -204,9 +200,7 @@ fn work_once<
         first,
     } = *job;
     let work = |_: usize, hand: &mut Hand<L, N>|
-        requires { (1 ≤ workers) × (workers ≤ MOST_WORKERS)
-            × IsPassOf shared.now first.now.value
-            × IsPrefix first.now.value.origin.since first.now.value.seen
+        requires { MayServe workers shared.now first.now.value
             × HasWorked L.came_to N.start first.now.value hand.now }
     {
         let job = Work {

@@ -6,13 +6,13 @@ ghost use Rattle.hose_session.specs.Accounts.{AccountFor};
 ghost use Rattle.hose_shared.specs.Sharing.{IsPassOf, IsSamePass};
 ghost use Rattle.hose_turn.specs.Known.{Known};
 ghost use Rattle.hose_crew.specs.Desk.{AreArrived, AreFresh};
-ghost use Rattle.hose_crew.specs.Hands.{AllComeBack, AllMayComeBack, AreBack, HasWorked, IsGathered, IsIdle, Works, part_of};
+ghost use Rattle.hose_crew.specs.Hands.{AllComeBack, AllMayComeBack, AreBack, HasWorked, IsGathered, IsIdle, MayServe, Works, part_of};
 
 use crate::desk::{Accepted, Desk, Start};
 use hose_disk::Disk;
 use hose_io::Door;
 use hose_paths::RowMaker;
-use hose_pool::{Gate, MOST_WORKERS, PoolRows};
+use hose_pool::{Gate, PoolRows};
 use hose_session::{law_accounts, serve_session};
 use hose_shared::{Begun, Shared, law_passes};
 use hose_turn::Pass;
@@ -149,9 +149,7 @@ fn serve_all<W: Threads + Wait + Sync, D: Disk, B: Begun<D>, G: Gate, L: Door, N
     place: Place<N>,
     ended: &mut Vec<L::Done>,
 ) -> Place<N>
-    requires workers { (1 ≤ job.now.workers) × (job.now.workers ≤ MOST_WORKERS) }
-    requires of { IsPassOf job.now.shared.now job.now.first.now.value }
-    requires since { IsPrefix job.now.first.now.value.origin.since job.now.first.now.value.seen }
+    requires may { MayServe job.now.workers job.now.shared.now job.now.first.now.value }
     requires works { Works N.start.told job.now.first.now.value place
         (map L.came_to ended.old.items) }
     requires room { N.start.connections ≤ vec_capacity ended.old }
@@ -191,10 +189,7 @@ impl<L: Door, N: Start> Hand<L, N> {
         job: &Work<'_, W, D, B, G>,
         desk: &Mutex<Desk<L, N>>,
     )
-        requires workers { (1 ≤ job.now.workers) × (job.now.workers ≤ MOST_WORKERS) }
-        requires of { IsPassOf job.now.shared.now job.now.first.now.value }
-        requires since { IsPrefix job.now.first.now.value.origin.since
-            job.now.first.now.value.seen }
+        requires may { MayServe job.now.workers job.now.shared.now job.now.first.now.value }
         requires works { HasWorked L.came_to N.start job.now.first.now.value self.old }
         ensures works { HasWorked L.came_to N.start job.now.first.now.value self.new }
     {
