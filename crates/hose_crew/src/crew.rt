@@ -1,11 +1,11 @@
 // A crew from its start to its end.
-ghost use Rattle.std.specs.Prelude.{◌≡◌, ◌⊎◌, ℕ, ◌+◌, ◌<◌, ◌≤◌, [], All, IfOk, length, slice_index_or};
+ghost use Rattle.std.specs.Prelude.{◌≡◌, ◌+◌, ◌<◌, ◌≤◌, [], All, IfOk, length};
 ghost use mathlib.Core.List.{IsPrefix};
 ghost use Rattle.hose_io.specs.Connections.{AreAccounted};
 ghost use Rattle.hose_shared.specs.Sharing.{IsPassOf};
 ghost use Rattle.hose_crew.specs.Crew.{ServesDoor};
 ghost use Rattle.hose_crew.specs.Desk.{AreArrived, HasStopped};
-ghost use Rattle.hose_crew.specs.Hands.{AreBack, HasWorked, HaveWorked, IsGathered, IsIdle, MayServe, part_of};
+ghost use Rattle.hose_crew.specs.Hands.{AreBack, HasWorked, HaveWorked, IsGathered, IsIdle, MayServe};
 
 use crate::desk::{Closed, Desk, Start};
 use crate::hand::{Hand, Place, Work};

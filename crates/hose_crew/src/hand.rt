@@ -1,10 +1,9 @@
 // A worker and what it has in hand.
-ghost use Rattle.std.specs.Prelude.{◌≡◌, ◌+◌, ◌<◌, ◌≤◌, ◌∷◌, [], ◌++◌, IfNone, IfOk, IfSome, IsTrue, List, Option, Some, is_some, map, vec_capacity};
+ghost use Rattle.std.specs.Prelude.{◌≡◌, ◌+◌, ◌<◌, ◌≤◌, ◌∷◌, [], ◌++◌, IfOk, IsTrue, List, Option, Some, is_some, map, vec_capacity};
 ghost use mathlib.Core.List.{IsPrefix};
 ghost use Rattle.hose_io.specs.Connections.{AreAccounted, Connection};
 ghost use Rattle.hose_session.specs.Accounts.{AccountFor};
 ghost use Rattle.hose_shared.specs.Sharing.{IsPassOf, IsSamePass};
-ghost use Rattle.hose_turn.specs.Known.{Known};
 ghost use Rattle.hose_crew.specs.Desk.{AreArrived, AreFresh};
 ghost use Rattle.hose_crew.specs.Hands.{AllComeBack, AllMayComeBack, AreBack, HasWorked, IsGathered, IsIdle, MayServe, Works, part_of};
 
@@ -125,23 +124,6 @@ impl<'a, W: Wait, D: Disk, B: Begun<D>, G: Gate> Work<'a, W, D, B, G> {
     }
 }
 
-// Waits for the lock, and then for the next connection.
-fn next<W: Wait, L: Door, N: Start>(
-    rt: &W,
-    desk: &Mutex<Desk<L, N>>,
-    share: &mut Share<N>,
-) -> Option<Accepted<L>>
-    requires { 0 < share.old.parts }
-    ensures parts { share.new.parts ≡ share.old.parts }
-    ensures none { IfNone result (share.new.amount ≡ share.old.amount) }
-    ensures one { IfSome result (λ one. share.new.amount ≡ share.old.amount + 1) }
-    ensures few { IfSome result (λ one. share.new.amount ≤ N.start.connections) }
-    ensures fresh { IfSome result (λ one. AreFresh L.In.Source L.Out.Sink N.start.told
-        one.input one.output) }
-{
-    desk.lock(rt).accept(share)
-}
-
 // Serves one connection after another, until there is no more.
 fn serve_all<W: Threads + Wait + Sync, D: Disk, B: Begun<D>, G: Gate, L: Door, N: Start>(
     job: &Work<'_, W, D, B, G>,
@@ -159,13 +141,19 @@ fn serve_all<W: Threads + Wait + Sync, D: Disk, B: Begun<D>, G: Gate, L: Door, N
 {
     law_passes();
     let mut rows = PoolRows::new(job.rt, job.workers);
-    let mut place = place;
-    while let Some(one) = next(job.rt, desk, &mut place.share) {
-        let (done, pass) = job.serve::<L, N, _>(one, place.pass, &mut rows);
-        place.pass = pass;
+    let Place {
+        mut pass,
+        mut share,
+    } = place;
+    loop {
+        // The lock is let go before the session begins.
+        let Some(one) = desk.lock(job.rt).accept(&mut share) else {
+            return Place { pass, share };
+        };
+        let (done, later) = job.serve::<L, N, _>(one, pass, &mut rows);
+        pass = later;
         ended.push_reserved(done);
     }
-    place
 }
 
 impl<L: Door, N: Start> Hand<L, N> {

@@ -1,11 +1,9 @@
 // Connections that are served: a door, a crew, and the book of a journal that they share.
 ghost use Rattle.std.specs.Prelude.{◌≡◌, ◌↔◌, ◌⊎◌, ◌<◌, ◌≤◌, ℕ, Err, IfErr, IfOk, List, [], None, Ok, Option};
 ghost use mathlib.Core.List.{IsPrefix};
-ghost use Rattle.hose_io.specs.Connections.{AreAccounted};
-ghost use Rattle.hose_io.specs.Frame.{Frame, Stays};
+ghost use Rattle.hose_io.specs.Frame.{Stays};
 ghost use Rattle.hose_graph.specs.Network.{Network};
 ghost use Rattle.hose_graph.specs.declared.entry.Entry.{Entry};
-ghost use Rattle.hose_law.specs.History.{book_of};
 ghost use Rattle.hose_disk.specs.Cabinet.{object_of};
 ghost use Rattle.hose_shared.specs.Sharing.{IsPassOf, IsSamePass};
 ghost use Rattle.hosed.specs.Fault.{of_store};

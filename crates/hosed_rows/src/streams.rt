@@ -1,5 +1,5 @@
 // The streams of a case: those in memory, with more bytes than are stored, and in pieces.
-ghost use Rattle.std.specs.Prelude.{◌≤◌, None};
+ghost use Rattle.std.specs.Prelude.{None};
 
 use crate::case::Piece;
 use hose_io::{Failed, MemSink, MemSource, Sink, Source};

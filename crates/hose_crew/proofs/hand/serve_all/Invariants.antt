@@ -5,11 +5,7 @@ use Rattle.hose_crew.proofs.hand.serve_all.Given as goal
 abbrev pub invariant-loop-one : goal.invariant-loop-one
 invariant-loop-one g l =
     Works g.N.Start.start.told l.job.first.now.value
-    (record {
-      pass = l.place-inside.pass;
-      parts = l.place-inside.share.parts;
-      amount = l.place-inside.share.amount;
-    })
+    (record { pass = l.pass; parts = l.share.parts; amount = l.share.amount })
     (map g.L.Door.came_to l.ended.items)
     × (g.N.Start.start.connections ≤ vec_capacity l.ended)
     × (vec_capacity l.ended ≡ vec_capacity l.initial.ended)
