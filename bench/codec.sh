@@ -1,6 +1,6 @@
 #!/usr/bin/env bash
-# Entries of three endpoints that are read and spelled again in a second, a million of them; and how
-# many times as long that takes as to copy their bytes.
+# Entries of three endpoints that are read, spelled, and read and spelled again in a second, a
+# million of them; and how many times as long each takes as to copy their bytes.
 # usage: bench/codec.sh [PROGRAM]
 set -euo pipefail
 export LC_ALL=C
@@ -27,7 +27,10 @@ def least_seconds(word):
     return min(seconds)
 
 
-entries, copies = least_seconds("entries"), least_seconds("copies")
-print(f"codec: {ENTRIES / entries:.0f} entries a second read and spelled, {entries:.2f} s")
-print(f"reference: {copies:.4f} s to copy their bytes, ratio {entries / copies:.2f}")
+copies = least_seconds("copies")
+for word, what in ("decodes", "read"), ("encodes", "spelled"), ("entries", "read and spelled"):
+    seconds = least_seconds(word)
+    told = f"{ENTRIES / seconds:.0f} entries a second {what}, {seconds:.4f} s"
+    print(f"codec: {told}, ratio {seconds / copies:.2f}")
+print(f"reference: {copies:.4f} s to copy their bytes")
 END

@@ -1,10 +1,10 @@
 //! Bytes at random beside the spelling of entries: what is read as an entry is its spelling.
 //!
-//! It prints that all are, or the first that are not. With the word `entries` it reads and spells a
-//! million entries instead, and with `copies` it copies as many spellings, so that `bench/codec.sh`
-//! can compare the two. With `appends`, `readings` and `digests` it makes a journal of 20,000
-//! entries in memory, and with the last two reads it or makes the digest of its bytes 2,000 times,
-//! for `bench/journal.sh`.
+//! It prints that all are, or the first that are not. With the word `decodes` it reads a million
+//! entries instead, with `encodes` it spells them, with `entries` it does both with each, and with
+//! `copies` it copies as many spellings, so that `bench/codec.sh` can compare these. With `appends`,
+//! `readings` and `digests` it makes a journal of 20,000 entries in memory, and with the last two
+//! reads it or makes the digest of its bytes 2,000 times, for `bench/journal.sh`.
 #![tactic(auto)]
 
 mod draws;
@@ -41,7 +41,11 @@ fn main(rt: HostRuntime) -> ExitCode {
     let mut word = [0; 16];
     let len = rt.arg(1, &mut word).unwrap_or(0);
     let word = word.get(..len).unwrap_or(&[]);
-    let told = if word == b"entries".as_slice() {
+    let told = if word == b"decodes".as_slice() {
+        tell_bytes(&rt, decoded_bytes(rt.alloc()))
+    } else if word == b"encodes".as_slice() {
+        tell_bytes(&rt, encoded_bytes(rt.alloc()))
+    } else if word == b"entries".as_slice() {
         tell_bytes(&rt, spelled_bytes(rt.alloc()))
     } else if word == b"copies".as_slice() {
         tell_bytes(&rt, copied_bytes(rt.alloc()))
@@ -124,6 +128,26 @@ fn mutated(alloc: Global, draws: &mut Draws, spelling: &[u8]) -> Result<Vec<u8>,
         _ => {}
     }
     Ok(bytes)
+}
+
+// Entries are read: how many bytes they had.
+fn decoded_bytes(alloc: Global) -> Result<u64, CodecFault> {
+    let mut total = 0u64;
+    for _ in 0..TIMED {
+        let _entry = decode(alloc, &ADMISSION)?;
+        total = total.saturating_add(ADMISSION.len() as u64);
+    }
+    Ok(total)
+}
+
+// An entry is spelled: how many bytes its spellings had.
+fn encoded_bytes(alloc: Global) -> Result<u64, CodecFault> {
+    let entry = decode(alloc, &ADMISSION)?;
+    let mut total = 0u64;
+    for _ in 0..TIMED {
+        total = total.saturating_add(encode(alloc, &entry)?.len() as u64);
+    }
+    Ok(total)
 }
 
 // Entries are read and spelled again: how many bytes they had.
