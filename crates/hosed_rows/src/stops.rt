@@ -120,15 +120,16 @@ fn lines_of(case: &Case) -> usize {
     lines.iter().filter(|byte| **byte == b'\n').count()
 }
 
-// How many bytes the topology has.
+// How many bytes the topology has, up to its line `end`.
 fn topology_of(bytes: &[u8]) -> usize {
-    match bytes
-        .windows(5)
-        .position(|part| part == b"\nend\n".as_slice())
-    {
-        Some(place) => place.saturating_add(5),
-        None => bytes.len(),
+    let mut len = 0usize;
+    for line in bytes.split_inclusive(|byte| *byte == b'\n') {
+        len = len.saturating_add(line.len());
+        if line == b"end\n".as_slice() {
+            break;
+        }
     }
+    len
 }
 
 // How many bytes the line at a place has.
