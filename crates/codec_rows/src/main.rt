@@ -2,9 +2,9 @@
 //!
 //! It prints that all are, or the first that are not. With the word `decodes` it reads a million
 //! entries instead, with `encodes` it spells them, with `entries` it does both with each, and with
-//! `copies` it copies as many spellings, so that `bench/codec.sh` can compare these. With `appends`,
-//! `readings` and `digests` it makes a journal of 20,000 entries in memory, and with the last two
-//! reads it or makes the digest of its bytes 2,000 times, for `bench/journal.sh`.
+//! `copies` it copies as many spellings, so that `bench/codec.sh` can compare these. With
+//! `appends`, `readings` and `digests` it makes a journal of 20,000 entries in memory, and with the
+//! last two reads it or makes the digest of its bytes 2,000 times, for `bench/journal.sh`.
 #![tactic(auto)]
 
 mod draws;
