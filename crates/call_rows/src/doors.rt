@@ -52,8 +52,8 @@ fn a_connection_comes_once_and_comes_back(rt: HostRuntime) -> Result<(), Fail> {
 #[test]
 fn opening_and_accepting_fail_where_they_were_told_to(rt: HostRuntime) -> Result<(), Fail> {
     let mut door = MemDoor::new(rt.alloc(), Vec::new(rt.alloc()))?;
-    door.fail(1)?;
-    door.fail(3)?;
+    door.fail(rt.alloc(), 1)?;
+    door.fail(rt.alloc(), 3)?;
     assert!(rt; door.open(1) == Err(Failed));
     assert!(rt; is_empty(&mut door) == Ok(true));
     assert!(rt; is_empty(&mut door) == Err(Failed));

@@ -146,7 +146,7 @@ impl MemDoor {
     }
 
     /// The `nth` call of `open` and `accept` together from now on, counted from 1, is to fail.
-    pub fn fail(&mut self, nth: u64) -> Result<(), AllocError>
+    pub fn fail(&mut self, _alloc: Global, nth: u64) -> Result<(), AllocError>
         ensures ok { OnOk result
             (self.new ≡ record self.old { failing = self.old.failing ++ nth ∷ [] }) }
         ensures err { OnErr result (self.new ≡ self.old) }

@@ -162,7 +162,7 @@ fn door_of(alloc: Global, case: &Case) -> Result<MemDoor, AllocError> {
     }
     let mut door = peers.into_door(alloc)?;
     for nth in &case.door_failing {
-        door.fail(*nth)?;
+        door.fail(alloc, *nth)?;
     }
     Ok(door)
 }
