@@ -97,7 +97,8 @@ HasRead disk old new digest entries (Ok None) =
     Reads disk new digest entries × (new.last ≡ old.gate) × IsTrue new.closed
 HasRead disk old new digest entries (Err (Damaged at)) = (at ≡ old.gate) × (new.last ≡ old.gate)
     × IfSome (disk.content old.disk) (λ bytes. Means digest bytes (damaged at))
-HasRead disk old new digest entries (Err Disk) = HasFailed disk old.disk new.disk
+HasRead disk old new digest entries (Err Disk) =
+    HasFailed disk old.disk new.disk × (new.last ≡ old.last)
 HasRead disk old new digest entries (Err Memory) =
     Reads disk new digest entries × (new.last ≡ old.last)
     × ((entry : Entry) × (distance : ℕ) × IsNext disk new digest entries entry distance)

@@ -1,10 +1,11 @@
 // A journal to which entries are added.
-ghost use Rattle.std.specs.Prelude.{◌≡◌, ◌⊎◌, ◌<◌, ◌+◌, Option, Some, None, false, length, IsFalse, IsTrue, IsOk, OnErr, OnOk};
+ghost use Rattle.std.specs.Prelude.{◌≡◌, ◌⊎◌, ◌<◌, ◌+◌, ◌∷◌, [], Option, Some, None, false, length, IsFalse, IsTrue, IsOk, OnErr, OnOk};
 ghost use Rattle.hose_graph.specs.declared.entry.Entry.{Entry};
 ghost use Rattle.hose_disk.specs.Disk.{IsCalled};
 ghost use Rattle.hose_journal.specs.Entries.{IsListOf};
 ghost use Rattle.hose_journal.specs.Journal.{Account, IsAmid, IsReady, Stands, with_doubt, with_entry};
-ghost use Rattle.hose_journal.specs.Moments.{Images, LeavesOnly, TellsAsBefore};
+ghost use Rattle.hose_journal.specs.Moments.{Images, Lands, LeavesOnly, TellsAsBefore};
+ghost use Rattle.hose_journal.specs.declared.layout.TheConstants.{CLOSED};
 
 use crate::layout::{CLOSED, OPEN};
 use crate::prepared::Ready;
@@ -50,6 +51,9 @@ impl<D: Disk> Journal<D> {
             LeavesOnly D.Disk self.old.disk self.new.disk (IsAmid account None) }
         ensures settled { OnOk result ((account : Account) → Stands D.Disk self.old account →
             Stands D.Disk self.new (with_doubt account None)) }
+        // Its gate is closed by the byte that a new journal's has.
+        ensures closed { IsTrue self.old.doubt → OnOk result
+            (Lands D.Disk self.old.disk self.new.disk self.old.gate (CLOSED ∷ [])) }
         ensures failed { OnErr result ((account : Account) → Stands D.Disk self.old account →
             Stands D.Disk self.new account) }
 

@@ -1,7 +1,7 @@
 // Opening a journal: one sync, and then only reading, unless none was begun.
 ghost use Rattle.std.specs.Prelude.{◌≡◌, ◌⊎◌, ◌↔◌, [], ◌++◌, List, ℕ, IfErr, IfOk, IfSome, IsErr, IsTrue, MatchResult, OnOk, length};
 ghost use Rattle.hose_journal.specs.Image.{IsUnbegun};
-ghost use Rattle.hose_journal.specs.Moments.{LeavesOnly};
+ghost use Rattle.hose_journal.specs.Moments.{KeepsCount, LeavesOnly};
 ghost use Rattle.hose_journal.specs.Opening.{HasHead, IsFront, IsOpened, IsRefused, KeepsDisk, KeepsList};
 ghost use Rattle.hose_journal.specs.Reading.{HasFailed, IsOpen, OnlyRead, Reads};
 
@@ -28,6 +28,7 @@ pub fn open<D: Disk>(
     ensures list { IfOk result (λ reading.
         KeepsList (D.content disk) (D.content reading.disk) digest) }
     ensures fault { IfOk result (λ reading. reading.fault ≡ None) }
+    ensures count { IfOk result (λ reading. KeepsCount D.Disk disk reading.disk) }
     ensures refused { IfErr result (λ refused.
         IsRefused D.Disk disk refused.1 digest refused.0) }
     ensures keeps { MatchResult result
@@ -55,6 +56,7 @@ fn prepare<D: Disk>(
     ensures open { IfOk result (λ end. IsOpen D.Disk disk.new piece.new end digest.now) }
     ensures list { OnOk result
         (KeepsList (D.content disk.old) (D.content disk.new) digest.now) }
+    ensures count { OnOk result (KeepsCount D.Disk disk.old disk.new) }
     ensures refused { IfErr result (IsRefused D.Disk disk.old disk.new digest.now) }
     ensures keeps { KeepsDisk D.Disk disk.old disk.new }
 {
@@ -79,6 +81,7 @@ fn load_front<D: Disk>(disk: &mut D, piece: &mut Piece) -> Result<u64, Failed>
     requires { length piece.old.bytes.items ≡ PIECE_BYTES }
     ensures front { IfOk result (IsFront D.Disk disk.new piece.new) }
     ensures only { OnlyRead D.Disk disk.old disk.new }
+    ensures count { OnOk result (KeepsCount D.Disk disk.old disk.new) }
     ensures failed { IsErr result → HasFailed D.Disk disk.old disk.new }
 {
     let end = disk.len()?;

@@ -1,5 +1,6 @@
 // The piece of a disk's content that was read last.
 ghost use Rattle.std.specs.Prelude.{◌≡◌, ◌+◌, ◌-◌, ◌<◌, ◌≤◌, ◌^◌, ◌↔◌, ◌⊎◌, IfOk, IfSome, IsErr, IsTrue, OnOk, drop, length, take};
+ghost use Rattle.hose_journal.specs.Moments.{KeepsCount};
 ghost use Rattle.hose_journal.specs.Reading.{HasFailed, IsPiece, OnlyRead, Reaches};
 
 use crate::layout::{MOST_PART, PIECE_BYTES};
@@ -34,6 +35,7 @@ impl Piece {
         ensures piece { OnOk result (IsPiece (D.content disk.new) end self.new) }
         ensures from { self.new.from ≡ at }
         ensures only { OnlyRead D.Disk disk.old disk.new }
+        ensures count { OnOk result (KeepsCount D.Disk disk.old disk.new) }
         ensures failed { IsErr result → HasFailed D.Disk disk.old disk.new }
     {
         self.from = at;
@@ -74,6 +76,7 @@ fn read_piece<D: Disk>(disk: &mut D, at: u64, end: u64, into: &mut [u8]) -> Resu
     ensures read { IfOk result (λ count. IfSome (D.content disk.new) (λ bytes.
         length bytes ≡ end → take count into.new ≡ take PIECE_BYTES (drop at bytes))) }
     ensures only { OnlyRead D.Disk disk.old disk.new }
+    ensures count { OnOk result (KeepsCount D.Disk disk.old disk.new) }
     ensures failed { IsErr result → HasFailed D.Disk disk.old disk.new }
 {
     let room = PIECE_BYTES.min((end - at) as usize);

@@ -2,6 +2,7 @@
 ghost use Rattle.std.specs.Prelude.{◌≡◌, [], List, ℕ, None, Some, IfSome, IsErr, IsFalse, IsTrue, OnOk};
 ghost use Rattle.hose_graph.specs.declared.entry.Entry.{Entry};
 ghost use Rattle.hose_journal.specs.Journal.{Stands};
+ghost use Rattle.hose_journal.specs.Moments.{KeepsCount};
 ghost use Rattle.hose_journal.specs.Reading.{AtGate, HasFailed, HasRead, IsOpen, KeepsFault, OnlyRead, Reaches, Reads};
 
 use crate::fault::JournalFault;
@@ -62,6 +63,7 @@ impl<D: Disk> Reading<D> {
         ensures again { IfSome self.old.fault (λ fault.
             (result ≡ Err fault) × (self.new ≡ self.old)) }
         ensures only { OnlyRead D.Disk self.old.disk self.new.disk }
+        ensures count { OnOk result (KeepsCount D.Disk self.old.disk self.new.disk) }
     {
         if let Some(fault) = self.fault {
             return Err(fault);
@@ -112,6 +114,7 @@ impl<D: Disk> Reading<D> {
             HasRead D.Disk self.old self.new digest entries result }
         ensures fault { self.new.fault ≡ self.old.fault }
         ensures only { OnlyRead D.Disk self.old.disk self.new.disk }
+        ensures count { OnOk result (KeepsCount D.Disk self.old.disk self.new.disk) }
     {
         if self.closed {
             self.last = self.gate;
@@ -157,6 +160,7 @@ impl<D: Disk> Reading<D> {
         ensures reaches { OnOk result (Reaches self.new.piece self.new.gate) }
         ensures kept { self.new ≡ record self.old { disk = self.new.disk; piece = self.new.piece } }
         ensures only { OnlyRead D.Disk self.old.disk self.new.disk }
+        ensures count { OnOk result (KeepsCount D.Disk self.old.disk self.new.disk) }
         ensures failed { IsErr result → HasFailed D.Disk self.old.disk self.new.disk }
     {
         if !self.piece.reaches(self.gate) {

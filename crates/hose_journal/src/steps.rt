@@ -1,9 +1,9 @@
 // The two steps of an append. Between them a stop leaves the list as it was.
-ghost use Rattle.std.specs.Prelude.{◌≡◌, ◌+◌, ◌<◌, ◌^◌, ◌∷◌, ◌++◌, List, ℕ, length, OnOk};
+ghost use Rattle.std.specs.Prelude.{◌≡◌, ◌+◌, ◌<◌, ◌^◌, ◌∷◌, ◌++◌, [], List, ℕ, length, OnOk};
 ghost use Rattle.hose_disk.specs.Disk.{IsCalled};
 ghost use Rattle.hose_journal.specs.Gates.{IsDoubtful, Starts};
 ghost use Rattle.hose_journal.specs.Image.{IsClosed};
-ghost use Rattle.hose_journal.specs.Moments.{Images, LeavesOnly, TellsAsBefore};
+ghost use Rattle.hose_journal.specs.Moments.{Images, Lands, LeavesOnly, TellsAsBefore};
 
 use crate::putting::put;
 use hose_disk::{Disk, Failed};
@@ -37,6 +37,7 @@ pub fn set_gate<D: Disk>(disk: &mut D, gate: u64, value: u8) -> Result<(), Faile
     ensures set { OnOk result ((before : List ℕ) → (bytes : List ℕ) → length before ≡ gate →
         Images D.Disk disk.old (IsDoubtful before bytes) →
         Images D.Disk disk.new (Starts (before ++ value ∷ bytes))) }
+    ensures landed { OnOk result (Lands D.Disk disk.old disk.new gate (value ∷ [])) }
     ensures tells { TellsAsBefore D.Disk disk.old disk.new }
     ensures call { IsCalled (D.frame disk.old) (D.frame disk.new) result }
 {

@@ -150,7 +150,7 @@ module _ {D : Type 0} (disk : Ghosts D) where
   -- a fault of the journal
   pub stopped_by : (old : Ledger) (before after : Reading D) (recovering : IsRecovering disk old before) (fault : JournalFault) → disk.content after.disk ≡ disk.content before.disk
       → HasRead disk before after (digest_of old.network) recovering.entries (Err fault) → IsStopped disk before.disk after.disk old.network (store_fault fault)
-  stopped_by old before after recovering journal.Disk same has = has
+  stopped_by old before after recovering journal.Disk same has = has.0
   stopped_by old before after recovering (journal.Other kept given) same has = has
   stopped_by old before after recovering (journal.Damaged at) same has =
       told_both (disk.content before.disk) (IsReadUpTo (digest_of old.network) recovering.entries before.end) (λ bytes. Means (digest_of old.network) bytes (damaged at)) (λ bytes. IsRecoveredAs old.network bytes (damaged at))

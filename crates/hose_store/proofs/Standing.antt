@@ -16,7 +16,7 @@ use Rattle.hose_journal.specs.declared.layout.TheConstants.{DIGEST_BYTES}
 use Rattle.hose_journal.specs.Moments.{LeavesOnly, TellsAsBefore}
 use Rattle.hose_book.specs.Commit.{history_after}
 use Rattle.hose_book.specs.GoingOn.{GoesOn, none_yet, entry_more}
-use Rattle.hose_store.specs.Beginning.{Beginning, HasLeft, IsOrOneMore, IsPartOf, StandsFor}
+use Rattle.hose_store.specs.Beginning.{Beginning, HasLeft, IsOrInDoubt, IsPartOf, StandsFor}
 use Rattle.hose_store.specs.Commit.{Closes, IsLeft, Went, store_books}
 use Rattle.hose_store.specs.Opening.{IsAtOpening, IsOpenedOn}
 use Rattle.hose_store.specs.Recovery.{IsHistoryOf, digest_of}
@@ -138,21 +138,19 @@ module _ {D : Type 0} (disk : Ghosts D) where
 
     -- ---- closing
 
-    doubt_more : (history : List Entry) (doubt : Option Entry) (image : List ℕ) → IfSome doubt (Kind beginning.network (book_of 0 history)) → IsHistoryWith beginning.network history doubt image → IsOrOneMore Kind beginning.network history image
-    doubt_more history None image at with = absurd with
-    doubt_more history (Some entry) image at with = inr (entry, at, with)
-
-    left_now : (history : List Entry) (doubt : Option Entry) (image : List ℕ) → IfSome doubt (Kind beginning.network (book_of 0 history)) → IsAmid beginning.network history doubt None image → IsOrOneMore Kind beginning.network history image
-    left_now history doubt image at (inl is) = inl is
-    left_now history doubt image at (inr (inl with)) = doubt_more history doubt image at with
-    left_now history doubt image at (inr (inr none)) = absurd none
+    left_now : (history : List Entry) (doubt : Option Entry) (image : List ℕ) → IsAmid beginning.network history doubt None image → IsOrInDoubt beginning.network history doubt image
+    left_now history doubt image (inl is) = inl is
+    left_now history doubt image (inr (inl with)) = inr with
+    left_now history doubt image (inr (inr none)) = absurd none
 
     -- what is left of the disk
     pub closed_left : (T : Type 0) (store : Kept D) (left : D) (history : List Entry) (result : Result T Failed) → ((t : ℕ) (image : List ℕ) → t ≤ disk.moment left → disk.may_leave left image → disk.left_since left t image)
         → Stood history store → Closes disk store left result → HasLeft disk Kind Had beginning history left result
     closed_left T store left history result counts stood closes =
         let run = closes.any_moment history stood.doubt stood.has in record {
-          now = λ image now. left_now history stood.doubt image stood.doubtful
+          doubt = stood.doubt;
+          doubtful = stood.doubtful;
+          now = λ image now. left_now history stood.doubt image
               (subst (λ (network : Network). IsAmid network history stood.doubt None image) stood.network (run.each image (counts (disk.moment store.journal.disk) image run.later now)));
           closed = on_ok_weaker result
               (λ images image now. subst (λ (network : Network). IsHistoryOf network history image) stood.network (images history stood.doubt stood.has image now)) closes.closed;

@@ -9,7 +9,7 @@ use Rattle.hose_law.specs.History.{AreFrom, EntryKind, book_of, opening_book}
 use Rattle.hose_disk.specs.declared.disk.Disk.{Ghosts}
 use Rattle.hose_journal.specs.Moments.{Images}
 use Rattle.hose_store.specs.Recovery.{IsHistoryOf}
-use Rattle.hose_store.specs.Store.{Kept, HasHistory}
+use Rattle.hose_store.specs.Store.{Kept, HasHistory, IsHistoryWith}
 
 -- what is fixed when a store is opened: the history that it had then, its network, the moment of
 -- the opening, and whether the disk tells its content
@@ -24,6 +24,11 @@ abbrev pub IsOrOneMore : EntryKind → Network → List Entry → List ℕ → T
 IsOrOneMore Kind network history image = IsHistoryOf network history image
     ⊎ ((entry : Entry) × Kind network (book_of 0 history) entry
     × IsHistoryOf network (history ++ entry ∷ []) image)
+
+-- the image stands for the history, or for it and the entry in doubt, if there is one
+abbrev pub IsOrInDoubt : Network → List Entry → Option Entry → List ℕ → Type 0
+IsOrInDoubt network history doubt image = IsHistoryOf network history image
+    ⊎ IsHistoryWith network history doubt image
 
 -- The image stands for a part of the history from its beginning, with all that there was at the
 -- opening; or for such a part and one entry more, which is of this kind there.
@@ -49,12 +54,14 @@ pub record StandsFor {D : Type 0} (disk : Ghosts D) (Kind : EntryKind) (Had : Li
   pub tells : is_some (disk.content store.journal.disk) ≡ beginning.tells
 
 -- What a store that stood for the history has left of its disk, once it is closed: each image now
--- stands for the history, or for it and one entry more, and for the history alone where closing did
--- not fail; and so since the opening.
+-- stands for the history, or for it and the one entry in doubt, and for the history alone where
+-- closing did not fail; and since the opening each stands for a part, as above.
 pub record HasLeft {D T : Type 0} (disk : Ghosts D) (Kind : EntryKind) (Had : List ℕ → Type 0)
     (beginning : Beginning) (history : List Entry) (left : D) (result : Result T Failed) :
     Type 0 where
-  pub now : Images disk left (IsOrOneMore Kind beginning.network history)
+  pub doubt : Option Entry
+  pub doubtful : IfSome doubt (Kind beginning.network (book_of 0 history))
+  pub now : Images disk left (IsOrInDoubt beginning.network history doubt)
   pub closed : OnOk result (Images disk left (IsHistoryOf beginning.network history))
   pub moments : (image : List ℕ) → disk.left_since left beginning.moment image
       → IsPartOf Kind beginning history image ⊎ Had image

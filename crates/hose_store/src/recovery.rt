@@ -1,6 +1,7 @@
 // Reading a journal's entries into a book.
 ghost use Rattle.std.specs.Prelude.{◌≡◌, ◌+◌, ◌≤◌, Ok, false, true, IfErr, IsFalse, IsOk, IsTrue, OnOk};
 ghost use Rattle.hose_law.specs.History.{IsSoundAt, last_epoch, next_book};
+ghost use Rattle.hose_journal.specs.Moments.{KeepsCount};
 ghost use Rattle.hose_journal.specs.Reading.{OnlyRead};
 ghost use Rattle.hose_store.specs.Opening.{IsRecovering, IsStopped};
 
@@ -19,6 +20,7 @@ pub fn recover<D: Disk>(book: &mut Book, reading: &mut Reading<D>) -> Result<(),
     ensures stopped { IfErr result
         (IsStopped D.Disk reading.old.disk reading.new.disk book.old.network) }
     ensures only { OnlyRead D.Disk reading.old.disk reading.new.disk }
+    ensures count { OnOk result (KeepsCount D.Disk reading.old.disk reading.new.disk) }
 {
     while recover_next(book, reading)? {}
     Ok(())
@@ -35,6 +37,7 @@ fn recover_next<D: Disk>(book: &mut Book, reading: &mut Reading<D>) -> Result<bo
     ensures stopped { IfErr result
         (IsStopped D.Disk reading.old.disk reading.new.disk book.old.network) }
     ensures only { OnlyRead D.Disk reading.old.disk reading.new.disk }
+    ensures count { OnOk result (KeepsCount D.Disk reading.old.disk reading.new.disk) }
 {
     let Some(entry) = reading.next()? else {
         return Ok(false);

@@ -4,7 +4,7 @@ ghost use Rattle.hose_io.specs.Frame.{Frame};
 ghost use Rattle.hose_graph.specs.declared.entry.Entry.{Entry};
 ghost use Rattle.hose_disk.specs.Disk.{IsCalled, object_frame};
 ghost use Rattle.hose_journal.specs.Journal.{IsReady};
-ghost use Rattle.hose_journal.specs.Moments.{LeavesOnly};
+ghost use Rattle.hose_journal.specs.Moments.{KeepsCount, LeavesOnly};
 ghost use Rattle.hose_journal.specs.Opening.{KeepsDisk};
 ghost use Rattle.hose_store.specs.Commit.{Closes, Went};
 ghost use Rattle.hose_store.specs.Opening.{IsAtOpening, IsOpenedOn, IsRefused};
@@ -53,6 +53,7 @@ impl<D: Disk> Store<D> {
             (λ store. LeavesOnly D.Disk disk store.journal.disk (IsAtOpening D.Disk disk top))
             (λ refused. LeavesOnly D.Disk disk refused.1 (IsAtOpening D.Disk disk top)) }
         ensures opened { IfOk result (IsOpenedOn D.Disk disk top) }
+        ensures count { IfOk result (λ store. KeepsCount D.Disk disk store.journal.disk) }
         ensures refused { IfErr result (λ refused.
             IsRefused D.Disk disk refused.1 top refused.0) }
         ensures keeps { MatchResult result

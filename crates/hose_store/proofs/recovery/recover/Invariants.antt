@@ -1,5 +1,6 @@
 use Rattle.std.proofs.Common.{◌≡◌, ◌-◌}
 use Rattle.hose_law.specs.History.{last_epoch}
+use Rattle.hose_journal.specs.Moments.{KeepsCount}
 use Rattle.hose_journal.specs.Reading.{OnlyRead}
 use Rattle.hose_store.specs.Opening.{IsRecovering}
 use Rattle.hose_store.proofs.recovery.recover.Given as goal
@@ -9,6 +10,7 @@ invariant-loop g l = record {
   recovering : IsRecovering g.D.Disk l.book l.reading;
   network : l.book.network ≡ l.fn.book.network;
   only : OnlyRead g.D.Disk l.fn.reading.disk l.reading.disk;
+  count : KeepsCount g.D.Disk l.fn.reading.disk l.reading.disk;
 }
 
 abbrev pub decreases-loop : goal.decreases-loop
