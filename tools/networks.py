@@ -217,6 +217,11 @@ def read_link_replies(text: str) -> List[LinkState]:
     return found
 
 
+def latest(states: List[LinkState]) -> List[LinkState]:
+    """The links that are told, by ascending numbers, each as it is told last."""
+    return [state for _, state in sorted({state.number: state for state in states}.items())]
+
+
 def check_audit(topology: Topology, audit: Audit) -> None:
     """Raises `WrongInput` where an audit is not one of a network."""
     check_links(topology, audit.links)
@@ -250,6 +255,8 @@ def words_of(a: str, b: str, capacity: int, cost: int) -> str:
 
 def read_file(path: str) -> str:
     """The text in a file, or that of standard input where the path is `-`."""
+    if path == "-" and sys.stdin is None:
+        raise WrongInput("standard input is closed")
     try:
         if path == "-":
             content = sys.stdin.buffer.read()
@@ -276,6 +283,8 @@ def load(reader: Callable, path: str):
 
 def status_of(main: Callable[[], None]) -> int:
     """What a program ends with. All that `main` writes is out, or somebody is told."""
+    if sys.stdout is None:
+        return told("standard output is closed")
     try:
         main()
         sys.stdout.flush()
