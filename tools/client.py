@@ -7,10 +7,11 @@
 
 Each command is a method, and each reply a value with named fields whose `str` is the line. What
 the server refuses is raised as a `Refusal` with the reply's fields: `Refused`, `Stale`, `NoVpn`
-and so on. `ConnectionLost` is raised where the server is not there, closes the connection or does
-not answer in time, and `MalformedReply` where what it says is no reply to the command. After these
-two the session is over, nothing connects again, and `unanswered` is the line that was sent and has
-no reply: an order in it may have been entered. A session ends with its `with`, which says `bye`.
+and so on. `ConnectionLost` is raised where the server is not there or closes the connection, its
+kind `NoAnswer` where it does not answer in time, and `MalformedReply` where what it says is no
+reply to the command. After these the session is over, and nothing connects again; `unanswered` is
+the line that was sent and has no reply, and an order in it may have been entered all the same.
+A session ends with its `with`, which says `bye`.
 """
 import argparse
 import os
@@ -179,11 +180,15 @@ class TooLong(Refusal):
 
 
 class ConnectionLost(ConnectionError):
-    """The server is not there, closed the connection, or did not answer in time."""
+    """The server is not there, or closed the connection."""
 
     def __init__(self, what: str, unanswered: Optional[str] = None):
         super().__init__(what)
         self.unanswered = unanswered
+
+
+class NoAnswer(ConnectionLost):
+    """The server did not answer in time."""
 
 
 class MalformedReply(Exception):
@@ -193,6 +198,9 @@ class MalformedReply(Exception):
         super().__init__(what)
         self.unanswered = unanswered
 
+
+FAULTS = (Refusal, ConnectionLost, MalformedReply)
+"""All that a session raises of what the server does."""
 
 FIELD = re.compile("<([a-z_]+)>")
 NUMBER = "(?:0|[1-9][0-9]{0,19})"
@@ -275,7 +283,8 @@ class Lines:
             raise self.malformed(f"says more than it was asked: {self.shown()}")
         self.unanswered = line
         try:
-            self._socket.settimeout(self.timeout)
+            if self._socket.gettimeout() != self.timeout:
+                self._socket.settimeout(self.timeout)
             self._socket.sendall(os.fsencode(line) + b"\n")
             reply = self._line()
         except OSError as fault:
@@ -285,28 +294,33 @@ class Lines:
 
     def _line(self) -> str:
         end = None if self.timeout is None else time.monotonic() + self.timeout
+        self._take()
         while b"\n" not in self._left:
             if len(self._left) > LONGEST_REPLY:
                 raise self.malformed(f"answers without a line feed: {self.shown()}")
             if end is not None:
                 self._socket.settimeout(max(end - time.monotonic(), 1e-6))
-            piece = self._socket.recv(1 << 16)
-            if not piece:
-                where = f" in mid-line, after {self.shown()}" if self._left else ""
-                raise ConnectionLost(f"{self.peer} closed the connection{where}", self.unanswered)
-            self._left += piece
+            self._take()
         line, _, self._left = self._left.partition(b"\n")
         try:
             return line.decode("ascii")
         except UnicodeDecodeError:
             raise self.malformed(f"answers what is no text: {ascii(line[:40])}") from None
 
+    def _take(self) -> None:
+        piece = self._socket.recv(1 << 16)
+        if not piece:
+            where = f" in mid-line, after {self.shown()}" if self._left else ""
+            raise ConnectionLost(f"{self.peer} closed the connection{where}", self.unanswered)
+        self._left += piece
+
     def shown(self) -> str:
         return ascii(self._left[:40].decode("latin-1"))
 
     def lost(self, fault: OSError) -> ConnectionLost:
         if isinstance(fault, socket.timeout):
-            return ConnectionLost(f"{self.peer} did not answer in {self.timeout:g} s", self.unanswered)
+            what = f"{self.peer} did not answer in {self.timeout:g} s"
+            return NoAnswer(what, self.unanswered)
         return ConnectionLost(f"{self.peer}: {fault.strerror or fault}", self.unanswered)
 
     def malformed(self, what: str) -> MalformedReply:
@@ -349,6 +363,14 @@ class Session:
             self._end()
             raise
 
+    @property
+    def timeout(self) -> Optional[float]:
+        return self._lines.timeout
+
+    @timeout.setter
+    def timeout(self, timeout: Optional[float]) -> None:
+        self._lines.timeout = timeout
+
     def admit(self, ends: Mapping[str, int]) -> Admitted:
         """A VPN between nodes, each with a rate that bounds what it sends and is sent."""
         return self._do("admit", hose(ends))
@@ -371,12 +393,8 @@ class Session:
 
     def bye(self) -> None:
         """Ends the session; where it is over already, nothing."""
-        if self._over:
-            return
-        try:
+        if not self._over:
             self._do("bye")
-        finally:
-            self._end()
 
     def reply_to(self, line: str) -> Reply:
         """The reply to any line of a session; a refusal is returned, and not raised."""
@@ -386,11 +404,13 @@ class Session:
             told = self._lines.ask(line)
             reply = read_reply(told)
             if reply is None or not answers(reply, line):
-                what = f"{networks.shown(line)} is answered {networks.shown(told)}, which is no reply"
-                raise MalformedReply(f"{self._lines.peer}: {what}", line)
+                what = f"{networks.shown(line)} is answered {networks.shown(told)}"
+                raise MalformedReply(f"{self._lines.peer}: {what}, which is no reply to it", line)
         except (ConnectionLost, MalformedReply):
             self._end()
             raise
+        if isinstance(reply, Bye):
+            self._end()
         return reply
 
     def _do(self, *words):
@@ -411,15 +431,14 @@ class Session:
         return self
 
     def __exit__(self, kind, fault, trace) -> None:
-        if kind is None:
-            self.bye()
-        elif not self._over:
-            try:
-                # After an interrupt while a reply was waited for, what comes is not that to `bye`.
-                if self._lines.unanswered is None:
-                    self.bye()
-            except (Refusal, ConnectionLost, MalformedReply):
-                pass  # what ended the `with` is told
+        try:
+            # After an interrupt while a reply was waited for, what comes is not that to `bye`.
+            if self._lines.unanswered is None:
+                self.bye()
+        except FAULTS:
+            if kind is None:
+                raise
+        finally:
             self._end()
 
 

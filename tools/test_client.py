@@ -7,7 +7,7 @@ import threading
 import unittest
 
 import client
-from client import ConnectionLost, LinkState, MalformedReply, Session
+from client import ConnectionLost, LinkState, MalformedReply, NoAnswer, Session
 from fake_server import FakeServer
 
 TOOLS = os.path.dirname(os.path.abspath(__file__))
@@ -80,8 +80,9 @@ class Sessions(unittest.TestCase):
     def test_each_command(self):
         with FakeServer([
             WELCOME, b"admitted 1 cost 9 at 1 links 0:3\n", b"quoted 1 cost 6 at 1 links 0:2 1:2\n",
-            b"admitted 2 cost 6 at 2 links 0:2 1:2\n", b"vpn 2 cost 6 at 2 ends a:2 b:2 links 0:2\n",
-            b"released 2 at 3\n", b"link 1 b h capacity 10 cost 2 load 0 out at 3\n", BYE,
+            b"admitted 2 cost 6 at 2 links 0:2 1:2\n",
+            b"vpn 2 cost 6 at 2 ends a:2 b:2 links 0:2 1:2\n", b"released 2 at 3\n",
+            b"link 1 b h capacity 10 cost 2 load 0 out at 3\n", BYE,
         ]) as server:
             with Session("127.0.0.1", server.port, "acme") as session:
                 self.assertEqual(session.welcome.epoch, 0)
@@ -152,7 +153,7 @@ class Sessions(unittest.TestCase):
         never = threading.Event()
         with FakeServer([WELCOME], at_last=never) as server:
             session = Session("127.0.0.1", server.port, "acme", timeout=0.2)
-            with self.assertRaisesRegex(ConnectionLost, "did not answer in 0.2 s") as lost:
+            with self.assertRaisesRegex(NoAnswer, "did not answer in 0.2 s") as lost:
                 session.release(1)
             self.assertEqual(lost.exception.unanswered, "release 1")
             never.set()
@@ -160,7 +161,8 @@ class Sessions(unittest.TestCase):
     def test_no_server(self):
         with socket.create_server(("127.0.0.1", 0)) as taken:
             port = taken.getsockname()[1]
-        with self.assertRaisesRegex(ConnectionLost, f"127.0.0.1:{port}: Connection refused") as lost:
+        refused = f"127.0.0.1:{port}: Connection refused"
+        with self.assertRaisesRegex(ConnectionLost, refused) as lost:
             Session("127.0.0.1", port, "acme")
         self.assertIsNone(lost.exception.unanswered)
 
