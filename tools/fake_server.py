@@ -44,3 +44,64 @@ class FakeServer:
         self.listener.shutdown(socket.SHUT_RDWR)  # ends a wait for a connection
         self.thread.join(10)
         self.listener.close()
+
+
+class FakeHosed(FakeServer):
+    """Serves so many connections at once, by a book that has room for all, on one link from a to b.
+    It breaks a connection off in the middle of a reply, after so many replies on it, if told to."""
+
+    def __init__(self, workers, breaks_after=None):
+        super().__init__()
+        self.breaks_after = breaks_after
+        self.epoch, self.live, self.lock = 0, set(), threading.Lock()
+        self.workers = [threading.Thread(target=self.work, daemon=True) for _ in range(workers)]
+
+    def serve(self):
+        for worker in self.workers:
+            worker.start()
+        for worker in self.workers:
+            worker.join()
+
+    def work(self):
+        while True:
+            try:
+                peer, _ = self.listener.accept()
+            except OSError:
+                return
+            with peer, peer.makefile("rb") as lines:
+                try:
+                    self.session(peer, lines)
+                except ConnectionError:
+                    pass
+
+    def session(self, peer, lines):
+        for count, line in enumerate(lines):
+            with self.lock:
+                text = line.decode().rstrip("\n")
+                self.lines.append(text)
+                reply = self.reply(*text.split()[:2])
+            if count == self.breaks_after:
+                peer.sendall(reply[:4].encode())
+                return
+            peer.sendall(f"{reply}\n".encode())
+            if text == "bye":
+                return
+
+    def reply(self, command, number="1"):
+        if command in ("admit", "take"):
+            self.epoch += 1
+            self.live.add(self.epoch)
+            return f"admitted {self.epoch} cost 1 at {self.epoch} links 0:1"
+        if command == "release":
+            self.epoch += 1
+            self.live.remove(int(number))
+            return f"released {number} at {self.epoch}"
+        if command == "link" and number != "0":
+            return "bad 2"
+        return {
+            "hello": f"welcome at {self.epoch}",
+            "quote": f"quoted 1 cost 1 at {self.epoch} links 0:1",
+            "show": f"vpn {number} cost 1 at {self.epoch} ends a:1 b:1 links 0:1",
+            "link": f"link 0 a b capacity 9 cost 1 load 0 at {self.epoch}",
+            "bye": "bye",
+        }[command]
