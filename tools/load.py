@@ -113,7 +113,8 @@ def together(count: int, work: Callable, *words, watch: Callable = lambda: None)
     """What `work(number, gate, *words)` returns in each of so many processes, each of which calls
     `gate.wait()` to begin at once with the others. `watch` is called again and again meanwhile."""
     gate, told, results = FORK.Barrier(count), FORK.Queue(), []
-    ones = [FORK.Process(target=be_one, args=(work, one, gate, told, words)) for one in range(count)]
+    given = [(work, number, gate, told, words) for number in range(count)]
+    ones = [FORK.Process(target=be_one, args=args) for args in given]
     for one in ones:
         one.start()
     try:
@@ -464,8 +465,8 @@ def main() -> None:
         print(table(found), flush=True)
         if picture:
             with picture:
-                title = f"{found.served} customers at {load.host}:{load.port}, {found.seconds():.1f} s"
-                picture.write(plot(found, title))
+                where = f"{load.host}:{load.port}, {found.seconds():.1f} s"
+                picture.write(plot(found, f"{found.served} customers at {where}"))
     if found.fault:
         raise networks.WrongInput(found.fault)
     if found.served < load.customers:
