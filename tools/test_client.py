@@ -123,7 +123,7 @@ class Sessions(unittest.TestCase):
     def test_an_order_in_doubt(self):
         """Each way in which no reply to an order comes tells the order, and ends the session."""
         ways = [
-            ([WELCOME], ConnectionLost, "closed the connection$"),
+            ([WELCOME, b""], ConnectionLost, "closed the connection$"),
             ([WELCOME, b"admitted 1 co"], ConnectionLost, "in mid-line, after 'admitted 1 co'"),
             ([WELCOME, b"HTTP/1.1 200 OK\r\n"], MalformedReply, "which is no reply"),
             ([WELCOME, b"released 1 at 1\n"], MalformedReply, "'released 1 at 1'"),

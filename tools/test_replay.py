@@ -84,8 +84,11 @@ class Program(unittest.TestCase):
             output.write("admitted 1 cost 38200 at 1 links 0:1\nrefused at 1 side hou\n")
             output.flush()
             self.assertEqual(run("backbone_audit.txt", output.name), (
-                1, "vpn 1 acme is 1 cost 38200 now 38200\n"
-                "vpn 2 beta refused: refused at 1 side hou\nmoved 1 of 2 cost 38200 now 38200\n", "",
+                1,
+                "vpn 1 acme is 1 cost 38200 now 38200\n"
+                "vpn 2 beta refused: refused at 1 side hou\n"
+                "moved 1 of 2 cost 38200 now 38200\n",
+                "",
             ))
 
     def test_one_sentence_and_status_2(self):
