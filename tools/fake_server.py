@@ -48,11 +48,12 @@ class FakeServer:
 
 class FakeHosed(FakeServer):
     """Serves so many connections at once, by a book that has room for all, on one link from a to b.
-    It breaks a connection off in the middle of a reply, after so many replies on it, if told to."""
+    If told to, it breaks a connection off in the middle of a reply, after so many replies on it, or
+    leaves all but the first of a worker's connections waiting."""
 
-    def __init__(self, workers, breaks_after=None):
+    def __init__(self, workers, breaks_after=None, served=1_000):
         super().__init__()
-        self.breaks_after = breaks_after
+        self.breaks_after, self.served = breaks_after, served
         self.epoch, self.live, self.lock = 0, set(), threading.Lock()
         self.workers = [threading.Thread(target=self.work, daemon=True) for _ in range(workers)]
 
@@ -63,7 +64,7 @@ class FakeHosed(FakeServer):
             worker.join()
 
     def work(self):
-        while True:
+        for _ in range(self.served):
             try:
                 peer, _ = self.listener.accept()
             except OSError:

@@ -198,11 +198,13 @@ class Customer:
         elif isinstance(reply, client.Quoted):
             self.quotes.append(reply.quote)
 
-    def serve(self, session: client.Session, end: float, number: int, shared: Shared) -> None:
+    def serve(self, session: client.Session, end: float, number: int, shared: Shared) -> int:
+        """Gives commands until the time is up; 0 where it was before the first one, else 1."""
         session.timeout = self.load.timeout
         while time.perf_counter() < end and not shared.stop.value:
             self.step(session)
             shared.replies[number] += 1
+        return min(1, shared.replies[number])
 
     def give_up(self, session: client.Session) -> None:
         while self.held:
@@ -217,7 +219,7 @@ def be_customer(number: int, gate, load: Load, network: Network, shared: Shared)
         session = client.Session(load.host, load.port, f"load-{number + 1}", load.seconds)
         served = 1
         with session:
-            customer.serve(session, start + load.seconds, number, shared)
+            served = customer.serve(session, start + load.seconds, number, shared)
             stop = time.perf_counter()
             customer.give_up(session)
     except client.FAULTS as lost:

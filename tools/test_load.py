@@ -75,7 +75,8 @@ class Loads(unittest.TestCase):
         self.assertEqual([line.split()[0] for line in output.splitlines()[1:]], ["link", "all"])
 
     def test_more_customers_than_workers(self):
-        with FakeHosed(workers=1) as server:
+        # The first connection is that which learns the network.
+        with FakeHosed(workers=1, served=2) as server:
             status, output, error = run(server.port, 2, 0.4)
         self.assertEqual((status, output.splitlines()[-1].split()[0]), (2, "all"))
         self.assertEqual(error, "load.py: 1 of 2 customers were greeted in 0.4 s: "
