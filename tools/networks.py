@@ -34,6 +34,10 @@ class WrongText(WrongInput):
         self.what = what
 
 
+class OtherNetwork(WrongInput):
+    """What one network has otherwise than another, as one sentence."""
+
+
 @dataclass(frozen=True)
 class Link:
     """A link of a topology."""
@@ -223,30 +227,31 @@ def latest(states: List[LinkState]) -> List[LinkState]:
 
 
 def check_audit(topology: Topology, audit: Audit) -> None:
-    """Raises `WrongInput` where an audit is not one of a network."""
+    """Raises `OtherNetwork` where an audit is not one of a network."""
     check_links(topology, audit.links)
     if len(audit.links) != len(topology.links):
-        raise WrongInput(f"there are {len(audit.links)} links, and the network has "
-                         f"{len(topology.links)}")
+        raise OtherNetwork(f"there are {len(audit.links)} links, and the network has "
+                           f"{len(topology.links)}")
     nodes = set(topology.nodes)
     for vpn in audit.vpns:
         for name, _ in vpn.ends:
             if name not in nodes:
-                raise WrongInput(f"VPN {vpn.id} has an endpoint at {name}, which is no node of "
-                                 "the network")
+                raise OtherNetwork(f"VPN {vpn.id} has an endpoint at {name}, which is no node of "
+                                   "the network")
 
 
 def check_links(topology: Topology, links: List[LinkState]) -> None:
-    """Raises `WrongInput` where links are not those of a network, by their numbers."""
+    """Raises `OtherNetwork` where links are not those of a network, by their numbers."""
     for state in links:
         if state.number >= len(topology.links):
-            raise WrongInput(f"there is a link {state.number}, and the network has "
-                             f"{len(topology.links)} links")
+            raise OtherNetwork(f"there is a link {state.number}, and the network has "
+                               f"{len(topology.links)} links")
         link = topology.links[state.number]
         told = (state.a, state.b, state.capacity, state.cost)
         if told != (link.a, link.b, link.capacity, link.cost):
-            raise WrongInput(f"link {state.number} is {words_of(*told)}, and that of the network "
-                             f"is {words_of(link.a, link.b, link.capacity, link.cost)}")
+            raise OtherNetwork(
+                f"link {state.number} is {words_of(*told)}, and that of the network is "
+                f"{words_of(link.a, link.b, link.capacity, link.cost)}")
 
 
 def words_of(a: str, b: str, capacity: int, cost: int) -> str:
