@@ -1,7 +1,7 @@
 #!/usr/bin/env python3
 """Runs the program with words and streams that no stored run has, and compares what comes of them.
 
-The statuses and outputs that are wanted are those of docs/FORMATS.md. Prints each run that was not
+The statuses and outputs that are wanted are those of docs/GUIDE.md. Prints each run that was not
 as wanted, and how many were; ends with status 1 where one was not.
 
 usage: bench/streams.py [PROGRAM]     the PROGRAM (./hosed) as seen from the top of the repository

@@ -1,6 +1,6 @@
 """What the server's texts say, as plain values: topologies, audits, and replies to `link`.
 
-docs/FORMATS.md has the texts. A line is read by its form, and names have to be known; what the
+docs/GUIDE.md has the texts. A line is read by its form, and names have to be known; what the
 server judges beyond that, as limits on numbers, is left to the server.
 
     topology = networks.read_topology(networks.read_file("demo/backbone.txt"))

@@ -1,4 +1,4 @@
-"""Tests of client.py: replies as in docs/FORMATS.md, given by a fake server of this process."""
+"""Tests of client.py: replies as in docs/GUIDE.md, given by a fake server of this process."""
 import os
 import socket
 import subprocess

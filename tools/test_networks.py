@@ -1,4 +1,4 @@
-"""Tests of networks.py, by texts after docs/FORMATS.md."""
+"""Tests of networks.py, by texts after docs/GUIDE.md."""
 import contextlib
 import io
 import os

@@ -1,7 +1,7 @@
 """Topologies made of networks in other formats: names, lengths, capacities, and what was changed.
 
 A reader of a format adds nodes and links to a `Draft`, which gives a topology within the limits of
-docs/FORMATS.md, and tells what it changed or dropped. `main` is the program round a reader.
+docs/GUIDE.md, and tells what it changed or dropped. `main` is the program round a reader.
 """
 import argparse
 import json

@@ -1,0 +1,33 @@
+#!/usr/bin/env python3
+"""Finds each name that the tables of docs/PROOFS.md put in backquotes in the sources of crates/, and
+each file that they name. Prints each that is not there, and how many were looked for; ends with
+status 1 where one is not there.
+
+usage: bench/clauses.py
+"""
+import os
+import re
+import sys
+
+os.chdir(os.path.join(os.path.dirname(os.path.abspath(__file__)), ".."))
+NAME = re.compile(r"[^\W\d][\w']*")
+FILE = re.compile(r"[\w/]+\.(?:antt|rt)\b")
+
+files = [f"{top}/{name}" for top, _, names in os.walk("crates") for name in names
+         if name.endswith((".antt", ".rt")) and "/out/" not in f"{top}/"]
+known = set(os.listdir("crates"))
+for path in files:
+    with open(path, encoding="utf-8") as source:
+        known.update(NAME.findall(source.read()))
+with open("docs/PROOFS.md", encoding="utf-8") as document:
+    tables = [line for line in document if line.startswith("|")]
+asked = {(name, line) for line in tables for text in re.findall(r"`([^`]*)`", line)
+         for name in NAME.findall(text)}
+missing = {(name, line) for name, line in asked if name not in known}
+named = {(name, line) for line in tables for name in FILE.findall(line)}
+missing |= {(name, line) for name, line in named
+            if not any(path == name or path.endswith(f"/{name}") for path in files)}
+for name, line in sorted(missing):
+    print(f"{name}: in no source, but in {line[:70]}")
+print(f"clauses: {len({name for name, _ in asked | named})} names, {len(missing)} not there")
+sys.exit(1 if missing else 0)
