@@ -19,6 +19,7 @@ usage: bench/examples.py [PROGRAM]     the PROGRAM (./hosed) as seen from the to
 import os
 import re
 import select
+import signal
 import socket
 import subprocess
 import sys
@@ -88,13 +89,22 @@ def taken(pipe, count):
     return found.decode()
 
 
+def stop_all(shell):
+    """Ends a shell and all that it started."""
+    try:
+        os.killpg(shell.pid, signal.SIGKILL)
+    except ProcessLookupError:
+        pass
+
+
 def run_blocks(commands):
     """Runs commands in one folder and one shell; a later one begins when all is written."""
     port = str(free_port())
     with tempfile.TemporaryDirectory() as folder:
         make_folder(folder)
-        pipes = {"stdin": subprocess.PIPE, "stdout": subprocess.PIPE, "stderr": subprocess.DEVNULL}
-        with subprocess.Popen(["bash", "-c", SHELL], cwd=folder, **pipes) as shell:
+        streams = {"stdin": subprocess.PIPE, "stdout": subprocess.PIPE,
+                   "stderr": subprocess.DEVNULL, "start_new_session": True}
+        with subprocess.Popen(["bash", "-c", SHELL], cwd=folder, **streams) as shell:
             try:
                 for command, wanted in commands:
                     shell.stdin.write(f"{command.replace('7000', port)}\n".encode())
@@ -107,7 +117,7 @@ def run_blocks(commands):
                 if rest:
                     raise Differs(f"after {commands[-1][0]}", "", rest)
             finally:
-                shell.kill()
+                stop_all(shell)
     return len(commands)
 
 
