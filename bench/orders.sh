@@ -122,8 +122,8 @@ def tell_orders(program, plain):
     speeds = [IN_A_TURN / seconds for seconds in program]
     ratios = [one / other for one, other in zip(program, plain)]
     print(f"orders: {orders / taken:.0f} a second, {taken:.3f} s for {orders:,} acknowledged")
-    print(f"reference: {least:.3f} s for the same writes and syncs, ratio {taken / least:.2f}")
     print(f"turns of {IN_A_TURN}: {range_text(speeds, 0)} a second, ratios {range_text(ratios, 2)}")
+    print(f"reference: {least:.3f} s for the same writes and syncs, ratio {taken / least:.2f}")
 
 
 def range_text(figures, digits):

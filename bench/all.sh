@@ -1,0 +1,118 @@
+#!/usr/bin/env bash
+# Runs the scripts that measure, one after another, and writes the table of docs/FIGURES.md from what
+# they print: each figure with its reference of the same run. It wants an idle machine, and says in
+# the table where it was not. It takes about ten minutes once the programs are built; what each
+# script prints stays in LOGS. bench/gate.sh and bench/memory.sh are left out: they take an hour and
+# a quarter of one, and compile.
+# With names it runs these scripts alone, and prints the table in place of writing it. It ends with
+# status 1 where a script failed, whose row then says so.
+# usage: bench/all.sh [-l LOGS] [SCRIPT ..]     SCRIPT: as orders.sh; LOGS (out/figures)
+set -euo pipefail
+export LC_ALL=C
+cd "$(dirname "${BASH_SOURCE[0]}")/.."
+logs=out/figures
+if [ "${1-}" = -l ]; then
+    logs=$2
+    shift 2
+fi
+all=(admits book codec commands decisions journal long_lines orders puts quotes serve store takes topology)
+scripts=("$@")
+if (($# == 0)); then scripts=("${all[@]/%/.sh}"); fi
+mkdir -p "$logs"
+rm -f "$logs"/*.sh "$logs"/*.sh.seconds
+
+failed=0
+read -r load _ </proc/loadavg
+for script in "${scripts[@]}"; do
+    begun=$SECONDS
+    "bench/$script" >"$logs/$script" </dev/null || {
+        echo "failed" >>"$logs/$script"
+        failed=1
+    }
+    echo "$((SECONDS - begun))" >"$logs/$script.seconds"
+    echo "all: $script took $((SECONDS - begun)) s" >&2
+done
+
+python3 - "$logs" "$load" "$#" "${scripts[@]}" <<'END'
+import datetime
+import os
+import re
+import subprocess
+import sys
+
+LOGS, LOAD, CHOSEN, SCRIPTS = sys.argv[1], float(sys.argv[2]), int(sys.argv[3]), sys.argv[4:]
+DOCUMENT, BEGIN, END = "docs/FIGURES.md", "<!-- figures -->\n", "<!-- end of figures -->\n"
+HEAD = ("| Figure | Reference in the same run | Ratio | Machine | Date | Script |\n"
+        "|---|---|---|---|---|---|\n")
+IDLE = 0.3  # of the load, at most
+BESIDE = re.compile(r"; (?:reference: |(?=echo |loop ))")
+
+
+def named(lines):
+    """The lines, of which those that are set in begin with the one above them that is not."""
+    name = ""
+    for line, following in zip(lines, [*lines[1:], ""]):
+        if line.startswith(" "):
+            yield line if line.startswith("    echo ") else f"{name}: {line.strip()}"
+        elif following.startswith("    "):
+            name = line
+        else:
+            yield line
+
+
+def groups(lines):
+    """The lines that tell figures, and the reference that follows them, which may be none."""
+    figures = []
+    for line in named(lines):
+        first, *rest = BESIDE.split(line, 1)
+        if rest:
+            yield [first], rest[0]
+        elif line.startswith(("reference: ", "    echo ")):
+            yield figures, line.strip().replace("reference: ", "", 1)
+            figures = []
+        else:
+            figures.append(line)
+    if figures:
+        yield figures, "none"
+
+
+def ratio_of(reference, figures):
+    found = re.search(r",? ratio ([\d.]+(?: to [\d.]+)?)", reference)
+    if found:
+        return reference.replace(found[0], "", 1), found[1]
+    told = re.findall(r"ratio ([\d.]+)", " ".join(figures))
+    return reference, "; ".join(told) or "none"
+
+
+def machine():
+    with open("/proc/cpuinfo", encoding="ascii", errors="replace") as told:
+        model = re.search(r"(?m)^model name\s*: (.*)$", told.read())
+    idle = "idle" if LOAD <= IDLE else f"not idle, load {LOAD}"
+    return f"{os.cpu_count()} of {model[1] if model else 'an unknown processor'}, {idle}"
+
+
+def rows():
+    where, date = machine(), datetime.date.today().isoformat()
+    for script in SCRIPTS:
+        with open(os.path.join(LOGS, script), encoding="utf-8", errors="replace") as log:
+            lines = [line.rstrip() for line in log if line.strip()]
+        for figures, reference in groups(lines):
+            reference, ratio = ratio_of(reference, figures)
+            cells = ("; ".join(figures), reference, ratio, where, date, f"`{script}`")
+            yield "| " + " | ".join(cell.replace("|", "\\|") for cell in cells) + " |\n"
+
+
+table = HEAD + "".join(rows())
+if CHOSEN:
+    print(table, end="")
+    sys.exit()
+commit = subprocess.run(["git", "rev-parse", "--short", "HEAD"], stdout=subprocess.PIPE,
+                        universal_newlines=True).stdout.strip()
+with open(DOCUMENT, encoding="utf-8") as document:
+    before, rest = document.read().split(BEGIN)
+_, after = rest.split(END)
+with open(DOCUMENT, "w", encoding="utf-8") as document:
+    document.write(before + BEGIN + table + END + after)
+print(f"all: {DOCUMENT} has the figures of commit {commit}; its sentences above them may be old")
+END
+exit "$failed"
