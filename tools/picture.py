@@ -68,16 +68,15 @@ def svg(picture, loads, out):
     topology = picture.topology
     widest = 14 if len(topology.links) <= SHARED else 8 if len(topology.links) <= 400 else 5
     most = max((link.capacity for link in topology.links), default=1)
-    what = f"The network: {len(topology.nodes)} nodes, {len(topology.links)} links"
-    yield (f'<svg viewBox="0 0 {WIDTH} {picture.height:.0f}" role="img" aria-label="{what}" '
+    yield (f'<svg viewBox="0 0 {WIDTH} {picture.height:.0f}" role="img" aria-label="The network" '
            f'class="{"small" if len(topology.nodes) <= NAMED else "large"}">')
     yield "<g>"
     for link in topology.links:
         width = max(2.5, widest * math.sqrt(link.capacity / most))
         yield drawn_link(picture, link, width, loads and loads[link.number], link.number in out)
     yield "</g>"
-    for node, (x, y) in enumerate(picture.nodes):
-        yield f'<circle class="node" data-node="{node}" cx="{x:.1f}" cy="{y:.1f}" r="4"/>'
+    for x, y in picture.nodes:
+        yield f'<circle class="node" cx="{x:.1f}" cy="{y:.1f}" r="4"/>'
     if len(topology.nodes) <= NAMED:
         yield from names(picture)
     if loads and len(topology.links) <= SHARED:

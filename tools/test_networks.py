@@ -36,6 +36,7 @@ WRONG_TOPOLOGIES = [
     # the text, the line, and words of the sentence
     ("", 1, "without its line `end`"),
     ("node a\n", 2, "without its line `end`"),
+    ("end\n", 1, "no node"),
     ("epoch 2\n", 1, "'epoch 2' is not a line of a topology"),
     ("node a\nnode a\nend\n", 2, "a node a already"),
     ("node a\nlink a z 1 1\nend\n", 2, "no node z"),
@@ -63,8 +64,8 @@ WRONG_REPLIES = [
 ]
 OTHER_NETWORKS = [
     ([LINKS[0], Link(1, "a", "b", 20, 7, 4)], "link 1 is a b capacity 20 cost 3"),
-    ([*LINKS, Link(2, "a", "c", 1, 1, 1)], "there are 2 links, and the network has 3"),
-    (LINKS[:1], "there is a link 1, and the network has 1 links"),
+    ([*LINKS, Link(2, "a", "c", 1, 1, 1)], "it has 2 links, and the network has 3"),
+    (LINKS[:1], "there is a link 1, and the network has 1 link"),
 ]
 
 
