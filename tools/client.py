@@ -487,7 +487,10 @@ def parser_of_words() -> argparse.ArgumentParser:
     )
     parser.add_argument("port", type=port_number, metavar="PORT")
     parser.add_argument("customer", metavar="CUSTOMER")
-    parser.add_argument("command", nargs=argparse.REMAINDER, metavar="COMMAND", help="see below")
+    command = parser.add_argument(
+        "command", nargs=argparse.REMAINDER, metavar="COMMAND", help="see below"
+    )
+    command.required = False
     return parser
 
 
@@ -524,6 +527,12 @@ def talk(given) -> bool:
     return done
 
 
+def doubt_of(line: Optional[str]) -> str:
+    """What is to be said of a line without a reply."""
+    is_order = (line or "").split(" ")[0] in ("admit", "take", "release")
+    return f"; {networks.shown(line)} may have been done" if is_order else ""
+
+
 def main() -> None:
     parser = parser_of_words()
     given = parser.parse_args()
@@ -531,7 +540,9 @@ def main() -> None:
         parser.error("a command is one line")
     try:
         done = talk(given)
-    except (ConnectionLost, MalformedReply, ValueError) as fault:
+    except (ConnectionLost, MalformedReply) as fault:
+        raise networks.WrongInput(f"{fault}{doubt_of(fault.unanswered)}") from None
+    except ValueError as fault:
         raise networks.WrongInput(str(fault)) from None
     if not done:
         sys.exit(1)

@@ -461,8 +461,10 @@ def main() -> None:
     picture = begun(given.plot)
     load = Load(given.port, given.customers, given.seconds, given.mix, given.host, given.seed)
     progress = Progress(load.seconds)
-    found = measure(load, progress)
-    progress.end()
+    try:
+        found = measure(load, progress)
+    finally:
+        progress.end()
     if found.tallies:
         print(table(found), flush=True)
         if picture:

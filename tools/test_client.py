@@ -9,9 +9,7 @@ import unittest
 import client
 from client import ConnectionLost, LinkState, MalformedReply, NoAnswer, Session
 from fake_server import FakeServer
-
-TOOLS = os.path.dirname(os.path.abspath(__file__))
-TOP = os.path.dirname(TOOLS)
+from runs import TOOLS, within
 
 # A reply of each kind, and its value.
 REPLIES = [
@@ -54,12 +52,7 @@ WELCOME, BYE = b"welcome at 0\n", b"bye\n"
 
 def run(port, *words, text=""):
     """The program's status, output and what it says on standard error."""
-    done = subprocess.run(
-        [sys.executable, os.path.join(TOOLS, "client.py"), str(port), *words],
-        input=text, stdout=subprocess.PIPE, stderr=subprocess.PIPE, universal_newlines=True,
-        timeout=20,
-    )
-    return done.returncode, done.stdout, done.stderr
+    return within("client.py", client.main, port, *words, text=text)
 
 
 class Replies(unittest.TestCase):
@@ -186,7 +179,7 @@ class Program(unittest.TestCase):
         ways = [
             ([b"SSH-2.0-OpenSSH_9.2\r\n"], "'hello acme' is answered 'SSH-2.0-OpenSSH_9.2\\\\r'"),
             ([b"welcome"], "in mid-line, after 'welcome'"),
-            ([WELCOME, b""], "closed the connection"),
+            ([WELCOME, b""], "closed the connection\n"),
             ([b"bad 2\n"], "the server takes no customer 'acme': bad 2"),
         ]
         for texts, sentence in ways:
@@ -194,6 +187,13 @@ class Program(unittest.TestCase):
                 status, output, error = run(server.port, "acme", "link", "0")
                 self.assertEqual((status, output, error.count("\n")), (2, "", 1))
                 self.assertRegex(error, sentence)
+
+    def test_an_order_without_a_reply(self):
+        with FakeServer([WELCOME, b"released 1 a"]) as server:
+            status, output, error = run(server.port, "acme", "release", "1")
+        self.assertEqual((status, output), (2, ""))
+        self.assertIn("closed the connection in mid-line, after 'released 1 a'; "
+                      "'release 1' may have been done\n", error)
 
     def test_usage(self):
         for words in ([], ["acme", "--timeout", "0"]):
