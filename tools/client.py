@@ -20,7 +20,7 @@ import socket
 import sys
 import time
 from dataclasses import dataclass
-from typing import ClassVar, Dict, Iterable, Mapping, Optional, Tuple
+from typing import Callable, ClassVar, Dict, Iterable, Mapping, Optional, Tuple
 
 import networks
 
@@ -215,8 +215,13 @@ TEXTS = {
 }
 
 
-def pairs(text):
-    return (pair.split(":") for pair in text.split(" "))
+def table(text: str, key: Callable) -> Dict:
+    """The pairs of a list; each key stands once."""
+    pairs = [pair.split(":") for pair in text.split(" ")]
+    found = {key(one): int(amount) for one, amount in pairs}
+    if len(found) < len(pairs):
+        raise ValueError(f"a pair repeats: {text}")
+    return found
 
 
 VALUES = {
@@ -224,8 +229,8 @@ VALUES = {
     "b": str,
     "out": bool,
     "side": lambda text: tuple(text.split(" ")),
-    "ends": lambda text: {name: int(rate) for name, rate in pairs(text)},
-    "links": lambda text: {int(link): int(amount) for link, amount in pairs(text)},
+    "ends": lambda text: table(text, str),
+    "links": lambda text: table(text, int),
 }
 
 
@@ -254,8 +259,11 @@ def read_reply(line: str) -> Optional[Reply]:
     """The reply, a refusal as well, that a line without its line feed is; none where it is none."""
     for kind, pattern, values in READERS.get(line.partition(" ")[0], ()):
         found = pattern.fullmatch(line)
-        if found:
-            return kind(*(read(text) for read, text in zip(values, found.groups())))
+        try:
+            if found:
+                return kind(*(read(text) for read, text in zip(values, found.groups())))
+        except ValueError:
+            pass  # a pair repeats
     return None
 
 
@@ -279,6 +287,9 @@ class Lines:
         """The line that answers a line, both without line feed."""
         if "\n" in line:
             raise ValueError("a line feed within a line")
+        if self.unanswered is not None:
+            what = f"{self.peer} is not asked after a line without a reply"
+            raise ConnectionLost(what, self.unanswered)
         if self._left:
             raise self.malformed(f"says more than it was asked: {self.shown()}")
         self.unanswered = line
@@ -333,8 +344,10 @@ class Lines:
 # ---- Sessions.
 
 # The reply to each command where it is not refused, and the field that repeats a reply's number.
-DONE = {"hello": Welcome, "admit": Admitted, "quote": Quoted, "take": Admitted}
-DONE.update({"release": Released, "show": Vpn, "link": LinkState, "bye": Bye})
+DONE = {
+    "hello": Welcome, "admit": Admitted, "quote": Quoted, "take": Admitted, "release": Released,
+    "show": Vpn, "link": LinkState, "bye": Bye,
+}
 REPEATS = {Released: "id", Vpn: "id", NoVpn: "id", NoQuote: "quote", LinkState: "link"}
 
 

@@ -5,6 +5,7 @@ import subprocess
 import sys
 import threading
 import unittest
+from unittest import mock
 
 import client
 from client import ConnectionLost, LinkState, MalformedReply, NoAnswer, Session
@@ -44,7 +45,8 @@ REPLIES = [
 ]
 NO_REPLIES = [
     "", "welcome", "welcome at 01", "welcome at -1", "welcome at 0 ", "welcome  at 0", "bye bye",
-    "admitted 1 cost 1 at 1 links", "admitted 1 cost 1 at 1 links 0", "refused at 1 side",
+    "admitted 1 cost 1 at 1 links", "admitted 1 cost 1 at 1 links 0:1 0:1",
+    "admitted 1 cost 1 at 1 links 0", "refused at 1 side",
     "link 0 a h capacity 10 cost 1 load 3 down at 1", "bad x", "HTTP/1.1 400 Bad Request\r",
 ]
 WELCOME, BYE = b"welcome at 0\n", b"bye\n"
@@ -150,6 +152,16 @@ class Sessions(unittest.TestCase):
                 session.release(1)
             self.assertEqual(lost.exception.unanswered, "release 1")
             never.set()
+
+    def test_no_command_after_one_whose_reply_was_not_waited_for(self):
+        with FakeServer([WELCOME, BYE]) as server:
+            session = Session("127.0.0.1", server.port, "acme")
+            with mock.patch.object(session._lines, "_take", side_effect=KeyboardInterrupt):
+                with self.assertRaises(KeyboardInterrupt):
+                    session.release(1)
+            with self.assertRaisesRegex(ConnectionLost, "not asked") as lost:
+                session.release(2)
+            self.assertEqual(lost.exception.unanswered, "release 1")
 
     def test_no_server(self):
         with socket.create_server(("127.0.0.1", 0)) as taken:
