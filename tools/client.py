@@ -14,7 +14,6 @@ the line that was sent and has no reply, and an order in it may have been entere
 A session ends with its `with`, which says `bye`.
 """
 import argparse
-import os
 import re
 import socket
 import sys
@@ -296,7 +295,7 @@ class Lines:
         try:
             if self._socket.gettimeout() != self.timeout:
                 self._socket.settimeout(self.timeout)
-            self._socket.sendall(os.fsencode(line) + b"\n")
+            self._socket.sendall(f"{line}\n".encode("utf-8", "surrogateescape"))
             reply = self._line()
         except OSError as fault:
             raise fault if isinstance(fault, ConnectionLost) else self.lost(fault) from None
@@ -515,7 +514,7 @@ def commands(words) -> Iterable[str]:
     if sys.stdin is None:
         raise networks.WrongInput("standard input is closed")
     for line in sys.stdin.buffer:
-        text = os.fsdecode(line.rstrip(b"\n"))
+        text = line.rstrip(b"\n").decode("utf-8", "surrogateescape")
         if text.split() == ["bye"]:
             return
         yield text
