@@ -450,18 +450,28 @@ def words() -> argparse.Namespace:
     return parser.parse_args()
 
 
-def begun(path: Optional[str]):
-    """The file of the plot, which is begun before a long load rather than after it."""
+def check_written(path: str) -> None:
+    """Raises where the plot cannot be written: before a long load rather than after it."""
     try:
-        return open(path, "w", encoding="utf-8") if path else None
+        open(path, "a", encoding="utf-8").close()
     except (OSError, ValueError) as fault:
         reason = getattr(fault, "strerror", None) or fault
         raise networks.WrongInput(f"{path} cannot be written: {reason}") from None
 
 
+def tell(load: Load, found: Found, path: Optional[str]) -> None:
+    """Prints the table, and writes the plot where one is wanted."""
+    print(table(found), flush=True)
+    if path:
+        where = f"{load.host}:{load.port}, {found.seconds():.1f} s"
+        with open(path, "w", encoding="utf-8") as picture:
+            picture.write(plot(found, f"{found.served} customers at {where}"))
+
+
 def main() -> None:
     given = words()
-    picture = begun(given.plot)
+    if given.plot:
+        check_written(given.plot)
     load = Load(given.port, given.customers, given.seconds, given.mix, given.host, given.seed)
     progress = Progress(load.seconds)
     try:
@@ -469,11 +479,7 @@ def main() -> None:
     finally:
         progress.end()
     if found.tallies:
-        print(table(found), flush=True)
-        if picture:
-            with picture:
-                where = f"{load.host}:{load.port}, {found.seconds():.1f} s"
-                picture.write(plot(found, f"{found.served} customers at {where}"))
+        tell(load, found, given.plot)
     if found.fault:
         raise networks.WrongInput(found.fault)
     if found.served < load.customers:
