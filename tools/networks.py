@@ -137,6 +137,8 @@ def read_topology(text: str) -> Topology:
         if line == "" or line[0] == "#":
             continue
         if line == "end":
+            if not nodes:
+                raise WrongText(at, "the topology has no node")
             return Topology(nodes, links, {name: places[name] for name in nodes if name in places})
         node, link = NODE.fullmatch(line), LINK.fullmatch(line)
         if node:

@@ -6,6 +6,7 @@ const PAGE_ROWS = 25;
 const NEAR = 10; // pixels
 const EDGE = 4;
 const BELOW = 16;
+const AWAY = 14;
 const SVG = "http://www.w3.org/2000/svg";
 
 const find = (choice) => document.querySelector(choice);
@@ -35,7 +36,7 @@ const count = (text) => text.split(",").length;
 const pairs = (text) => text.split(",").map((pair) => pair.split(":"));
 const endsOf = (vpn) => pairs(vpn.ends).map(([name, rate]) => [nodes[numberOf.get(name)], rate]);
 const amountsOf = (vpn) => pairs(vpn.amounts).map(([link, amount]) => [links[link], amount]);
-const over = (link) => vpns.filter((vpn) => `,${vpn.amounts}`.includes(`,${link.number}:`));
+const vpnsOver = (link) => vpns.filter((vpn) => `,${vpn.amounts}`.includes(`,${link.number}:`));
 
 // What is used in whole percent: 0 and 100 are told of what is empty and what is full alone.
 const percent = (link) =>
@@ -162,16 +163,26 @@ class Table {
     const element = made("tr", {}, ...this.columns.map((column) =>
       made("td", { className: column.kind }, column.shown(row))));
     element.dataset.key = this.keyOf(row);
-    if (this.current === this.keyOf(row)) element.setAttribute("aria-current", "true");
+    this.markRow(element);
     return element;
   }
 
+  // Marks the row of a key, and turns to it. A row that is there stays, with its focus.
   mark(key) {
     this.current = key;
-    for (const row of this.body.children) {
-      if (+row.dataset.key === key) row.setAttribute("aria-current", "true");
-      else row.removeAttribute("aria-current");
+    const place = this.rows.findIndex((row) => this.keyOf(row) === key);
+    const first = place - place % PAGE_ROWS;
+    if (place < 0 || first === this.first) {
+      for (const row of this.body.children) this.markRow(row);
+    } else {
+      this.first = first;
+      this.write();
     }
+  }
+
+  markRow(element) {
+    if (+element.dataset.key === this.current) element.setAttribute("aria-current", "true");
+    else element.removeAttribute("aria-current");
   }
 }
 
@@ -212,7 +223,7 @@ function vpnWords(vpn) {
 function linkWords(link) {
   const words = [made("p", {}, linkNumbers(link))];
   if (network.audit) {
-    const users = over(link);
+    const users = vpnsOver(link);
     const rows = users.map((vpn) => [anchor("vpn", vpn.id), vpn.customer,
       amountsOf(vpn).find(([other]) => other === link)[1]]);
     words.push(made("section", {}, made("h3", {}, `VPNs over it: ${users.length}`),
@@ -236,8 +247,8 @@ function label(node, words) {
   return drawn("text", { x: node.x, y: node.y, "data-side": side }, words);
 }
 
-// Shows links alone, with what `over` draws over them; all of them where there are none.
-function draw(shown, over) {
+// Shows links alone, with what `marks` makes over them; all links where there are none.
+function draw(shown, marks) {
   groups.forEach((group) => group.classList.remove("on"));
   names.forEach((name) => name.classList.remove("replaced"));
   for (const link of shown) {
@@ -246,7 +257,7 @@ function draw(shown, over) {
     group.parentNode.append(group); // so that no other link is drawn over it
   }
   picture.classList.toggle("choosing", shown.length > 0);
-  find("#over").replaceChildren(...over());
+  find("#over").replaceChildren(...marks());
   keepInside(find("#over").children);
 }
 
@@ -315,7 +326,7 @@ function pictureUnit() {
   return matrix ? 1 / matrix.a : 1;
 }
 
-function place(event) {
+function inPicture(event) {
   const onScreen = new DOMPoint(event.clientX, event.clientY);
   return onScreen.matrixTransform(picture.getScreenCTM().inverse());
 }
@@ -340,9 +351,9 @@ const nodeAt = (point) => nearest(nodes, (node) => Math.hypot(point.x - node.x, 
 const linkAt = (point) => nearest(links, (link) =>
   Math.min(toSegment(point, link.a, link), toSegment(point, link, link.b)));
 
-function point(event) {
-  unpoint();
-  const at = place(event);
+function showPointed(event) {
+  hidePointed();
+  const at = inPicture(event);
   const node = nodeAt(at);
   const link = node ? undefined : linkAt(at);
   picture.style.cursor = link ? "pointer" : "";
@@ -353,18 +364,19 @@ function point(event) {
     : `link ${link.number}, ${between(link)}\n${linkNumbers(link)}`;
   pointed.hidden = false;
   const { width, height } = pointed.getBoundingClientRect();
-  pointed.style.left = `${Math.max(0, Math.min(event.clientX + 14, innerWidth - width - 4))}px`;
-  pointed.style.top = `${event.clientY + height + 18 > innerHeight
-    ? event.clientY - height - 10 : event.clientY + 14}px`;
+  const above = event.clientY + AWAY + height > innerHeight;
+  const left = Math.min(event.clientX + AWAY, innerWidth - width - EDGE);
+  pointed.style.left = `${Math.max(0, left)}px`;
+  pointed.style.top = `${event.clientY + (above ? -AWAY - height : AWAY)}px`;
 }
 
-function unpoint() {
+function hidePointed() {
   document.querySelectorAll(".near").forEach((element) => element.classList.remove("near"));
   find("#pointed").hidden = true;
 }
 
 function choosePointed(event) {
-  const at = place(event);
+  const at = inPicture(event);
   const link = nodeAt(at) ? undefined : linkAt(at);
   if (link) location.hash = `#link=${link.number}`;
 }
@@ -384,8 +396,8 @@ if (network.audit) {
 }
 find("#tables").append(linkTable.element);
 linkTable.show(links);
-picture.addEventListener("pointermove", point);
-picture.addEventListener("pointerleave", unpoint);
+picture.addEventListener("pointermove", showPointed);
+picture.addEventListener("pointerleave", hidePointed);
 picture.addEventListener("click", choosePointed);
 addEventListener("keydown", (event) => {
   if (event.key === "Escape" && event.target.tagName !== "INPUT" && location.hash) clear();

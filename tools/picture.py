@@ -76,8 +76,8 @@ def svg(picture, loads, out):
         width = max(2.5, widest * math.sqrt(link.capacity / most))
         yield drawn_link(picture, link, width, loads and loads[link.number], link.number in out)
     yield "</g>"
-    for node, (x, y) in enumerate(picture.nodes):
-        yield f'<circle class="node" data-node="{node}" cx="{x:.1f}" cy="{y:.1f}" r="4"/>'
+    for x, y in picture.nodes:
+        yield f'<circle class="node" cx="{x:.1f}" cy="{y:.1f}" r="4"/>'
     if len(topology.nodes) <= NAMED:
         yield from names(picture)
     if loads and len(topology.links) <= SHARED:

@@ -36,6 +36,7 @@ WRONG_TOPOLOGIES = [
     # the text, the line, and words of the sentence
     ("", 1, "without its line `end`"),
     ("node a\n", 2, "without its line `end`"),
+    ("end\n", 1, "no node"),
     ("epoch 2\n", 1, "'epoch 2' is not a line of a topology"),
     ("node a\nnode a\nend\n", 2, "a node a already"),
     ("node a\nlink a z 1 1\nend\n", 2, "no node z"),

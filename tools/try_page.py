@@ -119,6 +119,7 @@ class Tries(unittest.TestCase):
         self.browser.press(*ENTER)
         self.browser.settled()
         self.assertEqual(self.value(TITLE), "VPN 2 of beta, cost 3200")
+        self.assertEqual(self.value("document.activeElement.textContent"), "2")
         self.browser.press(*ESCAPE)
         self.browser.settled()
         self.assertEqual(self.value(TITLE), None)
@@ -150,6 +151,13 @@ class Tries(unittest.TestCase):
             milliseconds = min(self.browser.open(self.large + end) for _ in range(3))
             print(f"512 nodes, 2048 links and 20000 VPNs {end}: {milliseconds:.0f} ms")
             self.assertLess(milliseconds, MOST_MILLISECONDS)
+
+    def test_the_tables_turn_to_what_is_chosen(self):
+        self.browser.open(self.large + "#vpn=20000")
+        current = "document.querySelector('[aria-label=VPNs] [aria-current]')"
+        self.assertEqual(self.value(f"{current}.firstChild.textContent"), "20000")
+        self.browser.click("vpnTable.back")
+        self.assertEqual(self.value(rows("VPNs", 0))[0], "19951")
 
 
 if __name__ == "__main__":
