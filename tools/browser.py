@@ -27,7 +27,8 @@ class Browser:
         if os.geteuid() == 0:
             words.append("--no-sandbox")
         self.process = subprocess.Popen(
-            words, preexec_fn=placed, close_fds=False, stderr=subprocess.DEVNULL)
+            words, preexec_fn=placed, close_fds=False, stderr=subprocess.DEVNULL,
+            env={**os.environ, "TMPDIR": self.folder})
         os.close(theirs_in)
         os.close(theirs_out)
         self.reads, self.writes = os.fdopen(ours_in, "rb"), os.fdopen(ours_out, "wb")

@@ -232,7 +232,7 @@ def check_audit(topology: Topology, audit: Audit) -> None:
     """Raises `OtherNetwork` where an audit is not one of a network."""
     check_links(topology, audit.links)
     if len(audit.links) != len(topology.links):
-        raise OtherNetwork(f"there are {len(audit.links)} links, and the network has "
+        raise OtherNetwork(f"it has {counted(len(audit.links), 'link')}, and the network has "
                            f"{len(topology.links)}")
     nodes = set(topology.nodes)
     for vpn in audit.vpns:
@@ -247,7 +247,7 @@ def check_links(topology: Topology, links: List[LinkState]) -> None:
     for state in links:
         if state.number >= len(topology.links):
             raise OtherNetwork(f"there is a link {state.number}, and the network has "
-                               f"{len(topology.links)} links")
+                               f"{counted(len(topology.links), 'link')}")
         link = topology.links[state.number]
         told = (state.a, state.b, state.capacity, state.cost)
         if told != (link.a, link.b, link.capacity, link.cost):
@@ -256,14 +256,19 @@ def check_links(topology: Topology, links: List[LinkState]) -> None:
                 f"{words_of(link.a, link.b, link.capacity, link.cost)}")
 
 
+def counted(number: int, word: str) -> str:
+    return f"{number} {word}{'' if number == 1 else 's'}"
+
+
 def words_of(a: str, b: str, capacity: int, cost: int) -> str:
     return f"{a} {b} capacity {capacity} cost {cost}"
 
 
 def read_file(path: str) -> str:
     """The text in a file, or that of standard input where the path is `-`."""
+    name = named(path)
     if path == "-" and sys.stdin is None:
-        raise WrongInput("standard input is closed")
+        raise WrongInput(f"{name} is closed")
     try:
         if path == "-":
             content = sys.stdin.buffer.read()
@@ -272,12 +277,16 @@ def read_file(path: str) -> str:
                 content = file.read()
     except (OSError, ValueError) as fault:
         reason = getattr(fault, "strerror", None) or fault
-        raise WrongInput(f"{path} cannot be read: {reason}") from None
+        raise WrongInput(f"{name} cannot be read: {reason}") from None
     if content[1:5] == b"HOSE":
-        raise WrongInput(f"{path} is a journal; `hosed audit TOPOLOGY JOURNAL` tells what it holds")
+        raise WrongInput(f"{name} is a journal; `hosed audit TOPOLOGY JOURNAL` tells what it holds")
     if b"\0" in content:
-        raise WrongInput(f"{path} is not a text")
+        raise WrongInput(f"{name} is not a text")
     return content.decode("utf-8", "surrogateescape")  # a comment may have any bytes
+
+
+def named(path: str) -> str:
+    return "standard input" if path == "-" else path
 
 
 def load(reader: Callable, path: str):
@@ -285,7 +294,7 @@ def load(reader: Callable, path: str):
     try:
         return reader(read_file(path))
     except WrongText as wrong:
-        raise WrongInput(f"{path}, {wrong}") from None
+        raise WrongInput(f"{named(path)}, {wrong}") from None
 
 
 def status_of(main: Callable[[], None]) -> int:

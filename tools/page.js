@@ -360,7 +360,7 @@ function showPointed(event) {
   if (!node && !link) return;
   (node ? circles[node.number] : groups[link.number]).classList.add("near");
   const pointed = find("#pointed");
-  pointed.textContent = node ? `${node.name}: ${node.links} links`
+  pointed.textContent = node ? `node ${node.name}, links: ${node.links}`
     : `link ${link.number}, ${between(link)}\n${linkNumbers(link)}`;
   pointed.hidden = false;
   const { width, height } = pointed.getBoundingClientRect();

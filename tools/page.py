@@ -5,6 +5,11 @@ nothing else: no other file, and no network.
     hosed audit TOPOLOGY JOURNAL > AUDIT
     python3 tools/page.py TOPOLOGY AUDIT > PAGE.html
 
+and, where links may be out of service, with LAST for the last link's number,
+
+    seq 0 LAST | sed 's/^/x link /' | cat TOPOLOGY - | hosed run JOURNAL > REPLIES
+    python3 tools/page.py TOPOLOGY AUDIT REPLIES > PAGE.html
+
 A link is drawn as wide as it can carry and filled as far as it is used, the darker the fuller; the
 numbers are under the pointer. The tables sort by any column, and that of the VPNs filters by
 customer. A VPN or a link that is chosen, in a table, in the picture or by the end of the page's
@@ -86,11 +91,13 @@ def vpn_line(vpn):
 
 
 def summary(topology, audit, out):
-    said = f"{len(topology.nodes)} nodes, {len(topology.links)} links"
+    nodes, links = len(topology.nodes), len(topology.links)
+    said = f"{networks.counted(nodes, 'node')}, {networks.counted(links, 'link')}"
     if out:
         said += f", of which {len(out)} out"
     if audit:
-        said += f"; {audit.live} VPNs live at epoch {audit.epoch}, which cost {audit.cost}"
+        said += f"; at epoch {audit.epoch}: {networks.counted(audit.live, 'VPN')}"
+        said += f", cost {audit.cost}"
     return said
 
 
@@ -134,7 +141,8 @@ def load(reader, topology, path, of):
     try:
         return networks.load(lambda text: reader(topology, text), path)
     except networks.OtherNetwork as other:
-        raise networks.WrongInput(f"{path} is of another network than {of}: {other}") from None
+        raise networks.WrongInput(f"{networks.named(path)} is of another network than "
+                                  f"{networks.named(of)}: {other}") from None
 
 
 def main():
@@ -144,7 +152,7 @@ def main():
     words.add_argument("audit", metavar="AUDIT", nargs="?",
                        help="an audit of this network, `-` for standard input")
     words.add_argument("replies", metavar="REPLIES", nargs="?",
-                       help="replies to `link`, of which those with `out` are drawn dashed")
+                       help="replies to `link`; a link that is told to be out is dashed")
     given = words.parse_args()
     topology = networks.load(networks.read_topology, given.topology)
     audit = given.audit and load(audit_of, topology, given.audit, given.topology)

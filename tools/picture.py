@@ -68,8 +68,7 @@ def svg(picture, loads, out):
     topology = picture.topology
     widest = 14 if len(topology.links) <= SHARED else 8 if len(topology.links) <= 400 else 5
     most = max((link.capacity for link in topology.links), default=1)
-    what = f"The network: {len(topology.nodes)} nodes, {len(topology.links)} links"
-    yield (f'<svg viewBox="0 0 {WIDTH} {picture.height:.0f}" role="img" aria-label="{what}" '
+    yield (f'<svg viewBox="0 0 {WIDTH} {picture.height:.0f}" role="img" aria-label="The network" '
            f'class="{"small" if len(topology.nodes) <= NAMED else "large"}">')
     yield "<g>"
     for link in topology.links:

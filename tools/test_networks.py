@@ -64,8 +64,8 @@ WRONG_REPLIES = [
 ]
 OTHER_NETWORKS = [
     ([LINKS[0], Link(1, "a", "b", 20, 7, 4)], "link 1 is a b capacity 20 cost 3"),
-    ([*LINKS, Link(2, "a", "c", 1, 1, 1)], "there are 2 links, and the network has 3"),
-    (LINKS[:1], "there is a link 1, and the network has 1 links"),
+    ([*LINKS, Link(2, "a", "c", 1, 1, 1)], "it has 2 links, and the network has 3"),
+    (LINKS[:1], "there is a link 1, and the network has 1 link"),
 ]
 
 
