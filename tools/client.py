@@ -14,13 +14,12 @@ the line that was sent and has no reply, and an order in it may have been entere
 A session ends with its `with`, which says `bye`.
 """
 import argparse
-import os
 import re
 import socket
 import sys
 import time
 from dataclasses import dataclass
-from typing import ClassVar, Dict, Iterable, Mapping, Optional, Tuple
+from typing import Callable, ClassVar, Dict, Iterable, Mapping, Optional, Tuple
 
 import networks
 
@@ -215,8 +214,13 @@ TEXTS = {
 }
 
 
-def pairs(text):
-    return (pair.split(":") for pair in text.split(" "))
+def table(text: str, key: Callable) -> Dict:
+    """The pairs of a list; each key stands once."""
+    pairs = [pair.split(":") for pair in text.split(" ")]
+    found = {key(one): int(amount) for one, amount in pairs}
+    if len(found) < len(pairs):
+        raise ValueError(f"a pair repeats: {text}")
+    return found
 
 
 VALUES = {
@@ -224,8 +228,8 @@ VALUES = {
     "b": str,
     "out": bool,
     "side": lambda text: tuple(text.split(" ")),
-    "ends": lambda text: {name: int(rate) for name, rate in pairs(text)},
-    "links": lambda text: {int(link): int(amount) for link, amount in pairs(text)},
+    "ends": lambda text: table(text, str),
+    "links": lambda text: table(text, int),
 }
 
 
@@ -254,8 +258,11 @@ def read_reply(line: str) -> Optional[Reply]:
     """The reply, a refusal as well, that a line without its line feed is; none where it is none."""
     for kind, pattern, values in READERS.get(line.partition(" ")[0], ()):
         found = pattern.fullmatch(line)
-        if found:
-            return kind(*(read(text) for read, text in zip(values, found.groups())))
+        try:
+            if found:
+                return kind(*(read(text) for read, text in zip(values, found.groups())))
+        except ValueError:
+            pass  # a pair repeats
     return None
 
 
@@ -279,13 +286,16 @@ class Lines:
         """The line that answers a line, both without line feed."""
         if "\n" in line:
             raise ValueError("a line feed within a line")
+        if self.unanswered is not None:
+            what = f"{self.peer} is not asked after a line without a reply"
+            raise ConnectionLost(what, self.unanswered)
         if self._left:
             raise self.malformed(f"says more than it was asked: {self.shown()}")
         self.unanswered = line
         try:
             if self._socket.gettimeout() != self.timeout:
                 self._socket.settimeout(self.timeout)
-            self._socket.sendall(os.fsencode(line) + b"\n")
+            self._socket.sendall(f"{line}\n".encode("utf-8", "surrogateescape"))
             reply = self._line()
         except OSError as fault:
             raise fault if isinstance(fault, ConnectionLost) else self.lost(fault) from None
@@ -333,8 +343,10 @@ class Lines:
 # ---- Sessions.
 
 # The reply to each command where it is not refused, and the field that repeats a reply's number.
-DONE = {"hello": Welcome, "admit": Admitted, "quote": Quoted, "take": Admitted}
-DONE.update({"release": Released, "show": Vpn, "link": LinkState, "bye": Bye})
+DONE = {
+    "hello": Welcome, "admit": Admitted, "quote": Quoted, "take": Admitted, "release": Released,
+    "show": Vpn, "link": LinkState, "bye": Bye,
+}
 REPEATS = {Released: "id", Vpn: "id", NoVpn: "id", NoQuote: "quote", LinkState: "link"}
 
 
@@ -487,7 +499,10 @@ def parser_of_words() -> argparse.ArgumentParser:
     )
     parser.add_argument("port", type=port_number, metavar="PORT")
     parser.add_argument("customer", metavar="CUSTOMER")
-    parser.add_argument("command", nargs=argparse.REMAINDER, metavar="COMMAND", help="see below")
+    command = parser.add_argument(
+        "command", nargs=argparse.REMAINDER, metavar="COMMAND", help="see below"
+    )
+    command.required = False
     return parser
 
 
@@ -499,7 +514,7 @@ def commands(words) -> Iterable[str]:
     if sys.stdin is None:
         raise networks.WrongInput("standard input is closed")
     for line in sys.stdin.buffer:
-        text = os.fsdecode(line.rstrip(b"\n"))
+        text = line.rstrip(b"\n").decode("utf-8", "surrogateescape")
         if text.split() == ["bye"]:
             return
         yield text
@@ -524,6 +539,12 @@ def talk(given) -> bool:
     return done
 
 
+def doubt_of(line: Optional[str]) -> str:
+    """What is to be said of a line without a reply."""
+    is_order = (line or "").split(" ")[0] in ("admit", "take", "release")
+    return f"; {networks.shown(line)} may have been done" if is_order else ""
+
+
 def main() -> None:
     parser = parser_of_words()
     given = parser.parse_args()
@@ -531,7 +552,9 @@ def main() -> None:
         parser.error("a command is one line")
     try:
         done = talk(given)
-    except (ConnectionLost, MalformedReply, ValueError) as fault:
+    except (ConnectionLost, MalformedReply) as fault:
+        raise networks.WrongInput(f"{fault}{doubt_of(fault.unanswered)}") from None
+    except ValueError as fault:
         raise networks.WrongInput(str(fault)) from None
     if not done:
         sys.exit(1)

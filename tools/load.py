@@ -3,9 +3,8 @@
 
 Each customer is a process with one session, who waits for each reply before the next command.
 Which commands come how often is told by `--mix`; hoses are random ones of the network, which is
-learned from the server by `link`. The VPNs are real orders of the customers load-1, load-2 and so
-on: each holds 100 at most, and gives up all at the end. Where the server has fewer workers than
-there are customers, some wait in vain, which is told.
+learned from the server by `link`, with a connection more. The VPNs are real orders of the customers
+load-1, load-2 and so on: each holds 100 at most, and gives up all at the end, or at an interrupt.
 
 Printed are, for each kind of command and for all, the replies, how many came a second and how many
 refused, and the median, the 99th percentile and the worst of the times to a reply, in microseconds.
@@ -13,6 +12,10 @@ The customers are programs in Python: on the server's own machine this is of bot
 
 example, with a server that was started by `./hosed serve demo/backbone.txt port.journal 7000 9 4`:
   python3 tools/load.py --plot load.svg 7000 4 10
+
+status:
+  0 all went well; 2 these words are not allowed, the server is not there, breaks off, or answers
+  otherwise than hosed, or a customer was not greeted in this time, as the server has fewer workers
 """
 import argparse
 import html
@@ -447,28 +450,36 @@ def words() -> argparse.Namespace:
     return parser.parse_args()
 
 
-def begun(path: Optional[str]):
-    """The file of the plot, which is begun before a long load rather than after it."""
+def check_written(path: str) -> None:
+    """Raises where the plot cannot be written: before a long load rather than after it."""
     try:
-        return open(path, "w", encoding="utf-8") if path else None
+        open(path, "a", encoding="utf-8").close()
     except (OSError, ValueError) as fault:
         reason = getattr(fault, "strerror", None) or fault
         raise networks.WrongInput(f"{path} cannot be written: {reason}") from None
 
 
+def tell(load: Load, found: Found, path: Optional[str]) -> None:
+    """Prints the table, and writes the plot where one is wanted."""
+    print(table(found), flush=True)
+    if path:
+        where = f"{load.host}:{load.port}, {found.seconds():.1f} s"
+        with open(path, "w", encoding="utf-8") as picture:
+            picture.write(plot(found, f"{found.served} customers at {where}"))
+
+
 def main() -> None:
     given = words()
-    picture = begun(given.plot)
+    if given.plot:
+        check_written(given.plot)
     load = Load(given.port, given.customers, given.seconds, given.mix, given.host, given.seed)
     progress = Progress(load.seconds)
-    found = measure(load, progress)
-    progress.end()
+    try:
+        found = measure(load, progress)
+    finally:
+        progress.end()
     if found.tallies:
-        print(table(found), flush=True)
-        if picture:
-            with picture:
-                where = f"{load.host}:{load.port}, {found.seconds():.1f} s"
-                picture.write(plot(found, f"{found.served} customers at {where}"))
+        tell(load, found, given.plot)
     if found.fault:
         raise networks.WrongInput(found.fault)
     if found.served < load.customers:

@@ -5,13 +5,12 @@ import subprocess
 import sys
 import threading
 import unittest
+from unittest import mock
 
 import client
 from client import ConnectionLost, LinkState, MalformedReply, NoAnswer, Session
 from fake_server import FakeServer
-
-TOOLS = os.path.dirname(os.path.abspath(__file__))
-TOP = os.path.dirname(TOOLS)
+from runs import TOOLS, within
 
 # A reply of each kind, and its value.
 REPLIES = [
@@ -46,7 +45,8 @@ REPLIES = [
 ]
 NO_REPLIES = [
     "", "welcome", "welcome at 01", "welcome at -1", "welcome at 0 ", "welcome  at 0", "bye bye",
-    "admitted 1 cost 1 at 1 links", "admitted 1 cost 1 at 1 links 0", "refused at 1 side",
+    "admitted 1 cost 1 at 1 links", "admitted 1 cost 1 at 1 links 0:1 0:1",
+    "admitted 1 cost 1 at 1 links 0", "refused at 1 side",
     "link 0 a h capacity 10 cost 1 load 3 down at 1", "bad x", "HTTP/1.1 400 Bad Request\r",
 ]
 WELCOME, BYE = b"welcome at 0\n", b"bye\n"
@@ -54,12 +54,7 @@ WELCOME, BYE = b"welcome at 0\n", b"bye\n"
 
 def run(port, *words, text=""):
     """The program's status, output and what it says on standard error."""
-    done = subprocess.run(
-        [sys.executable, os.path.join(TOOLS, "client.py"), str(port), *words],
-        input=text, stdout=subprocess.PIPE, stderr=subprocess.PIPE, universal_newlines=True,
-        timeout=20,
-    )
-    return done.returncode, done.stdout, done.stderr
+    return within("client.py", client.main, port, *words, text=text)
 
 
 class Replies(unittest.TestCase):
@@ -127,6 +122,7 @@ class Sessions(unittest.TestCase):
             ([WELCOME, b"admitted 1 co"], ConnectionLost, "in mid-line, after 'admitted 1 co'"),
             ([WELCOME, b"HTTP/1.1 200 OK\r\n"], MalformedReply, "which is no reply"),
             ([WELCOME, b"released 1 at 1\n"], MalformedReply, "'released 1 at 1'"),
+            ([WELCOME, b"bye\n"], MalformedReply, "'bye'"),
             ([WELCOME, b"\xff\xfe\n"], MalformedReply, "no text"),
             ([WELCOME, b"x" * (client.LONGEST_REPLY + 1)], MalformedReply, "without a line feed"),
         ]
@@ -149,6 +145,15 @@ class Sessions(unittest.TestCase):
             with self.assertRaisesRegex(MalformedReply, "more than it was asked"):
                 session.bye()
 
+    def test_a_bye_without_reply_is_told_where_nothing_else_is(self):
+        with FakeServer([WELCOME, b""], [WELCOME, b""]) as server:
+            with self.assertRaisesRegex(ConnectionLost, "closed the connection"):
+                with Session("127.0.0.1", server.port, "acme"):
+                    pass
+            with self.assertRaisesRegex(KeyError, "of the caller"):
+                with Session("127.0.0.1", server.port, "acme"):
+                    raise KeyError("of the caller")
+
     def test_no_reply_in_time(self):
         never = threading.Event()
         with FakeServer([WELCOME], at_last=never) as server:
@@ -157,6 +162,16 @@ class Sessions(unittest.TestCase):
                 session.release(1)
             self.assertEqual(lost.exception.unanswered, "release 1")
             never.set()
+
+    def test_no_command_after_one_whose_reply_was_not_waited_for(self):
+        with FakeServer([WELCOME, BYE]) as server:
+            session = Session("127.0.0.1", server.port, "acme")
+            with mock.patch.object(session._lines, "_take", side_effect=KeyboardInterrupt):
+                with self.assertRaises(KeyboardInterrupt):
+                    session.release(1)
+            with self.assertRaisesRegex(ConnectionLost, "not asked") as lost:
+                session.release(2)
+            self.assertEqual(lost.exception.unanswered, "release 1")
 
     def test_no_server(self):
         with socket.create_server(("127.0.0.1", 0)) as taken:
@@ -186,7 +201,7 @@ class Program(unittest.TestCase):
         ways = [
             ([b"SSH-2.0-OpenSSH_9.2\r\n"], "'hello acme' is answered 'SSH-2.0-OpenSSH_9.2\\\\r'"),
             ([b"welcome"], "in mid-line, after 'welcome'"),
-            ([WELCOME, b""], "closed the connection"),
+            ([WELCOME, b""], "closed the connection\n"),
             ([b"bad 2\n"], "the server takes no customer 'acme': bad 2"),
         ]
         for texts, sentence in ways:
@@ -194,6 +209,13 @@ class Program(unittest.TestCase):
                 status, output, error = run(server.port, "acme", "link", "0")
                 self.assertEqual((status, output, error.count("\n")), (2, "", 1))
                 self.assertRegex(error, sentence)
+
+    def test_an_order_without_a_reply(self):
+        with FakeServer([WELCOME, b"released 1 a"]) as server:
+            status, output, error = run(server.port, "acme", "release", "1")
+        self.assertEqual((status, output), (2, ""))
+        self.assertIn("closed the connection in mid-line, after 'released 1 a'; "
+                      "'release 1' may have been done\n", error)
 
     def test_usage(self):
         for words in ([], ["acme", "--timeout", "0"]):

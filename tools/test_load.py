@@ -1,8 +1,7 @@
 """Tests of load.py: figures worked out by hand, and loads of a fake server."""
+import io
 import os
 import socket
-import subprocess
-import sys
 import tempfile
 import unittest
 from collections import Counter
@@ -11,8 +10,8 @@ from xml.etree import ElementTree
 import load
 from fake_server import FakeHosed, FakeServer
 from load import Found, Tally
+from runs import program, within
 
-TOOLS = os.path.dirname(os.path.abspath(__file__))
 SVG = "{http://www.w3.org/2000/svg}"
 
 # A hundred replies to `link` in two seconds, and one refusal of an admission after a millisecond.
@@ -27,11 +26,7 @@ all              101          50           1         200         900       1,000
 
 def run(*words):
     """The program's status, output and what it says on standard error."""
-    done = subprocess.run(
-        [sys.executable, os.path.join(TOOLS, "load.py"), *map(str, words)],
-        stdout=subprocess.PIPE, stderr=subprocess.PIPE, universal_newlines=True, timeout=30,
-    )
-    return done.returncode, done.stdout, done.stderr
+    return program("load.py", *words)
 
 
 class Figures(unittest.TestCase):
@@ -48,6 +43,26 @@ class Figures(unittest.TestCase):
         texts = [text.text for text in picture.iter(f"{SVG}text")]
         for text in ("100 us", "1 ms", "admit", "link", "all", "of a test"):
             self.assertIn(text, texts)
+
+
+class Screen(io.StringIO):
+    def isatty(self):
+        return True
+
+
+class Lines(unittest.TestCase):
+    def test_progress(self):
+        """Once a second over the last line on a terminal, and every ten seconds elsewhere."""
+        screen, log = Screen(), io.StringIO()
+        for stream in (screen, log):
+            progress = load.Progress(20, stream)
+            for seconds in (0.2, 1.0, 1.9, 2.2, 10.1):
+                progress(seconds, int(seconds * 1000))
+            progress.end()
+        told = ["load: 1 s of 20, 1,000 replies", "load: 2 s of 20, 2,200 replies",
+                "load: 10 s of 20, 10,100 replies"]
+        self.assertEqual(screen.getvalue(), "\r".join(told) + "\r\n")
+        self.assertEqual(log.getvalue(), told[-1] + "\n")
 
 
 class Loads(unittest.TestCase):
@@ -90,7 +105,7 @@ class Loads(unittest.TestCase):
 
     def test_one_sentence_and_status_2(self):
         with FakeServer([b"220 mail ESMTP\r\n"]) as server:
-            status, output, error = run(server.port, 1, 1)
+            status, output, error = within("load.py", load.main, server.port, 1, 1)
         self.assertEqual((status, output, error.count("\n")), (2, "", 1))
         self.assertIn("which is no reply", error)
         with socket.create_server(("127.0.0.1", 0)) as taken:
@@ -101,7 +116,7 @@ class Loads(unittest.TestCase):
             (("--mix", "fly:1", port, 1, 1), "'fly:1' in 'fly:1' is no command with its weight"),
             ((port, 257, 1), "'257' is not 1 to 256 customers"),
         ):
-            status, output, error = run(*words)
+            status, output, error = within("load.py", load.main, *words)
             self.assertEqual((status, output), (2, ""))
             self.assertIn(sentence, error)
 

@@ -1,15 +1,11 @@
 """Tests of replay.py: a small audit whose move was worked out by hand, and that of demo/."""
 import os
-import subprocess
-import sys
 import tempfile
 import unittest
 
 import networks
 import replay
-
-TOOLS = os.path.dirname(os.path.abspath(__file__))
-DEMO = os.path.join(TOOLS, "..", "demo")
+from runs import DEMO, within
 
 AUDIT = networks.read_audit("""epoch 9
 link 0 a h capacity 10 cost 1 load 5
@@ -35,11 +31,11 @@ MOVES = [
 
 def run(*words):
     """The program's status, output and what it says on standard error."""
-    done = subprocess.run(
-        [sys.executable, os.path.join(TOOLS, "replay.py"), *words], cwd=DEMO,
-        stdout=subprocess.PIPE, stderr=subprocess.PIPE, universal_newlines=True, timeout=20,
-    )
-    return done.returncode, done.stdout, done.stderr
+    return within("replay.py", replay.main, *words)
+
+
+def demo(name):
+    return os.path.join(DEMO, name)
 
 
 class Replays(unittest.TestCase):
@@ -75,15 +71,15 @@ class Replays(unittest.TestCase):
 class Program(unittest.TestCase):
     def test_the_backbone(self):
         """The VPNs of the audit were admitted by the first two lines of the script in demo/."""
-        with open(os.path.join(DEMO, "backbone_script.txt"), encoding="ascii") as text:
+        with open(demo("backbone_script.txt"), encoding="ascii") as text:
             lines = text.readlines()[:2]
-        self.assertEqual(run("backbone_audit.txt"), (0, "".join(lines), ""))
+        self.assertEqual(run(demo("backbone_audit.txt")), (0, "".join(lines), ""))
 
     def test_status_1(self):
         with tempfile.NamedTemporaryFile("w") as output:
             output.write("admitted 1 cost 38200 at 1 links 0:1\nrefused at 1 side hou\n")
             output.flush()
-            self.assertEqual(run("backbone_audit.txt", output.name), (
+            self.assertEqual(run(demo("backbone_audit.txt"), output.name), (
                 1,
                 "vpn 1 acme is 1 cost 38200 now 38200\n"
                 "vpn 2 beta refused: refused at 1 side hou\n"
@@ -92,14 +88,16 @@ class Program(unittest.TestCase):
             ))
 
     def test_one_sentence_and_status_2(self):
-        self.assertEqual(run("backbone_audit.txt", "star_output.txt"), (
-            2, "", "replay.py: star_output.txt, line 3: 'vpn 1 cost 26 at 1 ends a:3 b:4 c:5 l...' "
-            "stands after the replies to all 2 VPNs\n",
-        ))
-        for words in (["star.txt"], ["no_such_file"], ["backbone_audit.txt", "../tools"]):
-            status, output, error = run(*words)
+        for words, sentence in (
+            (["star.txt"], "star.txt, line 1: it is not an audit"),
+            (["no_such_file"], "no_such_file cannot be read"),
+            (["backbone_audit.txt", "."], " cannot be read: Is a directory"),
+            (["backbone_audit.txt", "alps_output.txt"], "line 3: 'quoted 1 cost"),
+            (["backbone_audit.txt", "star_output.txt"], "line 3: 'vpn 1 cost"),
+        ):
+            status, output, error = run(*map(demo, words))
             self.assertEqual((status, output, error.count("\n")), (2, "", 1))
-            self.assertIn(words[-1], error)
+            self.assertIn(sentence, error)
 
 
 if __name__ == "__main__":

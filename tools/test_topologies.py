@@ -5,8 +5,6 @@ The lengths were worked out by hand: a degree of a great circle is 111.195 km.
 import json
 import math
 import os
-import subprocess
-import sys
 import tempfile
 import unittest
 
@@ -15,10 +13,10 @@ import from_sndlib
 import networks
 import topologies
 from networks import Link, WrongInput
+from runs import DEMO, TOOLS, within
 from topologies import Draft
 
-TOOLS = os.path.dirname(os.path.abspath(__file__))
-DATA, DEMO = os.path.join(TOOLS, "data"), os.path.join(TOOLS, "..", "demo")
+DATA = os.path.join(TOOLS, "data")
 
 QUIRKS = """\
 # at z-rich 0 0
@@ -86,11 +84,8 @@ def drafted(read, name, capacity=None, length=None):
 
 def run(tool, *words):
     """The program's status, output and what it says on standard error."""
-    done = subprocess.run(
-        [sys.executable, os.path.join(TOOLS, tool), *words],
-        stdout=subprocess.PIPE, stderr=subprocess.PIPE, timeout=20,
-    )
-    return done.returncode, done.stdout.decode(), done.stderr.decode()
+    read = from_graphml if tool == "from_graphml.py" else from_sndlib
+    return within(tool, lambda: topologies.main(read.__doc__, read.read), *words)
 
 
 class Drafts(unittest.TestCase):
@@ -108,6 +103,11 @@ class Drafts(unittest.TestCase):
             ((7, 45), (7, 46), 111.195), ((20, 90), (-90, -90), 20015.114), ((3, 4), (3, 4), 0),
         ):
             self.assertAlmostEqual(topologies.kilometres(one, other), km, places=3)
+
+    def test_places(self):
+        self.assertEqual(topologies.place("-180", "90.0"), (-180, 90))
+        for texts in (("180.5", "0"), ("0", "-90.5"), ("nan", "0"), ("0", None), ("e", "n")):
+            self.assertIsNone(topologies.place(*texts))
 
     def test_limits(self):
         """What stands at a limit is taken, and one more is refused."""
