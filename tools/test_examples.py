@@ -1,5 +1,6 @@
-"""Runs the examples of README.md that speak to a server, move VPNs, or read GraphML. Where the
-program stands in them, what it has to answer was worked out by the planner of bench/."""
+"""Runs the examples of the documents that speak to a server, move VPNs, or read GraphML, without
+the program. Where it stands in them, what it has to answer was worked out by the planner of bench/;
+bench/examples.py runs all examples with the program."""
 import os
 import re
 import subprocess
@@ -9,8 +10,15 @@ import unittest
 from fake_server import FakeHosed, FakeServer
 
 TOP = os.path.join(os.path.dirname(os.path.abspath(__file__)), "..")
-with open(os.path.join(TOP, "README.md"), encoding="utf-8") as _file:
-    README = _file.read()
+DOCUMENTS = ("README.md", "docs/GUIDE.md", "docs/OPERATING.md")
+
+
+def text_of(name):
+    with open(os.path.join(TOP, name), encoding="utf-8") as file:
+        return file.read()
+
+
+TEXT = "\n".join(text_of(name) for name in DOCUMENTS)
 
 ADMITTED = "admitted 1 cost 26 at 1 links 0:3 1:4 2:5"
 MOVED = """\
@@ -20,15 +28,15 @@ admitted 2 cost 3200 at 2 links 8:200 11:200
 
 
 def example(start):
-    """The line of README.md, within a block or a sentence, that has this start."""
-    found = re.findall(rf"^.*{re.escape(start)}[^`\n]*", README, re.MULTILINE)
+    """The line of the documents, within a block or a sentence, that has this start."""
+    found = re.findall(rf"^.*{re.escape(start)}[^`\n]*", TEXT, re.MULTILINE)
     assert len(found) == 1, f"{start}: {found}"
-    return found[0]
+    return re.sub(r"^\$ ", "", found[0])
 
 
-def block_after(text):
-    """The block that stands next after a text."""
-    return README.partition(text)[2].partition("```\n")[2].partition("```")[0]
+def told_after(line):
+    """What a block says that a command writes."""
+    return re.split(r"(?m)^(?:\$ |```)", TEXT.partition(f"$ {line}\n")[2])[0]
 
 
 def run(line, folder=TOP):
@@ -41,14 +49,15 @@ def run(line, folder=TOP):
 
 class Sessions(unittest.TestCase):
     def test_the_client(self):
-        line = example("python3 tools/client.py 7000 acme").replace("sleep 5", "sleep 0.1")
-        self.assertIn(f"The first prints `{ADMITTED}`", README)
+        line = example("python3 tools/client.py 7000 acme")
+        self.assertEqual(told_after(line), f"{ADMITTED}\n")
         with FakeServer([b"welcome at 0\n", f"{ADMITTED}\n".encode(), b"bye\n"]) as server:
             self.assertEqual(run(line.replace("7000", f"{server.port}")), (0, f"{ADMITTED}\n"))
         self.assertEqual(server.lines, ["hello acme", "admit a:3 b:4 c:5", "bye"])
 
     def test_a_session_by_bash_alone(self):
-        line, told = example("exec 3<>/dev/tcp/127.0.0.1/7000"), block_after("by `bash` alone")
+        line = example("exec 3<>/dev/tcp/127.0.0.1/7000")
+        told = "".join(told_after(line).partition("bye\n")[:2])  # then the server writes its book
         with FakeServer([reply.encode() for reply in told.splitlines(True)]) as server:
             self.assertEqual(run(line.replace("7000", f"{server.port}")), (0, told))
         self.assertEqual(server.lines, ["hello beta", "admit a:8 b:8", "admit a:1 b:1", "bye"])
@@ -64,17 +73,19 @@ class Sessions(unittest.TestCase):
 class Moves(unittest.TestCase):
     def test_script_and_result(self):
         script = example("backbone_audit.txt > moved_script.txt")
-        network = example("| cat - moved_script.txt").partition("| ./hosed run")
+        without = example("grep -v 'link chi nyc' demo/backbone.txt")
+        network = example("cat moved.txt moved_script.txt").partition("| ./hosed run")
         result = example("backbone_audit.txt moved_output.txt")
         with tempfile.TemporaryDirectory() as folder:
             for name in ("demo", "tools"):
                 os.symlink(os.path.abspath(os.path.join(TOP, name)), os.path.join(folder, name))
             self.assertEqual(run(script, folder), (0, ""))
+            self.assertEqual(run(without, folder), (0, ""))
             status, text = run(network[0], folder)
             self.assertEqual((status, text.count("\nlink "), text.count("admit ")), (0, 13, 2))
             with open(os.path.join(folder, "moved_output.txt"), "w", encoding="ascii") as output:
                 output.write(MOVED)
-            self.assertEqual(run(result, folder), (0, block_after(f"{result}\n```\n")))
+            self.assertEqual(run(result, folder), (0, told_after(result)))
 
 
 class Importers(unittest.TestCase):
