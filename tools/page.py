@@ -1,0 +1,164 @@
+#!/usr/bin/env python3
+"""Writes a page to look at a network and its VPNs in a browser, on standard output. The page needs
+nothing else: no other file, and no network.
+
+    hosed audit TOPOLOGY JOURNAL > AUDIT
+    python3 tools/page.py TOPOLOGY AUDIT > PAGE.html
+
+and, where links may be out of service, with LAST for the last link's number,
+
+    seq 0 LAST | sed 's/^/x link /' | cat TOPOLOGY - | hosed run JOURNAL > REPLIES
+    python3 tools/page.py TOPOLOGY AUDIT REPLIES > PAGE.html
+
+A link is drawn as wide as it can carry and filled as far as it is used, the darker the fuller; the
+numbers are under the pointer. The tables sort by any column, and that of the VPNs filters by
+customer. A VPN or a link that is chosen, in a table, in the picture or by the end of the page's
+address, as PAGE.html#vpn=1 or PAGE.html#link=5, is shown in the picture and in numbers; Escape
+shows all again.
+
+Nodes stand where comment lines `# at NAME X Y` of the topology put them, with Y growing upward, and
+the others where springs along the links pull them, in the same way each time.
+"""
+import argparse
+import html
+import json
+import os
+import sys
+
+import networks
+from picture import Picture, svg
+
+HERE = os.path.dirname(os.path.abspath(__file__))
+PAGE = """<!DOCTYPE html>
+<html lang="en">
+<head>
+<meta charset="utf-8">
+<meta name="viewport" content="width=device-width, initial-scale=1">
+<meta http-equiv="Content-Security-Policy"
+ content="default-src 'none'; style-src 'unsafe-inline'; script-src 'unsafe-inline'; img-src data:">
+<link rel="icon" href="data:,">
+<title>{title}</title>
+<style>
+{style}</style>
+<script type="application/json" id="network">{network}</script>
+<script type="text/plain" id="vpns">{vpns}</script>
+</head>
+<body>
+<header>
+<h1>{title}</h1>
+<p>{summary}</p>
+</header>
+<main>
+<section id="shown" aria-label="The network">
+{picture}
+{legend}
+<h2 id="title" aria-live="polite"></h2>
+<div id="chosen"></div>
+</section>
+<div id="tables"></div>
+</main>
+<div id="pointed" hidden></div>
+<script>
+{script}</script>
+</body>
+</html>
+"""
+LEGEND = [("used1", "below 25 % used"), ("used2", "below 50 %"), ("used3", "below 75 %"),
+          ("used4", "below 100 %"), ("full", "full")]
+
+
+def beside(name):
+    with open(os.path.join(HERE, name), encoding="ascii") as file:
+        return file.read()
+
+
+def network_of(picture, loads, out):
+    """What the page's script is told of the network, by the numbers of nodes and links."""
+    topology = picture.topology
+    nodes = [[name, round(x, 1), round(y, 1)]
+             for name, (x, y) in zip(topology.nodes, picture.nodes)]
+    links = [[picture.number[link.a], picture.number[link.b], link.capacity, link.length, link.cost,
+              loads[link.number] if loads else 0, int(link.number in out),
+              *(round(value, 1) for value in picture.middle(link))] for link in topology.links]
+    return {"nodes": nodes, "links": links, "audit": loads is not None}
+
+
+def vpn_line(vpn):
+    """A line of the page's list of VPNs, which its script reads."""
+    ends = ",".join(f"{name}:{rate}" for name, rate in vpn.ends)
+    amounts = ",".join(f"{link}:{amount}" for link, amount in vpn.amounts)
+    return f"{vpn.id} {vpn.customer} {vpn.cost} {ends} {amounts}"
+
+
+def summary(topology, audit, out):
+    nodes, links = len(topology.nodes), len(topology.links)
+    said = f"{networks.counted(nodes, 'node')}, {networks.counted(links, 'link')}"
+    if out:
+        said += f", of which {len(out)} out"
+    if audit:
+        said += f"; at epoch {audit.epoch}: {networks.counted(audit.live, 'VPN')}"
+        said += f", cost {audit.cost}"
+    return said
+
+
+def legend(audit, out):
+    keys = []
+    if audit:
+        keys += [f'<li><i class="{name}"></i>{words}</li>' for name, words in LEGEND]
+    if out:
+        keys += ['<li><i class="out"></i>out of service</li>']
+    return f'<ul class="legend" aria-label="Links">{"".join(keys)}</ul>' if keys else ""
+
+
+def page(title, topology, audit=None, out=frozenset()):
+    """The page as a text in ASCII."""
+    picture = Picture(topology)
+    loads = [link.load for link in audit.links] if audit else None
+    text = PAGE.format(
+        title=html.escape(title), style=beside("page.css"), script=beside("page.js"),
+        summary=summary(topology, audit, out), legend=legend(audit, out),
+        picture="\n".join(svg(picture, loads, out)),
+        network=json.dumps(network_of(picture, loads, out), separators=(",", ":")),
+        vpns="\n".join(vpn_line(vpn) for vpn in audit.vpns) if audit else "")
+    return text.encode("ascii", "xmlcharrefreplace").decode("ascii")
+
+
+def out_of(topology, replies):
+    """The numbers of the links that are out, by a text of replies to `link`."""
+    told = networks.latest(networks.read_link_replies(replies))
+    networks.check_links(topology, told)
+    return frozenset(link.number for link in told if link.out)
+
+
+def audit_of(topology, text):
+    audit = networks.read_audit(text)
+    networks.check_audit(topology, audit)
+    return audit
+
+
+def load(reader, topology, path, of):
+    """What a reader makes of a file and a topology, where that is of the same network."""
+    try:
+        return networks.load(lambda text: reader(topology, text), path)
+    except networks.OtherNetwork as other:
+        raise networks.WrongInput(f"{networks.named(path)} is of another network than "
+                                  f"{networks.named(of)}: {other}") from None
+
+
+def main():
+    words = argparse.ArgumentParser(
+        description=__doc__, formatter_class=argparse.RawDescriptionHelpFormatter)
+    words.add_argument("topology", metavar="TOPOLOGY", help="a topology's file")
+    words.add_argument("audit", metavar="AUDIT", nargs="?",
+                       help="an audit of this network, `-` for standard input")
+    words.add_argument("replies", metavar="REPLIES", nargs="?",
+                       help="replies to `link`; a link that is told to be out is dashed")
+    given = words.parse_args()
+    topology = networks.load(networks.read_topology, given.topology)
+    audit = given.audit and load(audit_of, topology, given.audit, given.topology)
+    out = load(out_of, topology, given.replies, given.topology) if given.replies else frozenset()
+    print(page(os.path.basename(given.topology), topology, audit, out), end="")
+
+
+if __name__ == "__main__":
+    sys.exit(networks.status_of(main))

@@ -1,0 +1,190 @@
+"""Tests of page.py and what it stands on, by small networks. try_page.sh tries it in a browser."""
+import html.parser
+import json
+import math
+import os
+import subprocess
+import sys
+import tempfile
+import unittest
+
+import made_network
+import networks
+import page
+import picture
+import places
+
+HERE = os.path.dirname(os.path.abspath(__file__))
+STAR = """node a
+node b
+node h
+# at a 0 0
+# at b 20 0
+# at h 10 5
+link a h 10 1
+link b h 40 2
+link h b 40 3
+end
+"""
+STAR_AUDIT = """epoch 7
+link 0 a h capacity 10 cost 1 load 10
+link 1 b h capacity 40 cost 2 load 10
+link 2 h b capacity 40 cost 3 load 0
+vpn 7 acme cost 30 ends a:10 b:12 links 0:10 1:10
+live 1 cost 30
+"""
+OUT = "link 2 h b capacity 40 cost 3 load 0 out at 7\n"
+# The picture is 1000 wide, with margins of 60: a unit of a place is 44 of it. Y grows downward.
+NODES = [["a", 60, 280], ["b", 940, 280], ["h", 500, 60]]
+LINKS = [[0, 2, 10, 1, 1, 10, 0], [1, 2, 40, 2, 2, 10, 0], [2, 1, 40, 3, 3, 0, 1]]
+DEGREES = [(1, 100, "used1", "1 %"), (24, 100, "used1", "24 %"), (25, 100, "used2", "25 %"),
+           (74, 100, "used3", "74 %"), (999, 1000, "used4", "99 %"), (1, 1000, "used1", "1 %"),
+           (5, 5, "full", "100 %")]
+SIDES = [([], "n"), ([0], "w"), ([math.pi / 2], "s"), ([0, math.pi / 2, math.pi], "s"),
+         ([-3 * math.pi / 4], "ne")]
+
+
+def star():
+    topology = networks.read_topology(STAR)
+    return topology, page.audit_of(topology, STAR_AUDIT), page.out_of(topology, OUT)
+
+
+class Parts(html.parser.HTMLParser):
+    """The texts of a page by the identities of their elements, and all attributes."""
+
+    def __init__(self, text):
+        super().__init__()
+        self.texts, self.attributes, self.now = {}, [], None
+        self.feed(text)
+
+    def handle_starttag(self, tag, attrs):
+        self.now = dict(attrs).get("id")
+        self.attributes += [(tag, *pair) for pair in attrs]
+
+    def handle_data(self, data):
+        self.texts.setdefault(self.now, data)
+
+
+class Pages(unittest.TestCase):
+    def test_what_the_script_is_told(self):
+        parts = Parts(page.page("star.txt", *star()))
+        told = json.loads(parts.texts["network"])
+        self.assertEqual(told["nodes"], NODES)
+        self.assertEqual([link[:7] for link in told["links"]], LINKS)
+        self.assertEqual(told["links"][0][7:], [280, 170])
+        self.assertEqual(parts.texts["vpns"], "7 acme 30 a:10,b:12 0:10,1:10")
+
+    def test_a_page_needs_nothing_else(self):
+        text = page.page("<b>.txt", *star())
+        self.assertTrue(text.isascii())
+        self.assertNotIn("<b>", text)
+        for tag, name, value in Parts(text).attributes:
+            if name in ("href", "src"):
+                self.assertEqual((tag, value), ("link", "data:,"))
+
+    def test_each_link_is_drawn_by_its_use(self):
+        topology, audit, out = star()
+        loads = [link.load for link in audit.links]
+        drawn = picture.svg(picture.Picture(topology), loads, out)
+        links = [element for element in drawn if "data-link" in element]
+        for words, element in zip((("full", "--width:7.0", "--width:7.0"),
+                                   ("used2", "--width:14.0", "--width:3.5"),
+                                   ("link out", "--width:14.0")), links):
+            for word in words:
+                self.assertIn(word, element)
+
+    def test_links_between_the_same_nodes_part(self):
+        topology, _, _ = star()
+        one, other = (picture.Picture(topology).middle(link) for link in topology.links[1:])
+        self.assertAlmostEqual(math.dist(one, other), picture.GAP)
+        for place in (one, other):  # as far from b as from h
+            self.assertAlmostEqual(math.dist(place, (940, 280)), math.dist(place, (500, 60)))
+
+    def test_degrees(self):
+        for load, capacity, name, percent in DEGREES:
+            with self.subTest(load=load, capacity=capacity):
+                self.assertEqual(picture.degree(load, capacity), name)
+                self.assertEqual(picture.percent(load, capacity), percent)
+
+    def test_names_stand_where_there_is_room(self):
+        for angles, side in SIDES:
+            self.assertEqual(picture.freest(angles), side)
+
+
+class Places(unittest.TestCase):
+    def test_springs_are_as_long_as_links_lead(self):
+        text = "node a\nnode b\nnode c\nlink a b 1 1\nlink b c 1 1\nend\n"
+        at = places.places_of(networks.read_topology(text))
+        for one, other, length in ((0, 1, 1), (1, 2, 1), (0, 2, 2)):
+            self.assertAlmostEqual(math.dist(at[one], at[other]), length, delta=0.05)
+        self.assertEqual(at, places.places_of(networks.read_topology(text)))
+
+    def test_what_has_a_place_stays_there(self):
+        text = STAR.replace("# at b 20 0\n", "")
+        at = places.places_of(networks.read_topology(text))
+        self.assertEqual((at[0], at[2]), ((0, 0), (10, 5)))
+        self.assertAlmostEqual(math.dist(at[1], at[2]), math.hypot(10, 5), delta=0.5)
+
+    def test_networks_that_have_no_extent(self):
+        for text in ("node a\nend\n", "node a\nnode b\nend\n",
+                     "node a\n# at a 3 3\nnode b\n# at b 3 3\nlink a b 1 1\nend\n"):
+            drawn = picture.Picture(networks.read_topology(text))
+            self.assertTrue(all(0 <= x <= 1000 and 0 <= y <= drawn.height
+                                for x, y in drawn.nodes), text)
+
+
+class MadeNetworks(unittest.TestCase):
+    def test_loads_are_what_vpns_reserve(self):
+        topology, audit = made_network.made(30, 60, 50)
+        audit = page.audit_of(networks.read_topology(topology), audit)
+        loads = [0] * 60
+        for vpn in audit.vpns:
+            for link, amount in vpn.amounts:
+                loads[link] += amount
+        self.assertEqual([link.load for link in audit.links], loads)
+        self.assertTrue(all(link.load <= link.capacity for link in audit.links))
+
+
+class Program(unittest.TestCase):
+    def ended(self, *words, **how):
+        return subprocess.run([sys.executable, os.path.join(HERE, "page.py"), *words],
+                              stderr=subprocess.PIPE, universal_newlines=True, **how)
+
+    def test_wrong_input_is_told_in_one_sentence(self):
+        with tempfile.TemporaryDirectory() as folder:
+            for name, text in (("star", STAR), ("audit", STAR_AUDIT), ("png", "\x89PNG\0"),
+                               ("other", STAR_AUDIT.replace("capacity 10", "capacity 11")),
+                               ("out", OUT), ("out_other", OUT.replace("link 2", "link 3"))):
+                with open(os.path.join(folder, name), "w", encoding="latin-1") as file:
+                    file.write(text)
+            for words, sentence in (
+                    ("nothing", "nothing cannot be read: No such file or directory"),
+                    (".", ". cannot be read: Is a directory"),
+                    ("png", "png is not a text"),
+                    ("audit", "audit, line 1: 'epoch 7' is not a line of a topology"),
+                    ("star star", "star, line 1: it is not an audit"),
+                    ("star other", "other is of another network than star: link 0 is a h capacity "
+                                   "11 cost 1, and that of the network is a h capacity 10 cost 1"),
+                    ("star audit audit", "audit, line 2: "),
+                    ("star audit out_other", "out_other is of another network than star: there is "
+                                             "a link 3, and the network has 3 links")):
+                with self.subTest(words=words):
+                    ended = self.ended(*words.split(), cwd=folder, stdout=subprocess.PIPE)
+                    self.assertEqual((ended.returncode, ended.stdout), (2, ""))
+                    self.assertTrue(ended.stderr.startswith(f"page.py: {sentence}"), ended.stderr)
+                    self.assertEqual(ended.stderr.count("\n"), 1)
+            ended = self.ended("star", "audit", "out", cwd=folder, stdout=subprocess.DEVNULL)
+            self.assertEqual((ended.returncode, ended.stderr), (0, ""))
+
+    def test_a_pipe_that_nobody_reads(self):
+        reads, writes = os.pipe()
+        os.close(reads)
+        try:
+            ended = self.ended("-", input=STAR, stdout=writes)
+        finally:
+            os.close(writes)
+        self.assertEqual((ended.returncode, ended.stderr), (networks.NOBODY_READS, ""))
+
+
+if __name__ == "__main__":
+    unittest.main()

@@ -1,0 +1,165 @@
+"""Tries of page.py in a browser; try_page.sh runs them.
+
+What is expected of the page of the backbone stands in demo/backbone_audit.txt.
+
+usage: try_page.py CHROMIUM FOLDER
+"""
+import os
+import sys
+import unittest
+
+import made_network
+import networks
+import page
+from browser import Browser
+
+DEMO = os.path.join(os.path.dirname(os.path.abspath(__file__)), "..", "demo")
+SIZES = {"wide": (1280, 720), "middle": (768, 1024), "narrow": (390, 844)}
+OUT = "link 5 den kcy capacity 10000 cost 7 load 1000 out at 2\n"
+MOST_MILLISECONDS = 3000
+TAB, ENTER, ESCAPE = ("Tab", 9), ("Enter", 13, "\r"), ("Escape", 27)
+SHOWN_LINKS = "[...document.querySelectorAll('.link.on')].map(link => +link.dataset.link)"
+TITLE = "document.querySelector('#title').firstChild?.textContent"
+
+
+def rows(table, column):
+    """An expression for the words in a column of a table, which is named by its title."""
+    return (f"[...document.querySelectorAll('[aria-label={table}] tbody tr')]"
+            f".map(row => row.children[{column}].textContent)")
+
+
+class Tries(unittest.TestCase):
+    @classmethod
+    def setUpClass(cls):
+        cls.browser = Browser(cls.chromium)
+        topology = networks.load(networks.read_topology, f"{DEMO}/backbone.txt")
+        audit = networks.load(networks.read_audit, f"{DEMO}/backbone_audit.txt")
+        cls.backbone = cls.write("backbone", topology, audit)
+        cls.network_alone = cls.write("alone", topology)
+        cls.with_out = cls.write("out", topology, audit, page.out_of(topology, OUT))
+        large, large_audit = made_network.made(512, 2048, 20000)
+        cls.large = cls.write("large", networks.read_topology(large),
+                              networks.read_audit(large_audit))
+
+    @classmethod
+    def tearDownClass(cls):
+        cls.browser.__exit__()
+
+    @classmethod
+    def write(cls, name, *parts):
+        path = os.path.abspath(f"{cls.folder}/{name}.html")
+        with open(path, "w", encoding="ascii") as file:
+            file.write(page.page(f"{name}.txt", *parts))
+        return f"file://{path}"
+
+    def setUp(self):
+        self.browser.size(*SIZES["wide"])
+        self.browser.messages.clear()
+
+    def tearDown(self):
+        self.assertEqual(self.browser.messages, [])
+
+    def value(self, script):
+        return self.browser.value(script)
+
+    def test_pictures_at_three_sizes(self):
+        for size, (width, height) in SIZES.items():
+            self.browser.size(width, height)
+            for name, address in (("backbone", self.backbone), ("vpn", self.backbone + "#vpn=1"),
+                                  ("out", self.with_out + "#link=5"), ("large", self.large),
+                                  ("large_vpn", self.large + "#vpn=17")):
+                self.browser.open(address)
+                self.browser.screenshot(f"{self.folder}/{name}_{size}.png")
+                self.assertEqual(self.value("document.documentElement.scrollWidth"), width, name)
+
+    def test_pictures_in_grey(self):
+        self.browser.see("achromatopsia")
+        for name, address in (("vpn", self.backbone + "#vpn=1"), ("large", self.large)):
+            self.browser.open(address)
+            self.browser.screenshot(f"{self.folder}/{name}_grey.png")
+        self.browser.see("none")
+
+    def test_a_vpn_by_the_end_of_the_address(self):
+        self.browser.open(self.backbone + "#vpn=1")
+        self.assertEqual(self.value(TITLE), "VPN 1 of acme, cost 38200")
+        self.assertEqual(self.value(SHOWN_LINKS), [1, 2, 3, 5, 7, 9, 11])
+        self.assertEqual(self.value("document.querySelectorAll('#over rect').length"), 4)
+        cells = self.value("[...document.querySelectorAll('#chosen td')].map(cell => "
+                           "cell.textContent)")
+        self.assertEqual(cells[:8], ["sea", "400", "lax", "600", "chi", "500", "nyc", "1000"])
+        self.assertEqual(cells[8:13], ["1", "sea \u2013 den", "400", "400", "10000"])
+
+    def test_a_vpn_that_is_not_there(self):
+        self.browser.open(self.backbone + "#vpn=99")
+        self.assertEqual(self.value(TITLE), "There is no VPN 99")
+        self.assertEqual(self.value(SHOWN_LINKS), [])
+
+    def test_by_the_pointer(self):
+        self.browser.open(self.backbone)
+        self.browser.click("document.querySelector('a[href=\"#vpn=2\"]')")
+        self.assertEqual(self.value(SHOWN_LINKS), [8, 12])
+        self.browser.click("document.querySelector('#title button')")
+        self.assertEqual(self.value(SHOWN_LINKS), [])
+        self.browser.point("groups[5]")
+        self.assertEqual(self.value("find('#pointed').textContent"),
+                         "link 5, den \u2013 kcy\nload 1000 of 10000 (10 %), cost 7, length 7")
+        self.browser.click("groups[5]")
+        self.assertEqual(self.value(TITLE), "Link 5, den \u2013 kcy")
+        self.assertEqual(self.value("[...document.querySelectorAll('#chosen td')].map(cell => "
+                                    "cell.textContent)"), ["1", "acme", "1000"])
+
+    def test_by_the_keyboard_alone(self):
+        self.browser.open(self.backbone)
+        self.browser.press(*TAB)
+        self.assertEqual(self.value("document.activeElement.tagName"), "INPUT")
+        self.browser.type("bet")
+        self.assertEqual(self.value(rows("VPNs", 1)), ["beta"])
+        for _ in range(6):  # past the heads of five columns
+            self.browser.press(*TAB)
+        self.browser.press(*ENTER)
+        self.browser.settled()
+        self.assertEqual(self.value(TITLE), "VPN 2 of beta, cost 3200")
+        self.assertEqual(self.value("document.activeElement.textContent"), "2")
+        self.browser.press(*ESCAPE)
+        self.browser.settled()
+        self.assertEqual(self.value(TITLE), None)
+
+    def test_tables_sort(self):
+        self.browser.open(self.backbone)
+        self.assertEqual(self.value(rows("Links", 0))[:9],
+                         ["5", "7", "9", "11", "2", "3", "1", "8", "12"])
+        use = "document.querySelector('[aria-label=Links] [aria-sort] button')"
+        self.browser.click(use)
+        self.assertEqual(self.value(rows("Links", 0))[:6], ["0", "4", "6", "10", "13", "8"])
+        self.browser.click("vpnTable.heads.children[2].firstChild")
+        self.assertEqual(self.value(rows("VPNs", 2)), ["3200", "38200"])
+
+    def test_what_is_out_is_dashed(self):
+        self.browser.open(self.with_out)
+        self.assertEqual(self.value("[...document.querySelectorAll('.link')].filter(link => "
+                                    "getComputedStyle(link.firstChild).strokeDasharray !== 'none')"
+                                    ".map(link => +link.dataset.link)"), [5])
+
+    def test_a_network_without_an_audit(self):
+        self.browser.open(self.network_alone)
+        self.assertEqual(self.value(rows("Links", 1))[:2], ["sea \u2013 svl", "sea \u2013 den"])
+        self.assertEqual(self.value("document.querySelectorAll('.core').length"), 0)
+        self.assertEqual(self.value("document.querySelector('[aria-label=VPNs]')"), None)
+
+    def test_a_large_page_opens_in_time(self):
+        for end in ("", "#vpn=20000", "#link=5"):
+            milliseconds = min(self.browser.open(self.large + end) for _ in range(3))
+            print(f"512 nodes, 2048 links and 20000 VPNs {end}: {milliseconds:.0f} ms")
+            self.assertLess(milliseconds, MOST_MILLISECONDS)
+
+    def test_the_tables_turn_to_what_is_chosen(self):
+        self.browser.open(self.large + "#vpn=20000")
+        current = "document.querySelector('[aria-label=VPNs] [aria-current]')"
+        self.assertEqual(self.value(f"{current}.firstChild.textContent"), "20000")
+        self.browser.click("vpnTable.back")
+        self.assertEqual(self.value(rows("VPNs", 0))[0], "19951")
+
+
+if __name__ == "__main__":
+    Tries.chromium, Tries.folder = sys.argv[1:]
+    unittest.main(argv=sys.argv[:1])
