@@ -18,11 +18,12 @@ import subprocess
 import sys
 import tempfile
 
-from histories import HANGS, Differs, same, start
+from histories import HANGS, Differs, client, same, start
 
 HOST = "127.0.0.1"
 STAR = "demo/star.txt"
 LONG = b"x" * 10_000_000 + b"\n"
+HOSE = {"a": 3, "b": 4, "c": 5}
 QUIET = 2  # seconds in which nothing more is taken of one who never reads
 
 
@@ -89,14 +90,15 @@ class Behaved:
 
     def come(self):
         """Admits and releases, and is told both."""
-        at = self.epoch
-        text = f"hello beta\nadmit a:3 b:4 c:5\nrelease {at + 1}\nbye\n"
-        same(
-            say(self.port, text.encode()).decode(),
-            f"welcome at {at}\nadmitted {at + 1} cost 26 at {at + 1} links 0:3 1:4 2:5\n"
-            f"released {at + 1} at {at + 2}\nbye\n",
-            "one who behaves",
+        at, admitted = self.epoch, self.epoch + 1
+        with client.Session(HOST, self.port, "beta", HANGS) as session:
+            told = session.welcome, session.admit(HOSE), session.release(admitted)
+        wanted = (
+            client.Welcome(at),
+            client.Admitted(admitted, 26, admitted, {0: 3, 1: 4, 2: 5}),
+            client.Released(admitted, at + 2),
         )
+        same(told, wanted, "one who behaves")
         self.epoch += 2
 
 
@@ -139,7 +141,7 @@ def main():
             same(status, 0, "the status")
             same(audit.splitlines()[0], f"epoch {customers.epoch}", "the audit")
             same(audit.splitlines()[-1], "live 0 cost 0", "the audit")
-        except Differs as difference:
+        except (Differs, *client.FAULTS) as difference:
             server.kill()
             sys.exit(f"bad clients: {difference}")
     print(f"{behaved} who behave were served beside them")

@@ -24,6 +24,9 @@ from collections import Counter
 from compare_planner import COMPARED, QUOTES, Vpn, decide, grounds, pairs_text, plan_cost
 from compare_planner import random_hose, random_network, topology_lines
 
+sys.path.insert(0, os.path.join(os.path.dirname(os.path.abspath(__file__)), "..", "tools"))
+import client
+
 SESSIONS, WORKERS, COMMANDS = 12, 6, 40
 NAMES = ("acme", "beta", "zeta")  # some sessions have one customer
 TRIES = 10  # at ports that another program may take meanwhile
@@ -67,28 +70,23 @@ class Session(threading.Thread):
 
     def run(self):
         try:
-            with socket.create_connection(("127.0.0.1", self.port), HANGS) as peer:
-                lines = peer.makefile("rw", encoding="ascii", newline="\n")
-                self.ask(lines, ("hello", None, self.customer))
+            self.said.append(("hello", None, ""))
+            with client.Session("127.0.0.1", self.port, self.customer, HANGS) as session:
+                self.said[-1] = ("hello", None, str(session.welcome))
                 own = []
                 for _ in range(COMMANDS):
-                    kind, value, text = self.line(own)
-                    reply = self.ask(lines, (kind, value, text))
-                    if reply.startswith("admitted"):
-                        own.append(int(reply.split()[1]))
-                self.ask(lines, ("bye", None, ""))
-        except OSError as error:
-            self.fault = error
+                    reply = self.ask(session, *self.line(own))
+                    if isinstance(reply, client.Admitted):
+                        own.append(reply.id)
+                self.ask(session, "bye", None, "")
+        except client.FAULTS as fault:
+            self.fault = fault
 
-    def ask(self, lines, said):
-        """The reply to a line; none where the server is gone before the reply is whole."""
-        self.said.append((said[0], said[1], ""))
-        lines.write(f"{said[0]} {said[2]}\n")
-        lines.flush()
-        reply = lines.readline()
-        if not reply.endswith("\n"):
-            raise ConnectionError("the server is gone")
-        self.said[-1] = (said[0], said[1], reply.rstrip("\n"))
+    def ask(self, session, kind, value, text):
+        """The reply to a line; what was said has none where the server is gone before it."""
+        self.said.append((kind, value, ""))
+        reply = session.reply_to(f"{kind} {text}")
+        self.said[-1] = (kind, value, str(reply))
         return reply
 
 

@@ -19,7 +19,7 @@ import tempfile
 import time
 
 from compare_planner import COMPARED, random_network
-from histories import SESSIONS, Differs, Session, same, start, write_topology
+from histories import SESSIONS, Differs, Session, client, same, start, write_topology
 
 LONGEST = 0.12  # seconds until a server is killed, from its first line
 
@@ -75,6 +75,8 @@ def kill(program, work, seed):
     server.wait()
     for session in sessions:
         session.join()
+        if not isinstance(session.fault, (client.ConnectionLost, type(None))):
+            raise Differs(f"a session failed: {session.fault}")
     found = subprocess.run([program, "audit", topology, journal], stdout=subprocess.PIPE, text=True)
     same(found.returncode, 0, "the status of the audit")
     return judge(sessions, found.stdout.splitlines())

@@ -7,14 +7,15 @@
 # Then 1,000 customers connect at once to 16 workers: the seconds until the last one has its replies,
 # beside the same of 16 processes that echo; and the most memory that the server had, beside that of
 # one which served a single customer. Of so many, most connect again and again until the system lets
-# them in, which takes whole seconds.
+# them in, which takes whole seconds. Last, the times to a reply of each command under a load of all
+# commands, by tools/load.py.
 # The customers are processes in Python on the same machine, so these are figures of both together:
 # the greatest of the runs, which are made by turns, and the least and greatest ratio. Ends with
 # status 1 where a reply is not as wanted.
 # usage: bench/serve.sh [FOLDER]     FOLDER: on a real disk; else the current one
 . "$(dirname "$0")/place.sh"
 
-python3 - "$program" "$place" <<'END'
+PYTHONPATH=tools python3 - "$program" "$place" <<'END'
 import multiprocessing
 import os
 import selectors
@@ -23,6 +24,10 @@ import subprocess
 import sys
 import time
 
+import client
+import load
+import networks
+
 PROGRAM, PLACE = sys.argv[1:]
 TOPOLOGY, JOURNAL, LOOP = (os.path.join(PLACE, name) for name in ("topology", "journal", "loop"))
 HOST, RUNS = "127.0.0.1", 5
@@ -30,8 +35,9 @@ QUESTIONS, ORDERS, SESSIONS = 2000, 400, 200  # of each customer
 MOST, ASKED = 1000, 20  # connections at once, and questions of each
 WAITING = 128  # connections that wait to be accepted, as with the program's listener
 SECONDS = 120  # after which a program hangs
+LOADED = 10  # seconds of all commands
 
-QUESTION, ANSWER = b"link 0", b"link 0 a b capacity 1000 cost 1 load 0 at "
+QUESTION, ANSWER = "link 0", "link 0 a b capacity 1000 cost 1 load 0 at "
 
 
 def want(reply, start):
@@ -95,26 +101,14 @@ class Echo:
         self.listener.close()
 
 
-# ---- Customers, each in a process of its own.
+# ---- Customers, each in a process of its own. What they say is said to a server and to an echo.
 
 
-class Peer:
+class Peer(client.Lines):
     """One end of a connection, which asks and reads whole lines."""
 
     def __init__(self, port):
-        self.socket = socket.create_connection((HOST, port), SECONDS)
-        self.socket.setsockopt(socket.IPPROTO_TCP, socket.TCP_NODELAY, 1)
-        self.left = b""
-
-    def ask(self, line):
-        self.socket.sendall(line + b"\n")
-        while b"\n" not in self.left:
-            piece = self.socket.recv(4096)
-            if not piece:
-                sys.exit("the connection was closed")
-            self.left += piece
-        reply, _, self.left = self.left.partition(b"\n")
-        return reply
+        super().__init__(HOST, port, SECONDS)
 
     def say(self, line, reply):
         want(self.ask(line), reply)
@@ -128,10 +122,10 @@ def ask_links(peer):
 
 def give_orders(peer):
     for _ in range(ORDERS // 2):
-        reply = peer.ask(b"admit a:1 b:1")
-        want(reply, b"admitted ")
+        reply = peer.ask("admit a:1 b:1")
+        want(reply, "admitted ")
         number = reply.split()[1]
-        peer.say(b"release " + number, b"released " + number + b" at ")
+        peer.say(f"release {number}", f"released {number} at ")
     return ORDERS
 
 
@@ -141,51 +135,37 @@ def ask_echo(peer):
     return QUESTIONS
 
 
-def be_customer(port, work, greets, gate, told):
+def be_customer(number, gate, port, work, greets):
     peer = Peer(port)
     if greets:
-        peer.say(b"hello acme", b"welcome at ")
+        peer.say("hello acme", "welcome at ")
     gate.wait()
     start = time.perf_counter()
     count = work(peer)
-    told.put((count, start, time.perf_counter()))
+    stop = time.perf_counter()
     if greets:
-        peer.say(b"bye", b"bye")
+        peer.say("bye", "bye")
+    peer.close()
+    return count, start, stop
 
 
-def come_and_go(port, welcome, gate, told):
+def come_and_go(number, gate, port, welcome):
     gate.wait()
     start = time.perf_counter()
     for _ in range(SESSIONS):
         peer = Peer(port)
-        peer.say(b"hello acme", welcome)
-        peer.say(b"bye", b"bye")
-        peer.socket.close()
-    told.put((SESSIONS, start, time.perf_counter()))
-
-
-def rate(customers, customer, *words):
-    """How much a second so many customers get done together."""
-    gate, told = multiprocessing.Barrier(customers), multiprocessing.Queue()
-    peers = [
-        multiprocessing.Process(target=customer, args=(*words, gate, told))
-        for _ in range(customers)
-    ]
-    for peer in peers:
-        peer.start()
-    ends = [told.get(timeout=SECONDS) for _ in peers]
-    for peer in peers:
-        peer.join()
-        if peer.exitcode != 0:
-            sys.exit("a customer was answered otherwise than wanted")
-    counts, starts, stops = zip(*ends)
-    return sum(counts) / (max(stops) - min(starts))
+        peer.say("hello acme", welcome)
+        peer.say("bye", "bye")
+        peer.close()
+    return SESSIONS, start, time.perf_counter()
 
 
 def rate_at(server, customers, customer, *words):
-    found = rate(customers, customer, server.port, *words)
+    """How much a second so many customers get done together."""
+    ends = load.together(customers, customer, server.port, *words)
     server.end()
-    return found
+    counts, starts, stops = zip(*ends)
+    return sum(counts) / (max(stops) - min(starts))
 
 
 # ---- The journal's limit.
@@ -213,7 +193,7 @@ def loop_rate(orders):
 def ask_at_once(port, count, first, last):
     """Connects all at once, and has each one say its lines; the seconds until all have their
     replies, and how many the system had not let in, and reset: they connect again."""
-    lines = [b"hello acme\n", *[QUESTION + b"\n"] * ASKED, b"bye\n"]
+    lines = [f"{line}\n".encode() for line in ("hello acme", *[QUESTION] * ASKED, "bye")]
     waiting, replies, resets = selectors.DefaultSelector(), {}, 0
 
     def come():
@@ -259,7 +239,7 @@ def ask_at_once(port, count, first, last):
                 come()
     seconds = time.perf_counter() - start
     for text in replies.values():
-        told = text.splitlines()
+        told = text.decode().splitlines()
         if len(told) != len(lines):
             sys.exit(f"{len(told)} replies of {len(lines)}")
         want(told[0], first)
@@ -271,17 +251,18 @@ def serve_at_once(count, workers):
     """The seconds for so many connections, how many were reset, and the most memory, before one
     connection more ends it."""
     server = Server(count + 1, workers)
-    seconds, resets = ask_at_once(server.port, count, b"welcome at 0", ANSWER)
+    seconds, resets = ask_at_once(server.port, count, "welcome at 0", ANSWER)
     peak, last = server.peak(), Peer(server.port)
-    last.say(b"hello acme", b"welcome at 0")
-    last.say(b"bye", b"bye")
+    last.say("hello acme", "welcome at 0")
+    last.say("bye", "bye")
+    last.close()
     server.end()
     return seconds, resets, peak
 
 
 def echo_at_once(count, workers):
     server = Echo(count, workers)
-    seconds, resets = ask_at_once(server.port, count, b"hello acme", QUESTION)
+    seconds, resets = ask_at_once(server.port, count, "hello acme", QUESTION)
     server.end()
     return seconds, resets
 
@@ -305,8 +286,8 @@ def tell_workers(workers):
         loops.append(loop_rate(workers * ORDERS))
         orders.append(rate_at(Server(workers, workers), workers, be_customer, give_orders, True))
         count = workers * SESSIONS
-        echoed.append(rate_at(Echo(count, workers), workers, come_and_go, b"hello acme"))
-        sessions.append(rate_at(Server(count, workers), workers, come_and_go, b"welcome at 0"))
+        echoed.append(rate_at(Echo(count, workers), workers, come_and_go, "hello acme"))
+        sessions.append(rate_at(Server(count, workers), workers, come_and_go, "welcome at 0"))
     print(f"{workers} workers and customers")
     tell("questions", links, "echo", echoes)
     tell("orders", orders, "loop", loops)
@@ -323,13 +304,28 @@ def tell_at_once():
     print(f"    {max(peaks):,} KiB of memory; {alone:,} KiB for one customer")
 
 
+def tell_load(workers):
+    server = Server(workers + 1, workers)
+    words = load.Load(server.port, workers, LOADED, load.mix_of(load.MIX))
+    found = load.measure(words)
+    server.end()
+    if found.fault:
+        sys.exit(found.fault)
+    print(f"{workers} workers and customers, all commands")
+    print(load.table(found))
+
+
 def main():
     with open(TOPOLOGY, "w") as file:
         file.write("node a\nnode b\nlink a b 1000 1\nend\n")
     for workers in (1, 4, 16):
         tell_workers(workers)
     tell_at_once()
+    tell_load(4)
 
 
-main()
+try:
+    main()
+except (networks.WrongInput, *client.FAULTS) as fault:
+    sys.exit(str(fault))
 END

@@ -1,0 +1,564 @@
+#!/usr/bin/env python3
+"""A customer's session with `hosed serve`, as a module and as a program.
+
+    with Session("127.0.0.1", 7000, "acme") as session:
+        vpn = session.admit({"a": 3, "b": 4})
+        print(vpn.id, vpn.cost, vpn.links)
+
+Each command is a method, and each reply a value with named fields whose `str` is the line. What
+the server refuses is raised as a `Refusal` with the reply's fields: `Refused`, `Stale`, `NoVpn`
+and so on. `ConnectionLost` is raised where the server is not there or closes the connection, its
+kind `NoAnswer` where it does not answer in time, and `MalformedReply` where what it says is no
+reply to the command. After these the session is over, and nothing connects again; `unanswered` is
+the line that was sent and has no reply, and an order in it may have been entered all the same.
+A session ends with its `with`, which says `bye`.
+"""
+import argparse
+import re
+import socket
+import sys
+import time
+from dataclasses import dataclass
+from typing import Callable, ClassVar, Dict, Iterable, Mapping, Optional, Tuple
+
+import networks
+
+HOST = "127.0.0.1"
+TIMEOUT = 60.0  # seconds for a connection and for each reply
+LONGEST_REPLY = 1 << 16  # bytes; those of the server have fewer than 10,000
+
+
+# ---- Replies.
+
+
+class Reply:
+    """What the server answers to a line. In `form` a field stands for its value's text."""
+
+    form: ClassVar[str] = ""
+
+    def __str__(self):
+        return FIELD.sub(lambda found: spelled(getattr(self, found[1])), self.form)
+
+
+class Refusal(Reply, Exception):
+    """A reply that tells why the server did not do what it was asked."""
+
+
+@dataclass
+class Welcome(Reply):
+    form = "welcome at <epoch>"
+    epoch: int
+
+
+@dataclass
+class Admitted(Reply):
+    form = "admitted <id> cost <cost> at <epoch> links <links>"
+    id: int
+    cost: int
+    epoch: int
+    links: Dict[int, int]
+    """What is reserved on each link of the tree."""
+
+
+@dataclass
+class Quoted(Reply):
+    form = "quoted <quote> cost <cost> at <epoch> links <links>"
+    quote: int
+    cost: int
+    epoch: int
+    links: Dict[int, int]
+
+
+@dataclass
+class Released(Reply):
+    form = "released <id> at <epoch>"
+    id: int
+    epoch: int
+
+
+@dataclass
+class Vpn(Reply):
+    form = "vpn <id> cost <cost> at <epoch> ends <ends> links <links>"
+    id: int
+    cost: int
+    epoch: int
+    ends: Dict[str, int]
+    """Each endpoint's rate."""
+    links: Dict[int, int]
+
+
+@dataclass
+class LinkState(Reply):
+    form = "link <link> <a> <b> capacity <capacity> cost <cost> load <load><out> at <epoch>"
+    link: int
+    a: str
+    b: str
+    capacity: int
+    cost: int
+    load: int
+    out: bool
+    """Whether the link is out of service."""
+    epoch: int
+
+
+@dataclass
+class Bye(Reply):
+    form = "bye"
+
+
+@dataclass(eq=False)
+class Refused(Refusal):
+    form = "refused at <epoch> side <side>"
+    epoch: int
+    side: Tuple[str, ...]
+    """The nodes that the lowest-numbered endpoint reaches over links with enough room."""
+
+
+@dataclass(eq=False)
+class Stale(Refusal):
+    form = "stale <quoted_at> <epoch>"
+    quoted_at: int
+    epoch: int
+
+
+@dataclass(eq=False)
+class NoVpn(Refusal):
+    form = "no vpn <id> at <epoch>"
+    id: int
+    epoch: int
+
+
+@dataclass(eq=False)
+class NoQuote(Refusal):
+    form = "no quote <quote> at <epoch>"
+    quote: int
+    epoch: int
+
+
+@dataclass(eq=False)
+class TooManyQuotes(Refusal):
+    form = "too many quotes at <epoch>"
+    epoch: int
+
+
+@dataclass(eq=False)
+class Full(Refusal):
+    form = "full at <epoch>"
+    epoch: int
+
+
+@dataclass(eq=False)
+class Spent(Refusal):
+    form = "spent at <epoch>"
+    epoch: int
+
+
+@dataclass(eq=False)
+class DiskFailed(Refusal):
+    """Nothing was entered; until the next order a stop may leave the entry all the same."""
+
+    form = "disk at <epoch>"
+    epoch: int
+
+
+@dataclass(eq=False)
+class OutOfMemory(Refusal):
+    form = "memory"
+
+
+@dataclass(eq=False)
+class Bad(Refusal):
+    form = "bad <word>"
+    word: int
+    """The first word that is not allowed, counted from 1."""
+
+
+@dataclass(eq=False)
+class TooLong(Refusal):
+    form = "long"
+
+
+class ConnectionLost(ConnectionError):
+    """The server is not there, or closed the connection."""
+
+    def __init__(self, what: str, unanswered: Optional[str] = None):
+        super().__init__(what)
+        self.unanswered = unanswered
+
+
+class NoAnswer(ConnectionLost):
+    """The server did not answer in time."""
+
+
+class MalformedReply(Exception):
+    """What came is no reply to the command."""
+
+    def __init__(self, what: str, unanswered: Optional[str] = None):
+        super().__init__(what)
+        self.unanswered = unanswered
+
+
+FAULTS = (Refusal, ConnectionLost, MalformedReply)
+"""All that a session raises of what the server does."""
+
+FIELD = re.compile("<([a-z_]+)>")
+NUMBER = "(?:0|[1-9][0-9]{0,19})"
+NAME = "[a-z0-9-]{1,16}"
+TEXTS = {
+    "a": NAME,
+    "b": NAME,
+    "out": "(?: out)?",
+    "side": f"{NAME}(?: {NAME})*",
+    "ends": f"{NAME}:{NUMBER}(?: {NAME}:{NUMBER})*",
+    "links": f"{NUMBER}:{NUMBER}(?: {NUMBER}:{NUMBER})*",
+}
+
+
+def table(text: str, key: Callable) -> Dict:
+    """The pairs of a list; each key stands once."""
+    pairs = [pair.split(":") for pair in text.split(" ")]
+    found = {key(one): int(amount) for one, amount in pairs}
+    if len(found) < len(pairs):
+        raise ValueError(f"a pair repeats: {text}")
+    return found
+
+
+VALUES = {
+    "a": str,
+    "b": str,
+    "out": bool,
+    "side": lambda text: tuple(text.split(" ")),
+    "ends": lambda text: table(text, str),
+    "links": lambda text: table(text, int),
+}
+
+
+def spelled(value) -> str:
+    """The text of a field."""
+    if isinstance(value, bool):
+        return " out" if value else ""
+    if isinstance(value, dict):
+        return " ".join(f"{one}:{amount}" for one, amount in value.items())
+    return " ".join(value) if isinstance(value, tuple) else str(value)
+
+
+def reader_of(kind):
+    """A kind of reply with the pattern of its lines, and how each field is read."""
+    pattern = FIELD.sub(lambda found: f"({TEXTS.get(found[1], NUMBER)})", kind.form)
+    return kind, re.compile(pattern), [VALUES.get(name, int) for name in FIELD.findall(kind.form)]
+
+
+KINDS = [Welcome, Admitted, Quoted, Released, Vpn, LinkState, Bye, *Refusal.__subclasses__()]
+READERS = {}  # by the first word
+for _kind in KINDS:
+    READERS.setdefault(_kind.form.split(" ")[0], []).append(reader_of(_kind))
+
+
+def read_reply(line: str) -> Optional[Reply]:
+    """The reply, a refusal as well, that a line without its line feed is; none where it is none."""
+    for kind, pattern, values in READERS.get(line.partition(" ")[0], ()):
+        found = pattern.fullmatch(line)
+        try:
+            if found:
+                return kind(*(read(text) for read, text in zip(values, found.groups())))
+        except ValueError:
+            pass  # a pair repeats
+    return None
+
+
+# ---- Connections.
+
+
+class Lines:
+    """A connection to whoever answers each line with one line."""
+
+    def __init__(self, host: str, port: int, timeout: Optional[float] = TIMEOUT):
+        self.peer, self.timeout = f"{host}:{port}", timeout
+        self.unanswered: Optional[str] = None
+        self._left = b""
+        try:
+            self._socket = socket.create_connection((host, port), timeout)
+            self._socket.setsockopt(socket.IPPROTO_TCP, socket.TCP_NODELAY, 1)
+        except OSError as fault:
+            raise self.lost(fault) from None
+
+    def ask(self, line: str) -> str:
+        """The line that answers a line, both without line feed."""
+        if "\n" in line:
+            raise ValueError("a line feed within a line")
+        if self.unanswered is not None:
+            what = f"{self.peer} is not asked after a line without a reply"
+            raise ConnectionLost(what, self.unanswered)
+        if self._left:
+            raise self.malformed(f"says more than it was asked: {self.shown()}")
+        self.unanswered = line
+        try:
+            if self._socket.gettimeout() != self.timeout:
+                self._socket.settimeout(self.timeout)
+            self._socket.sendall(f"{line}\n".encode("utf-8", "surrogateescape"))
+            reply = self._line()
+        except OSError as fault:
+            raise fault if isinstance(fault, ConnectionLost) else self.lost(fault) from None
+        self.unanswered = None
+        return reply
+
+    def _line(self) -> str:
+        end = None if self.timeout is None else time.monotonic() + self.timeout
+        self._take()
+        while b"\n" not in self._left:
+            if len(self._left) > LONGEST_REPLY:
+                raise self.malformed(f"answers without a line feed: {self.shown()}")
+            if end is not None:
+                self._socket.settimeout(max(end - time.monotonic(), 1e-6))
+            self._take()
+        line, _, self._left = self._left.partition(b"\n")
+        try:
+            return line.decode("ascii")
+        except UnicodeDecodeError:
+            raise self.malformed(f"answers what is no text: {ascii(line[:40])}") from None
+
+    def _take(self) -> None:
+        piece = self._socket.recv(1 << 16)
+        if not piece:
+            where = f" in mid-line, after {self.shown()}" if self._left else ""
+            raise ConnectionLost(f"{self.peer} closed the connection{where}", self.unanswered)
+        self._left += piece
+
+    def shown(self) -> str:
+        return ascii(self._left[:40].decode("latin-1"))
+
+    def lost(self, fault: OSError) -> ConnectionLost:
+        if isinstance(fault, socket.timeout):
+            what = f"{self.peer} did not answer in {self.timeout:g} s"
+            return NoAnswer(what, self.unanswered)
+        return ConnectionLost(f"{self.peer}: {fault.strerror or fault}", self.unanswered)
+
+    def malformed(self, what: str) -> MalformedReply:
+        return MalformedReply(f"{self.peer} {what}", self.unanswered)
+
+    def close(self) -> None:
+        self._socket.close()
+
+
+# ---- Sessions.
+
+# The reply to each command where it is not refused, and the field that repeats a reply's number.
+DONE = {
+    "hello": Welcome, "admit": Admitted, "quote": Quoted, "take": Admitted, "release": Released,
+    "show": Vpn, "link": LinkState, "bye": Bye,
+}
+REPEATS = {Released: "id", Vpn: "id", NoVpn: "id", NoQuote: "quote", LinkState: "link"}
+
+
+def answers(reply: Reply, line: str) -> bool:
+    """Whether a reply may be that to a line."""
+    command, number = (line.split() + ["", ""])[:2]
+    repeated = REPEATS.get(type(reply))
+    if repeated and str(getattr(reply, repeated)) != number:
+        return False
+    return isinstance(reply, Refusal) or type(reply) is DONE.get(command)
+
+
+def hose(ends: Mapping[str, int]) -> str:
+    return " ".join(f"{name}:{rate}" for name, rate in ends.items())
+
+
+class Session:
+    """A session of one customer, who was greeted. `timeout` is in seconds; None waits forever."""
+
+    def __init__(self, host: str, port: int, customer: str, timeout: Optional[float] = TIMEOUT):
+        self._lines = Lines(host, port, timeout)
+        self._over = False
+        try:
+            self.welcome = self._do("hello", customer)
+        except BaseException:
+            self._end()
+            raise
+
+    @property
+    def timeout(self) -> Optional[float]:
+        return self._lines.timeout
+
+    @timeout.setter
+    def timeout(self, timeout: Optional[float]) -> None:
+        self._lines.timeout = timeout
+
+    def admit(self, ends: Mapping[str, int]) -> Admitted:
+        """A VPN between nodes, each with a rate that bounds what it sends and is sent."""
+        return self._do("admit", hose(ends))
+
+    def quote(self, ends: Mapping[str, int]) -> Quoted:
+        """What `admit` would give now; the server keeps it for `take`, and reserves nothing."""
+        return self._do("quote", hose(ends))
+
+    def take(self, quote: int) -> Admitted:
+        return self._do("take", quote)
+
+    def release(self, id: int) -> Released:
+        return self._do("release", id)
+
+    def show(self, id: int) -> Vpn:
+        return self._do("show", id)
+
+    def link(self, link: int) -> LinkState:
+        return self._do("link", link)
+
+    def bye(self) -> None:
+        """Ends the session; where it is over already, nothing."""
+        if not self._over:
+            self._do("bye")
+
+    def reply_to(self, line: str) -> Reply:
+        """The reply to any line of a session; a refusal is returned, and not raised."""
+        if self._over:
+            raise ConnectionLost("the session is over")
+        try:
+            told = self._lines.ask(line)
+            reply = read_reply(told)
+            if reply is None or not answers(reply, line):
+                what = f"{networks.shown(line)} is answered {networks.shown(told)}"
+                raise MalformedReply(f"{self._lines.peer}: {what}, which is no reply to it", line)
+        except (ConnectionLost, MalformedReply):
+            self._end()
+            raise
+        if isinstance(reply, Bye):
+            self._end()
+        return reply
+
+    def _do(self, *words):
+        """The reply to a command whose words stand in its line as they are."""
+        line = " ".join(map(str, words))
+        if not line.isprintable() or not line.isascii():
+            raise ValueError(f"{line!r} is no line of a session")
+        reply = self.reply_to(line)
+        if isinstance(reply, Refusal):
+            raise reply
+        return reply
+
+    def _end(self) -> None:
+        self._over = True
+        self._lines.close()
+
+    def __enter__(self) -> "Session":
+        return self
+
+    def __exit__(self, kind, fault, trace) -> None:
+        try:
+            # After an interrupt while a reply was waited for, what comes is not that to `bye`.
+            if self._lines.unanswered is None:
+                self.bye()
+        except FAULTS:
+            if kind is None:
+                raise
+        finally:
+            self._end()
+
+
+# ---- The program.
+
+DESCRIPTION = """\
+Gives one command to `hosed serve` as a customer, and prints the reply; without a COMMAND, each
+line of standard input up to `bye`, all in one session, as a `take` needs after its `quote`.
+"""
+EPILOG = """\
+commands:
+  admit NAME:RATE ..    quote NAME:RATE ..    take Q    release ID    show ID    link L
+
+examples, with a server that was started by `./hosed serve demo/star.txt port.journal 7000 9 2`:
+  python3 tools/client.py 7000 acme admit a:3 b:4
+  printf 'quote a:2 b:2\\ntake 1\\n' | python3 tools/client.py 7000 acme
+
+status:
+  0 each command was done; 1 the server refused one, and its reply says why; 2 these words are not
+  allowed, or the server is not there, breaks off, or answers otherwise than hosed
+the module, for programs:
+  PYTHONPATH=tools python3 -m pydoc client
+"""
+
+
+def port_number(text: str) -> int:
+    if not re.fullmatch("[1-9][0-9]{0,4}", text) or int(text) > 65535:
+        raise argparse.ArgumentTypeError(f"{text!r} is no port: 1 to 65535")
+    return int(text)
+
+
+def seconds(text: str) -> float:
+    if not re.fullmatch(r"[0-9]{1,6}(\.[0-9]{1,6})?", text) or float(text) == 0:
+        raise argparse.ArgumentTypeError(f"{text!r} is no time in seconds, as 2 or 0.5")
+    return float(text)
+
+
+def parser_of_words() -> argparse.ArgumentParser:
+    parser = argparse.ArgumentParser(
+        description=DESCRIPTION, epilog=EPILOG, formatter_class=argparse.RawTextHelpFormatter
+    )
+    parser.add_argument("--host", default=HOST, help=f"where the server is ({HOST})")
+    parser.add_argument(
+        "--timeout", type=seconds, default=TIMEOUT, metavar="SECONDS",
+        help=f"for the connection and for each reply ({TIMEOUT:g})",
+    )
+    parser.add_argument("port", type=port_number, metavar="PORT")
+    parser.add_argument("customer", metavar="CUSTOMER")
+    command = parser.add_argument(
+        "command", nargs=argparse.REMAINDER, metavar="COMMAND", help="see below"
+    )
+    command.required = False
+    return parser
+
+
+def commands(words) -> Iterable[str]:
+    """The commands to give: that of the program's words, or the lines of the input up to `bye`."""
+    if words:
+        yield " ".join(words)
+        return
+    if sys.stdin is None:
+        raise networks.WrongInput("standard input is closed")
+    for line in sys.stdin.buffer:
+        text = line.rstrip(b"\n").decode("utf-8", "surrogateescape")
+        if text.split() == ["bye"]:
+            return
+        yield text
+
+
+def greeted(given) -> Session:
+    try:
+        return Session(given.host, given.port, given.customer, given.timeout)
+    except Refusal as refusal:
+        what = f"the server takes no customer {ascii(given.customer)}: {refusal}"
+        raise networks.WrongInput(what) from None
+
+
+def talk(given) -> bool:
+    """Whether each command was done."""
+    done = True
+    with greeted(given) as session:
+        for command in commands(given.command):
+            reply = session.reply_to(command)
+            print(reply, flush=True)
+            done = done and not isinstance(reply, Refusal)
+    return done
+
+
+def doubt_of(line: Optional[str]) -> str:
+    """What is to be said of a line without a reply."""
+    is_order = (line or "").split(" ")[0] in ("admit", "take", "release")
+    return f"; {networks.shown(line)} may have been done" if is_order else ""
+
+
+def main() -> None:
+    parser = parser_of_words()
+    given = parser.parse_args()
+    if any("\n" in word for word in given.command):
+        parser.error("a command is one line")
+    try:
+        done = talk(given)
+    except (ConnectionLost, MalformedReply) as fault:
+        raise networks.WrongInput(f"{fault}{doubt_of(fault.unanswered)}") from None
+    except ValueError as fault:
+        raise networks.WrongInput(str(fault)) from None
+    if not done:
+        sys.exit(1)
+
+
+if __name__ == "__main__":
+    sys.exit(networks.status_of(main))

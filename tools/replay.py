@@ -1,0 +1,112 @@
+#!/usr/bin/env python3
+"""Moves the VPNs of an audit to a changed network: writes the script that admits them, and then
+tells what became of each.
+
+With AUDIT alone the script is written: an `admit` for each VPN of the audit, in the order in which
+they were admitted. With OUTPUT too, which is what `hosed run` wrote to this script, a line is
+written for each VPN, and one for all:
+
+  vpn OLD CUSTOMER is NEW cost C now D   it was admitted under the number NEW; it cost C, and now D
+  vpn OLD CUSTOMER refused: REPLY        it is not there; the REPLY says why
+  moved K of N cost C now D              how many were admitted, and what these cost together
+
+example, for a network in new.txt:
+  ./hosed audit demo/backbone.txt backbone.journal > audit.txt
+  python3 tools/replay.py audit.txt > script.txt
+  cat new.txt script.txt | ./hosed run new.journal > output.txt
+  python3 tools/replay.py audit.txt output.txt
+
+Each VPN is planned anew, so its links may be others. Those that come first have the first choice of
+what is free; who is refused may be admitted where others are given up.
+
+status:
+  0 the script was written, or each VPN was admitted; 1 one was refused; 2 these words are not
+  allowed, or a file is not what it should be
+"""
+import argparse
+import sys
+from typing import List, NamedTuple, Union
+
+import client
+import networks
+
+
+class Move(NamedTuple):
+    """A VPN of an audit, and what was replied to its admission elsewhere."""
+
+    vpn: networks.Vpn
+    reply: Union[client.Admitted, client.Refusal]
+
+    def __str__(self):
+        was = f"vpn {self.vpn.id} {self.vpn.customer}"
+        if isinstance(self.reply, client.Admitted):
+            return f"{was} is {self.reply.id} cost {self.vpn.cost} now {self.reply.cost}"
+        if isinstance(self.reply, client.Bad):
+            words = line_of(self.vpn).split(" ")
+            return f"{was} refused: {self.reply}, at {words[self.reply.word - 1]}"
+        return f"{was} refused: {self.reply}"
+
+
+def line_of(vpn: networks.Vpn) -> str:
+    """The line of a script that admits such a VPN."""
+    return f"{vpn.customer} admit {client.hose(dict(vpn.ends))}"
+
+
+def script(audit: networks.Audit) -> List[str]:
+    return [line_of(vpn) for vpn in audit.vpns]
+
+
+def may_answer(reply, vpn: networks.Vpn) -> bool:
+    """Whether a reply may be that to the VPN's line."""
+    if isinstance(reply, client.Bad):
+        return 1 <= reply.word <= 2 + len(vpn.ends)
+    kinds = (client.Admitted, client.Refused, client.Full, client.Spent, client.DiskFailed)
+    return isinstance(reply, (*kinds, client.OutOfMemory, client.TooLong))
+
+
+def moves(audit: networks.Audit, output: str) -> List[Move]:
+    """What became of each VPN of an audit, by what `hosed run` wrote to the script."""
+    lines, vpns, found = networks.lines_of(output), audit.vpns, []
+    for at, line in enumerate(lines, 1):
+        if at > len(vpns):
+            what = f"{networks.shown(line)} stands after the replies to all {len(vpns)} VPNs"
+            raise networks.WrongText(at, what)
+        reply = client.read_reply(line)
+        if not may_answer(reply, vpns[at - 1]):
+            what = f"{networks.shown(line)} is no reply to {networks.shown(line_of(vpns[at - 1]))}"
+            raise networks.WrongText(at, what)
+        found.append(Move(vpns[at - 1], reply))
+    if len(lines) < len(vpns):
+        what = f"the replies end after {len(lines)} of {len(vpns)} VPNs"
+        raise networks.WrongText(len(lines) + 1, what)
+    return found
+
+
+def total(found: List[Move]) -> str:
+    moved = [move for move in found if isinstance(move.reply, client.Admitted)]
+    was, now = sum(move.vpn.cost for move in moved), sum(move.reply.cost for move in moved)
+    return f"moved {len(moved)} of {len(found)} cost {was} now {now}"
+
+
+def main() -> None:
+    words = argparse.ArgumentParser(
+        description=__doc__, formatter_class=argparse.RawDescriptionHelpFormatter
+    )
+    words.add_argument("audit", metavar="AUDIT", help="what `hosed audit` wrote")
+    words.add_argument("output", metavar="OUTPUT", nargs="?", help="what came of the script")
+    given = words.parse_args()
+    audit = networks.load(networks.read_audit, given.audit)
+    if given.output is None:
+        for line in script(audit):
+            print(line)
+        return
+    found = networks.load(lambda text: moves(audit, text), given.output)
+    for move in found:
+        print(move)
+    print(total(found), flush=True)
+    if any(isinstance(move.reply, client.Refusal) for move in found):
+        sys.exit(1)
+
+
+if __name__ == "__main__":
+    sys.exit(networks.status_of(main))

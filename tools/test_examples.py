@@ -1,0 +1,92 @@
+"""Runs the examples of README.md that speak to a server, move VPNs, or read GraphML. Where the
+program stands in them, what it has to answer was worked out by the planner of bench/."""
+import os
+import re
+import subprocess
+import tempfile
+import unittest
+
+from fake_server import FakeHosed, FakeServer
+
+TOP = os.path.join(os.path.dirname(os.path.abspath(__file__)), "..")
+with open(os.path.join(TOP, "README.md"), encoding="utf-8") as _file:
+    README = _file.read()
+
+ADMITTED = "admitted 1 cost 26 at 1 links 0:3 1:4 2:5"
+MOVED = """\
+admitted 1 cost 42400 at 1 links 1:400 4:600 5:400 7:400 8:600 9:500 10:900 11:1000 12:1000
+admitted 2 cost 3200 at 2 links 8:200 11:200
+"""
+
+
+def example(start):
+    """The line of README.md, within a block or a sentence, that has this start."""
+    found = re.findall(rf"^.*{re.escape(start)}[^`\n]*", README, re.MULTILINE)
+    assert len(found) == 1, f"{start}: {found}"
+    return found[0]
+
+
+def block_after(text):
+    """The block that stands next after a text."""
+    return README.partition(text)[2].partition("```\n")[2].partition("```")[0]
+
+
+def run(line, folder=TOP):
+    done = subprocess.run(
+        ["bash", "-c", line], cwd=folder, stdin=subprocess.DEVNULL, stdout=subprocess.PIPE,
+        stderr=subprocess.PIPE, universal_newlines=True, timeout=20,
+    )
+    return done.returncode, done.stdout
+
+
+class Sessions(unittest.TestCase):
+    def test_the_client(self):
+        line = example("python3 tools/client.py 7000 acme").replace("sleep 5", "sleep 0.1")
+        self.assertIn(f"The first prints `{ADMITTED}`", README)
+        with FakeServer([b"welcome at 0\n", f"{ADMITTED}\n".encode(), b"bye\n"]) as server:
+            self.assertEqual(run(line.replace("7000", f"{server.port}")), (0, f"{ADMITTED}\n"))
+        self.assertEqual(server.lines, ["hello acme", "admit a:3 b:4 c:5", "bye"])
+
+    def test_a_session_by_bash_alone(self):
+        line, told = example("exec 3<>/dev/tcp/127.0.0.1/7000"), block_after("by `bash` alone")
+        with FakeServer([reply.encode() for reply in told.splitlines(True)]) as server:
+            self.assertEqual(run(line.replace("7000", f"{server.port}")), (0, told))
+        self.assertEqual(server.lines, ["hello beta", "admit a:8 b:8", "admit a:1 b:1", "bye"])
+
+    def test_the_load(self):
+        line = example("python3 tools/load.py 7000 4 10").rpartition("`")[2]
+        with FakeHosed(workers=4) as server:
+            line = line.replace("7000", f"{server.port}").replace(" 10", " 0.3")
+            status, told = run(line)
+        self.assertEqual((status, told.split()[0]), (0, "command"))
+
+
+class Moves(unittest.TestCase):
+    def test_script_and_result(self):
+        script = example("backbone_audit.txt > moved_script.txt")
+        network = example("| cat - moved_script.txt").partition("| ./hosed run")
+        result = example("backbone_audit.txt moved_output.txt")
+        with tempfile.TemporaryDirectory() as folder:
+            for name in ("demo", "tools"):
+                os.symlink(os.path.abspath(os.path.join(TOP, name)), os.path.join(folder, name))
+            self.assertEqual(run(script, folder), (0, ""))
+            status, text = run(network[0], folder)
+            self.assertEqual((status, text.count("\nlink "), text.count("admit ")), (0, 13, 2))
+            with open(os.path.join(folder, "moved_output.txt"), "w", encoding="ascii") as output:
+                output.write(MOVED)
+            self.assertEqual(run(result, folder), (0, block_after(f"{result}\n```\n")))
+
+
+class Importers(unittest.TestCase):
+    def test_the_alps(self):
+        """What the program reads is the topology in demo/, and the script after it."""
+        line = example("python3 tools/from_graphml.py").partition("| ./hosed run")[0]
+        texts = []
+        for name in ("alps.txt", "alps_script.txt"):
+            with open(os.path.join(TOP, "demo", name), encoding="ascii") as file:
+                texts.append(file.read())
+        self.assertEqual(run(line), (0, "".join(texts)))
+
+
+if __name__ == "__main__":
+    unittest.main()
