@@ -141,7 +141,7 @@ def main():
             same(status, 0, "the status")
             same(audit.splitlines()[0], f"epoch {customers.epoch}", "the audit")
             same(audit.splitlines()[-1], "live 0 cost 0", "the audit")
-        except (Differs, *client.FAULTS) as difference:
+        except (Differs, OSError, *client.FAULTS) as difference:
             server.kill()
             sys.exit(f"bad clients: {difference}")
     print(f"{behaved} who behave were served beside them")

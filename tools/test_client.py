@@ -122,6 +122,7 @@ class Sessions(unittest.TestCase):
             ([WELCOME, b"admitted 1 co"], ConnectionLost, "in mid-line, after 'admitted 1 co'"),
             ([WELCOME, b"HTTP/1.1 200 OK\r\n"], MalformedReply, "which is no reply"),
             ([WELCOME, b"released 1 at 1\n"], MalformedReply, "'released 1 at 1'"),
+            ([WELCOME, b"bye\n"], MalformedReply, "'bye'"),
             ([WELCOME, b"\xff\xfe\n"], MalformedReply, "no text"),
             ([WELCOME, b"x" * (client.LONGEST_REPLY + 1)], MalformedReply, "without a line feed"),
         ]
@@ -143,6 +144,15 @@ class Sessions(unittest.TestCase):
             session = Session("127.0.0.1", server.port, "acme")
             with self.assertRaisesRegex(MalformedReply, "more than it was asked"):
                 session.bye()
+
+    def test_a_bye_without_reply_is_told_where_nothing_else_is(self):
+        with FakeServer([WELCOME, b""], [WELCOME, b""]) as server:
+            with self.assertRaisesRegex(ConnectionLost, "closed the connection"):
+                with Session("127.0.0.1", server.port, "acme"):
+                    pass
+            with self.assertRaisesRegex(KeyError, "of the caller"):
+                with Session("127.0.0.1", server.port, "acme"):
+                    raise KeyError("of the caller")
 
     def test_no_reply_in_time(self):
         never = threading.Event()

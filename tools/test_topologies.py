@@ -104,6 +104,11 @@ class Drafts(unittest.TestCase):
         ):
             self.assertAlmostEqual(topologies.kilometres(one, other), km, places=3)
 
+    def test_places(self):
+        self.assertEqual(topologies.place("-180", "90.0"), (-180, 90))
+        for texts in (("180.5", "0"), ("0", "-90.5"), ("nan", "0"), ("0", None), ("e", "n")):
+            self.assertIsNone(topologies.place(*texts))
+
     def test_limits(self):
         """What stands at a limit is taken, and one more is refused."""
         draft = Draft(capacity=1, length=1)
