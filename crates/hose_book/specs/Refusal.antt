@@ -9,6 +9,7 @@ use Rattle.hose_law.specs.Book.{Book, HasVpn}
 use Rattle.hose_law.specs.History.{IsSoundAt, last_epoch, most_live}
 use Rattle.hose_law.specs.Room.{room_of}
 use Rattle.hose_law.specs.Tree.{IsTreeReservation}
+use Rattle.hose_law.specs.Walk.{all_links}
 use Rattle.hose_book.specs.declared.checking.BookRefusal.{BookRefusal}
 use Rattle.hose_book.specs.declared.checking.BookRefusal.TheVariants.{Spent, Full, NotATree, NoRoom, NoVpn}
 
@@ -30,10 +31,9 @@ pub record IsLowestFull (free : List ℕ) (amounts : List ReservedLink) (link : 
   pub lowest : (other : ReservedLink) → Contains amounts other → IsAbove free other
       → link ≤ link_of other
 
--- the amounts are what the hose reserves on a tree over the links that the book leaves
-abbrev pub AreOnTree : Network → Book → List Endpoint → List ReservedLink → Type 0
-AreOnTree network book hose amounts =
-    IsTreeReservation network (room_of network book).links hose amounts
+-- the amounts are what the hose reserves on a tree, of whatever links
+abbrev pub AreOnTree : Network → List Endpoint → List ReservedLink → Type 0
+AreOnTree network hose amounts = IsTreeReservation network (all_links network) hose amounts
 
 -- The entry is refused at a book for this cause, and for none before it: an admission for spent,
 -- full, not a tree, no room; a release for no VPN, spent.
@@ -42,9 +42,9 @@ IsRefusedFor network book (Admit customer hose amounts) Spent = book.epoch ≡ l
 IsRefusedFor network book (Admit customer hose amounts) Full =
     (book.epoch < last_epoch) × (most_live ≤ length book.live)
 IsRefusedFor network book (Admit customer hose amounts) NotATree =
-    HasPlace book × (¬ AreOnTree network book hose amounts)
+    HasPlace book × (¬ AreOnTree network hose amounts)
 IsRefusedFor network book (Admit customer hose amounts) (NoRoom link) =
-    HasPlace book × AreOnTree network book hose amounts
+    HasPlace book × AreOnTree network hose amounts
     × IsLowestFull (room_of network book).free amounts link
 IsRefusedFor network book (Release customer id) NoVpn = ¬ HasVpn book customer id
 IsRefusedFor network book (Release customer id) Spent =

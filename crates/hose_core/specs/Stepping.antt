@@ -7,10 +7,10 @@ use Rattle.hose_graph.specs.declared.command.Command.{Command}
 use Rattle.hose_graph.specs.declared.entry.Entry.{Entry}
 use Rattle.hose_graph.specs.declared.reply.Reply.{Reply}
 use Rattle.hose_graph.specs.declared.reply.Reply.TheVariants as reply
-use Rattle.hose_law.specs.Answer.{IsStepOf}
+use Rattle.hose_law.specs.Answer.{IsPlannedAnswer, IsStepOf}
 use Rattle.hose_law.specs.Book.{Book}
 use Rattle.hose_law.specs.Cheapest.{IsCheapest}
-use Rattle.hose_law.specs.Decision.{IsAllowed}
+use Rattle.hose_law.specs.Decision.{HaveEqualGrounds, IsAllowed}
 use Rattle.hose_law.specs.History.{IsDecidedAt, IsSoundWith, book_of, next_book}
 use Rattle.hose_law.specs.Quotes.{Held, Holdings, with_held}
 use Rattle.hose_law.specs.Room.{room_of}
@@ -19,6 +19,7 @@ use Rattle.hose_book.specs.declared.books.Books.{Ghosts}
 use Rattle.hose_book.specs.declared.committed.Committed.{Committed}
 use Rattle.hose_book.specs.declared.committed.Committed.TheVariants.{Done, Disk}
 use Rattle.hose_core.specs.Holding.{AreHeld, State, quotes_of}
+use Rattle.hose_core.specs.declared.quotes.Quote.{Quote}
 
 -- what the commit of a command's entry answered, by the reply
 abbrev pub committed_of : Reply → Committed
@@ -68,6 +69,17 @@ AdmitsCheapest network book hose answer = ⊤
 abbrev pub TellsPlan : List ReservedLink → ℕ → Reply → Type 0
 TellsPlan plan cost (reply.Admitted id told at amounts) = (amounts ≡ plan) × (told ≡ cost)
 TellsPlan plan cost answer = ⊤
+
+-- A customer took a quote that was made at an earlier book. Where its grounds differ between that
+-- book and this one, it is stale, and nothing has changed; else its plan is the answer of an
+-- admission at this book.
+abbrev pub Takes : {K R : Type 0} → Ghosts K R → K → K → Book → List ℕ → Quote → Reply → Type 0
+Takes books old new earlier customer quote answer =
+    ((¬ HaveEqualGrounds (books.ledger old).network earlier (books.ledger old).book quote.hose)
+    × (answer ≡ reply.Stale quote.seen (books.ledger old).book.epoch) × (new ≡ old))
+    ⊎ (HaveEqualGrounds (books.ledger old).network earlier (books.ledger old).book quote.hose
+    × AnswersBy books old new (IsPlannedAnswer (books.ledger old).network (books.ledger old).book
+    customer quote.hose) answer)
 
 -- A command of a customer who holds this was answered by a step at a history, whose entry is sound
 -- there, and what the step leads to is the book now.

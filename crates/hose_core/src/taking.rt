@@ -11,7 +11,7 @@ ghost use Rattle.hose_law.specs.Quotes.{Held, HeldQuote, at_number};
 ghost use Rattle.hose_book.specs.Commit.{IsMet};
 ghost use Rattle.hose_core.specs.Claiming.{IsClaimOf};
 ghost use Rattle.hose_core.specs.Holding.{IsMade, IsMadeAt, IsQuoteOf};
-ghost use Rattle.hose_core.specs.Stepping.{AdmitsCheapest, HasStepped, TellsPlan, committed_of};
+ghost use Rattle.hose_core.specs.Stepping.{AdmitsCheapest, HasStepped, Takes, TellsPlan, committed_of};
 
 use crate::claim::Claim;
 use crate::entering::enter_planned;
@@ -32,6 +32,11 @@ pub fn take_now<K: Books>(books: &mut K, quote: &Quote, claim: Claim<K>) -> Repl
         → IsQuoteOf (K.ledger books.old).network epoch history one quote.now
         → HasStepped K.Books books.old books.new epoch history customer held
         (Command.Take number) result }
+    // So it is also where the books have come from no history of the quote, as another server's.
+    ensures takes { (customer : List ℕ) (earlier : Book)
+        → IsClaimOf K.Books claim customer quote.now
+        → IsMadeAt (K.ledger books.old).network earlier quote.now
+        → Takes K.Books books.old books.new earlier customer quote.now result }
     ensures cheapest { AdmitsCheapest (K.ledger books.old).network (K.ledger books.old).book
         quote.now.hose result }
     ensures told { TellsPlan quote.now.amounts quote.now.cost result }

@@ -1,23 +1,22 @@
 // A cabinet of the file system.
-ghost use Rattle.std.specs.Prelude.{◌≡◌, ◌↔◌, ◌≤◌, IfOk, IsOk, None, false, length};
-ghost use Rattle.std.specs.Fs.{IsFile, file_type};
+ghost use Rattle.std.specs.Prelude.{◌≡◌, ◌≤◌, None, false};
 ghost use Rattle.hose_io.specs.Count.{one_more};
 ghost use Rattle.hose_io.specs.Frame.{Rose};
 ghost use Rattle.hose_disk.specs.Cabinet.{object_of};
 
 use crate::cabinet::Cabinet;
-use crate::file_disk::{FileDisk, read_some};
+use crate::file_disk::FileDisk;
+use crate::files::{OpenText, open_disk, read_text};
 use hose_io::Failed;
-use std::fs::{File, Metadata};
+use std::fs::File;
 use std::io::ErrorKind;
 use std::marker::Model;
-use std::path::Path;
 use std::rt::Files;
-use std::{fs, io};
 
 /// A cabinet whose names are paths, and whose texts and disks are regular files: another kind of
 /// file is a failure. A disk that is out is locked by the system's advisory lock, and one that
-/// another program has locked so is a failure.
+/// another program has locked so is a failure. A text is the file that was at its path when its
+/// first piece was asked for, until its end is given or another text is asked for.
 ///
 /// It tells nothing, and nothing is proved of what the files hold: that is up to the system, and is
 /// tried by tests. What stands at a path is looked at before it is opened, since to open a pipe may
@@ -25,6 +24,7 @@ use std::{fs, io};
 #[derive(Drop)]
 pub struct DirCabinet<F> {
     rt: F,
+    reading: Option<OpenText>,
     faults: u64,
     absent: u64,
     returned: u64,
@@ -60,6 +60,7 @@ impl<F: Files<File = File> + AllocGlobal + Drop> DirCabinet<F> {
     {
         DirCabinet {
             rt,
+            reading: None,
             faults: 0,
             absent: 0,
             returned: 0,
@@ -105,7 +106,7 @@ impl<F: Files<File = File> + AllocGlobal + Drop> Cabinet for DirCabinet<F> {
     ghost held = { λ _ _. untold_disk };
 
     fn text(&mut self, name: &str, from: u64, into: &mut [u8]) -> Result<usize, Failed> {
-        match read_text(&self.rt, name, from, into) {
+        match read_text(&self.rt, &mut self.reading, name, from, into) {
             Ok(count) => Ok(count),
             Err(error) => {
                 if error.kind() == ErrorKind::NotFound {
@@ -133,61 +134,5 @@ impl<F: Files<File = File> + AllocGlobal + Drop> Cabinet for DirCabinet<F> {
         if disk.has_failed() {
             self.fault();
         }
-    }
-}
-
-fn read_text<F: Files<File = File>>(
-    rt: &F,
-    path: &str,
-    from: u64,
-    into: &mut [u8],
-) -> io::Result<usize>
-    ensures { IfOk result (λ count. count ≤ length into.new) }
-{
-    require_file(&fs::metadata(rt, path)?)?;
-    let file = File::open(rt, path)?;
-    require_file(&file.metadata()?)?;
-    read_some(&file, from, into)
-}
-
-// Opens a file for reading and writing, and locks it. One that is not there is created.
-fn open_disk<F: Files<File = File>>(rt: &F, path: &str) -> io::Result<File> {
-    match fs::metadata(rt, path) {
-        Ok(there) => require_file(&there)?,
-        Err(error) if error.kind() == ErrorKind::NotFound => {}
-        Err(error) => return Err(error),
-    }
-    let file = File::options()
-        .read(true)
-        .write(true)
-        .create(true)
-        .open(rt, path)?;
-    let opened = file.metadata()?;
-    require_file(&opened)?;
-    file.try_lock()?;
-    // An empty file may be new, and its name not yet durable.
-    if opened.len() == 0 {
-        sync_folder(rt, path)?;
-    }
-    Ok(file)
-}
-
-// Makes the names in a file's folder durable.
-fn sync_folder<F: Files<File = File>>(rt: &F, path: &str) -> io::Result<()> {
-    let folder = match Path::new(path).parent() {
-        Some(folder) if !folder.as_str().is_empty() => folder.as_str(),
-        _ => ".",
-    };
-    File::open(rt, folder)?.sync_all()
-}
-
-// Fails where this is no regular file.
-fn require_file(there: &Metadata) -> io::Result<()>
-    ensures { IsOk result ↔ IsFile (file_type there.now) }
-{
-    if there.is_file() {
-        Ok(())
-    } else {
-        Err(ErrorKind::InvalidInput.into())
     }
 }

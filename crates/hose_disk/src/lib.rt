@@ -25,6 +25,7 @@ mod call;
 mod dir_cabinet;
 mod disk;
 mod file_disk;
+mod files;
 mod mem_cabinet;
 mod mem_disk;
 mod named;

@@ -10,6 +10,7 @@
 //! ```
 #![tactic(auto)]
 
+mod arrival;
 mod tcp_door;
 
-pub use tcp_door::{TcpDone, TcpDoor};
+pub use tcp_door::{READ_SECONDS, TcpDone, TcpDoor, WRITE_SECONDS};

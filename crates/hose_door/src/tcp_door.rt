@@ -1,29 +1,40 @@
 // A door over a port of the network.
-ghost use Rattle.std.specs.Prelude.{◌≡◌, ◌↔◌, ◌⊎◌, ◌≤◌, false, true, IfOk, IsErr, IsFalse, IsNone, IsSome, IsTrue, MatchOption, MatchResult};
-ghost use Rattle.std.specs.IoError.{error_kind};
+ghost use Rattle.std.specs.Prelude.{◌≡◌, ◌≤◌, false, true, IfOk, IsErr, IsFalse, IsSome, MatchOption, MatchResult};
 ghost use Rattle.hose_io.specs.Connections.{Accepts, AreAccounted, AreUsedUp, IsConnection};
 ghost use Rattle.hose_io.specs.Count.{one_more};
 ghost use Rattle.hose_io.specs.Frame.{Met, Rose};
 ghost use Rattle.hose_io.specs.StdState.{untold_stream, untold_text};
 ghost use Rattle.hose_door.specs.TcpState.{frame_of, std_sink, std_source, untold_connections};
 
+use crate::arrival::{accept_from, in_two, listen};
 use hose_io::{Door, Failed, StdSink, StdSource};
 use std::io;
-use std::io::ErrorKind;
 use std::marker::Model;
-use std::net::{Ipv4Addr, Net, TcpListener, TcpStream};
+use std::net::{Net, TcpListener, TcpStream};
+use std::rt::Clock;
+use std::time::Duration;
+
+/// For how many seconds a peer may say nothing.
+pub const READ_SECONDS: u64 = 600;
+
+/// For how many seconds a peer may take nothing of what it is told.
+pub const WRITE_SECONDS: u64 = 60;
 
 /// A connection that was closed.
 #[derive(Debug, Drop)]
 pub struct TcpDone;
 
 /// A port at 127.0.0.1, which only this machine's own programs reach. Connections come without end.
+/// A read fails where the peer says nothing for too long, and a write where it takes nothing for
+/// too long.
 ///
 /// It tells nothing, and nothing is proved of what comes and goes: that is up to the system, and is
 /// tried by tests.
 #[derive(Drop)]
 pub struct TcpDoor<N> {
     rt: N,
+    read_timeout: Duration,
+    write_timeout: Duration,
     listener: Option<TcpListener>,
     faults: u64,
 }
@@ -38,12 +49,23 @@ impl<N> Model for TcpDoor<N> {
 }
 
 impl<N: Net<Listener = TcpListener, Stream = TcpStream> + Send + Drop> TcpDoor<N> {
-    /// It listens once it is opened.
+    /// It listens once it is opened. Its peers have `READ_SECONDS` and `WRITE_SECONDS`.
     pub fn new(rt: N) -> TcpDoor<N>
+        ensures { result ≡ record { faults = 0; listens = false } }
+    {
+        let read_timeout = Duration::from_secs(READ_SECONDS);
+        let write_timeout = Duration::from_secs(WRITE_SECONDS);
+        TcpDoor::with_timeouts(rt, read_timeout, write_timeout)
+    }
+
+    /// The same with other timeouts, of which neither may be zero.
+    pub fn with_timeouts(rt: N, read_timeout: Duration, write_timeout: Duration) -> TcpDoor<N>
         ensures { result ≡ record { faults = 0; listens = false } }
     {
         TcpDoor {
             rt,
+            read_timeout,
+            write_timeout,
             listener: None,
             faults: 0,
         }
@@ -69,7 +91,19 @@ impl<N> TcpDoor<N> {
     }
 }
 
-impl<N: Net<Listener = TcpListener, Stream = TcpStream> + Drop> Door for TcpDoor<N> {
+impl<N: Clock> TcpDoor<N> {
+    // Accepts a connection, as a stream to be read and one to be written.
+    fn accept_ends(&self) -> io::Result<(TcpStream, TcpStream)>
+        ensures { IsFalse self.now.listens → IsErr result }
+    {
+        let stream = accept_from(&self.rt, self.listener.as_ref())?;
+        stream.set_read_timeout(Some(self.read_timeout))?;
+        stream.set_write_timeout(Some(self.write_timeout))?;
+        in_two(&self.rt, stream)
+    }
+}
+
+impl<N: Net<Listener = TcpListener, Stream = TcpStream> + Clock + Drop> Door for TcpDoor<N> {
     ghost use Rattle.hose_door.specs.TcpState.{frame_of, untold_connection, untold_connections};
 
     type In = StdSource<TcpStream>;
@@ -93,7 +127,7 @@ impl<N: Net<Listener = TcpListener, Stream = TcpStream> + Drop> Door for TcpDoor
             (λ _. self.new.listens ≡ true)
             (λ _. self.new.listens ≡ self.old.listens) }
     {
-        let Ok(listener) = TcpListener::bind(&self.rt, (Ipv4Addr::LOCALHOST, port)) else {
+        let Ok(listener) = listen(&self.rt, port) else {
             return Err(self.fault());
         };
         self.listener = Some(listener);
@@ -114,10 +148,20 @@ impl<N: Net<Listener = TcpListener, Stream = TcpStream> + Drop> Door for TcpDoor
         ensures unopened { IsFalse self.old.listens → IsErr result }
         ensures listens { self.new.listens ≡ self.old.listens }
     {
-        let Ok((input, output)) = accept_from(self.listener.as_ref()) else {
+        let Ok((input, output)) = self.accept_ends() else {
             return Err(self.fault());
         };
         Ok(Some((StdSource::new(input), StdSink::new(output))))
+    }
+
+    // The system refuses whom it has not told of to an accept, and who comes later.
+    fn close(&mut self)
+        ensures told { untold_connections ≡ untold_connections }
+        ensures frame { frame_of self.new ≡ frame_of self.old }
+
+        ensures after { self.new ≡ record self.old { listens = false } }
+    {
+        self.listener = None;
     }
 
     // Both streams are dropped here, and with the last of them the system closes the connection. A
@@ -127,41 +171,4 @@ impl<N: Net<Listener = TcpListener, Stream = TcpStream> + Drop> Door for TcpDoor
     }
 
     fn back(&mut self, _done: TcpDone) {}
-}
-
-// Accepts a connection, as a stream to be read and one to be written. An accept that was
-// interrupted, or whose peer was gone already, is tried again.
-fn accept_from(listener: Option<&TcpListener>) -> io::Result<(TcpStream, TcpStream)>
-    ensures { IsNone listener.entry → IsErr result }
-{
-    let Some(listener) = listener else {
-        return Err(ErrorKind::NotConnected.into());
-    };
-    for _ in 0..u64::MAX {
-        match listener.accept() {
-            Ok((stream, _)) => return in_two(stream),
-            Err(error) if is_passing(&error) => {}
-            Err(error) => return Err(error),
-        }
-    }
-    Err(ErrorKind::Interrupted.into())
-}
-
-// Whether an accept that failed so may succeed when it is made again.
-fn is_passing(error: &io::Error) -> bool
-    ensures { IsTrue result
-        ↔ ((error_kind error.now ≡ ErrorKind.Interrupted)
-        ⊎ (error_kind error.now ≡ ErrorKind.ConnectionAborted)) }
-{
-    matches!(
-        error.kind(),
-        ErrorKind::Interrupted | ErrorKind::ConnectionAborted
-    )
-}
-
-// A reply is small and goes out whole, so it is not to wait for more to be sent with it. Where the
-// system does not grant that, replies come later, and are the same: this is no fault.
-fn in_two(stream: TcpStream) -> io::Result<(TcpStream, TcpStream)> {
-    let _ = stream.set_nodelay(true);
-    Ok((stream.try_clone()?, stream))
 }

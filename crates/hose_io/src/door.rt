@@ -44,6 +44,12 @@ pub trait Door {
         ensures accounted { AreAccounted (told self.new) }
         ensures met { Met (frame self.old) (frame self.new) result };
 
+    /// No more are to be accepted. Connections that come later may be refused.
+    fn close(&mut self)
+        ensures told { told self.new ≡ told self.old }
+        ensures frame { frame self.new ≡ frame self.old }
+    {}
+
     /// Ends a connection.
     fn done(input: Self::In, output: Self::Out) -> Self::Done
         requires { (Self.In.frame input).number ≡ (Self.Out.frame output).number }
@@ -77,6 +83,10 @@ impl<L: Door> Door for &mut L {
 
     fn accept(&mut self) -> Result<Option<(L::In, L::Out)>, Failed> {
         Door::accept(&mut **self)
+    }
+
+    fn close(&mut self) {
+        Door::close(&mut **self)
     }
 
     fn done(input: L::In, output: L::Out) -> L::Done {

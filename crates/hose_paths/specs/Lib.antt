@@ -1,1 +1,5 @@
+pub mod Chain
+pub mod Kept
+pub mod Queue
+pub mod Rows
 pub mod Table

@@ -1,9 +1,10 @@
 //! Rows: the distances of all nodes of a topology from one of them, over a set of its links, and
-//! each node's tight link. The planner takes what makes them by its contract alone, and has the
-//! plain maker here.
+//! each node's tight link. The planner takes what makes them by its contract alone. Three makers
+//! are here: by rounds over all links; by a heap, which follows the links of the nearest node first
+//! and is the faster one the longer the ways are; and over a table of rows that are kept.
 //!
 //! ```
-//! let row = PlainRows::new().row(alloc, &top, &links, root)?;
+//! let row = HeapRows::new().row(alloc, &top, &links, root)?;
 //! ```
 #![tactic(auto)]
 
@@ -11,13 +12,19 @@ ghost use Rattle.std.specs.Prelude.{◌≡◌, ◌<◌, IfOk, length};
 ghost use Rattle.hose_graph.specs.Row.{HasBoundedDistances};
 ghost use Rattle.hose_law.specs.Row.{IsRow};
 
+mod chains;
+mod heap;
 mod plain;
+mod settling;
+mod table;
 mod tight;
 
+pub use heap::HeapRows;
 use hose_graph::{Row, Topology};
 use hose_links::LinkSet;
 pub use plain::PlainRows;
 use std::alloc::{AllocError, Global};
+pub use table::{RowTable, TableRows};
 
 /// What makes rows.
 pub trait RowMaker {

@@ -1,13 +1,12 @@
 // A maker of rows that asks several workers at once.
-ghost use Rattle.std.specs.Prelude.{◌≡◌, ◌<◌, ◌≤◌, ◌↔◌, IfOk, IsTrue, length};
-ghost use Rattle.hose_pool.specs.Rows.{IsRowOf};
+ghost use Rattle.std.specs.Prelude.{◌≡◌, ◌≤◌, IfOk, length};
 ghost use Rattle.hose_pool.specs.Shareable.{IsShared};
 ghost use Rattle.hose_pool.specs.declared.rows.TheConstants.{MOST_WORKERS};
 
 use crate::rows::all_rows;
 use hose_graph::{Row, Topology};
 use hose_links::LinkSet;
-use hose_paths::{PlainRows, RowMaker};
+use hose_paths::{HeapRows, RowMaker, RowTable};
 use std::alloc::{AllocError, Global};
 use std::marker::Model;
 use std::thread::Threads;
@@ -31,7 +30,7 @@ impl<T: Sync> Shareable for T {
 pub struct PoolRows<'a, T: Shareable> {
     rt: &'a T,
     workers: u32,
-    kept: Option<Kept>,
+    kept: Option<RowTable>,
 }
 
 impl<'a, T: Shareable> Model for PoolRows<'a, T> {
@@ -70,7 +69,7 @@ impl<T: Threads + Sync> RowMaker for PoolRows<'_, T> {
     ) -> Result<Row, AllocError> {
         // Each hose is planned over all links first, so these rows are asked for again.
         if !has_all(links) {
-            return PlainRows::new().row(alloc, top, links, root);
+            return HeapRows::new().row(alloc, top, links, root);
         }
         let kept = take_or_make(self.rt, alloc, &mut self.kept, top, links, self.workers)?;
         let row = kept.row(alloc, root);
@@ -88,11 +87,11 @@ fn has_all(links: &LinkSet) -> bool {
 fn take_or_make<T: Threads + Sync>(
     rt: &T,
     alloc: Global,
-    kept: &mut Option<Kept>,
+    kept: &mut Option<RowTable>,
     top: &Topology,
     links: &LinkSet,
     workers: u32,
-) -> Result<Kept, AllocError>
+) -> Result<RowTable, AllocError>
     requires workers { (1 ≤ workers) × (workers ≤ MOST_WORKERS) }
     requires places { length links.now ≡ length top.now.links }
     ensures network { IfOk result (λ kept. kept.network ≡ top.now) }
@@ -104,66 +103,22 @@ fn take_or_make<T: Threads + Sync>(
             return Ok(kept);
         }
     }
-    Kept::make(rt, alloc, top, links, workers)
+    make(rt, alloc, top, links, workers)
 }
 
-// The rows of all nodes over a set of a network's links, with the network and the set.
-//
-// A contract sees it as `KeptRows`.
-#[derive(Drop)]
-struct Kept {
-    top: Topology,
-    links: LinkSet,
-    rows: Vec<Row>,
-}
-
-impl Model for Kept {
-    ghost use Rattle.hose_pool.specs.Kept.{KeptRows};
-    ghost use Rattle.hose_pool.specs.Rows.{AreRows};
-
-    ghost Value = { KeptRows };
-
-    ghost view = { λ kept.
-        record { network = kept.top; links = kept.links; rows = kept.rows.items } };
-
-    ghost invariant = { λ kept. AreRows kept.top kept.links kept.rows.items };
-}
-
-impl Kept {
-    // Has the workers make the rows.
-    fn make<T: Threads + Sync>(
-        rt: &T,
-        alloc: Global,
-        top: &Topology,
-        links: &LinkSet,
-        workers: u32,
-    ) -> Result<Kept, AllocError>
-        requires workers { (1 ≤ workers) × (workers ≤ MOST_WORKERS) }
-        requires places { length links.now ≡ length top.now.links }
-        ensures network { IfOk result (λ kept. kept.network ≡ top.now) }
-        ensures links { IfOk result (λ kept. kept.links ≡ links.now) }
-    {
-        let rows = all_rows(rt, alloc, top, links, workers)?;
-        Ok(Kept {
-            top: top.copy(alloc)?,
-            links: links.copy(alloc)?,
-            rows,
-        })
-    }
-
-    // Whether the rows are over this set of this network's links.
-    fn is_over(&self, top: &Topology, links: &LinkSet) -> bool
-        ensures { IsTrue result
-            ↔ ((self.now.network ≡ top.now) × (self.now.links ≡ links.now)) }
-    {
-        self.top.same(top) && self.links.same(links)
-    }
-
-    // A copy of the row of a root.
-    fn row(&self, alloc: Global, root: u32) -> Result<Row, AllocError>
-        requires is_node { root < length self.now.network.nodes }
-        ensures { IfOk result (IsRowOf self.now.network self.now.links root) }
-    {
-        self.rows[root as usize].copy(alloc)
-    }
+// Has the workers make the rows of all nodes.
+fn make<T: Threads + Sync>(
+    rt: &T,
+    alloc: Global,
+    top: &Topology,
+    links: &LinkSet,
+    workers: u32,
+) -> Result<RowTable, AllocError>
+    requires workers { (1 ≤ workers) × (workers ≤ MOST_WORKERS) }
+    requires places { length links.now ≡ length top.now.links }
+    ensures network { IfOk result (λ table. table.network ≡ top.now) }
+    ensures links { IfOk result (λ table. table.links ≡ links.now) }
+{
+    let rows = all_rows(rt, alloc, top, links, workers)?;
+    RowTable::build(alloc, top, links, rows)
 }

@@ -1,11 +1,12 @@
 // Rows that several workers make at once.
 ghost use Rattle.std.specs.Prelude.{◌≡◌, ◌<◌, ◌≤◌, ℕ, IfOk, Option, Some, length, map, slice_index_or};
 ghost use Rattle.hose_graph.specs.Row.{Distances};
-ghost use Rattle.hose_pool.specs.Rows.{AreRows, IsMade};
+ghost use Rattle.hose_paths.specs.Rows.{AreRows};
+ghost use Rattle.hose_pool.specs.Rows.{IsMade};
 
 use hose_graph::{Row, Topology};
 use hose_links::LinkSet;
-use hose_paths::{PlainRows, RowMaker};
+use hose_paths::{HeapRows, RowMaker};
 use std::alloc::{AllocError, Global};
 use std::thread;
 use std::thread::Threads;
@@ -86,5 +87,5 @@ fn row_of(alloc: Global, top: &Topology, links: &LinkSet, root: usize) -> Option
 {
     // The call tells the proof that a network has few nodes, so that the cast keeps the number.
     let _nodes = top.nodes();
-    PlainRows::new().row(alloc, top, links, root as u32).ok()
+    HeapRows::new().row(alloc, top, links, root as u32).ok()
 }

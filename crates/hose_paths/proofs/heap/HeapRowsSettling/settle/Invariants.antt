@@ -1,0 +1,16 @@
+-- Each item that is taken and each entry that falls lowers the sum of twice the entries and the queue's length.
+use Rattle.std.proofs.Common.{ℕ, ◌+◌, ◌*◌}
+use Rattle.std.specs.BinaryHeap.{heap_items, heap_len}
+use Rattle.hose_paths.specs.Table.{IsFound, IsBounded, left_to_fall}
+use Rattle.hose_paths.specs.Queue.{IsSettledBut}
+use Rattle.hose_paths.proofs.heap.HeapRowsSettling.settle.Given as goal
+
+abbrev pub invariant-loop-distance : goal.invariant-loop-distance
+invariant-loop-distance l = record {
+  bounded : IsBounded l.dist;
+  found : (start : ℕ) → IsFound l.top l.links start l.initial.dist → IsFound l.top l.links start l.dist;
+  settled : IsSettledBut l.top l.links l.dist (heap_items l.queue) 0 0;
+}
+
+abbrev pub decreases-loop-distance : goal.decreases-loop-distance
+decreases-loop-distance l = 2 * left_to_fall l.dist + heap_len l.queue

@@ -1,0 +1,152 @@
+// The maker of rows by a heap: what fell waits in a queue, the nearest first, until its links are
+// followed.
+ghost use Rattle.std.specs.Prelude.{◌≡◌, ◌≢◌, ◌⊎◌, ℕ, ◌+◌, ◌*◌, ◌^◌, ◌<◌, ◌≤◌, ◌↔◌, None, Some, IsTrue, OnOk, length, slice_get};
+ghost use Rattle.std.specs.BinaryHeap.{heap_items, heap_len};
+ghost use Rattle.hose_graph.specs.Network.{IsNetwork};
+ghost use Rattle.hose_law.specs.Walk.{Joins};
+ghost use Rattle.hose_paths.specs.Table.{entry, IsFound, IsBounded, CannotLower, IsSettled, Lowers, left_to_fall};
+ghost use Rattle.hose_paths.specs.Chain.{AreChains, Meets};
+ghost use Rattle.hose_paths.specs.Queue.{IsQueued, IsSettledBut, Follows};
+
+use crate::RowMaker;
+use crate::chains::Chains;
+use crate::settling::{Settling, row_by};
+use hose_graph::{Link, Row, Topology};
+use hose_links::LinkSet;
+use std::alloc::{AllocError, Global};
+use std::cmp::Reverse;
+use std::collections::BinaryHeap;
+
+/// Makes each row by following the links of the nearest node first.
+#[derive(Clone, Copy, Debug, Default)]
+pub struct HeapRows;
+
+impl HeapRows {
+    /// A maker, which keeps nothing.
+    pub fn new() -> HeapRows
+        ensures { result ≡ record {} }
+    {
+        HeapRows
+    }
+}
+
+impl RowMaker for HeapRows {
+    fn row(
+        &mut self,
+        alloc: Global,
+        top: &Topology,
+        links: &LinkSet,
+        root: u32,
+    ) -> Result<Row, AllocError> {
+        row_by::<HeapRows>(alloc, top, links, root)
+    }
+}
+
+impl Settling for HeapRows {
+    fn settle(
+        alloc: Global,
+        top: &Topology,
+        links: &LinkSet,
+        dist: &mut [Option<u64>],
+        root: u32,
+    ) -> Result<(), AllocError> {
+        let chains = Chains::new(alloc, top)?;
+        let mut queue: Queue = BinaryHeap::new(alloc);
+        queue.push(Reverse((0, root)))?;
+        while let Some(Reverse((distance, node))) = queue.pop() {
+            if stands(dist, node, distance) {
+                follow_all(top, links, &chains, dist, &mut queue, node)?;
+            }
+        }
+        Ok(())
+    }
+}
+
+// Entries of nodes, the lowest first.
+type Queue = BinaryHeap<Reverse<(u64, u32)>>;
+
+// Whether this is the node's entry.
+fn stands(dist: &[Option<u64>], node: u32, distance: u64) -> bool
+    ensures { IsTrue result ↔ (entry dist.now node ≡ Some distance) }
+{
+    dist.get(node as usize) == Some(&Some(distance))
+}
+
+// Follows each link of the set that meets the node.
+fn follow_all(
+    top: &Topology,
+    links: &LinkSet,
+    chains: &Chains,
+    dist: &mut [Option<u64>],
+    queue: &mut Queue,
+    node: u32,
+) -> Result<(), AllocError>
+    requires network { IsNetwork top.now }
+    requires places { length dist.old ≡ length top.now.nodes }
+    requires links { length links.now ≡ length top.now.links }
+    requires chains { AreChains top.now (length top.now.links)
+        chains.now.last.items chains.now.from_a.items chains.now.from_b.items }
+    requires bounded { IsBounded dist.old }
+    requires node { node < length top.now.nodes }
+    requires settled { IsSettledBut top.now links.now dist.old (heap_items queue.old)
+        node (length top.now.links) }
+    ensures bounded { OnOk result (IsBounded dist.new) }
+    ensures found { (start : ℕ) → IsFound top.now links.now start dist.old
+        → OnOk result (IsFound top.now links.now start dist.new) }
+    ensures settled { OnOk result
+        (IsSettledBut top.now links.now dist.new (heap_items queue.new) 0 0) }
+    ensures less { OnOk result (2 * left_to_fall dist.new + heap_len queue.new
+        ≤ 2 * left_to_fall dist.old + heap_len queue.old) }
+{
+    let mut at = chains.last_of(top, node);
+    while let Some(number) = at {
+        let link = top.link(number);
+        if links.has(number) {
+            let other = far_end(top, node, number, &link);
+            follow(dist, queue, node, other, link.cost)?;
+        }
+        at = chains.before(top, node, number, &link);
+    }
+    Ok(())
+}
+
+// The node to which a link leads from one of its nodes.
+fn far_end(top: &Topology, node: u32, number: u32, link: &Link) -> u32
+    requires link { slice_get top.now.links number ≡ Some link.now }
+    requires meets { Meets top.now node number }
+    ensures { Joins top.now number node result }
+{
+    if link.a == node { link.b } else { link.a }
+}
+
+// Lowers a node's entry to that of another and the cost, where that is less, and puts it into the
+// queue then.
+fn follow(
+    dist: &mut [Option<u64>],
+    queue: &mut Queue,
+    from: u32,
+    to: u32,
+    cost: u64,
+) -> Result<(), AllocError>
+    requires from { from < length dist.old }
+    requires to { to < length dist.old }
+    requires fits { (near : ℕ) → entry dist.old from ≡ Some near → near + cost < 2 ^ 64 }
+    ensures follows { OnOk result
+        (Follows dist.old (heap_items queue.old) dist.new (heap_items queue.new) from to cost) }
+    ensures len { OnOk result ((heap_len queue.new ≡ heap_len queue.old) × (dist.new ≡ dist.old)
+        ⊎ (heap_len queue.new ≡ heap_len queue.old + 1) × Lowers dist.old dist.new from to cost) }
+{
+    let Some(near) = dist[from as usize] else {
+        return Ok(());
+    };
+    let far = near + cost;
+    let lowers = match dist[to as usize] {
+        Some(known) => far < known,
+        None => true,
+    };
+    if lowers {
+        dist[to as usize] = Some(far);
+        queue.push(Reverse((far, to)))?;
+    }
+    Ok(())
+}

@@ -1,0 +1,100 @@
+// Rows that are kept.
+ghost use Rattle.std.specs.Prelude.{◌≡◌, ◌<◌, ◌↔◌, IfOk, IsTrue, length};
+ghost use Rattle.hose_paths.specs.Rows.{AreRows, IsRowOf};
+
+use crate::RowMaker;
+use crate::heap::HeapRows;
+use hose_graph::{Row, Topology};
+use hose_links::LinkSet;
+use std::alloc::{AllocError, Global};
+use std::marker::Model;
+
+/// The rows of all nodes over a set of a network's links, with copies of the network and the set.
+///
+/// A contract sees it as `KeptRows`.
+#[derive(Drop)]
+pub struct RowTable {
+    top: Topology,
+    links: LinkSet,
+    rows: Vec<Row>,
+}
+
+impl Model for RowTable {
+    ghost use Rattle.hose_paths.specs.Kept.{KeptRows};
+    ghost use Rattle.hose_paths.specs.Rows.{AreRows};
+
+    ghost Value = { KeptRows };
+
+    ghost view = { λ table.
+        record { network = table.top; links = table.links; rows = table.rows.items } };
+
+    ghost invariant = { λ table. AreRows table.top table.links table.rows.items };
+}
+
+impl RowTable {
+    /// Keeps the rows, one for each node in order, which were made over these links.
+    pub fn build(
+        alloc: Global,
+        top: &Topology,
+        links: &LinkSet,
+        rows: Vec<Row>,
+    ) -> Result<RowTable, AllocError>
+        requires rows { AreRows top.now links.now rows.items }
+        ensures network { IfOk result (λ table. table.network ≡ top.now) }
+        ensures links { IfOk result (λ table. table.links ≡ links.now) }
+        ensures rows { IfOk result (λ table. table.rows ≡ rows.items) }
+    {
+        Ok(RowTable {
+            top: top.copy(alloc)?,
+            links: links.copy(alloc)?,
+            rows,
+        })
+    }
+
+    /// Whether its rows are over this set of this network's links.
+    pub fn is_over(&self, top: &Topology, links: &LinkSet) -> bool
+        ensures { IsTrue result
+            ↔ ((self.now.network ≡ top.now) × (self.now.links ≡ links.now)) }
+    {
+        // The sets are the shorter ones to compare.
+        self.links.same(links) && self.top.same(top)
+    }
+
+    /// A copy of the row of a root.
+    pub fn row(&self, alloc: Global, root: u32) -> Result<Row, AllocError>
+        requires is_node { root < length self.now.network.nodes }
+        ensures { IfOk result (IsRowOf self.now.network self.now.links root) }
+    {
+        self.rows[root as usize].copy(alloc)
+    }
+}
+
+/// Gives copies of the rows of a table where they are asked for, and makes others by a heap.
+#[derive(Clone, Copy)]
+pub struct TableRows<'a> {
+    table: &'a RowTable,
+}
+
+impl<'a> TableRows<'a> {
+    /// A maker over a table.
+    pub fn new(table: &'a RowTable) -> TableRows<'a>
+        ensures { result.table.now ≡ table.now }
+    {
+        TableRows { table }
+    }
+}
+
+impl RowMaker for TableRows<'_> {
+    fn row(
+        &mut self,
+        alloc: Global,
+        top: &Topology,
+        links: &LinkSet,
+        root: u32,
+    ) -> Result<Row, AllocError> {
+        if self.table.is_over(top, links) {
+            return self.table.row(alloc, root);
+        }
+        HeapRows::new().row(alloc, top, links, root)
+    }
+}
