@@ -4,13 +4,13 @@
 One never says a word and one never reads, each as long as all others are served; others close at
 once, break off, say what is no text or no greeting, or send lines of 10 MB. After each of them a
 customer who behaves is served as if they were alone. A second server at the same port ends with
-status 9 and the line `door`. In the end the audit has the orders of those who behave, and no others.
+status 9 and the line `door`. In the end the audit has the orders of those who behave, no others.
 
 Then servers of one worker meet those who stand still for longer than they may: the next customer is
 served, and the server ends. The times that the program asks of the system are ten minutes and one;
 a library that gcc makes of bench/edge.c makes two seconds of just these. It also has accepts fail,
 for want of descriptors and as the network fails, for a while and for longer; and a server has too
-few descriptors indeed. Who comes after the last connection is refused.
+few descriptors indeed. Who comes after the last connection is refused, and at another address.
 
 Prints what each was answered; or the first difference, and ends with status 1.
 
@@ -240,19 +240,24 @@ def run_out_of_descriptors(changed):
     print("too few descriptors: all four were served")
 
 
-def come_too_late(changed):
-    """Who comes while the last session goes on is refused by the system."""
+def is_refused(address):
+    try:
+        socket.create_connection(address, HANGS).close()
+    except ConnectionRefusedError:
+        return True
+    return False
+
+
+def are_refused(changed):
+    """Who comes to another address of the machine, or while the last session goes on."""
     server, port = changed.start(1)
+    same(is_refused(("127.0.0.2", port)), True, "another address is refused")
     with connect(port) as last:
         last.sendall(b"hello acme\n")
         same(last.recv(100), b"welcome at 0\n", "the last customer")
-        try:
-            connect(port).close()
-            raise Differs("one who came too late was connected")
-        except ConnectionRefusedError:
-            pass
+        same(is_refused((HOST, port)), True, "one who came too late is refused")
     ends(server, 0, "live 0 cost 0", "one who came too late")
-    print("one who came too late was refused")
+    print("another address and one who came too late were refused")
 
 
 def change(program, work):
@@ -261,7 +266,7 @@ def change(program, work):
     fail_for_a_while(changed)
     fail_for_longer(changed)
     run_out_of_descriptors(changed)
-    come_too_late(changed)
+    are_refused(changed)
 
 
 def main():

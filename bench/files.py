@@ -1,12 +1,14 @@
 #!/usr/bin/env python3
-"""Shows which calls of the system the program makes on its files, and what comes of those that fail.
+"""Shows which calls of the system the program makes on its files, and what comes of their faults.
 
 The proofs say nothing of a real file, so a program that leaves a sync out, or takes a read that was
 cut short for the end, would be proved as well. Here the calls of openings and of one order are
-compared, one by one and in order, with those that docs/FORMATS.md wants (strace); then each of them
-fails, is cut short, is interrupted, or finds its file replaced or locked (strace, and a library that
-gcc makes of bench/edge.c). Prints each trial that did not come out as wanted, and how many did; ends
-with status 1 where one did not, or where strace or gcc is missing.
+compared, one by one and in order, with those that are wanted (strace); then each of them fails, is
+cut short, is interrupted, or finds its file replaced or locked (strace, and a library that gcc
+makes of bench/edge.c). Then the library has the program do as if it were written wrongly, in each
+way of WRONG, and one of the trials has to refuse it. Prints each trial that did not come out as
+wanted, which one refuses each wrong body, and how many came out as wanted; ends with status 1 where
+one did not or a wrong body passed, and where strace or gcc is missing.
 
 usage: bench/files.py [PROGRAM]     the PROGRAM (./hosed) as seen from the top of the repository
 """
@@ -37,11 +39,19 @@ HEAD = 39  # bytes of a journal that was begun
 # ---- What the program did.
 
 
+class Work:
+    """A folder for trials of a program that is as it is, or wrong in a way."""
+
+    def __init__(self, path, library, wrong=None):
+        self.path, self.library, self.wrong = path, library, wrong
+
+
 class Place:
     """A folder of its own for one trial, and the programs that run there."""
 
     def __init__(self, work, name):
-        self.path = os.path.join(work, name)
+        self.path = os.path.join(work.path, name)
+        self.library, self.wrong = work.library, work.wrong
         os.mkdir(self.path)
         self.journal = self.at("journal")
         self.topology = self.at("star.txt")
@@ -52,8 +62,10 @@ class Place:
         return os.path.join(self.path, name)
 
     def run(self, words, text="", before=(), edge=None, **more):
-        """The status and the output of the program."""
-        variables = dict(os.environ, **(edge or {}))
+        """The status and the output of the program, with calls that the library changes."""
+        variables = {**os.environ, "LD_PRELOAD": self.library, **(edge or {})}
+        if self.wrong:
+            variables["EDGE_WRONG"] = self.wrong
         streams = {"input": text, "stdout": subprocess.PIPE, "stderr": subprocess.PIPE}
         told = {"text": True, "cwd": self.path, "env": variables, "timeout": HANGS}
         done = subprocess.run([*before, PROGRAM, *words], **streams, **told, **more)
@@ -202,7 +214,7 @@ def trial_of_failing_calls(work):
         yield f"{error} at call {nth} of {call}", (found, place.audit()), (wanted, kept)
 
 
-def trial_of_pieces(work, library):
+def trial_of_pieces(work):
     """Reads and writes that are cut short and interrupted go on to their ends."""
     whole = Place(work, "whole")
     wanted = (whole.order(ORDER + SECOND), whole.bytes(), whole.audit())
@@ -213,13 +225,13 @@ def trial_of_pieces(work, library):
         ("interrupted pieces", {"EDGE_INTERRUPT": "1", "EDGE_PIECE": "3"}),
     ):
         place = Place(work, name)
-        edge = {"LD_PRELOAD": library, "EDGE_FILE": place.journal, **variables}
+        edge = {"EDGE_FILE": place.journal, **variables}
         found = (place.order(ORDER + SECOND, edge=edge), place.bytes(), place.audit(edge=edge))
         yield name, found, wanted
 
 
-def trial_of_another_file(work, library):
-    """A journal that is replaced before it is locked is not written; the other one is not either."""
+def trial_of_another_file(work):
+    """A journal that is replaced before it is locked is not written, nor is the other one."""
     for is_there in (True, False):
         place = Place(work, f"replaced {is_there}")
         place.run(["run", "other"], STAR + SECOND)
@@ -228,7 +240,7 @@ def trial_of_another_file(work, library):
             place.order()
             os.link(place.journal, place.at("kept"))
         kept = place.bytes("kept")
-        edge = {"LD_PRELOAD": library, "EDGE_FILE": place.journal, "EDGE_AT": "flock"}
+        edge = {"EDGE_FILE": place.journal, "EDGE_AT": "flock"}
         found = place.order(edge={**edge, "EDGE_OTHER": place.at("other")})
         files = (place.bytes("kept"), place.bytes())
         yield f"another file, where one was there: {is_there}", (found, files), (
@@ -237,14 +249,14 @@ def trial_of_another_file(work, library):
         )
 
 
-def trial_of_a_text(work, library):
+def trial_of_a_text(work):
     """A topology that is replaced while it is read is read to its end all the same."""
     place = Place(work, "text")
     place.order()
     wanted = place.audit()
     with open(place.at("other"), "w", encoding="ascii") as file:
         file.write(STAR.replace("10", "99"))
-    edge = {"LD_PRELOAD": library, "EDGE_FILE": place.topology, "EDGE_AT": "pread"}
+    edge = {"EDGE_FILE": place.topology, "EDGE_AT": "pread"}
     edge.update({"EDGE_OTHER": place.at("other"), "EDGE_PIECE": "20"})
     yield "a text that is replaced", place.audit(edge=edge), wanted
     found = place.audit()
@@ -267,7 +279,7 @@ def trial_of_locks_and_modes(work):
 
 
 def trial_of_a_limit(work):
-    """A write past the limit on a file's size ends the program, or fails where its signal does not."""
+    """A write past the limit on a file's size ends the program, or fails without its signal."""
     size = HEAD + RECORD + 3
 
     def limit():
@@ -291,38 +303,74 @@ def trial_of_a_limit(work):
 
 # ---- All trials.
 
+# What a program may do wrongly with every clause of it proved.
+WRONG = (
+    "no sync",
+    "a short write is done",
+    "a short read is the end",
+    "an interrupted read is the end",
+    "no folder",
+    "another folder",
+    "the journal is cut",
+    "the lock is not looked at",
+    "no sync at first",
+    "no advice",
+    "all may read",
+)
 
-def library_of(work):
-    library = os.path.join(work, "edge.so")
+
+def library_of(folder):
+    library = os.path.join(folder, "edge.so")
     words = ["gcc", "-O1", "-Wall", "-Wextra", "-shared", "-fPIC", "bench/edge.c", "-o", library]
     subprocess.run([*words, "-ldl"], check=True)
     return library
 
 
 def all_trials(work):
-    library = library_of(work)
     yield from trial_of_the_calls(work)
     yield from trial_of_failing_calls(work)
-    yield from trial_of_pieces(work, library)
-    yield from trial_of_another_file(work, library)
-    yield from trial_of_a_text(work, library)
+    yield from trial_of_pieces(work)
+    yield from trial_of_another_file(work)
+    yield from trial_of_a_text(work)
     yield from trial_of_locks_and_modes(work)
     yield from trial_of_a_limit(work)
+
+
+def refusal(folder, library, wrong):
+    """The first trial that a wrong body does not come out of as wanted."""
+    os.mkdir(folder)
+    for name, found, wanted in all_trials(Work(folder, library, wrong)):
+        if found != wanted:
+            return name
+    return None
+
+
+def try_all(folder):
+    """How many trials did not come out as wanted, and wrong bodies passed."""
+    library = library_of(folder)
+    right = os.path.join(folder, "right")
+    os.mkdir(right)
+    count = faults = 0
+    for name, found, wanted in all_trials(Work(right, library)):
+        count += 1
+        if found != wanted:
+            faults += 1
+            print(f"{name}\nfound:  {found}\nwanted: {wanted}")
+    print(f"files: {count - faults} of {count} trials as wanted")
+    for number, wrong in enumerate(WRONG):
+        refused = refusal(os.path.join(folder, str(number)), library, wrong)
+        print(f"{wrong}: {'refused by ' + refused if refused else 'passed'}")
+        faults += refused is None
+    return faults
 
 
 def main():
     missing = [tool for tool in ("strace", "gcc") if shutil.which(tool) is None]
     if missing:
         sys.exit(f"files: {' and '.join(missing)} is not there, so nothing was tried")
-    count = wrong = 0
-    with tempfile.TemporaryDirectory() as work:
-        for name, found, wanted in all_trials(os.path.realpath(work)):
-            count += 1
-            if found != wanted:
-                wrong += 1
-                print(f"{name}\nfound:  {found}\nwanted: {wanted}")
-    print(f"files: {count - wrong} of {count} trials as wanted")
-    sys.exit(1 if wrong else 0)
+    with tempfile.TemporaryDirectory() as folder:
+        faults = try_all(os.path.realpath(folder))
+    sys.exit(1 if faults else 0)
 
 
 if __name__ == "__main__":
