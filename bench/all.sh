@@ -1,7 +1,7 @@
 #!/usr/bin/env bash
-# Runs the scripts that measure, one after another, and writes the table of docs/FIGURES.md from what
-# they print: each figure with its reference of the same run. It wants an idle machine, and says in
-# the table where it was not. It takes about ten minutes once the programs are built; what each
+# Runs the scripts that measure, one after another, and writes the table of docs/FIGURES.md from
+# what they print: each figure with its reference of the same run. It wants an idle machine, and
+# says in the table where it was not. It takes about ten minutes once the programs are built; what each
 # script prints stays in LOGS. bench/gate.sh and bench/memory.sh are left out: they take an hour and
 # a quarter of one, and compile.
 # With names it runs these scripts alone, and prints the table in place of writing it. It ends with
@@ -15,7 +15,8 @@ if [ "${1-}" = -l ]; then
     logs=$2
     shift 2
 fi
-all=(admits book codec commands decisions journal long_lines orders puts quotes serve store takes topology)
+all=(admits book codec commands decisions journal long_lines orders puts quotes serve store takes
+    topology)
 scripts=("$@")
 if (($# == 0)); then scripts=("${all[@]/%/.sh}"); fi
 mkdir -p "$logs"

@@ -1,7 +1,7 @@
 #!/usr/bin/env python3
-"""Finds each name that the tables of docs/PROOFS.md put in backquotes in the sources of crates/, and
-each file that they name. Prints each that is not there, and how many were looked for; ends with
-status 1 where one is not there.
+"""Finds each name that the tables of docs/PROOFS.md put in backquotes in the sources of crates/,
+and each file that they name. Prints each that is not there, and how many were looked for; ends
+with status 1 where one is not there.
 
 usage: bench/clauses.py
 """

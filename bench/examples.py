@@ -3,11 +3,12 @@
 
 Four kinds of examples are marked in the text:
 
-  a block that begins with ```console    commands after `$ `, and the lines that each writes
-  a table after <!-- script TOPOLOGY --> lines of a script, and the reply to each
-  a table after <!-- words -->           words of the program, and the line that tells which is wrong
-  a table after <!-- sessions TOPOLOGY --> customers of a server: what each says, row by row, and is
-                                         answered
+  a block that begins with ```console       commands after `$ `, and the lines that each writes
+  a table after <!-- script TOPOLOGY -->    lines of a script, and the reply to each
+  a table after <!-- words -->              words of the program, and the line that tells which
+                                            is wrong
+  a table after <!-- sessions TOPOLOGY -->  customers of a server: what each says, row by row,
+                                            and is answered
 
 Blocks of one section, which is what stands under a heading of two `#`, are run in one folder, one
 after the other; it has links to demo/ and tools/, and `./hosed` is the program, also after `try`.
