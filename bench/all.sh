@@ -1,9 +1,9 @@
 #!/usr/bin/env bash
 # Runs the scripts that measure, one after another, and writes the table of docs/FIGURES.md from
 # what they print: each figure with its reference of the same run. It wants an idle machine, and
-# says in the table where it was not. It takes about ten minutes once the programs are built; what each
-# script prints stays in LOGS. bench/gate.sh and bench/memory.sh are left out: they take an hour and
-# a quarter of one, and compile.
+# says in the table where it was not. It takes about ten minutes once the programs are built; what
+# each script prints stays in LOGS. bench/gate.sh and bench/memory.sh are left out: they take an
+# hour and a quarter of one, and compile.
 # With names it runs these scripts alone, and prints the table in place of writing it. It ends with
 # status 1 where a script failed, whose row then says so.
 # usage: bench/all.sh [-l LOGS] [SCRIPT ..]     SCRIPT: as orders.sh; LOGS (out/figures)
@@ -50,21 +50,25 @@ BESIDE = re.compile(r"; (?:reference: |(?=echo |loop ))")
 
 
 def named(lines):
-    """The lines, of which those that are set in begin with the one above them that is not."""
+    """The lines, and whether they are set in: these begin with the one above that is not."""
     name = ""
     for line, following in zip(lines, [*lines[1:], ""]):
-        if line.startswith(" "):
-            yield line if line.startswith("    echo ") else f"{name}: {line.strip()}"
+        if line.startswith("    "):
+            yield (line if line.startswith("    echo ") else f"{name}: {line.strip()}"), True
         elif following.startswith("    "):
             name = line
         else:
-            yield line
+            yield line, False
 
 
 def groups(lines):
     """The lines that tell figures, and the reference that follows them, which may be none."""
-    figures = []
-    for line in named(lines):
+    figures, was_in = [], False
+    for line, is_in in named(lines):
+        if figures and was_in and not is_in:
+            yield figures, "none"
+            figures = []
+        was_in = is_in
         first, *rest = BESIDE.split(line, 1)
         if rest:
             yield [first], rest[0]
