@@ -4,27 +4,39 @@
 One never says a word and one never reads, each as long as all others are served; others close at
 once, break off, say what is no text or no greeting, or send lines of 10 MB. After each of them a
 customer who behaves is served as if they were alone. A second server at the same port ends with
-status 9 and the line `door`. In the end the audit has the orders of those who behave, and no others.
+status 9 and the line `door`. In the end the audit has the orders of those who behave, no others.
+
+Then servers of one worker meet those who stand still for longer than they may: the next customer is
+served, and the server ends. The times that the program asks of the system are ten minutes and one;
+a library that gcc makes of bench/edge.c makes two seconds of just these. It also has accepts fail,
+for want of descriptors and as the network fails, for a while and for longer; and a server has too
+few descriptors indeed. Who comes after the last connection is refused, and at another address.
+
 Prints what each was answered; or the first difference, and ends with status 1.
 
 usage: bench/bad_clients.py [PROGRAM]
 The PROGRAM (./hosed) is seen from the top of the repository.
 """
 
+import errno
 import os
+import resource
 import socket
 import struct
 import subprocess
 import sys
 import tempfile
+import time
 
-from histories import HANGS, Differs, client, same, start
+from histories import HANGS, TRIES, Differs, client, same, start
 
 HOST = "127.0.0.1"
 STAR = "demo/star.txt"
 LONG = b"x" * 10_000_000 + b"\n"
 HOSE = {"a": 3, "b": 4, "c": 5}
 QUIET = 2  # seconds in which nothing more is taken of one who never reads
+SHORT = 2  # seconds after which a session ends where the peer stands still
+PATIENCE = 10  # seconds for which an accept that fails is made again
 
 
 def connect(port):
@@ -124,6 +136,141 @@ def serve_all(port, behaved):
     behaved.come()
 
 
+# ---- Servers of few workers, with calls of the system that the library changes.
+
+# Errors of accepts after which the next one may succeed.
+PASSING = (
+    *(errno.EMFILE, errno.ENFILE, errno.ENOBUFS, errno.ENOMEM, errno.EPROTO, errno.ENETDOWN),
+    *(errno.ENOPROTOOPT, errno.EHOSTDOWN, errno.ENONET, errno.EHOSTUNREACH, errno.EOPNOTSUPP),
+    *(errno.ENETUNREACH, errno.EINTR, errno.ECONNABORTED),
+)
+
+
+class Changed:
+    """Servers on journals of their own, each with calls that are changed."""
+
+    def __init__(self, program, work):
+        self.program, self.work, self.count = program, work, 0
+        self.library = os.path.join(work, "edge.so")
+        words = ["gcc", "-O1", "-shared", "-fPIC", "bench/edge.c", "-o", self.library, "-ldl"]
+        subprocess.run(words, check=True)
+
+    def start(self, connections, workers=1, files=None, **edge):
+        """A server that is ready, and its port."""
+        self.count += 1
+        journal = os.path.join(self.work, f"changed {self.count}")
+        variables = {**os.environ, "LD_PRELOAD": self.library, **edge}
+
+        def limit():
+            if files:
+                resource.setrlimit(resource.RLIMIT_NOFILE, (files, files))
+
+        for _ in range(TRIES):
+            with socket.socket() as probe:
+                probe.bind((HOST, 0))
+                port = probe.getsockname()[1]
+            words = ["serve", STAR, journal, str(port), str(connections), str(workers)]
+            streams = {"stdout": subprocess.PIPE, "text": True, "env": variables}
+            server = subprocess.Popen([self.program, *words], preexec_fn=limit, **streams)
+            first = server.stdout.readline()
+            if first == "ready\n":
+                return server, port
+            same(first, "door\n", "the first line")
+            server.wait(HANGS)
+        raise Differs("no port could be opened")
+
+
+def ends(server, status, last, name):
+    """A server ends by itself, with this status and this last line."""
+    rest = server.stdout.read().splitlines()
+    same((server.wait(HANGS), rest[-1]), (status, last), name)
+
+
+def stand_still(changed):
+    """The only worker's session ends, and the next customer is served."""
+    for name, stands in (("never says a word", connect), ("never reads", never_read_of)):
+        server, port = changed.start(2, EDGE_SECONDS=str(SHORT))
+        with stands(port):
+            begun = time.monotonic()
+            Behaved(port).come()
+            took = time.monotonic() - begun
+            ends(server, 0, "live 0 cost 0", name)
+        print(f"one who {name}: the next was served after {took:.1f} s")
+
+
+def never_read_of(port):
+    return never_read(port)[0]
+
+
+def fail_for_a_while(changed):
+    """Each passing error, twice in a row."""
+    for error in PASSING:
+        name = errno.errorcode[error]
+        server, port = changed.start(1, EDGE_ACCEPT=f"{error}:2")
+        Behaved(port).come()
+        ends(server, 0, "live 0 cost 0", name)
+        print(f"two accepts that fail by {name}: the next customer was served")
+
+
+def fail_for_longer(changed):
+    """An error that does not pass, and one that would and goes on: the door has failed."""
+    for error, count, least in ((errno.EINVAL, 1, 0), (errno.EMFILE, 1_000_000, PATIENCE - 1)):
+        begun = time.monotonic()
+        server, _ = changed.start(1, EDGE_ACCEPT=f"{error}:{count}")
+        name = errno.errorcode[error]
+        ends(server, 9, "door", name)
+        took = time.monotonic() - begun
+        if not least <= took <= 2 * PATIENCE:
+            raise Differs(f"{name}: the door failed after {took:.1f} s")
+        print(f"{name} goes on: the door failed after {took:.1f} s")
+
+
+def run_out_of_descriptors(changed):
+    """Four workers, and descriptors for one connection: others wait for its end."""
+    server, port = changed.start(4, 4, files=8)
+    with connect(port) as first:
+        first.sendall(b"hello acme\n")
+        same(first.recv(100), b"welcome at 0\n", "the first of four")
+        others = [connect(port) for _ in range(3)]
+        for other in others:
+            other.sendall(b"hello beta\nbye\n")
+        time.sleep(1)
+    for other in others:
+        with other:
+            same(read_all(other), b"welcome at 0\nbye\n", "one of four")
+    ends(server, 0, "live 0 cost 0", "too few descriptors")
+    print("too few descriptors: all four were served")
+
+
+def is_refused(address):
+    try:
+        socket.create_connection(address, HANGS).close()
+    except ConnectionRefusedError:
+        return True
+    return False
+
+
+def are_refused(changed):
+    """Who comes to another address of the machine, or while the last session goes on."""
+    server, port = changed.start(1)
+    same(is_refused(("127.0.0.2", port)), True, "another address is refused")
+    with connect(port) as last:
+        last.sendall(b"hello acme\n")
+        same(last.recv(100), b"welcome at 0\n", "the last customer")
+        same(is_refused((HOST, port)), True, "one who came too late is refused")
+    ends(server, 0, "live 0 cost 0", "one who came too late")
+    print("another address and one who came too late were refused")
+
+
+def change(program, work):
+    changed = Changed(program, work)
+    stand_still(changed)
+    fail_for_a_while(changed)
+    fail_for_longer(changed)
+    run_out_of_descriptors(changed)
+    are_refused(changed)
+
+
 def main():
     program = os.path.abspath(sys.argv[1] if len(sys.argv) > 1 else "./hosed")
     behaved = 3 + len(TOLD) + 1
@@ -141,10 +288,11 @@ def main():
             same(status, 0, "the status")
             same(audit.splitlines()[0], f"epoch {customers.epoch}", "the audit")
             same(audit.splitlines()[-1], "live 0 cost 0", "the audit")
+            print(f"{behaved} who behave were served beside them")
+            change(program, work)
         except (Differs, OSError, *client.FAULTS) as difference:
             server.kill()
             sys.exit(f"bad clients: {difference}")
-    print(f"{behaved} who behave were served beside them")
 
 
 if __name__ == "__main__":

@@ -1,15 +1,19 @@
 #!/usr/bin/env python3
 """Runs the program with words and streams that no stored run has, and compares what comes of them.
 
-The statuses and outputs that are wanted are those of docs/FORMATS.md. Prints each run that was not
-as wanted, and how many were; ends with status 1 where one was not.
+The statuses and outputs that are wanted are those of docs/FORMATS.md. Each command is run with each
+standard stream closed, too: then no file and no connection has the stream's descriptor, and a
+journal that has orders keeps its bytes. Prints each run that was not as wanted, and how many were;
+ends with status 1 where one was not.
 
 usage: bench/streams.py [PROGRAM]     the PROGRAM (./hosed) as seen from the top of the repository
 """
 
 import os
+import socket
 import subprocess
 import sys
+import tempfile
 
 GIB = 1 << 30
 MOST_WORD = 4_096
@@ -18,6 +22,18 @@ os.chdir(os.path.join(os.path.dirname(os.path.abspath(__file__)), ".."))
 with open("demo/star.txt", "rb") as star:
     STAR = star.read()
 LINK = b"link 0 a h capacity 10 cost 1 load 0 at 0\n"
+ORDERS = b"acme admit a:1 b:1\nbeta admit a:2 b:2\n"
+LOADED = b"link 0 a h capacity 10 cost 1 load 3 at 2\n"
+AUDIT = (
+    b"epoch 2\n"
+    b"link 0 a h capacity 10 cost 1 load 3\n"
+    b"link 1 b h capacity 10 cost 2 load 3\n"
+    b"link 2 c h capacity 10 cost 3 load 0\n"
+    b"vpn 1 acme cost 3 ends a:1 b:1 links 0:1 1:1\n"
+    b"vpn 2 beta cost 6 ends a:2 b:2 links 0:2 1:2\n"
+    b"live 2 cost 9\n"
+)
+HANGS = 60  # seconds
 
 # Words, the input, the status, the output.
 WORDS = [
@@ -81,6 +97,80 @@ def with_failing_streams(program):
         yield f"{words} to a pipe that nobody reads", found[0] == status, found
 
 
+# How a shell closes each standard stream.
+CLOSED = {0: "<&-", 1: ">&-", 2: "2>&-"}
+
+# The status and the output of each command where a stream is closed that it uses, and where it is
+# another one. Nothing is read of the input of the last two.
+WITHOUT = {
+    "run": {0: (3, b"read\n"), 1: (4, b""), 2: (0, LOADED)},
+    "audit": {0: (0, AUDIT), 1: (4, b""), 2: (0, AUDIT)},
+    "serve": {0: (0, b"ready\n" + AUDIT), 1: (4, b""), 2: (0, b"ready\n" + AUDIT)},
+}
+
+
+def content(path):
+    with open(path, "rb") as file:
+        return file.read()
+
+
+def free_port():
+    with socket.socket() as probe:
+        probe.bind(("127.0.0.1", 0))
+        return probe.getsockname()[1]
+
+
+def is_used(process, stream):
+    """Whether a running program has a file at the descriptor of this stream."""
+    return os.path.lexists(f"/proc/{process.pid}/fd/{stream}")
+
+
+def converse(process, port, stream):
+    """Is the one customer of a server; whether it has a file at the descriptor of the stream."""
+    with socket.create_connection(("127.0.0.1", port), HANGS) as peer:
+        replies = peer.makefile("rb")
+        peer.sendall(b"hello acme\nlink 0\n")
+        assert (replies.readline(), replies.readline()) == (b"welcome at 2\n", LOADED)
+        return is_used(process, stream)
+
+
+def without(program, words, stream, text, port):
+    """Runs a program to its end with a stream closed. A server that is ready has a customer."""
+    shell = f'exec "$@" {CLOSED[stream]}'
+    streams = {"stdin": subprocess.PIPE, "stdout": subprocess.PIPE, "stderr": subprocess.PIPE}
+    with subprocess.Popen(["/bin/sh", "-c", shell, program, program, *words], **streams) as process:
+        output, used = b"", False
+        if words[0] == "serve":
+            output = process.stdout.readline()
+        if output == b"ready\n":
+            used = converse(process, port, stream)
+        try:
+            rest, _ = process.communicate(text, HANGS)
+        except subprocess.TimeoutExpired:
+            process.kill()
+            return "hangs", output, used
+        return process.returncode, output + rest, used
+
+
+def with_closed_streams(program):
+    """Each command with a stream closed, on a journal that has orders."""
+    text, silent = STAR + b"acme link 0\n", subprocess.DEVNULL
+    for command, ends in WITHOUT.items():
+        for stream, (status, output) in ends.items():
+            with tempfile.TemporaryDirectory() as work:
+                journal, port = os.path.join(work, "journal"), free_port()
+                subprocess.run([program, "run", journal], input=STAR + ORDERS, stdout=silent)
+                kept = content(journal)
+                words = {
+                    "run": ["run", journal],
+                    "audit": ["audit", "demo/star.txt", journal],
+                    "serve": ["serve", "demo/star.txt", journal, str(port), "1", "1"],
+                }[command]
+                found = without(program, words, stream, text, port)
+                right = found == (status, output, False) and content(journal) == kept
+            yield f"{command} {CLOSED[stream]} on a journal", right, found
+
+
 def with_long_inputs(program):
     """A topology and one line without an end, of 1 GiB together, and of a byte more."""
     chunk = b"x" * (1 << 20)
@@ -99,7 +189,7 @@ def with_long_inputs(program):
 def main():
     program = os.path.abspath((sys.argv[1:] + ["./hosed"])[0])
     count = wrong = 0
-    for ways in (with_words, with_failing_streams, with_long_inputs):
+    for ways in (with_words, with_failing_streams, with_closed_streams, with_long_inputs):
         for name, is_right, found in ways(program):
             count += 1
             if not is_right:

@@ -7,6 +7,7 @@ use hose_pool::PlainGate;
 use std::alloc::Global;
 use std::io::{self, Read, Write};
 use std::net::{Ipv4Addr, Net, TcpListener, TcpStream};
+use std::rt::Clock;
 use std::sync::Wait;
 use std::thread::{self, Threads};
 
@@ -28,7 +29,7 @@ pub struct Port {
 /// Serves a port twice: while it is taken, and then for one customer.
 pub fn serve_port<R>(rt: R, alloc: Global) -> Result<Port, Trouble>
 where
-    R: Threads + Wait + Net<Listener = TcpListener, Stream = TcpStream> + AllocGlobal,
+    R: Threads + Wait + Clock + Net<Listener = TcpListener, Stream = TcpStream> + AllocGlobal,
     R: Copy + Drop + Send + Sync + 'static,
 {
     let (listener, port) = take_port(&rt)?;
