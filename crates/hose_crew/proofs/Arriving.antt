@@ -34,3 +34,7 @@ pub goes_on : {T : Type 0} (start : Started) (old new : Frame) (told told' : Opt
     → GoesSo start new told' count' stopped
 goes_on start old new told told' count count' None none goes same = same ∙ goes
 goes_on start old new told told' count count' (Some result) none goes same = cc none
+
+-- what has arrived is told alike by a door that tells the same
+pub tells_the_same : (was old new : Option Connections) (count : ℕ) → new ≡ old → AreArrived was old count → AreArrived was new count
+tells_the_same was old new count same arrived = subst (λ told. AreArrived was told count) (sym same) arrived

@@ -114,6 +114,7 @@ impl<L: Door, N: Start> Desk<L, N> {
                 self.total.add(share, 1);
                 // That a share is no more than the total is told by this call.
                 self.total.audit(share);
+                close_if(&mut self.door, self.accepted == self.connections);
                 Some(Accepted {
                     session: u64::from(self.accepted),
                     input,
@@ -125,6 +126,7 @@ impl<L: Door, N: Start> Desk<L, N> {
                 None
             }
             Err(failed) => {
+                self.door.close();
                 self.stopped = Some(Err(failed));
                 None
             }
@@ -154,5 +156,15 @@ impl<L: Door, N: Start> Desk<L, N> {
             total,
             stopped,
         })
+    }
+}
+
+// Customers who come once the last one was accepted are not to wait for the sessions' ends.
+fn close_if<L: Door>(door: &mut L, is_last: bool)
+    ensures told { L.told door.new ≡ L.told door.old }
+    ensures frame { L.frame door.new ≡ L.frame door.old }
+{
+    if is_last {
+        door.close();
     }
 }

@@ -1,5 +1,5 @@
-use Rattle.std.proofs.Common.{rules}
-use Rattle.hose_crew.proofs.Arriving.{goes_on, one_arrived}
+use Rattle.std.proofs.Common.{◌∙◌, rules}
+use Rattle.hose_crew.proofs.Arriving.{goes_on, one_arrived, tells_the_same}
 use Rattle.hose_crew.proofs.desk.Desk.accept.Goals as goal
 
 pub invariant_of-self-in-Ok-Some : goal.invariant_of-self-in-Ok-Some
@@ -11,6 +11,8 @@ invariant_of-self-in-Ok-Some g c =
       connections = held.connections;
       few = search rules;
       total = search rules;
-      arrived = one_arrived start.told _ _ _ _ _ _ held.arrived came.1;
-      goes = goes_on start _ _ _ _ _ _ _ (search rules) held.goes c.in-Ok-Some.ensures.met.ok;
+      arrived = tells_the_same start.told _ _ _ c.close_if.ensures.told
+          (one_arrived start.told _ _ _ _ _ _ held.arrived came.1);
+      goes = goes_on start _ _ _ _ _ _ _ (search rules) held.goes
+          (c.close_if.ensures.frame ∙ c.in-Ok-Some.ensures.met.ok);
     }
