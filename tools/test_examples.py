@@ -49,18 +49,20 @@ def run(line, folder=TOP):
 
 class Sessions(unittest.TestCase):
     def test_the_client(self):
-        line = example("python3 tools/client.py 7000 acme")
-        self.assertEqual(told_after(line), f"{ADMITTED}\n")
-        with FakeServer([b"welcome at 0\n", f"{ADMITTED}\n".encode(), b"bye\n"]) as server:
-            self.assertEqual(run(line.replace("7000", f"{server.port}")), (0, f"{ADMITTED}\n"))
-        self.assertEqual(server.lines, ["hello acme", "admit a:3 b:4 c:5", "bye"])
+        line = example("python3 tools/client.py 7000 beta")
+        told = told_after(line).partition("epoch")[0]  # then the server writes its book
+        replies = ["welcome at 1\n", *told.splitlines(True), "bye\n"]
+        with FakeServer([reply.encode() for reply in replies]) as server:
+            self.assertEqual(run(line.replace("7000", f"{server.port}")), (1, told))
+        self.assertEqual(server.lines, ["hello beta", "admit a:8 b:8", "admit a:1 b:1", "bye"])
 
     def test_a_session_by_bash_alone(self):
         line = example("exec 3<>/dev/tcp/127.0.0.1/7000")
-        told = "".join(told_after(line).partition("bye\n")[:2])  # then the server writes its book
+        told = told_after(line)
+        self.assertEqual(told.splitlines()[1], ADMITTED)
         with FakeServer([reply.encode() for reply in told.splitlines(True)]) as server:
             self.assertEqual(run(line.replace("7000", f"{server.port}")), (0, told))
-        self.assertEqual(server.lines, ["hello beta", "admit a:8 b:8", "admit a:1 b:1", "bye"])
+        self.assertEqual(server.lines, ["hello acme", "admit a:3 b:4 c:5", "bye"])
 
     def test_the_load(self):
         line = example("python3 tools/load.py 7000 4 10").rpartition("`")[2]
