@@ -4,7 +4,8 @@
 One never says a word and one never reads, each as long as all others are served; others close at
 once, break off, say what is no text or no greeting, or send lines of 10 MB. After each of them a
 customer who behaves is served as if they were alone. A second server at the same port ends with
-status 9 and the line `door`. In the end the audit has the orders of those who behave, no others.
+status 9 and the line `door`. Before all that one customer is alone at a server. In the end the audit
+has the orders of those who behave, and no others.
 
 Then servers of one worker meet those who stand still for longer than they may: the next customer is
 served, and the server ends. The times that the program asks of the system are ten minutes and one;
@@ -134,6 +135,28 @@ def serve_all(port, behaved):
                 leave(port)
                 behaved.come()
     behaved.come()
+
+
+ALONE = (
+    "welcome at 0\nadmitted 1 cost 26 at 1 links 0:3 1:4 2:5\n"
+    "vpn 1 cost 26 at 1 ends a:3 b:4 c:5 links 0:3 1:4 2:5\nbye\n"
+)
+BOOK_OF_ONE = """epoch 1
+link 0 a h capacity 10 cost 1 load 3
+link 1 b h capacity 10 cost 2 load 4
+link 2 c h capacity 10 cost 3 load 5
+vpn 1 acme cost 26 ends a:3 b:4 c:5 links 0:3 1:4 2:5
+live 1 cost 26
+"""
+
+
+def serve_alone(program, work):
+    """One customer is the only one of a server."""
+    server, port = start(program, STAR, os.path.join(work, "alone"), 1)
+    told = say(port, b"hello acme\nadmit a:3 b:4 c:5\nshow 1\nbye\n").decode()
+    same(told, ALONE, "one who is alone")
+    same((server.stdout.read(), server.wait(HANGS)), (BOOK_OF_ONE, 0), "the book of one")
+    print("one who is alone was served")
 
 
 # ---- Servers of few workers, with calls of the system that the library changes.
@@ -276,6 +299,7 @@ def main():
     behaved = 3 + len(TOLD) + 1
     connections = 2 + len(TOLD) + 2 + behaved
     with tempfile.TemporaryDirectory() as work:
+        serve_alone(program, work)
         journal = os.path.join(work, "journal")
         server, port = start(program, STAR, journal, connections)
         words = [program, "serve", STAR, os.path.join(work, "other"), str(port), "1", "1"]

@@ -1,0 +1,153 @@
+// Books with the quotes of their customers: what commands are answered, and what is held.
+ghost use Rattle.std.specs.Prelude.{◌≡◌, IfOk};
+ghost use Rattle.hose_graph.specs.declared.limits.TheConstants.{MOST_EPOCH};
+ghost use Rattle.hose_core.specs.Holding.{IsMade};
+
+use crate::networks::{debugged, first, hose, name, number};
+use crate::trouble::Trouble;
+use hose_book::{Book, Books, Plain};
+use hose_core::{
+    Core, Planned, Quote, Quotes, admit_now, claim_release, claim_take, plan_beside, release_now,
+    take_now,
+};
+use hose_graph::{Amounts, Hose, MOST_EPOCH, MOST_QUOTES, Topology};
+use hose_links::LinkSet;
+use hose_paths::PlainRows;
+use hose_plan::Grounds;
+use hose_proto::read_command;
+use std::alloc::{AllocError, Global};
+
+/// What acme's commands are answered by the core of a network's book, which begins at an epoch. The
+/// commands stand between semicolons.
+pub fn answered(alloc: Global, top: Topology, line: &str) -> Result<String, Trouble> {
+    let (epoch, commands) = first(line);
+    let epoch = number(epoch)?.min(MOST_EPOCH);
+    let book = Book::at(alloc, top, epoch)?;
+    let mut core = Core::new(alloc, Plain { book });
+    let mut text = String::new(alloc);
+    for command in commands.split(';') {
+        let told = answer(alloc, &mut core, command)?;
+        text.push_str(told.as_str())?;
+        text.push('\n')?;
+    }
+    Ok(text)
+}
+
+fn answer(alloc: Global, core: &mut Core<Plain>, line: &str) -> Result<String, Trouble> {
+    let top = core.books().book().topology();
+    let command = read_command(alloc, top, line.as_bytes(), 0)?;
+    let reply = core.step(alloc, &name("acme")?, command, &mut PlainRows::new());
+    Ok(debugged(alloc, &reply)?)
+}
+
+/// What acme's admission at once is answered.
+pub fn admitted(alloc: Global, top: Topology, line: &str) -> Result<String, Trouble> {
+    let book = Book::new(alloc, top)?;
+    let mut books = Core::new(alloc, Plain { book }).into_books();
+    admit(alloc, &mut books, line)
+}
+
+fn admit(alloc: Global, books: &mut Plain, line: &str) -> Result<String, Trouble>
+    ensures { books.new.book.network ≡ books.old.book.network }
+{
+    let hose = hose(alloc, books.book().topology(), line)?;
+    let reply = admit_now(alloc, books, &name("acme")?, hose, &mut PlainRows::new());
+    Ok(debugged(alloc, &reply)?)
+}
+
+/// What acme's take is answered of a hose that was planned before another admission. The line has
+/// the admissions of both, between which a semicolon stands.
+pub fn taken(alloc: Global, top: Topology, line: &str) -> Result<String, Trouble> {
+    let (quoted, line) = line.split_once(';').unwrap_or((line, ""));
+    let mut books = Plain {
+        book: Book::new(alloc, top)?,
+    };
+    let quote = planned(alloc, &books.book, quoted)?;
+    let admitted = admit(alloc, &mut books, line)?;
+    let taken = take(alloc, &mut books, &quote)?;
+    Ok(format!(in alloc; "{admitted}\n{taken}")?)
+}
+
+// What is planned of a hose at a book.
+fn planned(alloc: Global, book: &Book, line: &str) -> Result<Quote, Trouble>
+    ensures { IfOk result (IsMade book.now.network) }
+{
+    let (top, loads, epoch) = (book.topology(), book.loads(), book.epoch());
+    let hose = hose(alloc, top, line)?;
+    match plan_beside(alloc, top, loads, epoch, hose, &mut PlainRows::new())? {
+        Planned::Quote(quote) => Ok(quote),
+        Planned::Refused { .. } => Err(Trouble::Missing),
+    }
+}
+
+fn take(alloc: Global, books: &mut Plain, quote: &Quote) -> Result<String, Trouble>
+    requires { IsMade books.old.book.network quote.now }
+{
+    let claim = claim_take(alloc, &name("acme")?, quote)?;
+    Ok(debugged(alloc, &take_now(books, quote, claim))?)
+}
+
+/// What acme's release of a VPN is answered by an empty book.
+pub fn released(alloc: Global, top: Topology, line: &str) -> Result<String, Trouble> {
+    let id = number(line)?.min(MOST_EPOCH);
+    let mut books = Plain {
+        book: Book::new(alloc, top)?,
+    };
+    let claim = claim_release(alloc, &name("acme")?, id)?;
+    Ok(debugged(alloc, &release_now(&mut books, claim))?)
+}
+
+/// What is held under the first, the last and the numbers beside them, and the lowest free number,
+/// after each of these steps: the first and the last are put; all between them; the last is
+/// cleared; and the first.
+pub fn held(alloc: Global) -> Result<String, Trouble> {
+    let mut quotes = Quotes::new();
+    put(alloc, &mut quotes, 1)?;
+    put(alloc, &mut quotes, 16)?;
+    let ends = standing(alloc, &quotes)?;
+    for number in 2..16 {
+        put(alloc, &mut quotes, number)?;
+    }
+    let all = standing(alloc, &quotes)?;
+    clear(&mut quotes, 16);
+    let but_last = standing(alloc, &quotes)?;
+    clear(&mut quotes, 1);
+    let within = standing(alloc, &quotes)?;
+    Ok(format!(in alloc; "{ends}\n{all}\n{but_last}\n{within}")?)
+}
+
+fn standing(alloc: Global, quotes: &Quotes) -> Result<String, AllocError> {
+    let held = [0, 1, 2, 16, 17].map(|number| quotes.held(number).map(|quote| quote.seen));
+    format!(in alloc; "{held:?} {:?}", quotes.free())
+}
+
+// Holds a quote that tells its number.
+fn put(alloc: Global, quotes: &mut Quotes, number: u64) -> Result<(), Trouble> {
+    if number < 1 || number > MOST_QUOTES as u64 || quotes.held(number).is_some() {
+        return Err(Trouble::Missing);
+    }
+    quotes.put(number, quote_of(alloc, number)?);
+    Ok(())
+}
+
+fn clear(quotes: &mut Quotes, number: u64) {
+    if number >= 1 && number <= MOST_QUOTES as u64 {
+        quotes.clear(number);
+    }
+}
+
+// A quote that tells the epoch at which it was made.
+fn quote_of(alloc: Global, seen: u64) -> Result<Quote, Trouble> {
+    Ok(Quote {
+        hose: Hose::build(alloc, &[(0, 1), (1, 1)])?,
+        seen,
+        cost: 3,
+        amounts: Amounts::build(alloc, &[(0, 1), (1, 1)])?,
+        grounds: Grounds {
+            first: None,
+            half: 1,
+            first_fits: false,
+            safe: LinkSet::new(alloc, 3)?,
+        },
+    })
+}

@@ -1,0 +1,88 @@
+// What the calls share: networks by their names, and hoses, numbers and loads by their words.
+ghost use Rattle.std.specs.Prelude.{IfOk};
+ghost use Rattle.hose_law.specs.Plan.{AreNodes};
+
+use crate::trouble::Trouble;
+use hose_graph::{Command, Hose, Name, Topology};
+use hose_io::MemSource;
+use hose_proto::read_command;
+use hose_topo::read;
+use hose_words::LineReader;
+use std::alloc::{AllocError, Global};
+use std::fmt::Debug;
+
+// Three nodes around a fourth.
+const STAR: &str =
+    "node a\nnode b\nnode c\nnode h\nlink a h 10 1\nlink b h 10 2\nlink c h 10 3\nend\n";
+
+// A ring of four nodes, one of its links twice, and a link apart.
+const RING: &str = "node a\nnode b\nnode c\nnode d\nnode e\nnode f\nlink a b 9 1\nlink b c 9 1\n\
+    link c d 9 1\nlink d a 9 1\nlink e f 9 1\nlink a b 9 1\nend\n";
+
+// Two nodes with a short link, and a way round it.
+const DETOUR: &str = "node a\nnode b\nnode c\nlink a b 4 1\nlink a c 10 2\nlink c b 10 2\nend\n";
+
+// A tree of twelve nodes.
+const BRANCHES: &str = "node a\nnode b\nnode c\nnode d\nnode e\nnode f\nnode g\nnode h\nnode i\n\
+    node j\nnode k\nnode l\nlink b a 99 1\nlink c a 99 1\nlink d b 99 1\nlink e b 99 1\n\
+    link f c 99 1\nlink g c 99 1\nlink h d 99 1\nlink i d 99 1\nlink j e 99 1\nlink k e 99 1\n\
+    link l f 99 1\nend\n";
+
+// Two nodes with a wide link.
+const PAIR: &str = "node a\nnode b\nlink a b 1000000000 1\nend\n";
+
+/// The text of the network with this name: a star where no other one has it.
+pub fn text_of(name: &str) -> &'static str {
+    match name {
+        "ring" => RING,
+        "detour" => DETOUR,
+        "branches" => BRANCHES,
+        "pair" => PAIR,
+        _ => STAR,
+    }
+}
+
+/// The network of a text.
+pub fn network(alloc: Global, text: &str) -> Result<Topology, Trouble> {
+    let source = MemSource::new(alloc, text.as_bytes(), 4_096)?;
+    Ok(read(alloc, &mut LineReader::new(source))?)
+}
+
+/// The hose of a line `admit NAME:RATE ..`.
+pub fn hose(alloc: Global, top: &Topology, line: &str) -> Result<Hose, Trouble>
+    ensures { IfOk result (AreNodes top.now) }
+{
+    match read_command(alloc, top, line.as_bytes(), 0)? {
+        Command::Admit(hose) => Ok(hose),
+        _ => Err(Trouble::Missing),
+    }
+}
+
+/// The name that a word is.
+pub fn name(word: &str) -> Result<Name, Trouble> {
+    Name::read(word.as_bytes()).ok_or(Trouble::Missing)
+}
+
+/// The number that a word is.
+pub fn number(word: &str) -> Result<u64, Trouble> {
+    word.parse().ok().ok_or(Trouble::Missing)
+}
+
+/// The first word of a line, and the rest.
+pub fn first(line: &str) -> (&str, &str) {
+    line.split_once(' ').unwrap_or((line, ""))
+}
+
+/// The numbers between commas.
+pub fn numbers(alloc: Global, words: &str) -> Result<Vec<u64>, Trouble> {
+    let mut found = Vec::new(alloc);
+    for word in words.split(',') {
+        found.push(number(word)?)?;
+    }
+    Ok(found)
+}
+
+/// How a value is printed for those who look for faults.
+pub fn debugged<T: Debug>(alloc: Global, value: &T) -> Result<String, AllocError> {
+    format!(in alloc; "{value:?}")
+}

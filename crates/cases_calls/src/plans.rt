@@ -1,0 +1,173 @@
+// Rows, roots, trees, sides and decisions.
+ghost use Rattle.std.specs.Prelude.{◌≡◌, ◌<◌, ◌≤◌, ◌↔◌, Bool, List, All, length};
+ghost use Rattle.std.specs.Prelude.{IfOk, IsSome, IsTrue, slice_index};
+ghost use Rattle.hose_graph.specs.Hose.{node_of};
+ghost use Rattle.hose_graph.specs.Row.{HasBoundedDistances, distance_of};
+ghost use Rattle.hose_law.specs.Row.{IsRow};
+ghost use Rattle.hose_law.specs.Tree.{JoinsHose};
+ghost use Rattle.hose_law.specs.Walk.{capacity_of};
+ghost use Rattle.hose_tree.specs.Amounts.{AreCarried};
+
+use crate::networks::{debugged, first, hose, numbers};
+use crate::trouble::Trouble;
+use hose_graph::{Amounts, Hose, Row, Topology};
+use hose_links::LinkSet;
+use hose_paths::{PlainRows, RowMaker};
+use hose_plan::{Decision, decide, grounds_hold};
+use hose_root::{choose, weight};
+use hose_tree::{Tree, cost, fits, reached, reservations};
+use std::alloc::{AllocError, Global};
+
+// The row of a root over all links.
+fn row_from(alloc: Global, top: &Topology, root: u32) -> Result<Row, AllocError>
+    requires { root < length top.now.nodes }
+    ensures row { IfOk result (λ row. (set : List Bool) × IsRow top.now set row.root row) }
+    ensures bounded { IfOk result HasBoundedDistances }
+{
+    let mut links = LinkSet::new(alloc, top.links())?;
+    links.fill_where(|_| true);
+    PlainRows::new().row(alloc, top, &links, root)
+}
+
+// Whether each endpoint has a distance.
+fn reaches(row: &Row, hose: &Hose) -> bool
+    ensures { IsTrue result → All (λ end. IsSome (distance_of row.now (node_of end))) hose.now }
+{
+    hose.ends().iter().all(|end| has_distance(row, end.0))
+}
+
+fn has_distance(row: &Row, node: u32) -> bool
+    ensures { IsTrue result → IsSome (distance_of row.now node) }
+{
+    (node as usize) < row.dist.len() && row.dist[node as usize].is_some()
+}
+
+/// The distances from a root, and the links to it.
+pub fn row(alloc: Global, top: &Topology, root: u32) -> Result<String, Trouble> {
+    if root >= top.nodes() {
+        return Err(Trouble::Missing);
+    }
+    let row = row_from(alloc, top, root)?;
+    Ok(format!(in alloc; "{:?} {:?}", row.dist, row.tight)?)
+}
+
+// Whether each endpoint has a place in the row.
+fn has_places(row: &Row, hose: &Hose) -> bool
+    ensures { IsTrue result → All (λ end. node_of end < length row.now.dist) hose.now }
+{
+    let nodes = row.dist.len();
+    hose.ends().iter().all(|end| (end.0 as usize) < nodes)
+}
+
+/// What a hose costs from a root.
+pub fn weighed(alloc: Global, top: &Topology, root: u32, hose: &Hose) -> Result<String, Trouble> {
+    if root >= top.nodes() {
+        return Err(Trouble::Missing);
+    }
+    let row = row_from(alloc, top, root)?;
+    if !has_places(&row, hose) {
+        return Err(Trouble::Missing);
+    }
+    Ok(debugged(alloc, &weight(&row, hose))?)
+}
+
+/// The root that is chosen of these weights; a word that is no number is none.
+pub fn chosen(alloc: Global, words: &str) -> Result<String, Trouble> {
+    let mut weights = Vec::new(alloc);
+    for word in words.split_whitespace() {
+        weights.push(word.parse().ok())?;
+    }
+    if weights.len() > 512 {
+        return Err(Trouble::Missing);
+    }
+    Ok(debugged(alloc, &choose(&weights))?)
+}
+
+/// The tree of a root's row that joins a hose.
+pub fn tree_from(alloc: Global, top: &Topology, root: u32, hose: &Hose) -> Result<Tree, Trouble>
+    ensures { IfOk result (λ tree. JoinsHose tree hose.now) }
+{
+    if root >= top.nodes() {
+        return Err(Trouble::Missing);
+    }
+    let row = row_from(alloc, top, root)?;
+    if !reaches(&row, hose) {
+        return Err(Trouble::Missing);
+    }
+    let tree = Tree::from_row(alloc, top, &row, hose)?;
+    Ok(tree)
+}
+
+/// What a hose reserves on the tree of a root, and the links of that tree.
+pub fn reserved(alloc: Global, top: &Topology, root: u32, hose: &Hose) -> Result<String, Trouble> {
+    let tree = tree_from(alloc, top, root, hose)?;
+    let amounts = reservations(alloc, &tree, hose)?;
+    Ok(format!(in alloc; "{tree:?}\n{amounts:?}")?)
+}
+
+/// What 3, 4 and 5 cost on the first links, and whether they fit beside these loads.
+pub fn fitting(alloc: Global, top: &Topology, loads: &[u64]) -> Result<String, Trouble> {
+    let amounts = Amounts::build(alloc, &[(0, 3), (1, 4), (2, 5)])?;
+    if top.links() != 3 || !are_carried(top, loads) {
+        return Err(Trouble::Missing);
+    }
+    Ok(format!(in alloc; "{} {}", cost(top, &amounts), fits(top, loads, &amounts))?)
+}
+
+/// What the first node reaches over the first link alone.
+pub fn reaching(alloc: Global, top: &Topology) -> Result<String, Trouble> {
+    if top.nodes() == 0 || top.links() == 0 {
+        return Err(Trouble::Missing);
+    }
+    let mut links = LinkSet::new(alloc, top.links())?;
+    links.put(0);
+    Ok(debugged(alloc, &reached(alloc, top, &links, 0)?)?)
+}
+
+// Whether there are as many loads as links, each at most its link's capacity.
+fn are_carried(top: &Topology, loads: &[u64]) -> bool
+    ensures { IsTrue result → AreCarried top.now loads.now }
+{
+    if loads.len() != top.links() as usize {
+        return false;
+    }
+    for link in 0..top.links() {
+        if !is_carried(top, loads, link) {
+            return false;
+        }
+    }
+    true
+}
+
+// Whether the load of a link is at most its capacity.
+fn is_carried(top: &Topology, loads: &[u64], link: u32) -> bool
+    requires places { length loads.now ≡ length top.now.links }
+    requires link { link < length top.now.links }
+    ensures { IsTrue result ↔ slice_index loads.now link ≤ capacity_of top.now link }
+{
+    loads[link as usize] <= top.link(link).capacity
+}
+
+/// What is decided of a hose beside some loads, and whether the grounds of that hold beside others.
+/// The line has the loads, the others, and the hose.
+pub fn decided(alloc: Global, top: &Topology, line: &str) -> Result<String, Trouble> {
+    let (loads, rest) = first(line);
+    let (others, line) = first(rest);
+    let (loads, others) = (numbers(alloc, loads)?, numbers(alloc, others)?);
+    if !are_carried(top, &loads) || !are_carried(top, &others) {
+        return Err(Trouble::Missing);
+    }
+    let hose = hose(alloc, top, line)?;
+    let decision = decide(alloc, top, &loads, &hose, &mut PlainRows::new())?;
+    match &decision {
+        Decision::Plan {
+            grounds,
+            amounts,
+            cost,
+        } => {
+            let (fits, holds) = (grounds.first_fits, grounds_hold(top, &others, grounds));
+            Ok(format!(in alloc; "{amounts:?} cost {cost}, first fits {fits}, holds {holds}")?)
+        }
+        Decision::Refused { side } => Ok(format!(in alloc; "refused, {side:?}")?),
+    }
+}
