@@ -1,6 +1,6 @@
 -- The log stands for its own list, since that list itself.
 use Rattle.std.proofs.Common.{refl, []}
-use Rattle.thread_rows.proofs.turn.locked.Goals as goal
+use Rattle.tests_threads.proofs.turn.locked.Goals as goal
 
 pub from_ticket-requires : goal.from_ticket-requires
 from_ticket-requires c = (

@@ -1,6 +1,6 @@
 -- So far each id has become one entry more of the pass's own.
 use Rattle.std.proofs.Common.{◌≡◌, ◌+◌, length}
-use Rattle.thread_rows.proofs.turn.add_many.Given as goal
+use Rattle.tests_threads.proofs.turn.add_many.Given as goal
 
 abbrev pub invariant-loop-id : goal.invariant-loop-id
 invariant-loop-id g l =

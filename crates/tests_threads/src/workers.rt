@@ -2,6 +2,7 @@
 ghost use Rattle.std.specs.Prelude.{◌≤◌};
 ghost use Rattle.hose_pool.specs.declared.rows.TheConstants.{MOST_WORKERS};
 
+use crate::shared::{star, tells};
 use hose_graph::{Link, MOST_NODES, Name, Row, Topology};
 use hose_links::LinkSet;
 use hose_paths::{PlainRows, RowMaker};
@@ -97,70 +98,64 @@ fn is_same(row: &Row, other: &Row) -> bool {
     row.root == other.root && row.dist == other.dist && row.tight == other.tight
 }
 
-#[cfg(test)]
-mod tests {
-    use super::*;
-    use crate::shared::{star, tells};
+/// The links of the star cost 1, 2 and 3, each from its node to the fourth one.
+const ROWS: &str = "[\
+    Row { root: 0, dist: [Some(0), Some(3), Some(4), Some(1)], \
+    tight: [None, Some(1), Some(2), Some(0)] }, \
+    Row { root: 1, dist: [Some(3), Some(0), Some(5), Some(2)], \
+    tight: [Some(0), None, Some(2), Some(1)] }, \
+    Row { root: 2, dist: [Some(4), Some(5), Some(0), Some(3)], \
+    tight: [Some(0), Some(1), None, Some(2)] }, \
+    Row { root: 3, dist: [Some(1), Some(2), Some(3), Some(0)], \
+    tight: [Some(0), Some(1), Some(2), None] }]";
 
-    /// The links of the star cost 1, 2 and 3, each from its node to the fourth one.
-    const ROWS: &str = "[\
-        Row { root: 0, dist: [Some(0), Some(3), Some(4), Some(1)], \
-        tight: [None, Some(1), Some(2), Some(0)] }, \
-        Row { root: 1, dist: [Some(3), Some(0), Some(5), Some(2)], \
-        tight: [Some(0), None, Some(2), Some(1)] }, \
-        Row { root: 2, dist: [Some(4), Some(5), Some(0), Some(3)], \
-        tight: [Some(0), Some(1), None, Some(2)] }, \
-        Row { root: 3, dist: [Some(1), Some(2), Some(3), Some(0)], \
-        tight: [Some(0), Some(1), Some(2), None] }]";
-
-    #[test]
-    fn rows_are_the_same_for_each_number_of_workers(rt: HostRuntime) -> Result<(), Fail> {
-        let top = star(rt.alloc())?;
-        for workers in [1, 4, 16] {
-            tells(rt.alloc(), &rows_of(&rt, rt.alloc(), &top, workers)?, ROWS)?;
-        }
-        Ok(())
+#[test]
+fn rows_are_the_same_for_each_number_of_workers(rt: HostRuntime) -> Result<(), Fail> {
+    let top = star(rt.alloc())?;
+    for workers in [1, 4, 16] {
+        tells(rt.alloc(), &rows_of(&rt, rt.alloc(), &top, workers)?, ROWS)?;
     }
+    Ok(())
+}
 
-    /// The row of the fourth node over all links.
-    const WHOLE: &str = "Row { root: 3, dist: [Some(1), Some(2), Some(3), Some(0)], \
-        tight: [Some(0), Some(1), Some(2), None] }";
+/// The row of the fourth node over all links.
+const WHOLE: &str = "Row { root: 3, dist: [Some(1), Some(2), Some(3), Some(0)], \
+    tight: [Some(0), Some(1), Some(2), None] }";
 
-    /// Its row without the second link.
-    const WITHOUT: &str = "Row { root: 3, dist: [Some(1), None, Some(3), Some(0)], \
-        tight: [Some(0), None, Some(2), None] }";
+/// Its row without the second link.
+const WITHOUT: &str = "Row { root: 3, dist: [Some(1), None, Some(3), Some(0)], \
+    tight: [Some(0), None, Some(2), None] }";
 
-    #[test]
-    fn kept_rows_are_of_the_links_that_are_asked_for(rt: HostRuntime) -> Result<(), Fail> {
-        let alloc = rt.alloc();
-        let top = star(alloc)?;
-        let mut rows = PoolRows::new(&rt, 4);
-        let table = [
-            (None, WHOLE),
-            (None, WHOLE),
-            (Some(1), WITHOUT),
-            (None, WHOLE),
-        ];
-        for (out, want) in table {
-            tells(alloc, &row_without(alloc, &mut rows, &top, out, 3)?, want)?;
-            tells(
-                alloc,
-                &row_without(alloc, &mut PlainRows::new(), &top, out, 3)?,
-                want,
-            )?;
-        }
-        Ok(())
+#[test]
+fn kept_rows_are_of_the_links_that_are_asked_for(rt: HostRuntime) -> Result<(), Fail> {
+    let alloc = rt.alloc();
+    let top = star(alloc)?;
+    let mut rows = PoolRows::new(&rt, 4);
+    let table = [
+        (None, WHOLE),
+        (None, WHOLE),
+        (Some(1), WITHOUT),
+        (None, WHOLE),
+    ];
+    for (out, want) in table {
+        tells(alloc, &row_without(alloc, &mut rows, &top, out, 3)?, want)?;
+        tells(
+            alloc,
+            &row_without(alloc, &mut PlainRows::new(), &top, out, 3)?,
+            want,
+        )?;
     }
+    Ok(())
+}
 
-    /// The sums are those that another program finds for this network.
-    #[test]
-    fn rows_of_a_large_network_are_the_same(rt: HostRuntime) -> Result<(), Fail> {
-        let top = ring(rt.alloc())?;
-        let rows = rows_of(&rt, rt.alloc(), &top, 1)?;
-        assert!(rt; sums(&rows) == (10_575_290, 113_875_306));
-        for workers in [4, 16] {
-            assert!(rt; are_same(&rows, &rows_of(&rt, rt.alloc(), &top, workers)?));
-        }
-        Ok(())
+/// The sums are those that another program finds for this network.
+#[test]
+fn rows_of_a_large_network_are_the_same(rt: HostRuntime) -> Result<(), Fail> {
+    let top = ring(rt.alloc())?;
+    let rows = rows_of(&rt, rt.alloc(), &top, 1)?;
+    assert!(rt; sums(&rows) == (10_575_290, 113_875_306));
+    for workers in [4, 16] {
+        assert!(rt; are_same(&rows, &rows_of(&rt, rt.alloc(), &top, workers)?));
     }
+    Ok(())
 }
