@@ -1,13 +1,13 @@
 #!/usr/bin/env bash
 # Entries of three endpoints that are read, spelled, and read and spelled again in a second, a
-# million of them; and how many times as long each takes as to copy their bytes.
+# million of them; and how many times as long each takes as to copy their bytes. Before that, of
+# 100,000 byte strings at random each that is read as an entry is to be its spelling.
 # usage: bench/codec.sh [PROGRAM]
 set -euo pipefail
 export LC_ALL=C
 cd "$(dirname "${BASH_SOURCE[0]}")/.."
-program=${1:-crates/codec_rows/out/codec_rows}
-# Where the program is not built yet, that is not part of a figure.
-[ -x "$program" ] || (cd crates/codec_rows && rt run >&2)
+program=${1:-$(bench/figures/build.sh codec)}
+[ "$("$program" random)" = "all spell themselves again" ]
 
 python3 - "$program" <<'END'
 import subprocess

@@ -5,9 +5,7 @@
 set -euo pipefail
 export LC_ALL=C
 cd "$(dirname "${BASH_SOURCE[0]}")/.."
-program=${1:-crates/codec_rows/out/codec_rows}
-# Where the program is not built yet, that is not part of a figure.
-[ -x "$program" ] || (cd crates/codec_rows && rt run >&2)
+program=${1:-$(bench/figures/build.sh codec)}
 
 python3 - "$program" <<'END'
 import subprocess

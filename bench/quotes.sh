@@ -9,9 +9,7 @@
 set -euo pipefail
 export LC_ALL=C
 cd "$(dirname "${BASH_SOURCE[0]}")/.."
-program=${1:-crates/shared_rows/out/shared_rows}
-# Where the program is not built yet, that is not part of a figure.
-[ -x "$program" ] || (cd crates/shared_rows && rt run >&2)
+program=${1:-$(bench/figures/build.sh quotes)}
 
 python3 - "$program" "${2:-1}" <<'END'
 import subprocess

@@ -1,0 +1,22 @@
+// Bytes that are read as entries.
+use crate::trouble::Trouble;
+use hose_codec::{CodecFault, decode, encode};
+use std::alloc::Global;
+
+/// Whether bytes are the spelling of an entry, and whether of the one as which they are read.
+pub fn verdict(alloc: Global, bytes: &[u8]) -> Result<&'static str, Trouble> {
+    match decode(alloc, bytes) {
+        Ok(entry) => {
+            let is_same = encode(alloc, &entry)?.as_slice() == bytes;
+            Ok(if is_same { "spelling" } else { "of another" })
+        }
+        Err(CodecFault::Bad) => Ok("bad"),
+        Err(CodecFault::Memory) => Err(Trouble::Memory),
+    }
+}
+
+/// The entry of a spelling, as it is printed for those who look for faults.
+pub fn text(alloc: Global, bytes: &[u8]) -> Result<String, Trouble> {
+    let entry = decode(alloc, bytes)?;
+    Ok(format!(in alloc; "{entry:?}")?)
+}

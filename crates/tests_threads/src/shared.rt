@@ -1,0 +1,271 @@
+// One book on a disk that many passes use at once: a plan is made while another thread has the turn.
+ghost use Rattle.std.specs.Prelude.{◌≡◌, IfOk};
+ghost use Rattle.hose_law.specs.Plan.{AreNodes};
+ghost use Rattle.hose_shared.specs.Sharing.{IsPassOf};
+
+use hose_core::{Quotes, law_quotes};
+use hose_disk::MemDisk;
+use hose_graph::{Endpoint, Hose, Name, Reply, Row, Topology};
+use hose_io::MemSource;
+use hose_links::LinkSet;
+use hose_paths::{PlainRows, RowMaker};
+use hose_pool::PlainGate;
+use hose_shared::{AnyStore, Shared};
+use hose_store::Store;
+use hose_topo::read;
+use hose_turn::{ALL_SHARES, Pass};
+use hose_words::LineReader;
+use std::alloc::{AllocError, Global};
+use std::fmt::Debug;
+use std::sync::Wait;
+use std::sync::atomic::{AtomicBool, Ordering};
+use std::test::Fail;
+use std::thread;
+use std::thread::Threads;
+
+/// Three nodes around a fourth.
+const STAR: &str =
+    "node a\nnode b\nnode c\nnode h\nlink a h 10 1\nlink b h 10 2\nlink c h 10 3\nend\n";
+
+/// How often a thread looks at a flag before it gives up. Another thread has long raised the flag
+/// by then, where it does not wait for the one that looks.
+const MOST_LOOKS: u32 = 1_000_000_000;
+
+/// The rates 3, 4 and 5 at `a`, `b` and `c`. The links `a h`, `b h` and `c h` reserve 3, 4 and 5
+/// for them, which costs 3·1 + 4·2 + 5·3 = 26.
+const LARGE: [Endpoint; 3] = [(0, 3), (1, 4), (2, 5)];
+
+/// The rate 1 at `a` and `b`, which costs 1·1 + 1·2 = 3.
+const SMALL: [Endpoint; 2] = [(0, 1), (1, 1)];
+
+type Star = Shared<MemDisk, AnyStore>;
+
+pub fn star(alloc: Global) -> Result<Topology, Fail> {
+    let source = MemSource::new(alloc, STAR.as_bytes(), 4_096)?;
+    Ok(read(alloc, &mut LineReader::new(source))?)
+}
+
+fn acme() -> Result<Name, Fail> {
+    Ok(Name::read(b"acme").ok_or("no name")?)
+}
+
+/// The star's empty book on a disk in memory, and its first pass.
+fn shared(alloc: Global) -> Result<(Star, Pass), Fail>
+    ensures of { IfOk result (λ made. IsPassOf made.0 made.1) }
+    ensures share { IfOk result (λ made. made.1.share ≡ ALL_SHARES) }
+{
+    match Store::open(alloc, MemDisk::new(alloc)?, star(alloc)?) {
+        Ok(store) => Ok(Shared::new(alloc, store)?),
+        Err(refused) => Err(Fail::from(refused.0)),
+    }
+}
+
+/// The hose of these endpoints, where they are nodes of the network.
+fn hose(alloc: Global, top: &Topology, ends: &[Endpoint]) -> Result<Hose, Fail>
+    ensures { IfOk result (AreNodes top.now) }
+{
+    let hose = Hose::build(alloc, ends)?;
+    let nodes = top.nodes();
+    if !hose.ends().iter().all(|end| end.0 < nodes) {
+        return Err(Fail::from("no node"));
+    }
+    Ok(hose)
+}
+
+/// What an admission is answered.
+fn admit<W: Wait, R: RowMaker>(
+    rt: &W,
+    alloc: Global,
+    star: &Star,
+    pass: Pass,
+    customer: &Name,
+    hose: Hose,
+    rows: &mut R,
+) -> Reply
+    requires of { IsPassOf star.now pass }
+    requires nodes { AreNodes star.now.network hose }
+{
+    let (reply, _pass) = star.admit(rt, alloc, pass, customer, hose, rows, &PlainGate, 1);
+    reply
+}
+
+/// What a first quote is answered.
+fn quote<W: Wait, R: RowMaker>(
+    rt: &W,
+    alloc: Global,
+    star: &Star,
+    pass: Pass,
+    hose: Hose,
+    rows: &mut R,
+) -> Reply
+    requires of { IsPassOf star.now pass }
+    requires nodes { AreNodes star.now.network hose }
+{
+    law_quotes();
+    let mut quotes = Quotes::new();
+    let (reply, _pass) = star.quote(rt, alloc, pass, &mut quotes, hose, rows);
+    reply
+}
+
+/// Waits until a flag is raised, and says whether it was.
+fn comes(flag: &AtomicBool) -> bool {
+    for _ in 0..MOST_LOOKS {
+        if flag.load(Ordering::SeqCst) {
+            return true;
+        }
+    }
+    false
+}
+
+/// What two threads tell each other.
+#[derive(Drop)]
+struct Flags {
+    /// A row of the first thread is asked for.
+    is_planning: AtomicBool,
+    /// The second thread was answered.
+    is_answered: AtomicBool,
+}
+
+impl Flags {
+    fn new() -> Flags {
+        Flags {
+            is_planning: AtomicBool::new(false),
+            is_answered: AtomicBool::new(false),
+        }
+    }
+}
+
+/// Makes plain rows. Before the first one it waits until the other thread was answered.
+#[derive(Drop)]
+struct WaitingRows<'a> {
+    flags: &'a Flags,
+    /// Whether the other thread was answered, once that was waited for.
+    was_answered: Option<bool>,
+}
+
+impl RowMaker for WaitingRows<'_> {
+    fn row(
+        &mut self,
+        alloc: Global,
+        top: &Topology,
+        links: &LinkSet,
+        root: u32,
+    ) -> Result<Row, AllocError> {
+        if self.was_answered.is_none() {
+            self.flags.is_planning.store(true, Ordering::SeqCst);
+            self.was_answered = Some(comes(&self.flags.is_answered));
+        }
+        PlainRows::new().row(alloc, top, links, root)
+    }
+}
+
+/// What a thread asks for.
+#[derive(Clone, Copy, Debug)]
+enum Asked {
+    Admission,
+    Quote,
+}
+
+/// What a thread was answered, and whether the other one did what it waited for.
+#[derive(Debug, Drop)]
+struct Answered {
+    reply: Reply,
+    is_met: bool,
+}
+
+/// Asks for the large hose, and plans it once the other thread was answered.
+fn ask_slowly<W: Wait>(
+    rt: &W,
+    alloc: Global,
+    star: &Star,
+    pass: Pass,
+    asked: Asked,
+    customer: &Name,
+    hose: Hose,
+    flags: &Flags,
+) -> Answered
+    requires of { IsPassOf star.now pass }
+    requires nodes { AreNodes star.now.network hose }
+{
+    let mut rows = WaitingRows {
+        flags,
+        was_answered: None,
+    };
+    let reply = match asked {
+        Asked::Admission => admit(rt, alloc, star, pass, customer, hose, &mut rows),
+        Asked::Quote => quote(rt, alloc, star, pass, hose, &mut rows),
+    };
+    let is_met = rows.was_answered == Some(true);
+    Answered { reply, is_met }
+}
+
+/// Admits a hose once the other thread asked for a row.
+fn admit_meanwhile<W: Wait>(
+    rt: &W,
+    alloc: Global,
+    star: &Star,
+    pass: Pass,
+    customer: &Name,
+    hose: Hose,
+    flags: &Flags,
+) -> Answered
+    requires of { IsPassOf star.now pass }
+    requires nodes { AreNodes star.now.network hose }
+{
+    let is_met = comes(&flags.is_planning);
+    let reply = admit(rt, alloc, star, pass, customer, hose, &mut PlainRows::new());
+    flags.is_answered.store(true, Ordering::SeqCst);
+    Answered { reply, is_met }
+}
+
+/// One thread asks for the large hose, and plans it only once the small one was admitted for
+/// another thread. What the two were answered.
+fn ask_beside<W: Wait + Threads + Sync>(
+    rt: &W,
+    alloc: Global,
+    asked: Asked,
+) -> Result<(Answered, Answered), Fail> {
+    let customer = acme()?;
+    let (star, mut pass) = shared(alloc)?;
+    let large = hose(alloc, star.topology(), &LARGE)?;
+    let small = hose(alloc, star.topology(), &SMALL)?;
+    let other = star.split(&mut pass);
+    let flags = Flags::new();
+    Ok(thread::join(
+        rt,
+        || ask_slowly(rt, alloc, &star, pass, asked, &customer, large, &flags),
+        || admit_meanwhile(rt, alloc, &star, other, &customer, small, &flags),
+    ))
+}
+
+/// Fails where a value is printed otherwise for those who look for faults.
+pub fn tells<T: Debug>(alloc: Global, value: &T, want: &str) -> Result<(), Fail> {
+    let got = format!(in alloc; "{value:?}")?;
+    if got.as_str() != want {
+        return Err(Fail::new(format_args!("{got} in place of {want}")));
+    }
+    Ok(())
+}
+
+#[test]
+fn a_plan_is_made_outside_of_the_lock(rt: HostRuntime) -> Result<(), Fail> {
+    let small = "Answered { reply: Admitted { id: 1, cost: 3, at: 1, \
+        amounts: Amounts { pairs: [(0, 1), (1, 1)] } }, is_met: true }";
+    for (asked, large) in [
+        (
+            Asked::Admission,
+            "Answered { reply: Admitted { id: 2, cost: 26, at: 2, \
+                amounts: Amounts { pairs: [(0, 3), (1, 4), (2, 5)] } }, is_met: true }",
+        ),
+        (
+            Asked::Quote,
+            "Answered { reply: Quoted { quote: 1, cost: 26, at: 0, \
+                amounts: Amounts { pairs: [(0, 3), (1, 4), (2, 5)] } }, is_met: true }",
+        ),
+    ] {
+        let (first, second) = ask_beside(&rt, rt.alloc(), asked)?;
+        tells(rt.alloc(), &second, small)?;
+        tells(rt.alloc(), &first, large)?;
+    }
+    Ok(())
+}

@@ -1,6 +1,0 @@
--- Whatever the customer holds, the pass is the one that it was.
-use Rattle.hose_law.specs.Quotes.{none_held}
-use Rattle.thread_rows.proofs.shared.release.Goals as goal
-
-pub returns : goal.returns
-returns g c = (c.release.ensures.steps none_held).same
