@@ -25,6 +25,7 @@ use std::alloc::Global;
 use std::io;
 use std::net::{Net, TcpListener, TcpStream};
 use std::process::ExitCode;
+use std::rt::Clock;
 use std::sync::Wait;
 use std::thread::Threads;
 use trouble::Trouble;
@@ -41,7 +42,8 @@ fn main(rt: HostRuntime) -> ExitCode {
 
 fn run_all<R>(rt: R) -> Result<(), Trouble>
 where
-    R: Threads + Wait + Net<Listener = TcpListener, Stream = TcpStream> + AllocGlobal + Print,
+    R: Threads + Wait + Clock + Net<Listener = TcpListener, Stream = TcpStream>,
+    R: AllocGlobal + Print,
     R: Copy + Drop + Send + Sync + 'static,
 {
     let alloc = rt.alloc();
