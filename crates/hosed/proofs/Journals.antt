@@ -206,6 +206,17 @@ module _ {C E : Type 0} (cabinet : CabinetGhosts C E) (disk : DiskGhosts E) (nam
   not_served (Err fault.Cabinet) not = (unopened not.images, risen not.why)
   not_served (Err fault.Memory) not = unopened not.images
 
+  -- what was so of the disk when it was opened was so when the cabinet held it
+  had_before : (since history : List Entry) (closing : Result ⊤ Failed) (was : E) → TakenFrom was → HasLeft disk IsDecidedAt (disk.may_leave opened) (opening_of disk network since opened) history left closing
+      → HasLeft disk IsDecidedAt (disk.may_leave was) (opening_of disk network since was) history left closing
+  had_before since history closing was is one = record {
+    doubt = one.doubt;
+    doubtful = one.doubtful;
+    now = one.now;
+    closed = one.closed;
+    moments = λ image later. ⊎_elim (λ part. inl part) (λ had. inr (is.1.0 image had)) (one.moments image (subst (λ (t : ℕ). disk.left_since left t image) (sym is.1.1) later));
+  }
+
   -- a store was opened, and closed
   module _ {S O : Type 0} (source : SourceGhosts S) (sink : SinkGhosts O) (start now : Reader S) (output output' : O) where
     served_in : (served : Result ⊤ Fault) (closing : Result ⊤ Failed) → HasServedOnDisk source sink disk start now output output' network opened left served closing
@@ -222,21 +233,13 @@ module _ {C E : Type 0} (cabinet : CabinetGhosts C E) (disk : DiskGhosts E) (nam
         left = has_weaker was_tells (cabinet.held old name) _ _
             (λ was is. has_weaker (cabinet.frame new).tells (cabinet.held new name) _ _
             (λ now same. subst (λ (d : E). HasLeft disk IsDecidedAt (disk.may_leave was) (opening_of disk network has.since was) history d closing) (sym same)
-            (had_before was is history (has.leaves history goes))) held_left) taken_from;
+            (had_before has.since history closing was is (has.leaves history goes))) held_left) taken_from;
       };
     }
       where
         told_back : (replies : List Reply) → TellsDisks (disk.frame has.first.journal.disk).faults replies (disk.frame has.last.journal.disk).faults → TellsDisks 0 replies (cabinet.frame new).returned
         told_back replies (inl told) = inl (omega (arith, told, has.faults, ap (λ (f : CabinetFrame). f.returned) after))
         told_back replies (inr most) = inr (omega (arith, most, has.faults, ap (λ (f : CabinetFrame). f.returned) after))
-
-        had_before : (was : E) → TakenFrom was → (history : List Entry) → HasLeft disk IsDecidedAt (disk.may_leave opened) (opening_of disk network has.since opened) history left closing
-            → HasLeft disk IsDecidedAt (disk.may_leave was) (opening_of disk network has.since was) history left closing
-        had_before was is history one = record {
-          now = one.now;
-          closed = one.closed;
-          moments = λ image since. ⊎_elim (λ part. inl part) (λ had. inr (is.1.0 image had)) (one.moments image (subst (λ (t : ℕ). disk.left_since left t image) (sym is.1.1) since));
-        }
 
     pub in_cabinet : (done : Result ⊤ Fault) → ServesOnDisk source sink disk start now output output' network opened left done → ServesInCabinet source sink cabinet disk name start now output output' old new network done
     in_cabinet done (inl (not, stays, same)) = inl (not_served done not, stays, same)
@@ -270,14 +273,6 @@ module _ {C E : Type 0} (cabinet : CabinetGhosts C E) (disk : DiskGhosts E) (nam
   audits_in (Err why) not = not_served (Err why) not
 
   -- ---- connections
-
-  had_before : (since history : List Entry) (closing : Result ⊤ Failed) (was : E) → TakenFrom was → HasLeft disk IsDecidedAt (disk.may_leave opened) (opening_of disk network since opened) history left closing
-      → HasLeft disk IsDecidedAt (disk.may_leave was) (opening_of disk network since was) history left closing
-  had_before since history closing was is one = record {
-    now = one.now;
-    closed = one.closed;
-    moments = λ image later. ⊎_elim (λ part. inl part) (λ had. inr (is.1.0 image had)) (one.moments image (subst (λ (t : ℕ). disk.left_since left t image) (sym is.1.1) later));
-  }
 
   kept_in : (since history : List Entry) (closing : Result ⊤ Failed) → IsNetwork network → HasKept disk opened left network since history closing → HasKeptIn cabinet disk name old new network since history closing
   kept_in since history closing is has = record {

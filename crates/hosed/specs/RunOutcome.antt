@@ -120,6 +120,8 @@ pub record RunOutcome {I O C E : Type 0} (source : SourceGhosts I) (sink : SinkG
   pub last_line : IsLastLine sink left output' done
   pub is_status : status ≡ status_of_done done
   pub takes : TakesWithinLimit (source.content input) (source.content input') status
+  -- no text is asked for
+  pub absent : (cabinet.frame place').absent ≡ (cabinet.frame place).absent
   pub refused : IsRefusedText (source.content input) (source.content input')
       → EndsRefused source sink cabinet disk journal input input' output output' place place'
       status

@@ -33,6 +33,7 @@ pub fn serve_in_cabinet<S: Source, O: Sink, C: Cabinet>(
     ensures too_long { (result ≡ Err Fault.TooLong) ↔ (INPUT_LIMIT < lines.new.taken) }
     ensures reads_on { ReadsOn S.Source lines.old lines.new }
     ensures limit { lines.new.taken ≤ INPUT_LIMIT + 1 }
+    ensures absent { (C.frame cabinet.new).absent ≡ (C.frame cabinet.old).absent }
     ensures back { (C.frame cabinet.new).out ≡ None }
     ensures output { Stays (O.frame output.old) (O.frame output.new) }
     ensures cabinet { Stays (object_of (C.frame cabinet.old)) (object_of (C.frame cabinet.new)) }

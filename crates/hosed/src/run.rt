@@ -47,6 +47,7 @@ pub fn run<I: Source, O: Sink, C: Cabinet>(
         × (length bytes ≤ INPUT_LIMIT + 1)
         × ((result ≡ Err Fault.TooLong) ↔ (INPUT_LIMIT < length bytes)) }
     ensures in_memory { name_of (map string_bytes journal.now) ≡ None → cabinet.new ≡ cabinet.old }
+    ensures absent { (C.frame cabinet.new).absent ≡ (C.frame cabinet.old).absent }
     ensures back { (C.frame cabinet.new).out ≡ None }
     ensures input { Stays (I.frame input.old) (I.frame input.new) }
     ensures output { Stays (O.frame output.old) (O.frame output.new) }
@@ -78,6 +79,7 @@ fn run_lines<S: Source, O: Sink, C: Cabinet>(
     ensures reads_on { ReadsOn S.Source lines.old lines.new }
     ensures limit { lines.new.taken ≤ INPUT_LIMIT + 1 }
     ensures in_memory { name_of (map string_bytes journal.now) ≡ None → cabinet.new ≡ cabinet.old }
+    ensures absent { (C.frame cabinet.new).absent ≡ (C.frame cabinet.old).absent }
     ensures back { (C.frame cabinet.new).out ≡ None }
     ensures output { Stays (O.frame output.old) (O.frame output.new) }
     ensures cabinet { Stays (object_of (C.frame cabinet.old)) (object_of (C.frame cabinet.new)) }

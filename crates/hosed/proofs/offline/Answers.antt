@@ -55,6 +55,7 @@ returns-in-Ok-Run-clause-outcome g c =
             last_line = c.end.ensures.last_line;
             is_status = status;
             takes = rw status takes;
+            absent = run.absent;
             refused = λ refused. rw status (refused_ends source sink cabinet disk named input input' output left output' place place' done run.leaves refused);
             complete = λ servable told held. rw status
                 (completes source sink cabinet disk named input input' output left output' place place' c.end.ensures.output run.takes.0 run.takes.1 servable held done run.leaves run.takes.3.0 told);
