@@ -118,9 +118,9 @@ fn returned(alloc: Global, network: &str, bytes: &[u8]) -> Result<MemDisk, Troub
     }
 }
 
-/// What comes of entries that are committed to a new store, which is then closed. For `commits` that
-/// is how each of them went, the book, how long the disk is and how many calls were made on it; for
-/// `left` what is opened after a stop, whose words `BEFORE:PICK` come first.
+/// What comes of entries that are committed to a new store, which is then closed. For `commits`
+/// that is how each of them went, the book, how long the disk is and how many calls were made on
+/// it; for `left` what is opened after a stop, whose words `BEFORE:PICK` come first.
 pub fn committed(
     alloc: Global,
     names: &Names,

@@ -1,6 +1,6 @@
 //! Tariffs: what a unit of bandwidth costs on a link, by a rule of the link's length. A network is
-//! priced by one before anything is planned on it. The caller makes the rules, whatever they are, and
-//! each is kept beside the bounds that its answers have.
+//! priced by one before anything is planned on it. The caller makes the rules, whatever they are,
+//! and each is kept beside the bounds that its answers have.
 //!
 //! ```
 //! let rule = Box::new(alloc, |length: u64| length)?;

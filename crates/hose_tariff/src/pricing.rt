@@ -6,8 +6,8 @@ use crate::tariff::{Rule, Tariff};
 use hose_graph::{Link, Topology};
 use std::alloc::{AllocError, Global};
 
-/// The network with the same nodes and links, each of which costs what the tariff's rule answers for
-/// its length.
+/// The network with the same nodes and links, each of which costs what the tariff's rule answers
+/// for its length.
 pub fn price(alloc: Global, top: &Topology, tariff: &Tariff) -> Result<Topology, AllocError>
     ensures { IfOk result (IsPricedBy (Rule.post tariff.now.rule) top.now) }
 {

@@ -1,4 +1,5 @@
-// One book on a disk that many passes use at once: a plan is made while another thread has the turn.
+// One book on a disk that many passes use at once: a plan is made while another thread has the
+// turn.
 ghost use Rattle.std.specs.Prelude.{◌≡◌, IfOk};
 ghost use Rattle.hose_law.specs.Plan.{AreNodes};
 ghost use Rattle.hose_shared.specs.Sharing.{IsPassOf};
