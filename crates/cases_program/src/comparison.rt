@@ -26,47 +26,85 @@ pub fn differences<R: Threads + Wait + Sync>(
     case: &Case,
 ) -> Result<String, Trouble> {
     let mut told = String::new(alloc);
-    let mut outcome = outcome_of(rt, alloc, case, &mut told)?;
-    add_numbers(alloc, &mut told, case, &outcome)?;
-    add_output(alloc, &mut told, case, &outcome)?;
-    add_given(alloc, &mut told, case, &outcome)?;
-    add_journal(rt, alloc, &mut told, case, &mut outcome)?;
+    add_outcome(rt, alloc, &mut told, case)?;
     let lost = stops_that_differ(rt, alloc, case)?;
-    if lost > 0 {
-        told.push_str(format!(in alloc;
-            "after {lost} stops another history is found\n"
-        )?.as_str())?;
-    }
+    add_lost(alloc, &mut told, lost, "stops another history is found")?;
     let lost = cuts_that_differ(rt, alloc, case)?;
-    if lost > 0 {
-        told.push_str(format!(in alloc;
-            "after {lost} failed calls something else comes\n"
-        )?.as_str())?;
-    }
+    add_lost(alloc, &mut told, lost, "failed calls something else comes")?;
     Ok(told)
+}
+
+// Adds how many stops or failed calls lost something, if any did.
+fn add_lost(alloc: Global, told: &mut String, lost: u64, what: &str) -> Result<(), AllocError> {
+    if lost > 0 {
+        told.push_str(format!(in alloc; "after {lost} {what}\n")?.as_str())?;
+    }
+    Ok(())
+}
+
+// Adds what is otherwise in what comes of a case.
+fn add_outcome<R: Threads + Wait + Sync>(
+    rt: &R,
+    alloc: Global,
+    told: &mut String,
+    case: &Case,
+) -> Result<(), Trouble> {
+    let mut outcome = outcome_of(rt, alloc, told, case)?;
+    Ok(add_differences(rt, alloc, told, case, &mut outcome)?)
+}
+
+fn add_differences<R: Threads + Wait + Sync>(
+    rt: &R,
+    alloc: Global,
+    told: &mut String,
+    case: &Case,
+    outcome: &mut Outcome,
+) -> Result<(), AllocError> {
+    add_numbers(alloc, told, case, outcome)?;
+    add_output(alloc, told, case, outcome)?;
+    add_given(alloc, told, case, outcome)?;
+    add_journal(rt, alloc, told, case, outcome)
 }
 
 // What comes of a case, with a line where its gate found that sessions are not beside each other.
 fn outcome_of<R: Threads + Wait + Sync>(
     rt: &R,
     alloc: Global,
-    case: &Case,
     told: &mut String,
+    case: &Case,
 ) -> Result<Outcome, Trouble> {
-    let (input, journal) = (&case.input.bytes, &case.journal.bytes);
     match case.call {
         Call::Session => run_session(rt, alloc, case, 0),
         Call::Conversation(times) => converse_twice(rt, alloc, case, times),
-        Call::Program if case.holds => {
-            let gate = HoldingGate::new();
-            let outcome = run_program(rt, alloc, case, input, journal, &gate)?;
-            if gate.is_alone() {
-                told.push_str("a session went on before the other had come so far\n")?;
-            }
-            Ok(outcome)
-        }
-        Call::Program => Ok(run_program(rt, alloc, case, input, journal, &PlainGate)?),
+        Call::Program if case.holds => run_held(rt, alloc, told, case),
+        Call::Program => run_freely(rt, alloc, case),
     }
+}
+
+// A run of the program whose sessions wait for nobody.
+fn run_freely<R: Threads + Wait + Sync>(
+    rt: &R,
+    alloc: Global,
+    case: &Case,
+) -> Result<Outcome, Trouble> {
+    let (input, journal) = (&case.input.bytes, &case.journal.bytes);
+    Ok(run_program(rt, alloc, case, input, journal, &PlainGate)?)
+}
+
+// A run of the program whose first session is held.
+fn run_held<R: Threads + Wait + Sync>(
+    rt: &R,
+    alloc: Global,
+    told: &mut String,
+    case: &Case,
+) -> Result<Outcome, Trouble> {
+    let (input, journal) = (&case.input.bytes, &case.journal.bytes);
+    let gate = HoldingGate::new();
+    let outcome = run_program(rt, alloc, case, input, journal, &gate)?;
+    if gate.is_alone() {
+        told.push_str("a session went on before the other had come so far\n")?;
+    }
+    Ok(outcome)
 }
 
 // Adds a line for the status, and one for how much is taken.

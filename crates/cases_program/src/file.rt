@@ -68,10 +68,15 @@ fn read_line<'a>(
 fn begin(alloc: Global, lines: &[&str], name: &str) -> Result<Case, Trouble> {
     let mut case = Case::new(alloc);
     case.name = String::from_str(alloc, name)?;
+    add_lines(alloc, &mut case, lines)?;
+    Ok(case)
+}
+
+fn add_lines(alloc: Global, case: &mut Case, lines: &[&str]) -> Result<(), Trouble> {
     for line in lines {
         case.add(alloc, Line::read(line)?)?;
     }
-    Ok(case)
+    Ok(())
 }
 
 // Refuses a last case that says nothing of what must come of it.
