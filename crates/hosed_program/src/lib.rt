@@ -1,5 +1,5 @@
 //! What the program does with its words: a text about itself, or the server's one call. The program
-//! hands it the real streams, files and port, and cases of `hosed_rows` hand it those in memory:
+//! hands it the real streams, files and port, and cases of `cases_program` hand it those in memory:
 //!
 //! ```
 //! let words = program_words(&rt, alloc)?;

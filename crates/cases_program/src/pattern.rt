@@ -1,0 +1,77 @@
+// A line of bytes by a short rule: how often it comes, whether a line feed ends it, and what stands
+// in braces.
+use crate::trouble::Trouble;
+use itoa::Buffer;
+
+/// What stands after `<`, `>` or `=` in a case file.
+#[derive(Clone, Copy)]
+pub struct Pattern<'a> {
+    times: u64,
+    ends_line: bool,
+    text: &'a str,
+}
+
+impl<'a> Pattern<'a> {
+    /// Reads ` TEXT`, `20001 TEXT`, `. TEXT` or `20001. TEXT`. The text may be left out, and
+    /// then the space before it too.
+    pub fn read(rest: &'a str) -> Result<Pattern<'a>, Trouble> {
+        let (rule, text) = rest.split_once(' ').unwrap_or((rest, ""));
+        let (times, ends_line) = match rule.strip_suffix('.') {
+            Some(times) => (times, false),
+            None => (rule, true),
+        };
+        let times = if times.is_empty() { 1 } else { number(times)? };
+        Ok(Pattern {
+            times,
+            ends_line,
+            text,
+        })
+    }
+
+    /// Adds the bytes that it stands for.
+    pub fn add_to(&self, bytes: &mut Vec<u8>) -> Result<(), Trouble> {
+        for nth in 0..self.times {
+            add_once(bytes, self.text, nth)?;
+            if self.ends_line {
+                bytes.push(b'\n')?;
+            }
+        }
+        Ok(())
+    }
+}
+
+/// The number that these digits write.
+pub fn number(digits: &str) -> Result<u64, Trouble> {
+    digits.parse().ok().ok_or(Trouble::Number)
+}
+
+// Adds the text as it stands at its `nth` time, counted from 0.
+fn add_once(bytes: &mut Vec<u8>, text: &str, nth: u64) -> Result<(), Trouble> {
+    let mut parts = text.split('{');
+    if let Some(plain) = parts.next() {
+        bytes.extend_from_slice(plain.as_bytes())?;
+    }
+    for part in parts {
+        let Some((mark, plain)) = part.split_once('}') else {
+            return Err(Trouble::Brace);
+        };
+        add_mark(bytes, mark, nth)?;
+        bytes.extend_from_slice(plain.as_bytes())?;
+    }
+    Ok(())
+}
+
+// Adds what stands in braces.
+fn add_mark(bytes: &mut Vec<u8>, mark: &str, nth: u64) -> Result<(), Trouble> {
+    match mark {
+        "s" => bytes.push(b' ')?,
+        "t" => bytes.push(b'\t')?,
+        "r" => bytes.push(b'\r')?,
+        first => {
+            let first = number(first).ok().ok_or(Trouble::Brace)?;
+            let count = first.saturating_add(nth);
+            bytes.extend_from_slice(Buffer::new().format(count).as_bytes())?;
+        }
+    }
+    Ok(())
+}

@@ -1,0 +1,222 @@
+// The run of a case that calls the program.
+ghost use Rattle.std.specs.Prelude.{◌≡◌, ◌≢◌, All, IfOk, None};
+ghost use Rattle.hose_disk.specs.CabinetState.{cabinet_frame};
+ghost use Rattle.hose_io.specs.DoorState.{IsFresh};
+
+use crate::case::{Case, Connection, Stream};
+use crate::streams::{LongSource, NarrowSink};
+use hose_disk::{Cabinet, Disk, MemCabinet, MemDisk};
+use hose_io::{MemDoor, MemSink, MemSource};
+use hose_pool::Gate;
+use hosed_program::program;
+use std::alloc::{AllocError, Global};
+use std::sync::Wait;
+use std::thread::Threads;
+
+/// The name of the journal in the cabinet.
+pub const JOURNAL: &str = "j";
+
+// The name of the text in it.
+const TEXT: &str = "t";
+
+// The status at which the disk of the journal may be gone: there was no memory to share it.
+const NO_MEMORY: u8 = 7;
+
+// How many bytes a connection gives in a call.
+const PIECE: u64 = 4_096;
+
+// How many bytes that are no line come again at once.
+const FILLING: usize = 65_536;
+
+/// What came of a case.
+#[derive(Drop)]
+pub struct Outcome {
+    pub status: u64,
+    pub output: Vec<u8>,
+    /// How many bytes of the input were taken.
+    pub taken: u64,
+    /// The disk of the journal, as it was put back.
+    pub disk: Option<MemDisk>,
+    /// What each connection was given, in their order: nothing where it did not end.
+    pub given: Vec<Vec<u8>>,
+}
+
+/// Runs the program on this input and this journal, and as the case says besides.
+pub fn run_program<R: Threads + Wait + Sync, G: Gate + Sync>(
+    rt: &R,
+    alloc: Global,
+    case: &Case,
+    input: &[u8],
+    journal: &[u8],
+    gate: &G,
+) -> Result<Outcome, AllocError> {
+    let mut input = source_of(alloc, case, input)?;
+    let mut output = sink_of(alloc, &case.output, 0)?;
+    let mut cabinet = cabinet_of(alloc, case, journal)?;
+    let mut door = door_of(alloc, case)?;
+    let status = call(
+        rt,
+        alloc,
+        case,
+        &mut input,
+        &mut output,
+        &mut cabinet,
+        &mut door,
+        gate,
+    );
+    let disk = if status == NO_MEMORY {
+        None
+    } else {
+        taken_out(&mut cabinet)
+    };
+    Ok(Outcome {
+        status: u64::from(status),
+        output: Vec::from_slice(alloc, output.bytes())?,
+        taken: input.taken(),
+        disk,
+        given: given_of(alloc, &door, case.connections.len())?,
+    })
+}
+
+// The program's call, whose contract is met here alone.
+fn call<R: Threads + Wait + Sync, G: Gate + Sync>(
+    rt: &R,
+    alloc: Global,
+    case: &Case,
+    input: &mut LongSource,
+    output: &mut NarrowSink,
+    cabinet: &mut MemCabinet,
+    door: &mut MemDoor,
+    gate: &G,
+) -> u8
+    requires { (cabinet_frame cabinet.old).out ≡ None }
+    ensures { result ≢ 7 → (cabinet_frame cabinet.new).out ≡ None }
+{
+    program(rt, alloc, &case.words, input, output, cabinet, door, gate)
+}
+
+// The journal's disk, as it was put back.
+fn taken_out(cabinet: &mut MemCabinet) -> Option<MemDisk>
+    requires { (cabinet_frame cabinet.old).out ≡ None }
+{
+    cabinet.disk(JOURNAL).ok()
+}
+
+/// What a disk holds of which no call is to fail.
+pub fn held(alloc: Global, disk: &mut MemDisk) -> Result<Vec<u8>, AllocError> {
+    let len = disk.len().unwrap_or(0);
+    let mut bytes = Vec::from_elem(alloc, 0, len as usize)?;
+    if bytes.len() as u64 <= 1 << 32 {
+        let _ = disk.read_at(0, &mut bytes);
+    }
+    Ok(bytes)
+}
+
+/// A source of this input, as the case says.
+pub fn source_of(alloc: Global, case: &Case, input: &[u8]) -> Result<LongSource, AllocError> {
+    let piece = case.input.piece;
+    let mut source = MemSource::new(alloc, input, piece.bytes)?;
+    for nth in &case.input.failing {
+        source.fail(alloc, *nth)?;
+    }
+    let again = if case.repeats {
+        Vec::from_slice(alloc, input)?
+    } else if case.more > 0 {
+        Vec::from_elem(alloc, b'x', FILLING)?
+    } else {
+        Vec::new(alloc)
+    };
+    Ok(LongSource::new(source, piece, again, case.more))
+}
+
+/// A sink as the case says, of which one more call fails where its number is not 0.
+pub fn sink_of(alloc: Global, stream: &Stream, cut: u64) -> Result<NarrowSink, AllocError> {
+    let mut sink = MemSink::new(alloc)?;
+    for nth in &stream.failing {
+        sink.fail(alloc, *nth)?;
+    }
+    sink.fail(alloc, cut)?;
+    Ok(NarrowSink::new(sink, stream.piece))
+}
+
+// A cabinet with the journal, and the text if there is one.
+fn cabinet_of(alloc: Global, case: &Case, journal: &[u8]) -> Result<MemCabinet, AllocError>
+    ensures { IfOk result (λ cabinet. (cabinet_frame cabinet).out ≡ None) }
+{
+    let disk = disk_of(alloc, case, journal)?;
+    let mut cabinet = MemCabinet::of(alloc, JOURNAL.as_bytes(), disk)?;
+    if !case.text.is_empty() {
+        cabinet.add_text(alloc, TEXT.as_bytes(), &case.text)?;
+    }
+    if let Some(nth) = case.failing {
+        cabinet.fail(alloc, nth)?;
+    }
+    Ok(cabinet)
+}
+
+/// A disk on which this journal is durable, and of which calls fail as the case says.
+pub fn disk_of(alloc: Global, case: &Case, journal: &[u8]) -> Result<MemDisk, AllocError> {
+    let mut disk = MemDisk::new(alloc)?;
+    if !journal.is_empty() && (journal.len() as u64) < 1 << 62 {
+        // No call is to fail yet.
+        let _ = disk.write_at(0, journal);
+        let _ = disk.sync();
+    }
+    for (kind, nth) in &case.journal.failing {
+        disk.fail(alloc, *kind, *nth)?;
+    }
+    Ok(disk)
+}
+
+// What the connections of a case give, in the order in which they are accepted.
+#[derive(Drop)]
+struct Peers {
+    sources: Vec<MemSource>,
+    ghost fresh: { All IsFresh sources.items },
+}
+
+impl Peers {
+    fn add(&mut self, alloc: Global, connection: &Connection) -> Result<(), AllocError> {
+        let mut source = MemSource::new(alloc, &connection.bytes, PIECE)?;
+        source.fail(alloc, connection.failing)?;
+        self.sources.push(source)?;
+        Ok(())
+    }
+
+    fn into_door(self, alloc: Global) -> Result<MemDoor, AllocError> {
+        MemDoor::new(alloc, self.sources)
+    }
+}
+
+// A door that the connections of a case come to.
+fn door_of(alloc: Global, case: &Case) -> Result<MemDoor, AllocError> {
+    let mut peers = Peers {
+        sources: Vec::new(alloc),
+    };
+    for connection in &case.connections {
+        peers.add(alloc, connection)?;
+    }
+    let mut door = peers.into_door(alloc)?;
+    for nth in &case.door_failing {
+        door.fail(alloc, *nth)?;
+    }
+    Ok(door)
+}
+
+// What each of so many connections was given, in their order: nothing where it did not end.
+fn given_of(alloc: Global, door: &MemDoor, count: usize) -> Result<Vec<Vec<u8>>, AllocError> {
+    let mut given = Vec::new(alloc);
+    for number in 1..=count as u64 {
+        given.push(Vec::from_slice(alloc, given_to(door, number))?)?;
+    }
+    Ok(given)
+}
+
+fn given_to(door: &MemDoor, number: u64) -> &[u8] {
+    for done in door.ended() {
+        if done.number == number {
+            return done.output.bytes();
+        }
+    }
+    &[]
+}

@@ -1,0 +1,120 @@
+// Sessions on the shared book of a case, which is closed after them.
+ghost use Rattle.std.specs.Prelude.{◌≡◌, IfOk};
+ghost use Rattle.hose_shared.specs.Sharing.{IsPassOf, IsSamePass};
+
+use crate::case::{Case, Connection};
+use crate::run::{Outcome, disk_of, sink_of, source_of};
+use crate::trouble::Trouble;
+use hose_disk::MemDisk;
+use hose_io::{MemSink, MemSource, Sink, Source};
+use hose_paths::PlainRows;
+use hose_pool::PlainGate;
+use hose_session::{SessionEnd, serve_session};
+use hose_shared::{AnyStore, Shared};
+use hose_store::Store;
+use hose_topo::read;
+use hose_turn::{ALL_SHARES, Pass};
+use hose_words::LineReader;
+use std::alloc::Global;
+use std::sync::Wait;
+
+pub type Book = Shared<MemDisk, AnyStore>;
+
+/// Serves the session of a case, after that of its first connection if it has one. One more call of
+/// the output fails, if its number is not 0.
+pub fn run_session<W: Wait>(
+    rt: &W,
+    alloc: Global,
+    case: &Case,
+    cut: u64,
+) -> Result<Outcome, Trouble> {
+    let mut input = source_of(alloc, case, &case.input.bytes)?;
+    let mut output = sink_of(alloc, &case.output, cut)?;
+    let (book, pass) = share(alloc, case)?;
+    let (given, pass) = serve_before(rt, alloc, &case.connections, &book, pass)?;
+    let (end, pass) = serve(rt, alloc, &mut input, &mut output, &book, pass);
+    Ok(Outcome {
+        status: status_of(end),
+        output: Vec::from_slice(alloc, output.bytes())?,
+        taken: input.taken(),
+        disk: Some(close(book, pass)?),
+        given,
+    })
+}
+
+// The status that stands for the end of a session: where one comes of the same in the program, its.
+fn status_of(end: SessionEnd) -> u64 {
+    match end {
+        SessionEnd::Bye => 0,
+        SessionEnd::End => 1,
+        SessionEnd::NoHello => 2,
+        SessionEnd::Read => 3,
+        SessionEnd::Write => 4,
+        SessionEnd::TooLong => 8,
+    }
+}
+
+/// The book of a case, on its journal, and its first pass.
+pub fn share(alloc: Global, case: &Case) -> Result<(Book, Pass), Trouble>
+    ensures of { IfOk result (λ made. IsPassOf made.0 made.1) }
+    ensures share { IfOk result (λ made. made.1.share ≡ ALL_SHARES) }
+{
+    let source = MemSource::new(alloc, &case.text, 4_096)?;
+    let Ok(top) = read(alloc, &mut LineReader::new(source)) else {
+        return Err(Trouble::Book);
+    };
+    match Store::open(alloc, disk_of(alloc, case, &case.journal.bytes)?, top) {
+        Ok(store) => Ok(Shared::new(alloc, store)?),
+        Err(_) => Err(Trouble::Book),
+    }
+}
+
+/// The disk of a book that is closed.
+pub fn close(book: Book, pass: Pass) -> Result<MemDisk, Trouble>
+    requires of { IsPassOf book pass }
+    requires share { pass.share ≡ ALL_SHARES }
+{
+    let (closed, disk, _book) = book.close(pass).close();
+    if closed.is_err() {
+        return Err(Trouble::Close);
+    }
+    Ok(disk)
+}
+
+// What the first of these is given.
+fn serve_before<W: Wait>(
+    rt: &W,
+    alloc: Global,
+    connections: &[Connection],
+    book: &Book,
+    pass: Pass,
+) -> Result<(Vec<Vec<u8>>, Pass), Trouble>
+    requires { IsPassOf book.now pass }
+    ensures { IfOk result (λ served. IsSamePass pass served.1) }
+{
+    let mut given = Vec::new(alloc);
+    let Some(connection) = connections.first() else {
+        return Ok((given, pass));
+    };
+    let mut input = MemSource::new(alloc, &connection.bytes, 4_096)?;
+    let mut output = MemSink::new(alloc)?;
+    let (_, pass) = serve(rt, alloc, &mut input, &mut output, book, pass);
+    given.push(Vec::from_slice(alloc, output.bytes())?)?;
+    Ok((given, pass))
+}
+
+/// Serves a session.
+pub fn serve<W: Wait, S: Source, O: Sink>(
+    rt: &W,
+    alloc: Global,
+    source: &mut S,
+    sink: &mut O,
+    book: &Book,
+    pass: Pass,
+) -> (SessionEnd, Pass)
+    requires { IsPassOf book.now pass }
+    ensures { IsSamePass pass result.1 }
+{
+    let rows = &mut PlainRows::new();
+    serve_session(rt, alloc, source, sink, book, pass, 1, rows, &PlainGate)
+}
