@@ -2,10 +2,9 @@
 ghost use Rattle.std.specs.Prelude.{◌≡◌, ◌≢◌, ◌↔◌, ℕ, ◌<◌, IfNone, IfSome, length, slice_index_or};
 
 use crate::tariff::Tariff;
-use hose_graph::Name;
 
-/// The place of the first tariff with this name; none where no tariff has it.
-pub fn find(tariffs: &[Tariff], name: &Name) -> Option<usize>
+/// The place of the first tariff with the name that these bytes are; none where no tariff has it.
+pub fn find(tariffs: &[Tariff], name: &[u8]) -> Option<usize>
     ensures none { IfNone result ((k : ℕ) (d : _) → k < length tariffs.now
         → (slice_index_or tariffs.now k d).name ≢ name.now) }
     ensures first { IfSome result (λ place. (place < length tariffs.now)
@@ -13,7 +12,7 @@ pub fn find(tariffs: &[Tariff], name: &Name) -> Option<usize>
         × ((k : ℕ) (d : _) → k < place → (slice_index_or tariffs.now k d).name ≢ name.now)) }
 {
     for place in 0..tariffs.len() {
-        if tariffs[place].name() == *name {
+        if tariffs[place].name().bytes() == name {
             return Some(place);
         }
     }

@@ -1,0 +1,45 @@
+// Which costs a network is planned by.
+ghost use Rattle.std.specs.Prelude.{◌≡◌, IfOk};
+ghost use Rattle.hose_graph.specs.Network.{IsNetwork, Network};
+ghost use Rattle.hose_tariff.specs.Fact.{IsPricedBy};
+
+use crate::pricing::price;
+use crate::tariff::{Rule, Tariff};
+use hose_graph::Topology;
+use std::alloc::{AllocError, Global};
+
+/// The costs by which a network is planned.
+pub trait Prices {
+    /// What becomes of a network.
+    ghost prices: { Self → Network → Network → Type 0 };
+
+    /// The network with these costs.
+    fn apply(&self, alloc: Global, top: Topology) -> Result<Topology, AllocError>
+        ensures priced { IfOk result (prices self.now top) }
+        ensures network { IfOk result IsNetwork };
+}
+
+/// The costs that the topology itself tells.
+#[derive(Clone, Copy)]
+pub struct OwnCosts;
+
+impl Prices for OwnCosts {
+    ghost prices = { λ _ network priced. priced ≡ network };
+
+    fn apply(&self, _alloc: Global, top: Topology) -> Result<Topology, AllocError> {
+        // The call tells the proof what holds of each network.
+        let _nodes = top.nodes();
+        Ok(top)
+    }
+}
+
+/// Those that the tariff makes of the lengths.
+impl Prices for Tariff {
+    ghost prices = { λ tariff. IsPricedBy (Rule.post tariff.rule) };
+
+    fn apply(&self, alloc: Global, top: Topology) -> Result<Topology, AllocError> {
+        let priced = price(alloc, &top, self)?;
+        let _nodes = priced.nodes();
+        Ok(priced)
+    }
+}

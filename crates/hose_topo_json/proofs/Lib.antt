@@ -1,0 +1,7 @@
+mod Fronts
+mod LinkEnds
+mod Names
+mod OneAnswer
+mod OneLink
+mod OneNode
+mod Values

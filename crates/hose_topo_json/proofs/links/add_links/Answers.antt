@@ -1,0 +1,37 @@
+use Rattle.std.proofs.Common.{◌≡◌, length, map, subst, sym, arith, length-take}
+use Rattle.std.proofs.lemmas.List.{length-map}
+use Rattle.serde_json.specs.View.{view}
+use Rattle.hose_topo_json.specs.JsonTopology.{TellsLink}
+use Rattle.hose_topo_json.proofs.LinkEnds.{IsLink-linked}
+use Rattle.hose_topo_json.proofs.Values.{length-AllZip, told_more, value_here}
+use Rattle.hose_topo_json.proofs.links.add_links.Goals as goal
+
+pub returns-in_default-clause-wrong : goal.returns-in_default-clause-wrong
+returns-in_default-clause-wrong c = record {
+  links = c.loop-place.top.links;
+  value = view c.index-values-place.result;
+  front = c.loop-place.invariant.1;
+  here = value_here c.args.values.now c.loop-place.place c.index-values-place.result c.loop-place-test.true c.index-values-place.is;
+  wrong = λ link told. c.in_default.ensures.none link (subst (λ nodes. TellsLink nodes (view c.index-values-place.result) link) (sym c.loop-place.invariant.0) told);
+}
+
+pub push_link-requires-clause-room : goal.push_link-requires-clause-room
+push_link-requires-clause-room c =
+    let same = length-AllZip _ _ _ c.loop-place.invariant.1 in
+    let front = length-take c.loop-place.place (map view c.args.values.now) in
+    let whole : length (map view c.args.values.now) ≡ length c.args.values.now = length-map c.args.values.now view in
+    omega (arith, same, front, whole, c.requires.few, c.loop-place-test.true)
+
+pub push_link-requires-clause-is_link : goal.push_link-requires-clause-is_link
+push_link-requires-clause-is_link c = IsLink-linked c.loop-place.top c.in-Some.link c.in-Some.ensures.some.is_link
+
+pub loop-place-preserved : goal.loop-place-preserved
+loop-place-preserved c =
+    let added = c.push_link.ensures.added in
+    let link = c.in-Some.link in
+    let told = subst (λ nodes. TellsLink nodes (view c.index-values-place.result) link) c.loop-place.invariant.0 c.in-Some.ensures.some in
+    rw added (
+      c.loop-place.invariant.0,
+      told_more (TellsLink c.args.top.now.nodes) c.args.values.now c.loop-place.top.links c.loop-place.place c.index-values-place.result link c.loop-place-test.true c.index-values-place.is
+          c.loop-place.invariant.1 told,
+    )

@@ -1,0 +1,3 @@
+pub mod JsonValue
+pub mod JsonTopology
+pub mod Refused

@@ -1,0 +1,103 @@
+// A topology in JSON, as a whole.
+ghost use Rattle.std.specs.Prelude.{◌≡◌, ◌≢◌, ◌⊎◌, List, Ok, Err, IfErr, IfOk, IfSome, IfNone, map};
+ghost use Rattle.serde_json.specs.Data.{Data};
+ghost use Rattle.serde_json.specs.View.{view};
+ghost use Rattle.hose_graph.specs.Network.{IsNetwork, Network};
+ghost use Rattle.hose_topo_json.specs.JsonValue.{ReadsObject};
+ghost use Rattle.hose_topo_json.specs.JsonTopology.{HasLinks, HasNodes, IsJsonTopology};
+ghost use Rattle.hose_topo_json.specs.Refused.{IsRefused};
+ghost use Rattle.hose_topo_json.specs.declared.fault.JsonFault.{JsonFault};
+
+use crate::fault::JsonFault;
+use crate::links::add_links;
+use crate::member::list;
+use crate::nodes::add_nodes;
+use hose_graph::{MOST_LINKS, MOST_NODES, Topology};
+use serde_json::Value;
+use std::alloc::Global;
+
+/// Reads a topology in JSON. Where a member's name repeats in an object, the last one counts.
+pub fn read_json(alloc: Global, bytes: &[u8]) -> Result<Topology, JsonFault>
+    ensures topology { IfOk result (IsJsonTopology bytes.now) }
+    ensures refused { IfErr result (IsRefused bytes.now) }
+    ensures network { IfOk result IsNetwork }
+    // But for want of memory there is one answer.
+    ensures accepts { (network : Network) → IsJsonTopology bytes.now network
+        → (result ≡ Ok network) ⊎ (result ≡ Err JsonFault.Memory) }
+    ensures refuses { (fault : JsonFault) → fault ≢ JsonFault.Memory → IsRefused bytes.now fault
+        → (result ≡ Err fault) ⊎ (result ≡ Err JsonFault.Memory) }
+{
+    read_members(alloc, bytes)
+}
+
+// The same, member by member. That there is one answer follows from what it may be.
+fn read_members(alloc: Global, bytes: &[u8]) -> Result<Topology, JsonFault>
+    ensures topology { IfOk result (IsJsonTopology bytes.now) }
+    ensures refused { IfErr result (IsRefused bytes.now) }
+    ensures network { IfOk result IsNetwork }
+{
+    let value = read_object(alloc, bytes)?;
+    let Some(nodes) = nodes_of(&value) else {
+        return Err(JsonFault::Nodes);
+    };
+    let mut top = Topology::new(alloc)?;
+    if let Err(index) = add_nodes(&mut top, nodes) {
+        return Err(JsonFault::Node { index });
+    }
+    let Some(links) = links_of(&value) else {
+        return Err(JsonFault::Links);
+    };
+    if let Err(index) = add_links(&mut top, links) {
+        return Err(JsonFault::Link { index });
+    }
+    // The call tells the proof what holds of each network.
+    let _nodes = top.nodes();
+    Ok(top)
+}
+
+// The object that the bytes are.
+fn read_object(alloc: Global, bytes: &[u8]) -> Result<Value, JsonFault>
+    ensures ok { IfOk result (λ value. ReadsObject bytes.now (view value)) }
+    ensures refused { IfErr result (IsRefused bytes.now) }
+{
+    let value = match Value::from_slice(alloc, bytes) {
+        Ok(value) => value,
+        Err(error) if error.is_memory() => return Err(JsonFault::Memory),
+        Err(_) => return Err(JsonFault::Json),
+    };
+    if value.is_object() {
+        Ok(value)
+    } else {
+        Err(JsonFault::Json)
+    }
+}
+
+// The values of the member `nodes`, where they are as many as there may be.
+fn nodes_of(value: &Value) -> Option<&[Value]>
+    ensures some { IfSome result (λ nodes. HasNodes (view value.now) (map view nodes.now)) }
+    ensures none { IfNone result ((nodes : List Data) → ¬ HasNodes (view value.now) nodes) }
+{
+    let Some(nodes) = list(value, "nodes") else {
+        return None;
+    };
+    if (1..=MOST_NODES as usize).contains(&nodes.len()) {
+        Some(nodes)
+    } else {
+        None
+    }
+}
+
+// The values of the member `links`, where they are no more than there may be.
+fn links_of(value: &Value) -> Option<&[Value]>
+    ensures some { IfSome result (λ links. HasLinks (view value.now) (map view links.now)) }
+    ensures none { IfNone result ((links : List Data) → ¬ HasLinks (view value.now) links) }
+{
+    let Some(links) = list(value, "links") else {
+        return None;
+    };
+    if links.len() <= MOST_LINKS as usize {
+        Some(links)
+    } else {
+        None
+    }
+}
