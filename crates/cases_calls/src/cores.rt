@@ -1,5 +1,5 @@
 // Books with the quotes of their customers: what commands are answered, and what is held.
-ghost use Rattle.std.specs.Prelude.{◌≡◌, IfOk};
+ghost use Rattle.std.specs.Prelude.{◌≡◌, ◌≤◌, IfOk};
 ghost use Rattle.hose_graph.specs.declared.limits.TheConstants.{MOST_EPOCH};
 ghost use Rattle.hose_core.specs.Holding.{IsMade};
 
@@ -93,8 +93,15 @@ pub fn released(alloc: Global, top: Topology, line: &str) -> Result<String, Trou
     let mut books = Plain {
         book: Book::new(alloc, top)?,
     };
+    release(alloc, &mut books, id)
+}
+
+fn release(alloc: Global, books: &mut Plain, id: u64) -> Result<String, Trouble>
+    requires { id ≤ MOST_EPOCH }
+{
     let claim = claim_release(alloc, &name("acme")?, id)?;
-    Ok(debugged(alloc, &release_now(&mut books, claim))?)
+    let reply = release_now(books, claim);
+    Ok(debugged(alloc, &reply)?)
 }
 
 /// What is held under the first, the last and the numbers beside them, and the lowest free number,

@@ -1,5 +1,5 @@
 // Rows, roots, trees, sides and decisions.
-ghost use Rattle.std.specs.Prelude.{◌≡◌, ◌<◌, ◌≤◌, ◌↔◌, Bool, List, All, length};
+ghost use Rattle.std.specs.Prelude.{◌≡◌, ◌<◌, ◌≤◌, ◌↔◌, [], ◌∷◌, Bool, List, All, length};
 ghost use Rattle.std.specs.Prelude.{IfOk, IsSome, IsTrue, slice_index};
 ghost use Rattle.hose_graph.specs.Hose.{node_of};
 ghost use Rattle.hose_graph.specs.Row.{HasBoundedDistances, distance_of};
@@ -107,11 +107,19 @@ pub fn reserved(alloc: Global, top: &Topology, root: u32, hose: &Hose) -> Result
 
 /// What 3, 4 and 5 cost on the first links, and whether they fit beside these loads.
 pub fn fitting(alloc: Global, top: &Topology, loads: &[u64]) -> Result<String, Trouble> {
-    let amounts = Amounts::build(alloc, &[(0, 3), (1, 4), (2, 5)])?;
     if top.links() != 3 || !are_carried(top, loads) {
         return Err(Trouble::Missing);
     }
-    Ok(format!(in alloc; "{} {}", cost(top, &amounts), fits(top, loads, &amounts))?)
+    let amounts = first_amounts(alloc)?;
+    let (cost, fits) = (cost(top, &amounts), fits(top, loads, &amounts));
+    Ok(format!(in alloc; "{cost} {fits}")?)
+}
+
+// Amounts of 3, 4 and 5 on the first links.
+fn first_amounts(alloc: Global) -> Result<Amounts, AllocError>
+    ensures { IfOk result (λ amounts. amounts ≡ (0, 3) ∷ (1, 4) ∷ (2, 5) ∷ []) }
+{
+    Amounts::build(alloc, &[(0, 3), (1, 4), (2, 5)])
 }
 
 /// What the first node reaches over the first link alone.

@@ -98,21 +98,33 @@ pub fn passed(alloc: Global) -> Result<String, Trouble> {
 /// The next four lines of a text, given in pieces, of which a call fails, and what is left of it
 /// then. The words are the size of a piece, the call, and the lines, between which a slash stands.
 pub fn lines(alloc: Global, piece: u64, failing: u64, text: &str) -> Result<String, Trouble> {
-    let mut bytes = Vec::from_slice(alloc, text.as_bytes())?;
-    for byte in &mut bytes {
-        if *byte == b'/' {
-            *byte = b'\n';
-        }
-    }
+    let bytes = parted(alloc, text)?;
     let mut source = MemSource::new(alloc, &bytes, piece.max(1))?;
     source.fail(alloc, failing)?;
     let mut lines = LineReader::new(source);
     let mut told = String::new(alloc);
     for _ in 0..4 {
-        let line = format!(in alloc; "{:?}\n", lines.next())?;
-        told.push_str(line.as_str())?;
+        add_line(alloc, &mut lines, &mut told)?;
     }
     let left = debugged(alloc, &lines.into_source().left())?;
     told.push_str(left.as_str())?;
     Ok(told)
+}
+
+// The lines of a text, between which a slash stands.
+fn parted(alloc: Global, text: &str) -> Result<Vec<u8>, AllocError> {
+    let mut bytes = Vec::new(alloc);
+    for byte in text.as_bytes() {
+        bytes.push(if *byte == b'/' { b'\n' } else { *byte })?;
+    }
+    Ok(bytes)
+}
+
+fn add_line(
+    alloc: Global,
+    lines: &mut LineReader<MemSource>,
+    told: &mut String,
+) -> Result<(), AllocError> {
+    let line = format!(in alloc; "{:?}\n", lines.next())?;
+    told.push_str(line.as_str())
 }

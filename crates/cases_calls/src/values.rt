@@ -102,10 +102,16 @@ fn are_alike<T: Debug>(alloc: Global, one: &T, other: &T) -> Result<bool, AllocE
 
 // The admission of a hose of three endpoints.
 fn admission(alloc: Global) -> Result<Entry, Trouble> {
-    let pairs = [(0, 3), (1, 4), (2, 5)];
+    let hose = Hose::build(alloc, &[(0, 3), (1, 4), (2, 5)])?;
+    let amounts = three_amounts(alloc)?;
+    let customer = name("acme")?;
     Ok(Entry::Admit {
-        customer: name("acme")?,
-        hose: Hose::build(alloc, &pairs)?,
-        amounts: Amounts::build(alloc, &pairs)?,
+        customer,
+        hose,
+        amounts,
     })
+}
+
+fn three_amounts(alloc: Global) -> Result<Amounts, AllocError> {
+    Amounts::build(alloc, &[(0, 3), (1, 4), (2, 5)])
 }

@@ -1,16 +1,22 @@
 //! Rows: the distances of all nodes of a topology from one of them, over a set of its links, and
 //! each node's tight link. The planner takes what makes them by its contract alone. Three makers
 //! are here: by rounds over all links; by a heap, which follows the links of the nearest node first
-//! and is the faster one the longer the ways are; and over a table of rows that are kept.
+//! and is the faster one the longer the ways are; and over a table of rows that are kept, which are
+//! lent as they lie.
 //!
 //! ```
 //! let row = HeapRows::new().row(alloc, &top, &links, root)?;
+//!
+//! if let Some(rows) = TableRows::new(&table).kept(&top, &links) {
+//!     let row = row_of(&top, &links, rows, root);
+//! }
 //! ```
 #![tactic(auto)]
 
-ghost use Rattle.std.specs.Prelude.{◌≡◌, ◌<◌, IfOk, length};
+ghost use Rattle.std.specs.Prelude.{◌≡◌, ◌<◌, IfOk, IfSome, length};
 ghost use Rattle.hose_graph.specs.Row.{HasBoundedDistances};
 ghost use Rattle.hose_law.specs.Row.{IsRow};
+ghost use Rattle.hose_paths.specs.Rows.{AreRows};
 
 mod chains;
 mod heap;
@@ -18,13 +24,15 @@ mod plain;
 mod settling;
 mod table;
 mod tight;
+mod whole;
 
 pub use heap::HeapRows;
 use hose_graph::{Row, Topology};
 use hose_links::LinkSet;
 pub use plain::PlainRows;
 use std::alloc::{AllocError, Global};
-pub use table::{RowTable, TableRows};
+pub use table::{RowTable, TableRows, row_of};
+pub use whole::{all_links, rows_of_all};
 
 /// What makes rows.
 pub trait RowMaker {
@@ -40,4 +48,14 @@ pub trait RowMaker {
         requires is_node { root < length top.now.nodes }
         ensures row { IfOk result (IsRow top.now links.now root) }
         ensures bounded { IfOk result HasBoundedDistances };
+
+    /// The rows of all nodes over a set of the topology's links, in order of nodes, where they are
+    /// kept. Whoever wants several rows over one set asks once, and reads them where they lie.
+    fn kept(&self, top: &Topology, links: &LinkSet) -> Option<&[Row]>
+        ensures { IfSome result (λ rows. AreRows top.now links.now rows.now) }
+    {
+        let _ = top;
+        let _ = links;
+        None
+    }
 }

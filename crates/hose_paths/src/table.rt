@@ -1,5 +1,7 @@
 // Rows that are kept.
-ghost use Rattle.std.specs.Prelude.{◌≡◌, ◌<◌, ◌↔◌, IfOk, IsTrue, length};
+ghost use Rattle.std.specs.Prelude.{◌≡◌, ◌<◌, ◌↔◌, IfOk, IfSome, IsTrue, length};
+ghost use Rattle.hose_graph.specs.Row.{HasBoundedDistances};
+ghost use Rattle.hose_law.specs.Row.{IsRow};
 ghost use Rattle.hose_paths.specs.Rows.{AreRows, IsRowOf};
 
 use crate::RowMaker;
@@ -60,6 +62,17 @@ impl RowTable {
         self.links.same(links) && self.top.same(top)
     }
 
+    /// Its rows, where they are over this set of this network's links.
+    pub fn over(&self, top: &Topology, links: &LinkSet) -> Option<&[Row]>
+        ensures { IfSome result (λ rows. AreRows top.now links.now rows.now) }
+    {
+        if self.is_over(top, links) {
+            Some(&self.rows)
+        } else {
+            None
+        }
+    }
+
     /// A copy of the row of a root.
     pub fn row(&self, alloc: Global, root: u32) -> Result<Row, AllocError>
         requires is_node { root < length self.now.network.nodes }
@@ -69,7 +82,18 @@ impl RowTable {
     }
 }
 
-/// Gives copies of the rows of a table where they are asked for, and makes others by a heap.
+/// The row of a root among those of all nodes over a set of the topology's links.
+pub fn row_of<'a>(top: &Topology, links: &LinkSet, rows: &'a [Row], root: u32) -> &'a Row
+    requires rows { AreRows top.now links.now rows.now }
+    requires is_node { root < length top.now.nodes }
+    ensures row { IsRow top.now links.now root result.now }
+    ensures bounded { HasBoundedDistances result.now }
+{
+    &rows[root as usize]
+}
+
+/// Lends the rows of a table or gives copies of them, where they are over the set that is asked for,
+/// and makes others by a heap.
 #[derive(Clone, Copy)]
 pub struct TableRows<'a> {
     table: &'a RowTable,
@@ -96,5 +120,9 @@ impl RowMaker for TableRows<'_> {
             return self.table.row(alloc, root);
         }
         HeapRows::new().row(alloc, top, links, root)
+    }
+
+    fn kept(&self, top: &Topology, links: &LinkSet) -> Option<&[Row]> {
+        self.table.over(top, links)
     }
 }

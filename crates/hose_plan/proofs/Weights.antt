@@ -1,5 +1,5 @@
 -- Weights of all nodes, while endpoint after endpoint is added.
-use Rattle.std.proofs.Common.{◌≡◌, ◌∙◌, ℕ, ◌+◌, ◌*◌, ◌<◌, ◌≤◌, Bool, List, [], ◌∷◌, ◌++◌, Option, None, Some, length, get_or, replicate, take, refl, arith}
+use Rattle.std.proofs.Common.{◌≡◌, ◌∙◌, ℕ, ◌+◌, ◌*◌, ◌<◌, ◌≤◌, Bool, List, [], ◌∷◌, ◌++◌, Option, None, Some, length, get_or, replicate, take, refl, ap, subst, arith}
 use Rattle.std.specs.Option.{IfSome, MatchOption}
 use Rattle.std.proofs.lemmas.List.{get_or-replicate, get_or_default, length-replicate, take_more}
 use Rattle.std.proofs.lemmas.Nat.{mul-le}
@@ -74,6 +74,21 @@ module _ (network : Network) (set : List Bool) where
         let more = weighs_more v (take i hose) end (weight_at before v) (distance_of row v) (are.each v node) (is_row.distances v node) in
         rw (take_more hose i (0, 0) inside, here) more;
   }
+
+-- Adding the row of an endpoint to the weights of those before it, where all endpoints lie in a list that equals the hose's.
+module _ (network : Network) (set : List Bool) (hose ends : List (ℕ × ℕ)) (same : ends ≡ hose) where
+  pub weights_pushed : (i : ℕ) → i < length ends → (row : Distances) → IsRow network set (get_or ends i (0, 0)).0 row
+      → (before given after : List (Option ℕ)) → given ≡ before → length after ≡ length given
+      → ((v : ℕ) → v < length given → weight_at after v ≡ heavier (weight_at given v) (get_or ends i (0, 0)).1 (distance_of row v))
+      → AreWeights network set (take i hose) before → AreWeights network set (take (i + 1) hose) after
+  weights_pushed i inside row is_row before given after was long each are =
+      let end : get_or ends i (0, 0) ≡ get_or hose i (0, 0) = ap (λ (es : List (ℕ × ℕ)). get_or es i (0, 0)) same in
+      weights_more network set hose i (omega (arith, inside, ap length same)) row (subst (λ (e : ℕ × ℕ). IsRow network set e.0 row) end is_row)
+      before after are (long ∙ ap length was)
+      (λ v below.
+      each v (omega (arith, below, ap length was))
+      ∙ ap (λ (ws : List (Option ℕ)). heavier (weight_at ws v) (get_or ends i (0, 0)).1 (distance_of row v)) was
+      ∙ ap (λ (e : ℕ × ℕ). heavier (weight_at before v) e.1 (distance_of row v)) end)
 
 -- a weight that is small, and one more endpoint's share
 light_at : (ends rate : ℕ) → rate ≤ MOST_RATE → (weight distance : Option ℕ) → IfSome weight (λ w. w ≤ ends * most_share) → IsWithinReach distance

@@ -1,22 +1,73 @@
 // The canonical plan of a hose over a set of links.
-ghost use Rattle.std.specs.Prelude.{◌≡◌, ◌≤◌, length, All, IfOk, IfSome};
+ghost use Rattle.std.specs.Prelude.{◌≡◌, ◌<◌, ◌≤◌, length, All, IfOk, IfSome, Some};
 ghost use Rattle.hose_graph.specs.Amounts.{amount_of};
 ghost use Rattle.hose_graph.specs.Hose.{IsHose};
 ghost use Rattle.hose_graph.specs.Network.{IsNetwork};
 ghost use Rattle.hose_law.specs.Plan.{AreNodes};
-ghost use Rattle.hose_plan.specs.Rooting.{IsPlanOver};
+ghost use Rattle.hose_law.specs.Row.{IsRow};
+ghost use Rattle.hose_paths.specs.Rows.{AreRows};
+ghost use Rattle.hose_plan.specs.Rooting.{IsBestRoot, IsPlanOver};
 ghost use Rattle.hose_tree.specs.Amounts.{AreOnLinks};
 
-use crate::root::best_root;
-use hose_graph::{Amounts, Hose, MOST_AMOUNT, MOST_TREE_LINKS, Topology};
+use crate::root::{best_root, best_root_of_kept};
+use hose_graph::{Amounts, Hose, MOST_AMOUNT, MOST_TREE_LINKS, Row, Topology};
 use hose_links::LinkSet;
-use hose_paths::RowMaker;
+use hose_paths::{RowMaker, row_of};
 use hose_tree::{Tree, reservations};
 use std::alloc::{AllocError, Global};
 
 /// What a hose reserves on the tree of its root over a set of links; none where no node reaches all
-/// endpoints.
+/// endpoints. It is asked once for kept rows, which are read where they lie.
 pub fn plan<R: RowMaker>(
+    alloc: Global,
+    top: &Topology,
+    links: &LinkSet,
+    hose: &Hose,
+    rows: &mut R,
+) -> Result<Option<Amounts>, AllocError>
+    requires places { length links.now ≡ length top.now.links }
+    requires nodes { AreNodes top.now hose.now }
+    ensures plan { IfOk result (IsPlanOver top.now links.now hose.now) }
+    ensures links { IfOk result (λ found. IfSome found (AreOnLinks top.now)) }
+    ensures few { IfOk result (λ found. IfSome found (λ plan. length plan ≤ MOST_TREE_LINKS)) }
+    ensures amounts { IfOk result
+        (λ found. IfSome found (All (λ pair. amount_of pair ≤ MOST_AMOUNT))) }
+    ensures network { IsNetwork top.now }
+    ensures hose { IsHose hose.now }
+{
+    if let Some(kept) = rows.kept(top, links) {
+        return plan_by_kept(alloc, top, links, hose, kept);
+    }
+    plan_by_new(alloc, top, links, hose, rows)
+}
+
+// The same by rows that are kept.
+fn plan_by_kept(
+    alloc: Global,
+    top: &Topology,
+    links: &LinkSet,
+    hose: &Hose,
+    kept: &[Row],
+) -> Result<Option<Amounts>, AllocError>
+    requires rows { AreRows top.now links.now kept.now }
+    requires nodes { AreNodes top.now hose.now }
+    ensures plan { IfOk result (IsPlanOver top.now links.now hose.now) }
+    ensures links { IfOk result (λ found. IfSome found (AreOnLinks top.now)) }
+    ensures few { IfOk result (λ found. IfSome found (λ plan. length plan ≤ MOST_TREE_LINKS)) }
+    ensures amounts { IfOk result
+        (λ found. IfSome found (All (λ pair. amount_of pair ≤ MOST_AMOUNT))) }
+    ensures network { IsNetwork top.now }
+    ensures hose { IsHose hose.now }
+{
+    let Some(root) = best_root_of_kept(alloc, top, links, hose, kept)? else {
+        return Ok(None);
+    };
+    let row = row_of(top, links, kept, root);
+    Ok(Some(reserved_from(alloc, top, links, hose, root, row)?))
+}
+
+// The same by rows that are made one after another.
+fn plan_by_new<R: RowMaker>(
     alloc: Global,
     top: &Topology,
     links: &LinkSet,
@@ -37,6 +88,28 @@ pub fn plan<R: RowMaker>(
         return Ok(None);
     };
     let row = rows.row(alloc, top, links, root)?;
-    let tree = Tree::from_row(alloc, top, &row, hose)?;
-    Ok(Some(reservations(alloc, &tree, hose)?))
+    Ok(Some(reserved_from(alloc, top, links, hose, root, &row)?))
+}
+
+// What a hose reserves on the tree of its root, of which this is the row.
+fn reserved_from(
+    alloc: Global,
+    top: &Topology,
+    links: &LinkSet,
+    hose: &Hose,
+    root: u32,
+    row: &Row,
+) -> Result<Amounts, AllocError>
+    requires network { IsNetwork top.now }
+    requires nodes { AreNodes top.now hose.now }
+    requires hose { IsHose hose.now }
+    requires root { IsBestRoot top.now links.now hose.now (Some root) }
+    requires row { IsRow top.now links.now root row.now }
+    ensures plan { IfOk result (λ plan. IsPlanOver top.now links.now hose.now (Some plan)) }
+    ensures links { IfOk result (AreOnLinks top.now) }
+    ensures few { IfOk result (λ plan. length plan ≤ MOST_TREE_LINKS) }
+    ensures amounts { IfOk result (All (λ pair. amount_of pair ≤ MOST_AMOUNT)) }
+{
+    let tree = Tree::from_row(alloc, top, row, hose)?;
+    Ok(reservations(alloc, &tree, hose)?)
 }

@@ -9,10 +9,10 @@ ghost use Rattle.hose_plan.specs.Rooting.{IsPlanOver};
 ghost use Rattle.hose_tree.specs.Amounts.{AreCarried};
 
 use crate::canonical::plan;
-use crate::safe::{all_links, safe_links};
+use crate::safe::safe_links;
 use hose_graph::{Amounts, Hose, NodeList, Topology};
 use hose_links::LinkSet;
-use hose_paths::RowMaker;
+use hose_paths::{RowMaker, all_links};
 use hose_tree::{cost, fits, reached};
 use std::alloc::{AllocError, Global};
 

@@ -4,12 +4,13 @@ ghost use Rattle.hose_graph.specs.Hose.{IsHose};
 ghost use Rattle.hose_graph.specs.Network.{IsNetwork};
 ghost use Rattle.hose_graph.specs.Row.{HasBoundedDistances, IsWithinReach, distance_of};
 ghost use Rattle.hose_law.specs.Plan.{AreNodes};
+ghost use Rattle.hose_paths.specs.Rows.{AreRows};
 ghost use Rattle.hose_plan.specs.Rooting.{AreLight, AreWeights, IsBestRoot, heavier, most_share};
 ghost use Rattle.hose_root.specs.Choice.{weight_at};
 
 use hose_graph::{Hose, MOST_ENDS, MOST_NODES, MOST_RATE, Row, Topology};
 use hose_links::LinkSet;
-use hose_paths::RowMaker;
+use hose_paths::{RowMaker, row_of};
 use hose_root::choose;
 use std::alloc::{AllocError, Global};
 
@@ -28,7 +29,34 @@ pub fn best_root<R: RowMaker>(
     ensures hose { IsHose hose.now }
 {
     let weights = weights(alloc, top, links, hose, rows)?;
-    Ok(choose(&weights))
+    Ok(lightest(top, links, hose, &weights))
+}
+
+/// The same by rows that are kept.
+pub fn best_root_of_kept(
+    alloc: Global,
+    top: &Topology,
+    links: &LinkSet,
+    hose: &Hose,
+    kept: &[Row],
+) -> Result<Option<u32>, AllocError>
+    requires rows { AreRows top.now links.now kept.now }
+    requires nodes { AreNodes top.now hose.now }
+    ensures root { IfOk result (IsBestRoot top.now links.now hose.now) }
+    ensures network { IsNetwork top.now }
+    ensures hose { IsHose hose.now }
+{
+    let weights = weights_of_kept(alloc, top, links, hose, kept)?;
+    Ok(lightest(top, links, hose, &weights))
+}
+
+// The node of the least weight, which is the root; none where no node has a weight.
+fn lightest(top: &Topology, links: &LinkSet, hose: &Hose, weights: &[Option<u64>]) -> Option<u32>
+    requires weights { AreWeights top.now links.now hose.now weights.now }
+    requires few { length weights.now ≤ MOST_NODES }
+    ensures { IsBestRoot top.now links.now hose.now result }
+{
+    choose(weights)
 }
 
 // What the hose costs from each node. It is as far from an endpoint to a node as back, so the
@@ -52,6 +80,29 @@ fn weights<R: RowMaker>(
     for (node, rate) in ends {
         let row = rows.row(alloc, top, links, *node)?;
         add_row(&mut weights, &row, *rate);
+    }
+    Ok(weights)
+}
+
+// The same by rows that are kept.
+fn weights_of_kept(
+    alloc: Global,
+    top: &Topology,
+    links: &LinkSet,
+    hose: &Hose,
+    kept: &[Row],
+) -> Result<Vec<Option<u64>>, AllocError>
+    requires rows { AreRows top.now links.now kept.now }
+    requires nodes { AreNodes top.now hose.now }
+    ensures weights { IfOk result (λ weights. AreWeights top.now links.now hose.now weights.items) }
+    ensures few { IfOk result (λ weights. length weights.items ≤ MOST_NODES) }
+    ensures network { IsNetwork top.now }
+    ensures hose { IsHose hose.now }
+{
+    let ends = hose.ends();
+    let mut weights = vec![in alloc; Some(0); top.nodes() as usize]?;
+    for &(node, rate) in ends {
+        add_row(&mut weights, row_of(top, links, kept, node), rate);
     }
     Ok(weights)
 }

@@ -1,7 +1,6 @@
-// The sets of links over which plans are made.
+// The links over which a second plan is made.
 ghost use Rattle.std.specs.Prelude.{◌≡◌, IfOk, length};
 ghost use Rattle.hose_law.specs.Room.{safe_links};
-ghost use Rattle.hose_law.specs.Walk.{all_links};
 ghost use Rattle.hose_plan.specs.Planning.{room_beside};
 ghost use Rattle.hose_tree.specs.Amounts.{AreCarried};
 
@@ -9,16 +8,6 @@ use hose_graph::{Hose, Topology};
 use hose_links::LinkSet;
 use hose_tree::free_rate;
 use std::alloc::{AllocError, Global};
-
-/// All links, over which the first plan is made.
-pub fn all_links(alloc: Global, top: &Topology) -> Result<LinkSet, AllocError>
-    ensures links { IfOk result (λ links. links ≡ all_links top.now) }
-    ensures places { IfOk result (λ links. length links ≡ length top.now.links) }
-{
-    let mut links = LinkSet::new(alloc, top.links())?;
-    links.fill_where(|_| true);
-    Ok(links)
-}
 
 /// The links that are safe for a hose: those with half of its rates free.
 pub fn safe_links(

@@ -3,6 +3,7 @@
 //!
 //! ```
 //! let rows = all_rows(rt, alloc, &top, &links, 4)?;
+//! let table = table_of_all(rt, alloc, &top, 4)?;
 //!
 //! let mut maker = PoolRows::new(rt, 4);
 //! let row = maker.row(alloc, &top, &links, root)?;
@@ -15,4 +16,4 @@ mod rows;
 
 pub use gate::{Gate, PlainGate, Point};
 pub use pool::PoolRows;
-pub use rows::{MOST_WORKERS, all_rows};
+pub use rows::{MOST_WORKERS, all_rows, table_of_all};

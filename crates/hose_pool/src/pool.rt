@@ -76,6 +76,10 @@ impl<T: Threads + Sync> RowMaker for PoolRows<'_, T> {
         self.kept = Some(kept);
         row
     }
+
+    fn kept(&self, top: &Topology, links: &LinkSet) -> Option<&[Row]> {
+        self.kept.as_ref()?.over(top, links)
+    }
 }
 
 // Whether each link is in the set.

@@ -1,12 +1,13 @@
 // Rows that several workers make at once.
 ghost use Rattle.std.specs.Prelude.{◌≡◌, ◌<◌, ◌≤◌, ℕ, IfOk, Option, Some, length, map, slice_index_or};
 ghost use Rattle.hose_graph.specs.Row.{Distances};
+ghost use Rattle.hose_law.specs.Walk.{all_links};
 ghost use Rattle.hose_paths.specs.Rows.{AreRows};
 ghost use Rattle.hose_pool.specs.Rows.{IsMade};
 
 use hose_graph::{Row, Topology};
 use hose_links::LinkSet;
-use hose_paths::{HeapRows, RowMaker};
+use hose_paths::{HeapRows, RowMaker, RowTable, all_links};
 use std::alloc::{AllocError, Global};
 use std::thread;
 use std::thread::Threads;
@@ -31,6 +32,22 @@ pub fn all_rows<T: Threads + Sync>(
     let mut made = no_rows(alloc, nodes)?;
     make_rows(rt, alloc, top, links, workers, &mut made);
     all_made(alloc, made)
+}
+
+/// The rows of all nodes over all links of a topology, made in the same way and kept.
+pub fn table_of_all<T: Threads + Sync>(
+    rt: &T,
+    alloc: Global,
+    top: &Topology,
+    workers: u32,
+) -> Result<RowTable, AllocError>
+    requires workers { (1 ≤ workers) × (workers ≤ MOST_WORKERS) }
+    ensures network { IfOk result (λ table. table.network ≡ top.now) }
+    ensures links { IfOk result (λ table. table.links ≡ all_links top.now) }
+{
+    let links = all_links(alloc, top)?;
+    let rows = all_rows(rt, alloc, top, &links, workers)?;
+    RowTable::build(alloc, top, &links, rows)
 }
 
 // The rows, where each was made.

@@ -2,7 +2,7 @@
 use Rattle.std.proofs.Common.{◌≡◌, ◌∙◌, true, false, length, get_or, sym, ap, arith, rules}
 use Rattle.std.proofs.lemmas.List.{ext_get_or, get_or-replicate, length-replicate}
 use Rattle.hose_law.specs.Walk.{all_links}
-use Rattle.hose_plan.proofs.safe.all_links.Goals as goal
+use Rattle.hose_paths.proofs.whole.all_links.Goals as goal
 
 pub returns-clause-links : goal.returns-clause-links
 returns-clause-links c =
