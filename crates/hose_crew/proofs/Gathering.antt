@@ -8,7 +8,7 @@ use Rattle.hose_io.specs.declared.Failed.{Failed}
 use Rattle.hose_io.specs.declared.door.Door.{Ghosts as DoorGhosts}
 use Rattle.hose_law.proofs.Fronts.{prefix_same}
 use Rattle.hose_session.specs.Accounts.{AccountFor}
-use Rattle.hose_turn.specs.Known.{Known}
+use Rattle.hose_turn.specs.Known.{HasOwnPlaces, Known}
 use Rattle.hose_crew.specs.Crew.{AreServed, ServesDoor}
 use Rattle.hose_crew.specs.Desk.{AreArrived, HasStopped, Started}
 use Rattle.hose_crew.specs.Hands.{AreBack, IsGathered}
@@ -20,13 +20,14 @@ pub all_rest : {A : Type 0} (P : A → Type 0) (first : A) (rest : List A) → A
 all_rest P first rest all = λ place else below. all (suc place) else (omega (arith, below))
 
 -- no worker has given up its place
-pub none_gathered : (workers : ℕ) (first pass : Known) (parts : ℕ) → pass ≡ record first { share = pass.share } → pass.share + workers ≡ first.share → parts ≡ 0 → IsGathered workers first pass parts
-none_gathered workers first pass parts same left none = record {
+pub none_gathered : (workers : ℕ) (first pass : Known) (parts : ℕ) → pass ≡ record first { share = pass.share } → pass.share + workers ≡ first.share → parts ≡ 0 → HasOwnPlaces pass → IsGathered workers first pass parts
+none_gathered workers first pass parts same left none places = record {
   turn = ap (λ (p : Known). p.turn) same;
   origin = ap (λ (p : Known). p.origin) same;
   share = omega (arith, left, none);
   seen = subst (λ (p : Known). IsPrefix first.seen p.seen) (sym same) (prefix_same first.seen);
   faults = omega (arith, ap (λ (p : Known). p.faults) same);
+  places = places;
 }
 
 -- and no connection came back
@@ -50,6 +51,7 @@ module _ {L In Out Done : Type 0} (door : DoorGhosts L In Out Done) (was mid now
       share = omega (arith, gathered.share, whole);
       seen = gathered.seen;
       faults = gathered.faults;
+      places = gathered.places;
     };
     served = at (door.told was) (door.told mid) (door.told now) arrived back stopped stops.all;
   }

@@ -5,7 +5,7 @@ use Rattle.hose_io.specs.Connections.{Connection, Connections}
 use Rattle.hose_session.specs.Accounts.{AccountFor}
 use Rattle.hose_pool.specs.declared.rows.TheConstants.{MOST_WORKERS}
 use Rattle.hose_shared.specs.Sharing.{IsPassOf, IsSamePass, SharedBook}
-use Rattle.hose_turn.specs.Known.{Known}
+use Rattle.hose_turn.specs.Known.{HasOwnPlaces, Known}
 use Rattle.hose_crew.specs.Desk.{Started}
 
 -- a pass, and a share of the total: its parts, and how many connections were accepted by it
@@ -58,8 +58,7 @@ abbrev pub HaveWorked : {Done : Type 0} → (Done → Option Connection) → Sta
     → List (HandState Done) → Type 0
 HaveWorked came_to start first hands = All (HasWorked came_to start first) hands
 
--- So many workers may serve along parts of the first pass of a shared book, and each may make rows
--- by as many.
+-- So many workers may serve along parts of the first pass of a shared book.
 pub record MayServe (workers : ℕ) (shared : SharedBook) (first : Known) : Type 0 where
   pub some : 1 ≤ workers
   pub few : workers ≤ MOST_WORKERS
@@ -101,3 +100,4 @@ pub record IsGathered (workers : ℕ) (first pass : Known) (parts : ℕ) : Type 
   pub share : pass.share + workers ≡ first.share + parts
   pub seen : IsPrefix first.seen pass.seen
   pub faults : first.faults ≤ pass.faults
+  pub places : HasOwnPlaces pass

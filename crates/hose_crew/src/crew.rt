@@ -11,6 +11,7 @@ use crate::desk::{Closed, Desk, Start};
 use crate::hand::{Hand, Place, Work};
 use hose_disk::Disk;
 use hose_io::{Door, Failed};
+use hose_paths::RowTable;
 use hose_pool::{Gate, MOST_WORKERS};
 use hose_session::law_accounts;
 use hose_shared::{Begun, Shared, law_passes};
@@ -63,13 +64,15 @@ impl<L: Door + Send, N: Start + Send + Sync> Crew<L, N> {
     }
 
     /// Serves the connections of a door that is open, each in a session along a part of the pass,
-    /// until there are as many as the crew is for, or no more will come, or accepting fails. They
-    /// are given back to the door, and the pass comes back whole.
+    /// until there are as many as the crew is for, or no more will come, or accepting fails. All of
+    /// them plan with the rows of one table. They are given back to the door, and the pass comes
+    /// back whole.
     pub fn serve<R: Threads + Wait + Sync, D: Disk + Send, B: Begun<D> + Send, G: Gate + Sync>(
         self,
         rt: &R,
         alloc: Global,
         shared: &Shared<D, B>,
+        table: &RowTable,
         pass: Pass,
         door: L,
         blank: Blank,
@@ -89,7 +92,7 @@ impl<L: Door + Send, N: Start + Send + Sync> Crew<L, N> {
         requires accounted { AreAccounted (L.told door) }
         ensures { ServesDoor L.Door door result.2 self.connections pass result.1 result.0 }
     {
-        law_passes();
+        law_passes(&pass);
         let Crew {
             mut hands,
             connections,
@@ -104,6 +107,7 @@ impl<L: Door + Send, N: Start + Send + Sync> Crew<L, N> {
             alloc,
             shared,
             gate,
+            table,
             workers: hands.len() as u32,
             first,
         };
@@ -196,6 +200,7 @@ fn work_once<
         alloc,
         shared,
         gate,
+        table,
         workers,
         first,
     } = *job;
@@ -208,6 +213,7 @@ fn work_once<
             alloc,
             shared,
             gate,
+            table,
             workers,
             first,
         };
@@ -241,6 +247,7 @@ fn gather<D: Disk, B: Begun<D>, L: Door, N: Start>(
     ensures frame { L.frame result.1 ≡ L.frame door }
 {
     law_accounts::<L::In, L::Out>();
+    pass.law_places();
     let mut pass = pass;
     let mut share = share;
     let mut total = total;

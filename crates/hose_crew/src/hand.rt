@@ -10,8 +10,8 @@ ghost use Rattle.hose_crew.specs.Hands.{AllComeBack, AllMayComeBack, AreBack, Ha
 use crate::desk::{Accepted, Desk, Start};
 use hose_disk::Disk;
 use hose_io::Door;
-use hose_paths::RowMaker;
-use hose_pool::{Gate, PoolRows};
+use hose_paths::{RowMaker, RowTable, TableRows};
+use hose_pool::Gate;
 use hose_session::{law_accounts, serve_session};
 use hose_shared::{Begun, Shared, law_passes};
 use hose_turn::Pass;
@@ -29,7 +29,8 @@ pub struct Work<'a, W, D: Disk, B: Begun<D>, G> {
     pub alloc: Global,
     pub shared: &'a Shared<D, B>,
     pub gate: &'a G,
-    /// How many workers make the rows that a session plans with.
+    /// The rows that all sessions plan with.
+    pub table: &'a RowTable,
     pub workers: u32,
     /// The pass of which each worker has a part, as it was then.
     pub first: &'a Snapshot<Pass>,
@@ -139,8 +140,8 @@ fn serve_all<W: Threads + Wait + Sync, D: Disk, B: Begun<D>, G: Gate, L: Door, N
         (map L.came_to ended.new.items) }
     ensures room { vec_capacity ended.new ≡ vec_capacity ended.old }
 {
-    law_passes();
-    let mut rows = PoolRows::new(job.rt, job.workers);
+    law_passes(&place.pass);
+    let mut rows = TableRows::new(job.table);
     let Place {
         mut pass,
         mut share,
@@ -164,7 +165,7 @@ impl<L: Door, N: Start> Hand<L, N> {
         requires share { (place.parts ≡ 1) × (place.amount ≡ 0) }
         ensures works { HasWorked L.came_to N.start first.now.value self.new }
     {
-        law_passes();
+        law_passes(&place.pass);
         law_accounts::<L::In, L::Out>();
         // The first pass is there for the clauses alone.
         let _ = first;

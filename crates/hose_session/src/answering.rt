@@ -60,7 +60,7 @@ impl<'a, D: Disk, B: Begun<D>, G: Gate> Session<'a, D, B, G> {
             result.0 }
         ensures names { NamesPlaces self.now.shared.now.network result.0 }
     {
-        law_passes();
+        law_passes(&pass);
         let Line::Text(text) = line else {
             return (Reply::Long, pass);
         };

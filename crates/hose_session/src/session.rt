@@ -99,7 +99,7 @@ impl<'a, D: Disk, B: Begun<D>, G: Gate> Session<'a, D, B, G> {
         ensures limit { lines.new.taken ≤ INPUT_LIMIT + 1 }
         ensures output { Stays (O.frame output.old) (O.frame output.new) }
     {
-        law_passes();
+        law_passes(&pass);
         law_quotes();
         let (greeted, pass) = self.greet(rt, lines, output, pass);
         let name = match greeted {
@@ -146,7 +146,7 @@ impl<'a, D: Disk, B: Begun<D>, G: Gate> Session<'a, D, B, G> {
         ensures of { IsPassOf self.now.shared.now result.1 }
         ensures output { Stays (O.frame output.old) (O.frame output.new) }
     {
-        law_passes();
+        law_passes(&pass);
         let line = match lines.next() {
             Ok(Some(line)) => line,
             Ok(None) => return (Err(SessionEnd::NoHello), pass),
@@ -201,7 +201,7 @@ impl<'a, D: Disk, B: Begun<D>, G: Gate> Session<'a, D, B, G> {
         ensures of { IsPassOf self.now.shared.now result.1 }
         ensures output { Stays (O.frame output.old) (O.frame output.new) }
     {
-        law_passes();
+        law_passes(&pass);
         let line = match lines.next() {
             Ok(Some(line)) => line,
             Ok(None) => return (Err(SessionEnd::End), pass),

@@ -186,7 +186,7 @@ stays_along network customer held after asked answer old new more done step = al
   step = step;
   decided = tt;
   cheapest = tt;
-  same = record { turn = refl; origin = refl; share = refl; seen = prefix_same new.seen; faults = omega arith };
+  same = record { turn = refl; origin = refl; share = refl; seen = prefix_same new.seen; faults = omega arith; places = more.same.places };
   seen = prefix_same new.seen;
   own = sym (append-nil new.own);
   failed = λ is. absurd (cc (is, done));

@@ -23,7 +23,7 @@ use Rattle.hose_book.specs.Commit.{IsMet}
 use Rattle.hose_book.specs.declared.committed.Committed.{Committed}
 use Rattle.hose_book.specs.declared.committed.Committed.TheVariants.{Done, Disk}
 use Rattle.hose_turn.specs.Faults.{end_of_count, rise}
-use Rattle.hose_turn.specs.Known.{Known}
+use Rattle.hose_turn.specs.Known.{HasOwnPlaces, Known}
 use Rattle.hose_shared.specs.Along.{HasEntryAt, IsCheapestEntry, StepsAlong}
 use Rattle.hose_shared.specs.Sharing.{HasSeenMore, IsSamePass}
 use Rattle.hose_shared.specs.Turns.{StepsAt, place_of}
@@ -66,6 +66,7 @@ same_on one two three here there = record {
   share = there.share ∙ here.share;
   seen = prefix_on one.seen two.seen three.seen here.seen there.seen;
   faults = let a = here.faults in let b = there.faults in omega arith;
+  places = there.places;
 }
 
 pub more_on : (one two three : Known) → HasSeenMore one two → HasSeenMore two three → HasSeenMore one three
@@ -134,14 +135,15 @@ module _ (network : Network) (customer : List ℕ) (held : Held) (command : Comm
       }
 
 -- a pass that took its turn
-pub locked_more : (pass holder : Known) → holder ≡ record pass { seen = holder.seen } → IsPrefix pass.seen holder.seen → HasSeenMore pass holder
-locked_more pass holder is seen = record {
+pub locked_more : (pass holder : Known) → holder ≡ record pass { seen = holder.seen } → IsPrefix pass.seen holder.seen → HasOwnPlaces holder → HasSeenMore pass holder
+locked_more pass holder is seen places = record {
   same = record {
     turn = ap (λ (k : Known). k.turn) is;
     origin = ap (λ (k : Known). k.origin) is;
     share = ap (λ (k : Known). k.share) is;
     seen = seen;
     faults = let a = ap (λ (k : Known). k.faults) is in omega arith;
+    places = places;
   };
   own = ap (λ (k : Known). k.own) is;
 }
@@ -155,13 +157,14 @@ unlocked_more pass holder new more seen is = more_on pass holder new seen (recor
     share = ap (λ (k : Known). k.share) is;
     seen = subst (IsPrefix holder.seen) (sym (ap (λ (k : Known). k.seen) is)) (prefix_same holder.seen);
     faults = let a = ap (λ (k : Known). k.faults) is in omega arith;
+    places = subst HasOwnPlaces (sym is) seen.same.places;
   };
   own = ap (λ (k : Known). k.own) is;
 })
 
 -- a pass that took no turn
-pub more_same : (pass : Known) → HasSeenMore pass pass
-more_same pass = record { same = record { turn = refl; origin = refl; share = refl; seen = prefix_same pass.seen; faults = omega arith }; own = refl }
+pub more_same : (pass : Known) → HasOwnPlaces pass → HasSeenMore pass pass
+more_same pass places = record { same = record { turn = refl; origin = refl; share = refl; seen = prefix_same pass.seen; faults = omega arith; places = places }; own = refl }
 
 -- ---- entries
 

@@ -23,7 +23,7 @@ use Rattle.hose_store.specs.Commit.{store_books}
 use Rattle.hose_store.specs.Store.{Kept as KeptStore}
 use Rattle.hose_turn.specs.declared.view.Origin.{Origin}
 use Rattle.hose_turn.specs.Faults.{rise}
-use Rattle.hose_turn.specs.Known.{Known}
+use Rattle.hose_turn.specs.Known.{HasOwnPlaces, Known}
 use Rattle.hose_shared.specs.Along.{IsCheapestEntry}
 use Rattle.hose_shared.specs.Keeping.{StandsShared}
 use Rattle.hose_shared.specs.Turns.{StepsAt, faults_in, place_of, with_joined}
@@ -113,8 +113,8 @@ module _ {D : Type 0} (disk : Ghosts D) (Begins : List Entry → KeptStore D →
 
   -- The pass that gave the turn on has made a step at all that it had seen.
   pub steps_at : (top : Network) → old.ledger.network ≡ top → IsNetwork top → (known pass : Known) (more : ℕ) → known.seen ≡ history → pass ≡ record (with_joined known joined) { faults = (with_joined known joined).faults + more }
-      → (committed_of answer ≡ Disk → more ≡ 1) → StepsAt top customer held command answer known.seen known pass
-  steps_at top same is known pass more here left failed =
+      → HasOwnPlaces pass → (committed_of answer ≡ Disk → more ≡ 1) → StepsAt top customer held command answer known.seen known pass
+  steps_at top same is known pass more here left places failed =
       let others = others_joined known joined in
       let seen : pass.seen ≡ with_entry known.seen joined = ap (λ (k : Known). k.seen) left ∙ pass_joined known joined in
       let decided : IfSome joined (IsDecidedAt top (book_of 0 known.seen)) =
@@ -136,6 +136,7 @@ module _ {D : Type 0} (disk : Ghosts D) (Begins : List Entry → KeptStore D →
           share = ap (λ (k : Known). k.share) left ∙ others.2;
           seen = subst (IsPrefix known.seen) (sym seen) (prefix_joined known.seen joined);
           faults = let a = ap (λ (k : Known). k.faults) left in let b = others.3 in omega arith;
+          places = places;
         };
         seen = subst (IsPrefix (with_entry known.seen joined)) (sym seen) (prefix_same (with_entry known.seen joined));
         own = ap (λ (k : Known). k.own) left ∙ own_joined known joined;
@@ -165,15 +166,15 @@ module _ {D : Type 0} (disk : Ghosts D) (Begins : List Entry → KeptStore D →
         (failed_rise (object_frame (disk.frame old.journal.disk)) (object_frame (disk.frame new.journal.disk)) (committed_of answer) met failed)
 
     -- the pass that gave the turn on
-    pub turn_steps : pass ≡ record (with_joined known entered) { faults = (with_joined known entered).faults + rise floor (faults_in disk new) } → StepsAt top customer held command answer known.seen known pass
-    turn_steps left = steps_at disk Begins known.origin known.seen old new customer held command answer before stepped law network top (before.network ∙ here) is known pass (rise floor (faults_in disk new)) refl left rises_by
+    pub turn_steps : pass ≡ record (with_joined known entered) { faults = (with_joined known entered).faults + rise floor (faults_in disk new) } → HasOwnPlaces pass → StepsAt top customer held command answer known.seen known pass
+    turn_steps left places = steps_at disk Begins known.origin known.seen old new customer held command answer before stepped law network top (before.network ∙ here) is known pass (rise floor (faults_in disk new)) refl left places rises_by
 
     -- where the store is as it was
-    pub asked_steps : new ≡ old → pass ≡ record known { faults = known.faults + rise floor (faults_in disk value) } → StepsAt top customer held command answer known.seen known pass
-    asked_steps stays left =
+    pub asked_steps : new ≡ old → pass ≡ record known { faults = known.faults + rise floor (faults_in disk value) } → HasOwnPlaces pass → StepsAt top customer held command answer known.seen known pass
+    asked_steps stays left places =
         let none = none_where_same disk Begins known.origin known.seen old new customer held command answer before stepped law network stays in
         let mine = subst (λ (count : ℕ). pass ≡ record known { faults = known.faults + rise floor count }) (ap (faults_in disk) (sym same ∙ sym stays)) left in
-        turn_steps (subst (λ (joined : Option Entry). pass ≡ record (with_joined known joined) { faults = (with_joined known joined).faults + rise floor (faults_in disk new) }) (sym none) mine)
+        turn_steps (subst (λ (joined : Option Entry). pass ≡ record (with_joined known joined) { faults = (with_joined known joined).faults + rise floor (faults_in disk new) }) (sym none) mine) places
 
 -- ---- the end of a turn
 

@@ -43,6 +43,7 @@ impl<D: Disk, B: Begun<D>> Shared<D, B> {
             (Command.Admit hose) result.0 pass result.1 }
         ensures names { NamesPlaces self.now.network result.0 }
     {
+        pass.law_places();
         let mut pass = pass;
         let mut hose = hose;
         for _ in 0..TRIES {

@@ -72,6 +72,7 @@ impl<D: Disk, B: Begun<D>> Shared<D, B> {
         ensures names { NamesPlaces self.now.network result.0 }
     {
         law_step::<Store<D>>();
+        pass.law_places();
         let Ok(claim) = claim_release(alloc, customer, id) else {
             return (Reply::Memory, pass);
         };

@@ -4,6 +4,7 @@ ghost use Rattle.hose_graph.specs.declared.entry.Entry.{Entry};
 ghost use Rattle.hose_law.specs.Answer.{with_entry};
 ghost use Rattle.hose_turn.specs.Faults.{rise};
 ghost use Rattle.hose_turn.specs.Held.{floor_of, holder, value_of};
+ghost use Rattle.hose_turn.specs.Known.{HasOwnPlaces};
 ghost use Rattle.hose_shared.specs.Keeping.{StandsShared};
 ghost use Rattle.hose_shared.specs.Turns.{faults_in, with_joined};
 
@@ -30,12 +31,13 @@ impl<D: Disk, B: Begun<D>> Shared<D, B> {
             × StandsShared D.Disk B.begins (holder held).origin
             (with_entry (holder held).seen joined) (value_of held).store
             × IfSome joined (λ one. one ≡ entry.value) }
-        ensures { (joined : Option Entry) → StandsShared D.Disk B.begins (holder held).origin
+        ensures passed { (joined : Option Entry) → StandsShared D.Disk B.begins (holder held).origin
             (with_entry (holder held).seen joined) (value_of held).store
             → IfSome joined (λ one. one ≡ entry.value)
             → let known = with_joined (holder held) joined in
             let more = rise (floor_of held) (faults_in D.Disk (value_of held).store) in
             result ≡ record known { faults = known.faults + more } }
+        ensures places { HasOwnPlaces result }
     {
         if held.value().epoch() == epoch {
             return self.turn.unlock(held);

@@ -16,6 +16,11 @@ pub trait Begun<D: Disk> {
 }
 
 /// No store is named: any may be shared.
+///
+/// Then `close` promises nothing of the images that a stop may have left of the disk: that rests on
+/// what the first store stood for, which a caller has to name to learn it of the last one. What it
+/// promises all the same is the book of the whole history, and commits of decided entries from some
+/// first store to the one that comes back.
 pub struct AnyStore;
 
 impl<D: Disk> Begun<D> for AnyStore {

@@ -26,4 +26,4 @@ mod taking;
 
 pub use kept::{AnyStore, Begun, Kept};
 pub use laws::law_passes;
-pub use shared::{Decided, Shared};
+pub use shared::Shared;

@@ -59,6 +59,7 @@ impl<D: Disk, B: Begun<D>> Shared<D, B> {
             MatchResult result.0 (IsPlannedFor self.now.network book hose)
             (IsNotPlanned self.now.network book hose) }
     {
+        pass.law_places();
         let Ok(mut loads) = Vec::from_elem(alloc, 0, self.topology.links() as usize) else {
             return (Err(Reply::Memory), pass);
         };

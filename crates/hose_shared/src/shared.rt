@@ -5,7 +5,8 @@ ghost use Rattle.hose_graph.specs.Network.{IsNetwork};
 ghost use Rattle.hose_graph.specs.declared.entry.Entry.{Entry};
 ghost use Rattle.hose_law.specs.History.{book_of};
 ghost use Rattle.hose_turn.specs.Faults.{end_of_count};
-ghost use Rattle.hose_turn.specs.Known.{first_known};
+ghost use Rattle.hose_turn.specs.Known.{first_known, HasOwnPlaces};
+ghost use Rattle.hose_turn.specs.Places.{AreApart};
 ghost use Rattle.hose_shared.specs.Closing.{HasShared};
 ghost use Rattle.hose_shared.specs.Keeping.{StandsShared};
 ghost use Rattle.hose_shared.specs.Sharing.{HasSeenMore, IsPassOf};
@@ -14,7 +15,7 @@ use crate::kept::{Begun, Kept};
 use hose_book::Books;
 use hose_disk::Disk;
 use hose_graph::Topology;
-use hose_store::{Premises, Store, law_run};
+use hose_store::{Decided, Store, law_run};
 use hose_turn::{ALL_SHARES, Pass, Turn};
 use std::alloc::{AllocError, Global};
 use std::marker::{Model, PhantomData};
@@ -97,6 +98,8 @@ impl<D: Disk, B: Begun<D>> Shared<D, B> {
         ensures same { (pass.new.turn ≡ pass.old.turn) × (pass.new.origin ≡ pass.old.origin) }
         ensures share { pass.new.share ≡ pass.old.share + other.share }
         ensures own { pass.new.own ≡ pass.old.own ++ other.own }
+        ensures apart { AreApart pass.old.own other.own }
+        ensures places { HasOwnPlaces pass.new }
         ensures faults { pass.new.faults ≡ pass.old.faults + other.faults }
         ensures one { (pass.new.seen ≡ pass.old.seen) ⊎ (pass.new.seen ≡ other.seen) }
         ensures seen { IsPrefix pass.old.seen pass.new.seen }
@@ -117,13 +120,4 @@ impl<D: Disk, B: Begun<D>> Shared<D, B> {
         law_run::<D, Decided>();
         self.turn.close(pass).store
     }
-}
-
-/// What is told of each entry that passes add: it is decided.
-pub struct Decided;
-
-impl Premises for Decided {
-    ghost use Rattle.hose_law.specs.History.{IsDecidedAt};
-
-    ghost kind = { IsDecidedAt };
 }

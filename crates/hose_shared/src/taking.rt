@@ -48,6 +48,7 @@ impl<D: Disk, B: Begun<D>> Shared<D, B> {
         ensures names { NamesPlaces self.now.network result.0 }
     {
         law_quotes();
+        pass.law_places();
         let Some(held) = quotes.held(quote) else {
             let (at, pass) = self.now(rt, pass);
             return (Reply::NoQuote { quote, at }, pass);

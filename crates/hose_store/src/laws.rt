@@ -33,6 +33,15 @@ pub trait Premises {
     ghost kind: { Network → Book → Entry → Type 0 };
 }
 
+/// What is told of each entry that steps add: it is decided.
+pub struct Decided;
+
+impl Premises for Decided {
+    ghost use Rattle.hose_law.specs.History.{IsDecidedAt};
+
+    ghost kind = { IsDecidedAt };
+}
+
 /// A store that was opened stands for the history that it has, since that history, and since any
 /// moment from which on the disk had just the images that it had once, as `was`.
 pub fn law_opened<D: Disk, P: Premises>()

@@ -23,5 +23,5 @@ mod recovery;
 mod store;
 
 pub use fault::StoreFault;
-pub use laws::{Premises, law_closed, law_one_meaning, law_opened, law_run};
+pub use laws::{Decided, Premises, law_closed, law_one_meaning, law_opened, law_run};
 pub use store::Store;

@@ -1,33 +1,20 @@
 -- What each step makes of the one history.
-use Rattle.std.proofs.Common.{◌≡◌, ◌≢◌, ℕ, ◌+◌, ◌≤◌, true, List, [], ◌∷◌, ◌++◌, length, set, sym, refl, ap, ◌∙◌, subst, ⊎_elim, arith, length-append}
+use Rattle.std.proofs.Common.{◌≡◌, ◌≢◌, ℕ, ◌+◌, true, List, [], ◌∷◌, ◌++◌, length, set, sym, refl, ap, ◌∙◌, subst, ⊎_elim, arith, length-append}
 use Rattle.std.specs.List.{sum_by}
-use Rattle.std.proofs.lemmas.List.Sums.{sum_by-cons, sum_by-append, sum_by_push}
-use Rattle.std.proofs.lemmas.Bool.Decides.{nat_tests}
-use mathlib.Core.List.{IsPrefix}
+use Rattle.std.proofs.lemmas.List.Sums.{sum_by-cons, sum_by_push}
 use mathlib.Core.Option.{some}
 use lib.ListN.{get_elem?}
 use Rattle.atomic_table.proofs.Lists.{at_snoc}
 use Rattle.hose_graph.specs.declared.entry.Entry.{Entry}
 use Rattle.hose_turn.specs.declared.view.View.{View}
 use Rattle.hose_turn.specs.declared.view.Origin.{Origin}
-use Rattle.hose_turn.specs.Places.{times, one_within, HasPlaces}
+use Rattle.hose_turn.specs.Places.{times, one_within, HasPlaces, HasSomePlaces}
 use Rattle.hose_turn.specs.Views.{nobody}
 use Rattle.hose_turn.specs.History.{IsInformed, IsHistory, owning}
-use Rattle.hose_turn.proofs.Prefix.{prefix_self, prefix_push}
-use Rattle.hose_turn.proofs.Sums.{sum_set, sum_none}
+use Rattle.hose_turn.proofs.Places.{times-append, one_within-push, one_within-none}
+use Rattle.hose_turn.proofs.Prefix.{prefix_self, prefix_push, prefix_length}
+use Rattle.hose_turn.proofs.Sums.{sum_set, sum_none, sum_has}
 use Rattle.hose_turn.proofs.Seats.{seats_stay, only, not_on}
-
-times-append : (place : ℕ) (xs ys : List ℕ) → times place (xs ++ ys) ≡ times place xs + times place ys
-times-append place xs ys = sum_by-append _ xs ys
-
-one_within-push : (first last place : ℕ) → first ≤ last → one_within first (last + 1) place ≡ one_within first last place + times place (last ∷ [])
-one_within-push first last place le = grind (arith, nat_tests)
-
-one_within-none : (first place : ℕ) → one_within first first place ≡ 0
-one_within-none first place = grind (arith, nat_tests)
-
-length-prefix : {A : Type 0} (xs ys : List A) → IsPrefix xs ys → length xs ≤ length ys
-length-prefix xs ys p = let parts = length-append xs p.0 in let whole = ap length p.1 in omega arith
 
 pub nobody_informed : (origin : Origin) (history : List Entry) → IsInformed origin history nobody
 nobody_informed origin history = record {
@@ -90,10 +77,14 @@ module _ {origin : Origin} {history : List Entry} {epoch : ℕ} {views : List Vi
           latest = λ on. absurd (alone other view apart there on);
         });
         own = λ place. let a = sum_set (owning place) views seat old new at in let b = ap (times place) owns ∙ times-append place old.own (length history ∷ []) in let c = known.own place in
-            let d = one_within-push (length origin.since) (length history) place (length-prefix origin.since history known.since) in
+            let d = one_within-push (length origin.since) (length history) place (prefix_length origin.since history known.since) in
             let e : sum_by (owning place) (set views seat new) ≡ one_within (length origin.since) (length history + 1) place = omega arith in
             e ∙ ap (λ (n : ℕ). one_within (length origin.since) n place) (sym longer);
       }
+
+  -- a seat has some of the places, each once
+  pub history_owned : (known : IsHistory origin history epoch views) (seat : ℕ) (mine : View) → get_elem? views seat ≡ some mine → HasSomePlaces (length origin.since) (length history) mine.own
+  history_owned known seat mine at place = let a = sum_has (owning place) views seat mine at in let b = known.own place in omega arith
 
   -- who has all shares has all places
   pub history_ends : (known : IsHistory origin history epoch views) (seat : ℕ) (mine : View) → get_elem? views seat ≡ some mine

@@ -1,5 +1,5 @@
 -- Beginnings of one list.
-use Rattle.std.proofs.Common.{◌≡◌, ◌≤◌, List, [], ◌∷◌, ◌++◌, length, refl, ap, sym, ◌∙◌, arith, append_assoc}
+use Rattle.std.proofs.Common.{◌≡◌, ◌≤◌, List, [], ◌∷◌, ◌++◌, length, refl, ap, sym, ◌∙◌, arith, append_assoc, length-append}
 use mathlib.Core.List.{IsPrefix}
 
 pub prefix_self : {A : Type 0} (xs : List A) → IsPrefix xs xs
@@ -19,3 +19,6 @@ prefix_shorter (x ∷ xs) (y ∷ ys) (z ∷ all) p q le =
 -- a beginning of a list begins the list with one item more
 pub prefix_push : {A : Type 0} (xs ys : List A) (item : A) → IsPrefix xs ys → IsPrefix xs (ys ++ item ∷ [])
 prefix_push xs ys item p = (p.0 ++ item ∷ [], sym (append_assoc xs p.0 (item ∷ [])) ∙ ap (λ all. all ++ item ∷ []) p.1)
+
+pub prefix_length : {A : Type 0} (xs ys : List A) → IsPrefix xs ys → length xs ≤ length ys
+prefix_length xs ys p = let parts = length-append xs p.0 in let whole = ap length p.1 in omega arith

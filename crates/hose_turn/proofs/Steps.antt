@@ -15,7 +15,7 @@ use Rattle.hose_graph.specs.declared.entry.Entry.{Entry}
 use Rattle.hose_turn.specs.declared.view.View.{View}
 use Rattle.hose_turn.specs.declared.view.Origin.{Origin}
 use Rattle.hose_turn.specs.declared.shares.TheConstants.{ALL_SHARES}
-use Rattle.hose_turn.specs.Places.{HasPlaces}
+use Rattle.hose_turn.specs.Places.{HasPlaces, HasSomePlaces}
 use Rattle.hose_turn.specs.Faults.{end_of_count, IsFloored}
 use Rattle.hose_turn.specs.Known.{HasWholeHistory}
 use Rattle.hose_turn.specs.Views.{nobody, unborn, opener, cut, branch, glued, passed_on, known_of}
@@ -26,7 +26,7 @@ use Rattle.hose_turn.specs.Steps.{OpensLock, Looks, PassesOn, Draws, Counts, Set
 use Rattle.hose_turn.proofs.Prefix.{prefix_self, prefix_shorter, prefix_push}
 use Rattle.hose_turn.proofs.Seats.{only, only_seat, was_theirs, no_some, not_on, num, opt_discrete}
 use Rattle.hose_turn.proofs.Line.{few_hold, alone, none_turns_yet, others_spent, line_splits, line_joins, line_stays, line_draws, line_takes, line_passes, line_opens, line_ends}
-use Rattle.hose_turn.proofs.History.{nobody_informed, history_stays, history_splits, history_joins, history_grows, history_ends, history_opens}
+use Rattle.hose_turn.proofs.History.{nobody_informed, history_stays, history_splits, history_joins, history_grows, history_owned, history_ends, history_opens}
 use Rattle.hose_turn.proofs.Faults.{nobody_floored, tally_stays, tally_splits, tally_joins, tally_passes, tally_ends, tally_opens}
 
 abbrev some_or : {S : Type 0} → S → Option S → S
@@ -117,9 +117,13 @@ module _ {S : Type 0} (stands : Origin → List Entry → S → Type 0) (faults 
       inr (renew s opened seat view new _ s.homes at (line_stays right right s opened.line seat _ view new at refl refl refl (λ value _ is. is)) (get_or-set_same s.words 0 _ 0 (omega arith))
       (record { spent = mine.spent; same = mine.same; seen = seen; told = (opened.history, refl); latest = λ on. absurd (not_on (sym off ∙ on)) })
       (record { spent = floor.spent; floor = floor.floor }) refl refl) in
+      let owned : (last : ℕ) × HasSomePlaces (length view.origin.since) last view.own = (
+        length opened.history,
+        subst (λ (origin : Origin). HasSomePlaces (length origin.since) (length opened.history) view.own) (sym (mine.same live)) (history_owned opened.known seat view at),
+      ) in
       dite (dec_le (length view.seen) (length view.told))
-      (λ le. (record view { seen = view.told; told = [] }, keeps, tt, kept view.told mine.told, (view.told, refl, prefix_shorter view.seen view.told opened.history mine.seen mine.told le, prefix_self view.told, inr refl)))
-      (λ more. (record view { seen = view.seen; told = [] }, keeps, tt, kept view.seen mine.seen, (view.seen, refl, prefix_self view.seen, prefix_shorter view.told view.seen opened.history mine.told mine.seen (omega arith), inl refl)))
+      (λ le. (record view { seen = view.told; told = [] }, keeps, tt, kept view.told mine.told, (view.told, refl, prefix_shorter view.seen view.told opened.history mine.seen mine.told le, prefix_self view.told, inr refl, owned)))
+      (λ more. (record view { seen = view.seen; told = [] }, keeps, tt, kept view.seen mine.seen, (view.seen, refl, prefix_self view.seen, prefix_shorter view.told view.seen opened.history mine.told mine.seen (omega arith), inl refl, owned)))
 
   pub draws : (slots seat : ℕ) (me : Seat) → 0 < me.0.share → me.0.ticket ≡ None → Allows Rule slots seat me 1 (λ n. (n + 1) % 2 ^ 64) (Draws (step slots 1 1 0 none) me)
   draws slots seat me live bare s rule _ at _ =
@@ -161,7 +165,7 @@ module _ {S : Type 0} (stands : Origin → List Entry → S → Type 0) (faults 
             (record { spent = mine.spent; same = mine.same; seen = prefix_self opened.history; told = mine.told; latest = λ _. refl })
             (record { spent = floor.spent; floor = λ _. home.2.1 }) refl refl)),
         λ ticket is. (
-          λ _. (home.0, opened.history, mine.seen, subst (λ (origin : Origin). stands origin opened.history home.0) (sym (mine.same live)) home.2.0, refl),
+          λ _. (home.0, opened.history, mine.seen, subst (λ (origin : Origin). IsPrefix origin.since opened.history) (sym (mine.same live)) opened.known.since, subst (λ (origin : Origin). stands origin opened.history home.0) (sym (mine.same live)) home.2.0, refl),
           λ other. absurd (other (word ∙ ap (λ (z : ℕ). z % 2 ^ 64) (ap num (sym served ∙ is)))),
         ),
       ))

@@ -5,7 +5,7 @@ pub use Rattle.atomic_table.specs.Seated.{TableId}
 use Rattle.hose_graph.specs.declared.entry.Entry.{Entry}
 use Rattle.hose_turn.specs.declared.view.Origin.{Origin}
 use Rattle.hose_turn.specs.declared.shares.TheConstants.{ALL_SHARES}
-use Rattle.hose_turn.specs.Places.{HasPlaces}
+use Rattle.hose_turn.specs.Places.{HasPlaces, HasSomePlaces}
 
 -- the lock that the pass is of, what was fixed when it was made, the pass's share, the beginning of
 -- the history that it has seen, the places of its own entries, and its number of faults
@@ -35,6 +35,12 @@ with_own_entry known entry = record known {
   seen = known.seen ++ entry ∷ [];
   own = known.own ++ length known.seen ∷ [];
 }
+
+-- Each of the pass's own places is that of an entry after the first list that the pass has seen,
+-- and none stands twice.
+abbrev pub HasOwnPlaces : Known → Type 0
+HasOwnPlaces known =
+    HasSomePlaces (length known.origin.since) (length known.seen) known.own
 
 -- The value stands for the history, which begins with the first list and with what the pass has
 -- seen. Each entry after the first list is the pass's own.

@@ -7,3 +7,4 @@ pub mod History
 pub mod Rule
 pub mod Steps
 pub mod Held
+pub mod Bells

@@ -1,12 +1,13 @@
 -- What each step tells the pass that makes it: of the step, the seat before, the number found and
 -- the seat after.
-use Rattle.std.specs.Prelude.{◌≡◌, ◌≢◌, ◌⊎◌, ℕ, ◌%◌, ◌^◌, List, [], ◌∷◌, Option, Some, None}
+use Rattle.std.specs.Prelude.{◌≡◌, ◌≢◌, ◌⊎◌, ℕ, ◌%◌, ◌^◌, List, [], ◌∷◌, length, Option, Some, None}
 use mathlib.Core.Option.{some}
 use mathlib.Core.List.{IsPrefix}
 use Rattle.atomic_table.specs.Table.{Me, Step}
 use Rattle.hose_graph.specs.declared.entry.Entry.{Entry}
 use Rattle.hose_turn.specs.declared.view.View.{View}
 use Rattle.hose_turn.specs.declared.view.Origin.{Origin}
+use Rattle.hose_turn.specs.Places.{HasSomePlaces}
 use Rattle.hose_turn.specs.Views.{opener, drew, turned, counted, passed_on, settled}
 
 -- what a step tells
@@ -29,7 +30,8 @@ module _ {S : Type 0} (stands : Origin → List Entry → S → Type 0) (faults 
       (ticket : ℕ) → before.0.ticket ≡ Some ticket
       → (found ≡ ticket % 2 ^ 64
       → (value : S) × (history : List Entry)
-      × IsPrefix before.0.seen history × stands before.0.origin history value
+      × IsPrefix before.0.seen history × IsPrefix before.0.origin.since history
+      × stands before.0.origin history value
       × (after ≡ (turned before.0 history (faults value), (0, Some value) ∷ before.1)))
       × (found ≢ ticket % 2 ^ 64 → after ≡ before)
 
@@ -51,9 +53,10 @@ module _ {S : Type 0} where
   Counts entry step before found after = after ≡ (counted before.0 entry, before.1)
 
   -- Of what the pass had seen and what it was told, one begins with the other and is what it has
-  -- seen now.
+  -- seen now. The pass's own places are some of those of a history, each once.
   abbrev pub Settles : Told S
   Settles step before found after =
       (longer : List Entry) × (after ≡ (settled before.0 longer, before.1))
       × IsPrefix before.0.seen longer × IsPrefix before.0.told longer
       × ((longer ≡ before.0.seen) ⊎ (longer ≡ before.0.told))
+      × ((last : ℕ) × HasSomePlaces (length before.0.origin.since) last before.0.own)

@@ -6,6 +6,7 @@ use Rattle.hose_turn.specs.declared.view.View.{View}
 use Rattle.hose_turn.specs.declared.view.Origin.{Origin}
 use Rattle.hose_turn.specs.declared.shares.TheConstants.{ALL_SHARES}
 use Rattle.hose_turn.specs.Known.{Known}
+use Rattle.hose_turn.specs.Places.{HasSomePlaces}
 
 -- stands for an origin where there is none yet
 abbrev pub no_origin : Origin
@@ -60,12 +61,14 @@ known_of turn view = record {
   faults = view.faults;
 }
 
--- The pass is there, has no ticket and not the turn, and has looked at all that it was told.
+-- The pass is there, has no ticket and not the turn, and has looked at all that it was told. Each
+-- of its own places is one that it has seen, and none stands twice.
 pub record IsAtRest (view : View) : Type 0 where
   pub live : 0 < view.share
   pub ticket : view.ticket ≡ None
   pub turn : view.has_turn ≡ false
   pub told : view.told ≡ []
+  pub own : HasSomePlaces (length view.origin.since) (length view.seen) view.own
 
 -- a pass that does nothing just now
 pub record IsResting (views : List View) : Type 0 where

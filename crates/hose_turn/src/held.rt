@@ -1,5 +1,6 @@
 //! A pass that has the turn, with the value.
-ghost use Rattle.std.specs.Prelude.{◌≡◌, ◌<◌, true, [], ◌∷◌, None};
+ghost use Rattle.std.specs.Prelude.{◌≡◌, ◌<◌, ◌≤◌, true, [], ◌∷◌, length, None};
+ghost use Rattle.hose_turn.specs.Places.{HasSomePlaces};
 
 use crate::rule::Place;
 
@@ -11,6 +12,9 @@ pub struct Held<S> {
     ghost turn: { place.me.0.has_turn ≡ true },
     ghost told: { place.me.0.told ≡ [] },
     ghost slot: { place.me.1 ≡ (0, None) ∷ [] },
+    ghost since: { length place.me.0.origin.since ≤ length place.me.0.seen },
+    ghost own: { HasSomePlaces (length place.me.0.origin.since) (length place.me.0.seen)
+        place.me.0.own },
 }
 
 impl<S> Held<S> {

@@ -21,6 +21,7 @@
 //! Nothing is claimed of progress: not that a turn comes, nor when, nor to whom first.
 #![tactic(auto)]
 
+mod bells;
 mod held;
 mod lends;
 mod pass;

@@ -1,5 +1,6 @@
 //! Passes that do not have the turn.
 ghost use Rattle.std.specs.Prelude.{◌≡◌, []};
+ghost use Rattle.hose_turn.specs.Known.{HasOwnPlaces};
 ghost use Rattle.hose_turn.specs.Views.{known_of, IsAtRest};
 
 use crate::rule::Place;
@@ -29,6 +30,13 @@ impl Model for Pass {
 }
 
 impl Pass {
+    /// Tells what is known of every pass: which places can be its own.
+    pub fn law_places(&self)
+        ensures { HasOwnPlaces self.now }
+    {
+        let _badge = &self.badge;
+    }
+
     pub(crate) fn into_place<S>(self) -> Place<S>
         ensures known { known_of result.table_id result.me.0 ≡ self }
         ensures rests { IsAtRest result.me.0 }

@@ -3,11 +3,13 @@ ghost use Rattle.std.specs.Prelude.{◌≡◌, ◌⊎◌, ℕ, ◌+◌, ◌-◌,
 ghost use mathlib.Core.List.{IsPrefix};
 ghost use Rattle.hose_graph.specs.declared.entry.Entry.{Entry};
 ghost use Rattle.hose_turn.specs.declared.view.Origin.{Origin};
-ghost use Rattle.hose_turn.specs.Known.{first_known, with_own_entry, HasWholeHistory};
+ghost use Rattle.hose_turn.specs.Known.{first_known, with_own_entry, HasOwnPlaces, HasWholeHistory};
+ghost use Rattle.hose_turn.specs.Places.{AreApart};
 ghost use Rattle.hose_turn.specs.Faults.{rise, end_of_count};
 ghost use Rattle.hose_turn.specs.Views.{unborn, opener};
 ghost use Rattle.hose_turn.specs.Held.{holder, value_of, floor_of};
 
+use crate::bells::Bells;
 use crate::held::Held;
 use crate::pass::Pass;
 use crate::plays::{Begin, Count, Cut, Draw, Glue, Look, Open, PassOn, Settle};
@@ -17,11 +19,17 @@ use crate::stands::{Counted, Stands};
 use atomic_table::{Badge, Table};
 use hose_graph::Entry;
 use std::alloc::{AllocError, Global};
+use std::hint::spin_loop;
 use std::marker::{Brand, Model};
 use std::mem::replace;
 use std::snapshot::Snapshot;
 use std::sync::Wait;
-use std::thread;
+
+/// How often a pass looks whether its turn has come before it sleeps: the next one in line, which
+/// is often called soon, and one behind it.
+const NEAR_LOOKS: u32 = 1_000;
+
+const FAR_LOOKS: u32 = 50;
 
 /// A lock round a value that stands for one history.
 ///
@@ -29,6 +37,7 @@ use std::thread;
 #[derive(Drop)]
 pub struct Turn<S: Stands + Drop> {
     board: Board<S>,
+    bells: Bells,
 }
 
 impl<S: Stands + Drop> Model for Turn<S> {
@@ -64,11 +73,12 @@ impl<S: Stands + Drop> Turn<S> {
         ensures first { IfOk result (λ made. made.1 ≡ first_known made.0 made.1.origin) }
         ensures stands { IfOk result (λ made. S.stands made.1.origin made.1.origin.since value) }
     {
+        let bells = Bells::new(alloc)?;
         let words = [0, ticket.wrapping_add(1), ticket];
         let (board, mut place) = Table::vacant(alloc, &words, 1, &())?;
         Turn::begin(&board, &mut place, value);
         board.shared.fetch_add::<Open>(&mut place, SERVING, 1);
-        Ok((Turn { board }, Pass::of(place)))
+        Ok((Turn { board, bells }, Pass::of(place)))
     }
 
     /// The first pass has the turn at a table with no value, and has the value.
@@ -110,6 +120,8 @@ impl<S: Stands + Drop> Turn<S> {
         ensures same { (pass.new.turn ≡ pass.old.turn) × (pass.new.origin ≡ pass.old.origin) }
         ensures share { pass.new.share ≡ pass.old.share + other.share }
         ensures own { pass.new.own ≡ pass.old.own ++ other.own }
+        ensures apart { AreApart pass.old.own other.own }
+        ensures places { HasOwnPlaces pass.new }
         ensures faults { pass.new.faults ≡ pass.old.faults + other.faults }
         ensures one { (pass.new.seen ≡ pass.old.seen) ⊎ (pass.new.seen ≡ other.seen) }
         ensures seen { IsPrefix pass.old.seen pass.new.seen }
@@ -124,24 +136,68 @@ impl<S: Stands + Drop> Turn<S> {
         pass.badge = place.into_badge();
     }
 
-    /// Waits until the pass's turn has come, yielding to other threads, and takes the value.
+    /// Waits until the pass's turn has come, asleep where that takes longer, and takes the value.
     pub fn lock<W: Wait>(&self, rt: &W, pass: Pass) -> Held<S>
         requires { pass.turn ≡ self.now }
         ensures kept { holder result ≡ record pass { seen = (holder result).seen } }
         ensures seen { IsPrefix pass.seen (holder result).seen }
         ensures stands { S.stands (holder result).origin (holder result).seen (value_of result) }
         ensures floor { floor_of result ≡ S.faults (value_of result) }
+        ensures places { HasOwnPlaces (holder result) }
     {
         let mut place: Place<S> = pass.into_place();
         let mine = self.board.shared.fetch_add::<Draw>(&mut place, TICKET, 1);
+        let mut looks = 0;
         for _ in rt.forever() {
             if self.board.shared.load::<Look>(&mut place, SERVING) == mine {
                 let value = self.board.shared.exchange(&mut place, 0, None).unwrap();
                 return Held { place, value };
             }
-            thread::yield_now();
+            looks = self.wait(rt, mine, looks);
         }
         unreachable!()
+    }
+
+    /// Waits a little, after so many looks in a row at a ticket whose turn has not come; tells how
+    /// many those are then.
+    fn wait<W: Wait>(&self, rt: &W, mine: u64, looks: u32) -> u32 {
+        let before = mine.wrapping_sub(self.board.shared.peek(SERVING));
+        let most = if before <= 1 { NEAR_LOOKS } else { FAR_LOOKS };
+        if looks < most {
+            spin_loop();
+            return looks + 1;
+        }
+        self.sleep(rt, mine);
+        0
+    }
+
+    /// Sleeps until the ticket is called, unless it is by now.
+    ///
+    /// No call is missed: the number of the bell is read before the ticket that has the turn, and
+    /// who calls changes them the other way round. So where this look finds that the turn has not
+    /// come, the bell rings after its number was read, and then nobody falls asleep or who sleeps
+    /// is woken. Whoever calls finds the sleeper in the bell's word too, and the ticket drawn, as
+    /// both stood there before the look. The bell rings at most twice for each ticket that was
+    /// drawn before this one, of which there are no more than shares: its number does not come
+    /// round meanwhile.
+    fn sleep<W: Wait>(&self, rt: &W, mine: u64) {
+        let number = self.bells.lie_down(mine);
+        if self.board.shared.peek(SERVING) != mine {
+            self.bells.sleep(rt, mine, number);
+        }
+        self.bells.get_up(mine);
+    }
+
+    /// Calls the ticket that has the turn now, and the next one, so that it is awake when its own
+    /// turn comes.
+    fn call(&self, serving: u64) {
+        let waiting = self.board.shared.peek(TICKET).wrapping_sub(serving);
+        if waiting > 0 {
+            self.bells.ring(serving);
+        }
+        if waiting > 1 {
+            self.bells.ring(serving.wrapping_add(1));
+        }
     }
 
     /// The same as `count`, where a type names the entry.
@@ -150,6 +206,7 @@ impl<S: Stands + Drop> Turn<S> {
         requires stands { let known = holder held.old in
             S.stands known.origin (known.seen ++ N.entry ∷ []) (value_of held.old) }
         ensures counted { holder held.new ≡ with_own_entry (holder held.old) N.entry }
+        ensures places { HasOwnPlaces (holder held.new) }
         ensures value { value_of held.new ≡ value_of held.old }
         ensures floor { floor_of held.new ≡ floor_of held.old }
     {
@@ -168,6 +225,7 @@ impl<S: Stands + Drop> Turn<S> {
         requires stands { let known = holder held.old in
             S.stands known.origin (known.seen ++ entry.value ∷ []) (value_of held.old) }
         ensures counted { holder held.new ≡ with_own_entry (holder held.old) entry.value }
+        ensures places { HasOwnPlaces (holder held.new) }
         ensures value { value_of held.new ≡ value_of held.old }
         ensures floor { floor_of held.new ≡ floor_of held.old }
     {
@@ -180,15 +238,18 @@ impl<S: Stands + Drop> Turn<S> {
         requires turn { (holder held).turn ≡ self.now }
         requires stands { S.stands (holder held).origin (holder held).seen (value_of held) }
         requires faults { floor_of held ≤ S.faults (value_of held) }
-        ensures { let known = holder held in
+        ensures passed { let known = holder held in
             let more = rise (floor_of held) (S.faults (value_of held)) in
             result ≡ record known { faults = known.faults + more } }
+        ensures places { HasOwnPlaces result }
     {
         let Held { mut place, value } = held;
         self.board.shared.exchange(&mut place, 0, Some(value));
-        self.board
+        let mine = self
+            .board
             .shared
             .fetch_add::<PassOn>(&mut place, SERVING, 1);
+        self.call(mine.wrapping_add(1));
         Pass::of(place)
     }
 
@@ -199,7 +260,7 @@ impl<S: Stands + Drop> Turn<S> {
         ensures history { (history : List Entry) × HasWholeHistory S.stands pass history result }
         ensures faults { (pass.faults ≤ S.faults result) ⊎ (end_of_count ≤ S.faults result) }
     {
-        let Turn { board } = self;
+        let Turn { board, bells: _ } = self;
         let place: Place<S> = pass.into_place();
         let mut closed = board.close_with(place);
         let value = closed.take(0);

@@ -9,7 +9,7 @@ loop-hand-init g c =
       search rules,
       search rules,
       search rules,
-      none_gathered _ _ c.args.pass c.args.share.parts asked.pass (search rules) asked.share.0,
+      none_gathered _ _ c.args.pass c.args.share.parts asked.pass (search rules) asked.share.0 c.law_places.ensures,
       search rules,
       refl,
       none_returned g.N.Start.start.told (g.L.Door.told c.args.door) c.args.total.total c.args.share.amount c.args.pass asked.share.1 (c.law_accounts.ensures.none c.args.pass (search rules)),

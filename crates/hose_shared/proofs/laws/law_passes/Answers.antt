@@ -4,7 +4,7 @@ use Rattle.hose_shared.specs.Along.{HasEntryAt}
 use Rattle.hose_shared.proofs.laws.law_passes.Goals as goal
 
 pub returns-clause-stays : goal.returns-clause-stays
-returns-clause-stays c = λ pass. (more_same pass).same
+returns-clause-stays c = (more_same c.args.pass.now c.law_places.ensures).same
 
 pub returns-clause-goes_on : goal.returns-clause-goes_on
 returns-clause-goes_on c = λ one two three here there. same_on one two three here there

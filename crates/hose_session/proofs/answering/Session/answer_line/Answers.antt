@@ -15,7 +15,7 @@ pub returns-in_default-clause-turns : goal.returns-in_default-clause-turns
 returns-in_default-clause-turns g c = λ held are. (
   IsLong,
   (λ bytes shows. subst (λ (l : Line). Shows l bytes) c.in_default.is shows),
-  long_turn c.args.self.now.shared.now.network c.args.pass (c.law_passes.ensures.stays c.args.pass) c.args.client.now held are,
+  long_turn c.args.self.now.shared.now.network c.args.pass c.law_passes.ensures.stays c.args.client.now held are,
 )
 
 pub returns-in-Ok-clause-turns : goal.returns-in-Ok-clause-turns
@@ -34,12 +34,12 @@ returns-in-Err-Bad-clause-turns g c = λ held are.
     (c.requires.no_bye c.in-Text.text c.in-Text.is, wrong) in (
       IsBad word,
       (λ bytes shows. let here = says bytes shows in (here.0, here.1.0, here.1.1)),
-      bad_turn c.args.self.now.shared.now.network c.args.pass (c.law_passes.ensures.stays c.args.pass) c.args.client.now held are word _ (search rules),
+      bad_turn c.args.self.now.shared.now.network c.args.pass c.law_passes.ensures.stays c.args.client.now held are word _ (search rules),
     )
 
 pub returns-in-Err-Memory-clause-turns : goal.returns-in-Err-Memory-clause-turns
 returns-in-Err-Memory-clause-turns g c = λ held are. (
   Unread,
   text_is (λ bytes. IsFirst (IsChoice TakesMemory verb_word) (words_of bytes)) c.args.line c.in-Text.text c.in-Text.is (c.read_asked.ensures.memory (c.in-Err-Memory.is ∙ ap Err c.in-Err-Memory.field-0-is)),
-  memory_turn c.args.self.now.shared.now.network c.args.pass (c.law_passes.ensures.stays c.args.pass) c.args.client.now held are,
+  memory_turn c.args.self.now.shared.now.network c.args.pass c.law_passes.ensures.stays c.args.client.now held are,
 )

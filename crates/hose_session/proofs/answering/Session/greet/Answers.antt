@@ -19,7 +19,7 @@ returns-in-Err-greeting_of-clause-serves g c =
     let new = c.next.follows.lender-at-none in
     let next = subst (IsNext g.S.Source lines new) (c.in-Ok-Some.is ∙ ap Ok c.in-Ok-Some.field-0-is) c.next.follows.holds-at-none in
     let refused = subst (IsGreetedBy c.in-Ok-Some.line) c.in-Err-greeting_of.is c.greeting_of.ensures in
-    let turn = refused_turn network c.args.pass (c.law_passes.ensures.stays c.args.pass) refused.0 c.in-Err-greeting_of.reply refused.2 in
+    let turn = refused_turn network c.args.pass c.law_passes.ensures.stays refused.0 c.in-Err-greeting_of.reply refused.2 in
     last_ends g.O.Sink c.args.output.now c.say_last-end.new.output _ (EndsAt g.S.Source g.O.Sink network lines new c.args.output.now c.say_last-end.new.output c.args.pass c.args.pass SaysFirst Waiting) _ c.say_last-end.result c.say_last-end.ensures.says
     (λ out held. inr (takes_turn g.S.Source lines new network c.args.pass c.args.pass c.in-Ok-Some.line SaysFirst Waiting Refused refused.0 c.in-Err-greeting_of.reply _ next refused.1 turn out, next.fault.1, held))
     (λ part rose. ((Refused, takes_turn g.S.Source lines new network c.args.pass c.args.pass c.in-Ok-Some.line SaysFirst Waiting Refused refused.0 c.in-Err-greeting_of.reply _ next refused.1 turn part), next.fault.1, rose))

@@ -14,7 +14,7 @@ returns-in-Err-clause-serves g c =
     let laws : PassLaws = record { goes_on = c.law_passes.ensures.goes_on; entries = c.law_passes.ensures.entries } in
     let ends = rw c.in-Err.is at c.greet-greeted.ensures.serves in
     ends_so laws network g.S.Source g.O.Sink lines lines c.greet-greeted.new.lines output output c.greet-greeted.new.output c.args.pass c.args.pass c.greet-greeted.result.1 Waiting SaysFirst (ReadsOn-start g.S.Source lines)
-    (served_none laws network g.S.Source lines (g.O.Sink.content output) c.args.pass (c.law_passes.ensures.stays c.args.pass)) (first_fits laws network) c.requires.no_fault refl c.in-Err.end ends
+    (served_none laws network g.S.Source lines (g.O.Sink.content output) c.args.pass c.law_passes.ensures.stays) (first_fits laws network) c.requires.no_fault refl c.in-Err.end ends
 
 pub loop-end-init : goal.loop-end-init
 loop-end-init g c =
@@ -24,7 +24,7 @@ loop-end-init g c =
     let laws : PassLaws = record { goes_on = c.law_passes.ensures.goes_on; entries = c.law_passes.ensures.entries } in
     let goes = rw c.in-Ok.is at c.greet-greeted.ensures.serves in
     let served = served_more laws network g.S.Source g.O.Sink lines lines c.greet-greeted.new.lines output output c.greet-greeted.new.output c.args.pass c.args.pass c.greet-greeted.result.1 Waiting SaysFirst (ReadsOn-start g.S.Source lines)
-    (served_none laws network g.S.Source lines (g.O.Sink.content output) c.args.pass (c.law_passes.ensures.stays c.args.pass)) (first_fits laws network) (Serving c.in-Ok.name none_held) goes.0 in
+    (served_none laws network g.S.Source lines (g.O.Sink.content output) c.args.pass c.law_passes.ensures.stays) (first_fits laws network) (Serving c.in-Ok.name none_held) goes.0 in
     record {
       served = rw c.new-client.ensures (none_held, served, c.law_quotes.ensures.first network 0 c.greet-greeted.result.1.seen);
       reads = c.greet-greeted.ensures.reads_on;

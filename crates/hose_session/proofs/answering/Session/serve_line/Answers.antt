@@ -20,7 +20,7 @@ returns-then-says_bye-clause-serves g c = λ held are.
     let next = subst (IsNext g.S.Source lines new) (c.in-Ok-Some.is ∙ ap Ok c.in-Ok-Some.field-0-is) c.next.follows.holds-at-none in
     let bye = c.says_bye.ensures.bye c.if-says_bye.true in
     let says = text_is IsBye c.in-Ok-Some.line bye.0 bye.1 bye.2 in
-    let turn = bye_turn network c.args.pass (c.law_passes.ensures.stays c.args.pass) c.args.client.now.name held in
+    let turn = bye_turn network c.args.pass c.law_passes.ensures.stays c.args.client.now.name held in
     last_ends g.O.Sink c.args.output.now c.say_last-end.new.output _ (EndsAt g.S.Source g.O.Sink network lines new c.args.output.now c.say_last-end.new.output c.args.pass c.args.pass (SaysLater network) stage) _ c.say_last-end.result c.say_last-end.ensures.says
     (λ out same. (takes_turn g.S.Source lines new network c.args.pass c.args.pass c.in-Ok-Some.line (SaysLater network) stage Left Leaves Bye _ next says turn out, next.fault.1, same))
     (λ part rose. ((Left, takes_turn g.S.Source lines new network c.args.pass c.args.pass c.in-Ok-Some.line (SaysLater network) stage Left Leaves Bye _ next says turn part), next.fault.1, rose))

@@ -19,9 +19,9 @@ returns-in-Err-clause-steps g c = λ held.
     let known = holder c.lock-held.result in
     let new = c.unlock.result in
     let reply = c.in-Err.reply in
-    let more = unlocked_more c.args.pass known new _ (locked_more c.args.pass known c.lock-held.ensures.kept c.lock-held.ensures.seen) c.unlock.ensures in
+    let more = unlocked_more c.args.pass known new _ (locked_more c.args.pass known c.lock-held.ensures.kept c.lock-held.ensures.seen c.lock-held.ensures.places) c.unlock.ensures.passed in
     let here : IsNotPlanned network (book_of 0 known.seen) hose reply = rw c.in-Err.is at c.plan_in_turn.ensures in
-    let none = subst (λ (all : List Entry). IsNotPlanned network (book_of 0 all) hose reply) (ap (λ (k : Known). k.seen) (sym c.unlock.ensures)) here in
+    let none = subst (λ (all : List Entry). IsNotPlanned network (book_of 0 all) hose reply) (ap (λ (k : Known). k.seen) (sym c.unlock.ensures.passed)) here in
     stays_along network customer held held (Admit hose) reply c.args.pass new more (unplanned_done network new.seen customer held hose reply none) (unplanned_admit network new.seen customer held hose reply none)
 
 pub returns-in-Err-clause-names : goal.returns-in-Err-clause-names
@@ -38,7 +38,7 @@ claim_take-requires g c =
 pub returns-in_default-clause-steps : goal.returns-in_default-clause-steps
 returns-in_default-clause-steps g c = λ held.
     let known = holder c.lock-held.result in
-    let more = unlocked_more c.args.pass known c.unlock-in_default.result _ (locked_more c.args.pass known c.lock-held.ensures.kept c.lock-held.ensures.seen) c.unlock-in_default.ensures in
+    let more = unlocked_more c.args.pass known c.unlock-in_default.result _ (locked_more c.args.pass known c.lock-held.ensures.kept c.lock-held.ensures.seen c.lock-held.ensures.places) c.unlock-in_default.ensures.passed in
     stays_along c.args.self.now.network c.args.customer.now held held (Admit c.args.hose) Memory c.args.pass c.unlock-in_default.result more refl (tt, refl, refl, refl)
 
 pub take_claimed-requires-clause-quote : goal.take_claimed-requires-clause-quote
@@ -59,5 +59,5 @@ returns-clause-steps g c = λ held.
     let planned : IsPlannedFor network (book_of 0 known.seen) hose c.in-Ok.quote = rw c.in-Ok.is at c.plan_in_turn.ensures in
     let at = c.take_claimed.ensures.steps customer (Some one ∷ []) 1 one c.in-Ok-claim_take.ensures refl (quote_there network known.seen customer [] hose c.in-Ok.quote planned) in
     let fresh = fresh_there network known.seen customer (Some one ∷ []) 1 one refl refl answer at.entry _ at.after at.step in
-    along_of network customer held (Admit hose) answer c.args.pass known new (locked_more c.args.pass known c.lock-held.ensures.kept c.lock-held.ensures.seen)
+    along_of network customer held (Admit hose) answer c.args.pass known new (locked_more c.args.pass known c.lock-held.ensures.kept c.lock-held.ensures.seen c.lock-held.ensures.places)
     (admits_at network known.seen customer (Some one ∷ []) 1 one refl held answer known new fresh at)

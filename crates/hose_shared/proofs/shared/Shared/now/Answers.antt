@@ -10,4 +10,4 @@ pub returns-clause-epoch : goal.returns-clause-epoch
 returns-clause-epoch g c =
     let seen = (holder c.lock-held.result).seen in
     c.epoch-epoch.ensures.value ∙ ap (λ (l : Ledger). l.book.epoch) (c.book.ensures ∙ ap (λ (k : _). k.store.ledger) c.value.ensures) ∙ ap (λ (b : Book). b.epoch) c.lock-held.ensures.stands.book ∙ epoch_of seen
-    ∙ ap (λ (k : Known). length k.seen) (sym c.unlock.ensures)
+    ∙ ap (λ (k : Known). length k.seen) (sym c.unlock.ensures.passed)

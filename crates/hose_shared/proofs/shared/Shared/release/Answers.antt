@@ -14,7 +14,7 @@ use Rattle.hose_shared.proofs.shared.Shared.release.Goals as goal
 
 pub returns-in_default-clause-steps : goal.returns-in_default-clause-steps
 returns-in_default-clause-steps g c = λ held.
-    stays_along c.args.self.now.network c.args.customer.now held held (Release c.args.id) _ c.args.pass c.args.pass (more_same c.args.pass) refl (tt, refl, refl, refl)
+    stays_along c.args.self.now.network c.args.customer.now held held (Release c.args.id) _ c.args.pass c.args.pass (more_same c.args.pass c.law_places.ensures) refl (tt, refl, refl, refl)
 
 pub end_turn-requires-clause-epoch : goal.end_turn-requires-clause-epoch
 end_turn-requires-clause-epoch g c =
@@ -64,6 +64,6 @@ returns-clause-steps g c = λ held.
     let joined = entered g.D.Disk g.B.Begun.begins top is known here value old new same stood customer held (Release c.args.id) answer stepped law c.release_now-reply.ensures.network in
     let stands = turn_stands g.D.Disk g.B.Begun.begins top is known here value old new same stood customer held (Release c.args.id) answer stepped law c.release_now-reply.ensures.network in
     let mine = subst (λ (e : Entry). IfSome joined (λ one. one ≡ e)) (sym (c.of-entry.ensures ∙ c.entry.ensures ∙ c.in-Ok.ensures.entry)) (release_entry old.ledger.network known.seen customer held c.args.id answer stepped.entry stepped.next stepped.after stepped.step) in
-    along_of top customer held (Release c.args.id) answer c.args.pass known c.end_turn.result (locked_more c.args.pass known c.lock-held.ensures.kept c.lock-held.ensures.seen)
+    along_of top customer held (Release c.args.id) answer c.args.pass known c.end_turn.result (locked_more c.args.pass known c.lock-held.ensures.kept c.lock-held.ensures.seen c.lock-held.ensures.places)
     (turn_steps g.D.Disk g.B.Begun.begins top is known here value old new same stood customer held (Release c.args.id) answer stepped law c.release_now-reply.ensures.network c.end_turn.result (floor_of c.lock-held.result) c.lock-held.ensures.floor c.release_now-reply.ensures.met
-    (c.end_turn.ensures joined stands mine))
+    (c.end_turn.ensures.passed joined stands mine) c.end_turn.ensures.places)

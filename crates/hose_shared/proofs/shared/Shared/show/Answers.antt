@@ -27,5 +27,5 @@ returns-clause-steps g c = λ held.
     let law = c.law_step.ensures store store 0 known.seen c.args.customer.now held (Show c.args.id) answer stepped in
     let frame = object_frame (g.D.Disk.frame store.journal.disk) in
     let met = subst (λ (r : Committed). IsMet frame r frame) (sym c.show_now-reply.ensures.met) refl in
-    along_of top c.args.customer.now held (Show c.args.id) answer c.args.pass known c.unlock.result (locked_more c.args.pass known c.lock-held.ensures.kept c.lock-held.ensures.seen)
-    (asked_steps g.D.Disk g.B.Begun.begins top is known here value store store same stood c.args.customer.now held (Show c.args.id) answer stepped law refl c.unlock.result (floor_of c.lock-held.result) c.lock-held.ensures.floor met refl c.unlock.ensures)
+    along_of top c.args.customer.now held (Show c.args.id) answer c.args.pass known c.unlock.result (locked_more c.args.pass known c.lock-held.ensures.kept c.lock-held.ensures.seen c.lock-held.ensures.places)
+    (asked_steps g.D.Disk g.B.Begun.begins top is known here value store store same stood c.args.customer.now held (Show c.args.id) answer stepped law refl c.unlock.result (floor_of c.lock-held.result) c.lock-held.ensures.floor met refl c.unlock.ensures.passed c.unlock.ensures.places)

@@ -32,7 +32,7 @@ returns-in_default-claim_take-clause-steps g c = λ held are.
     let pass = c.args.pass in
     let there = c.law_quotes.ensures.some network 0 pass.seen held quotes number c.in-Some.held.now are c.in-Some.ensures.some in
     let some : IsSome (at_number held number) = subst IsSome (sym there.2.1) refl in
-    stays_holding network c.args.customer.now held held (Take number) Memory pass pass quotes (more_same pass) refl (some, refl, refl, refl) are
+    stays_holding network c.args.customer.now held held (Take number) Memory pass pass quotes (more_same pass c.law_places.ensures) refl (some, refl, refl, refl) are
 
 pub take_claimed-answered-requires-clause-quote : goal.take_claimed-answered-requires-clause-quote
 take_claimed-answered-requires-clause-quote g c =
@@ -64,7 +64,7 @@ returns-clause-steps g c = λ held are.
     let longer = c.law_quotes.ensures.longer network 0 pass.seen known.seen held quotes c.lock.ensures.seen are in
     let there = c.law_quotes.ensures.some network 0 known.seen held quotes number c.in-Some.held.now longer c.in-Some.ensures.some in
     let at = c.take_claimed-answered.ensures.steps customer held number there.2.0 c.in-Ok.ensures there.2.1 there.2.2 in
-    let more = locked_more pass known c.lock.ensures.kept c.lock.ensures.seen in
+    let more = locked_more pass known c.lock.ensures.kept c.lock.ensures.seen c.lock.ensures.places in
     let after = taken_after network known.seen customer held number there.2.0 there.2.1 answer at.entry _ at.after c.take_claimed-answered.ensures.memory at.step in
     let now = c.law_quotes.ensures.longer network 0 known.seen new.seen held quotes at.same.seen longer in
     let cleared = c.law_quotes.ensures.cleared network 0 new.seen held quotes number now there.0 there.1 in

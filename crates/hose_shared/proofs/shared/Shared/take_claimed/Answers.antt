@@ -76,4 +76,4 @@ returns-clause-steps g c = λ customer held number one claim there of_quote.
     (take_entry old.ledger.network known.seen customer held number one there quote.amounts quote.cost answer stepped.entry stepped.next stepped.after c.take_now-reply.ensures.told stepped.step) in
     let mine = subst (λ (e : Entry). IfSome joined (λ one. one ≡ e)) (sym (c.of-entry.ensures ∙ c.entry.ensures ∙ claim.entry)) hose in
     turn_steps g.D.Disk g.B.Begun.begins top is known c.requires.network value old new same stood customer held (Take number) answer stepped law c.take_now-reply.ensures.network c.end_turn.result (floor_of c.args.held) c.requires.floor c.take_now-reply.ensures.met
-    (c.end_turn.ensures joined stands mine)
+    (c.end_turn.ensures.passed joined stands mine) c.end_turn.ensures.places

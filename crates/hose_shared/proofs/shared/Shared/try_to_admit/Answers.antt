@@ -46,7 +46,7 @@ returns-then-is_stale g c =
     let one : HeldQuote = record { hose = hose; place = length mid.seen } in
     let planned : IsPlannedFor network (book_of 0 mid.seen) hose c.in-Ok.quote = rw c.in-Ok.is at c.plan-planned.ensures.planned in
     let of = seen_quote network mid.seen known.seen one c.in-Ok.quote c.lock.ensures.seen (quote_there network mid.seen customer [] hose c.in-Ok.quote planned) in
-    let more = more_on c.args.pass mid known c.plan-planned.ensures.more (locked_more mid known c.lock.ensures.kept c.lock.ensures.seen) in
+    let more = more_on c.args.pass mid known c.plan-planned.ensures.more (locked_more mid known c.lock.ensures.kept c.lock.ensures.seen c.lock.ensures.places) in
     let at = c.take_claimed-reply.ensures.steps customer (Some one ∷ []) 1 one c.in-Ok-claim_take.ensures refl of in
     (planned.of, more_on c.args.pass known new more (stale_more network known.seen customer (Some one ∷ []) 1 one refl c.take_claimed-reply.result.0 known new (sym c.is_stale.ensures ∙ c.if-is_stale.true) at))
 
@@ -63,7 +63,7 @@ returns g c =
     let planned : IsPlannedFor network (book_of 0 mid.seen) hose quote = rw c.in-Ok.is at c.plan-planned.ensures.planned in
     let one : HeldQuote = record { hose = hose; place = length mid.seen } in
     let of = seen_quote network mid.seen known.seen one quote c.lock.ensures.seen (quote_there network mid.seen customer [] hose quote planned) in
-    let more = more_on c.args.pass mid known c.plan-planned.ensures.more (locked_more mid known c.lock.ensures.kept c.lock.ensures.seen) in
+    let more = more_on c.args.pass mid known c.plan-planned.ensures.more (locked_more mid known c.lock.ensures.kept c.lock.ensures.seen c.lock.ensures.places) in
     let fresh = sym c.is_stale.ensures ∙ c.if-is_stale.false in (
       λ held.
           let at = c.take_claimed-reply.ensures.steps customer (Some one ∷ []) 1 one c.in-Ok-claim_take.ensures refl of in

@@ -2,6 +2,7 @@ use Rattle.std.proofs.Common.{rules, ◌≡◌, ◌<◌, ◌∙◌, ap, sym, sub
 use Rattle.hose_turn.specs.Faults.{no_rise}
 use Rattle.hose_turn.specs.Known.{first_known}
 use Rattle.hose_turn.specs.Views.{passed_on, known_of, IsAtRest}
+use Rattle.hose_turn.proofs.Places.{no_places}
 use Rattle.hose_turn.proofs.Steps.{passes}
 use Rattle.hose_turn.proofs.turn.Turn.from_ticket.Goals as goal
 
@@ -21,7 +22,7 @@ pub of-requires-clause-rests : goal.of-requires-clause-rests
 of-requires-clause-rests g c =
     let begun = c.begin.ensures.begun in
     let passed = c.fetch_add.ensures.2 c.args.value (ap (λ me. me.1) begun.3) in
-    subst IsAtRest (sym (ap (λ me. me.0) passed ∙ ap (λ me. passed_on me.0 0) begun.3)) (record { live = omega arith; ticket = refl; turn = refl; told = refl })
+    subst IsAtRest (sym (ap (λ me. me.0) passed ∙ ap (λ me. passed_on me.0 0) begun.3)) (record { live = omega arith; ticket = refl; turn = refl; told = refl; own = no_places _ _ })
 
 pub of-requires-clause-slots : goal.of-requires-clause-slots
 of-requires-clause-slots g c = ap (λ me. me.1) (c.fetch_add.ensures.2 c.args.value (ap (λ me. me.1) c.begin.ensures.begun.3))

@@ -1,5 +1,10 @@
-use Rattle.std.proofs.Common.{rules, ◌≡◌, ◌∷◌, [], ◌∙◌, ap, sym, arith}
-use Rattle.hose_turn.specs.Views.{view_of}
+use Rattle.std.proofs.Common.{rules, ◌≡◌, ◌∷◌, [], ◌∙◌, List, ℕ, ap, sym, subst, arith, length}
+use mathlib.Core.List.{IsPrefix}
+use Rattle.hose_graph.specs.declared.entry.Entry.{Entry}
+use Rattle.hose_turn.specs.declared.view.View.{View}
+use Rattle.hose_turn.specs.Places.{HasSomePlaces, AreApart}
+use Rattle.hose_turn.specs.Views.{view_of, glued, settled, IsAtRest}
+use Rattle.hose_turn.proofs.Places.{rests_both, places_apart}
 use Rattle.hose_turn.proofs.Steps.{joins, settles}
 use Rattle.hose_turn.proofs.turn.Turn.join.Goals as goal
 
@@ -16,3 +21,36 @@ load-requires g c =
     let share = ap (λ views. (view_of views).share) views in let live = c.pass.invariant.rests.live in let shares = ap (λ me. me.0.share) both in
     let off = ap (λ me. me.0.has_turn) both ∙ (sym (ap (λ views. (view_of views).has_turn) views) ∙ c.pass.invariant.rests.turn) in
     (search rules, search rules, settles g.S.Stands.stands g.S.Stands.faults _ _ _ (omega arith) off)
+
+pub invariant_of-pass : goal.invariant_of-pass
+invariant_of-pass g c =
+    let a : View = c.into_seat-place.result.me.0 in
+    let b : View = c.into_place.result.me.0 in
+    let before : c.pass.inside.badge.views ≡ a ∷ [] = search rules in
+    let mine : IsAtRest a = subst IsAtRest (ap view_of before) c.pass.invariant.rests in
+    let both = ap (λ me. me.0) c.join_seat.ensures.2 in
+    let told = c.load.ensures.2 in
+    let longer : List Entry = told.0 in
+    let view : c.load.new.seat.me.0 ≡ settled (glued a b) longer = ap (λ me. me.0) told.1 ∙ ap (λ v. settled v longer) both in
+    let views : c.into_badge.result.views ≡ settled (glued a b) longer ∷ [] = c.into_badge.ensures.2 ∙ ap (λ v. v ∷ []) view in
+    let seen = subst (λ (v : View). IsPrefix v.seen longer) both told.2 in
+    let heard = subst (λ (v : View). IsPrefix v.told longer) both told.3 in
+    let owned = subst (λ (v : View). (last : ℕ) × HasSomePlaces (length v.origin.since) last v.own) both told.5 in
+    record {
+      one = views ∙ sym (ap (λ vs. view_of vs ∷ []) views);
+      rests = subst IsAtRest (sym (ap view_of views)) (rests_both a b longer owned.0 mine c.into_place.ensures.rests seen heard owned.1);
+    }
+
+pub returns-clause-apart : goal.returns-clause-apart
+returns-clause-apart g c =
+    let a : View = c.into_seat-place.result.me.0 in
+    let b : View = c.into_place.result.me.0 in
+    let before : c.pass.inside.badge.views ≡ a ∷ [] = search rules in
+    let both = ap (λ me. me.0) c.join_seat.ensures.2 in
+    let owned = subst (λ (v : View). (last : ℕ) × HasSomePlaces (length v.origin.since) last v.own) both c.load.ensures.2.5 in
+    let mine = sym (ap (λ k. k.own) c.pass.view_is) ∙ ap (λ vs. (view_of vs).own) before in
+    let theirs = ap (λ k. k.own) c.into_place.ensures.known in
+    subst (λ (z : List ℕ × List ℕ). AreApart z.0 z.1) (λ i. (sym mine i, theirs i)) (places_apart _ owned.0 a.own b.own owned.1)
+
+pub returns-clause-places : goal.returns-clause-places
+returns-clause-places g c = (invariant_of-pass g c).rests.own

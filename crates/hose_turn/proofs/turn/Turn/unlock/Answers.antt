@@ -4,8 +4,8 @@ use Rattle.hose_turn.proofs.Faults.{rise_fits}
 use Rattle.hose_turn.specs.Faults.{rise}
 use Rattle.hose_turn.proofs.turn.Turn.unlock.Goals as goal
 
-pub fetch_add-requires : goal.fetch_add-requires
-fetch_add-requires g c = let view = ap (λ me. me.0) c.exchange.ensures.3 in (
+pub fetch_add-mine-requires : goal.fetch_add-mine-requires
+fetch_add-mine-requires g c = let view = ap (λ me. me.0) c.exchange.ensures.3 in (
   search rules,
   search rules,
   passes g.S.Stands.stands g.S.Stands.faults rise _ _ _ c.args.held.value rise_fits (search rules) (search rules) (search rules)
