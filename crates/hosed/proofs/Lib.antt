@@ -1,13 +1,4 @@
-pub mod Audited
-pub mod Audits
 pub mod Commands
-pub mod Journals
-pub mod Leaving
-pub mod OneReading
-pub mod OneRun
-pub mod Outcomes
-pub mod Running
+pub mod Connections
 pub mod Served
 pub mod Sharing
-pub mod Texts
-pub mod Turns

@@ -1,7 +1,7 @@
 -- What a server stands for, from what was read, what was served and what was told.
-use Rattle.std.proofs.Common.{◌≡◌, ◌≢◌, ◌∙◌, ◌⊎◌, inl, inr, ℕ, List, ◌∷◌, Result, Ok, Err, refl, sym, ap, subst, arith}
+use Rattle.std.proofs.Common.{◌≡◌, ◌≢◌, ◌∙◌, ◌⊎◌, inl, inr, ℕ, List, ◌∷◌, Result, Ok, Err, refl, sym, ap, subst}
 use Rattle.std.specs.Prelude.{⊤}
-use Rattle.hose_io.specs.Frame.{Frame, Met, Rose}
+use Rattle.hose_io.specs.Frame.{Frame, Rose}
 use Rattle.hose_io.specs.declared.Failed.{Failed}
 use Rattle.hose_io.specs.declared.sink.Sink.{Ghosts as SinkGhosts}
 use Rattle.hose_graph.specs.Network.{Network}
@@ -10,20 +10,19 @@ use Rattle.hose_audit.specs.Audit.{audit_text}
 use Rattle.hose_disk.specs.declared.cabinet.Cabinet.{Ghosts as CabinetGhosts}
 use Rattle.hose_disk.specs.declared.disk.Disk.{Ghosts as DiskGhosts}
 use Rattle.hose_store.specs.Recovery.{IsHistoryOf}
-use Rattle.hosed.specs.AuditOutcome.{EndsTold, JournalIs, NoneFailed}
-use Rattle.hosed.specs.Auditing.{ReadsTopology}
-use Rattle.hosed.specs.CabinetText.{whole_text}
-use Rattle.hosed.specs.Fault.{status_of}
-use Rattle.hosed.specs.Run.{IsServable}
+use Rattle.hose_offline.specs.AuditOutcome.{JournalIs, NoneFailed}
+use Rattle.hose_offline.specs.Auditing.{ReadsTopology}
+use Rattle.hose_offline.specs.Fault.{status_of}
+use Rattle.hose_offline.specs.TopologyTold.{notation_of}
 use Rattle.hosed.specs.ServeOutcome.{EndsServed, ServeOutcome, first_failed}
 use Rattle.hosed.specs.ServingDoor.{DoorSeen, ServesConnectionsIn}
-use Rattle.hosed.specs.declared.fault.Fault.{Fault}
-use Rattle.hosed.specs.declared.fault.Fault.TheVariants.{Cabinet, Door}
-use Rattle.hosed.specs.declared.serve.Served.{Served}
-use Rattle.hosed.specs.declared.serve.Served.TheVariants as served
-use Rattle.hosed.proofs.Audited.{told_status}
-use Rattle.hosed.proofs.Audits.{connections_before}
-use Rattle.hosed.proofs.Outcomes.{clash, no_network_read, of_read}
+use Rattle.hose_offline.specs.declared.fault.Fault.{Fault}
+use Rattle.hose_offline.specs.declared.fault.Fault.TheVariants.{Cabinet, Door}
+use Rattle.hosed.specs.declared.serving.Served.{Served}
+use Rattle.hosed.specs.declared.serving.Served.TheVariants as served
+use Rattle.hose_offline.proofs.Audited.{told_status}
+use Rattle.hosed.proofs.Connections.{connections_before}
+use Rattle.hose_offline.proofs.Outcomes.{clash, no_network_read, of_read}
 
 -- a fault after the opening is the door's or the cabinet's
 failed_is : (accepting closing : Result ⊤ Failed) (why : Fault) → first_failed accepting closing ≡ Err why → (why ≡ Door) ⊎ (why ≡ Cabinet)
@@ -52,19 +51,19 @@ served_not_1 sink output output' status done ends is = served_status sink output
 pub same_first : (one other : ℕ) (ones others : List ℕ) → one ∷ ones ≡ other ∷ others → one ≡ other
 same_first one other ones others same = cc same
 
-module _ {O C E : Type 0} (sink : SinkGhosts O) (cabinet : CabinetGhosts C E) (disk : DiskGhosts E) (topology journal : List ℕ) (count : ℕ) (output mid output' : O) (place read place' : C) (door door' : DoorSeen) (network : Network)
-    (reads : ReadsTopology cabinet place read topology (Ok network)) (same_absent : (cabinet.frame place').absent ≡ (cabinet.frame read).absent) where
+module _ (prices : Network → Network → Type 0) {O C E : Type 0} (sink : SinkGhosts O) (cabinet : CabinetGhosts C E) (disk : DiskGhosts E) (topology journal : List ℕ) (count : ℕ) (output mid output' : O) (place read place' : C) (door door' : DoorSeen) (network : Network)
+    (reads : ReadsTopology cabinet place read prices topology (Ok network)) (same_absent : (cabinet.frame place').absent ≡ (cabinet.frame read).absent) where
   abbrev Failing : Type 0
-  Failing = NoneFailed sink cabinet disk topology journal output output' place place' (¬ Rose door.frame door'.frame)
+  Failing = NoneFailed prices sink cabinet disk topology journal output output' place place' (¬ Rose door.frame door'.frame)
 
   abbrev Is : (Network → List ℕ → Type 0) → Type 0
-  Is P = JournalIs sink cabinet disk topology journal output output' place place' P
+  Is P = JournalIs prices sink cabinet disk topology journal output output' place place' P
 
   abbrev Serves : Served → Type 0
   Serves done = ServesConnectionsIn cabinet disk sink journal place place' network count output mid door door' (Ok done)
 
   pub is_served : (done : Served) (status : ℕ) → ServesConnectionsIn cabinet disk sink journal read place' network count output mid door door' (Ok done) → EndsServed sink mid output' status done
-      → ServeOutcome sink cabinet disk topology journal count output output' place place' door door' status
+      → ServeOutcome prices sink cabinet disk topology journal count output output' place place' door door' status
   is_served done status after ends = record {
     left = reads.left;
     takes = (
@@ -77,7 +76,7 @@ module _ {O C E : Type 0} (sink : SinkGhosts O) (cabinet : CabinetGhosts C E) (d
       ),
     );
     ends = inl (record { network = network; text = reads.text.2; is = record { mid = mid; done = done; serves = serves; ends = ends } });
-    refused = λ refused. absurd (no_network_read _ _ network refused reads.text.2);
+    refused = λ refused. absurd (no_network_read (notation_of topology) prices _ _ network refused reads.text.2);
     not_there = λ told none. absurd (cc (reads.not_there told none));
     absent = λ told some. same_absent ∙ reads.absent told some;
     complete = λ servable told held. completes done held serves ends;
@@ -101,4 +100,4 @@ module _ {O C E : Type 0} (sink : SinkGhosts O) (cabinet : CabinetGhosts C E) (d
       refuses served.Shut held told is out = absurd (held.others is.3)
       refuses served.Unheard held told is out = absurd (held.writing (subst (λ (o : O). Rose (sink.frame output) (sink.frame o)) (sym out.1) is.3))
       refuses (served.Ended ledger accepting closing) held told is out = absurd (clash cabinet disk place place' journal _ _ (λ image history none. none is.0.since history) is.0.kept.begun
-          (of_read _ _ reads.taken network _ reads.gives reads.text.2 told))
+          (of_read (notation_of topology) prices _ _ reads.taken network _ reads.gives reads.text.2 told))

@@ -27,13 +27,13 @@ use Rattle.hose_store.specs.declared.fault.StoreFault.{StoreFault}
 use Rattle.hose_turn.specs.Faults.{end_of_count}
 use Rattle.hose_turn.specs.Known.{Known}
 use Rattle.hose_turn.specs.Places.{HasPlaces, one_within}
-use Rattle.hosed.specs.Fault.{of_store}
-use Rattle.hosed.specs.OnDisk.{opening_of}
-use Rattle.hosed.specs.ServingOnDisk.{IsNotOpened}
-use Rattle.hosed.proofs.Journals.{not_opened}
+use Rattle.hose_offline.specs.Fault.{of_store}
+use Rattle.hose_offline.specs.OnDisk.{opening_of}
+use Rattle.hose_offline.specs.ServingOnDisk.{IsNotOpened}
+use Rattle.hose_offline.proofs.Journals.{not_opened}
 use Rattle.hosed.specs.ServingDoor.{DoorSeen, HasKept, HasServedConnections, IsMadeAlong, IsOpening, OpensAt, ServesByStore, ServesOpened, StaysAsRead, served_of}
-use Rattle.hosed.specs.declared.serve.Opened.{Opened}
-use Rattle.hosed.specs.declared.serve.Opened.TheVariants as opened
+use Rattle.hosed.specs.declared.serving.Opened.{Opened}
+use Rattle.hosed.specs.declared.serving.Opened.TheVariants as opened
 
 -- a history without a place after its beginning is that beginning
 no_more : (since history : List Entry) → IsPrefix since history → HasPlaces (length since) (length history) [] → history ≡ since

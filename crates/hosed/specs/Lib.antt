@@ -1,16 +1,6 @@
-pub mod AuditOutcome
-pub mod Auditing
-pub mod CabinetText
-pub mod Ending
-pub mod Fault
 pub mod Hosed
 pub mod Offline
-pub mod OnDisk
 pub mod ProgramWords
-pub mod Run
-pub mod RunOutcome
-pub mod ScriptLine
+pub mod Reading
 pub mod ServeOutcome
-pub mod Serving
 pub mod ServingDoor
-pub mod ServingOnDisk

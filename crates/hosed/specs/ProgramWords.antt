@@ -1,12 +1,18 @@
 -- The words that the program is run with.
-use Rattle.std.specs.Prelude.{◌≡◌, ◌≢◌, ℕ, ◌-◌, ◌≤◌, List, [], ◌∷◌, codes, decimal, drop, get_or, length, Option, None, Some}
+use Rattle.std.specs.Prelude.{option_map}
+use Rattle.std.specs.Prelude.{◌≡◌, ◌≢◌, ℕ, ◌-◌, ◌<◌, ◌≤◌, List, [], ◌∷◌, ◌++◌, codes, decimal, drop, get_or, length, Option, MatchOption, None, Some, suc, zero, ⊤}
 use Rattle.hose_words.specs.Cursor.{Position}
 use Rattle.hose_words.specs.Form.{Each, Form, IsWithin, TellsNumber, branch, finish, grammar_of, maybe, place}
 use Rattle.hose_words.specs.Grammar.{IsFirst, IsFirstNotAllowed}
+use Rattle.hose_graph.specs.Network.{Network}
+use Rattle.hose_offline.specs.TopologyTold.{own_costs}
 use Rattle.hose_pool.specs.declared.rows.TheConstants.{MOST_WORKERS}
 use Rattle.hosed.specs.declared.words.Command.{Command}
-use Rattle.hosed.specs.declared.words.Command.TheVariants.{Audit, Run, Serve}
+use Rattle.hosed.specs.declared.words.Command.TheVariants.{Audit, Run}
+use Rattle.hosed.specs.declared.words.Service.{Service}
 use Rattle.hosed.specs.declared.words.TheConstants.{MOST_CONNECTIONS}
+
+-- ---- files and tariffs
 
 -- a word may name a file: it has 1 to 255 bytes, and does not begin as an option does
 pub record IsFileName (word : List ℕ) : Type 0 where
@@ -14,19 +20,59 @@ pub record IsFileName (word : List ℕ) : Type 0 where
   pub short : length word ≤ 255
   pub no_option : get_or word 0 0 ≢ 45
 
--- the first of some names, if there is one
-abbrev pub name_of : List (List ℕ) → Option (List ℕ)
-name_of [] = None
-name_of (name ∷ names) = Some name
+-- the word that stands before the name of a tariff
+abbrev pub tariff_option : List ℕ
+tariff_option = codes "--tariff"
 
--- the words are `run`, and the name of a journal after it if there is one
-abbrev pub AreRunWords : List (List ℕ) → Option (List ℕ) → Type 0
-AreRunWords words None = words ≡ codes "run" ∷ []
-AreRunWords words (Some name) = (words ≡ codes "run" ∷ name ∷ []) × IsFileName name
+-- a word is the name of a tariff, of tariffs with these names
+pub record IsTariffName (names : List (List ℕ)) (word : List ℕ) : Type 0 where
+  pub place : ℕ
+  pub within : place < length names
+  pub is : word ≡ get_or names place []
 
--- the words are `audit`, and the names of a topology and of a journal after it
-pub record AreAuditWords (words : List (List ℕ)) (topology journal : List ℕ) : Type 0 where
-  pub are : words ≡ codes "audit" ∷ topology ∷ journal ∷ []
+-- the tariff of this place is the first with its name
+pub record IsFirstNamed (names : List (List ℕ)) (place : ℕ) : Type 0 where
+  pub within : place < length names
+  pub first : (other : ℕ) → other < place → get_or names other [] ≢ get_or names place []
+
+-- a tariff may be chosen, by its place, or none
+abbrev pub IsChosen : List (List ℕ) → Option ℕ → Type 0
+IsChosen names tariff = MatchOption tariff ⊤ (IsFirstNamed names)
+
+-- what the tariff that is chosen makes of a network; its own costs where none is
+abbrev pub costs_at : {T : Type 0} → (T → Network → Network → Type 0) → List T → Option ℕ → Network
+    → Network → Type 0
+costs_at prices tariffs None = own_costs
+costs_at prices [] (Some which) = own_costs
+costs_at prices (tariff ∷ tariffs) (Some zero) = prices tariff
+costs_at prices (tariff ∷ tariffs) (Some (suc which)) = costs_at prices tariffs (Some which)
+
+-- the words by which it is
+abbrev pub tariff_words : List (List ℕ) → Option ℕ → List (List ℕ)
+tariff_words names None = []
+tariff_words names (Some which) = tariff_option ∷ get_or names which [] ∷ []
+
+-- ---- the words of each command
+
+-- the words of a name, if there is one
+abbrev pub name_words : Option (List ℕ) → List (List ℕ)
+name_words None = []
+name_words (Some name) = name ∷ []
+
+-- the words are `run`, those of a tariff if one is chosen, and the name of a journal if there is
+-- one
+pub record AreRunWords (names words : List (List ℕ)) (tariff : Option ℕ)
+    (journal : Option (List ℕ)) : Type 0 where
+  pub are : words ≡ codes "run" ∷ tariff_words names tariff ++ name_words journal
+  pub is_tariff : IsChosen names tariff
+  pub is_journal : MatchOption journal ⊤ IsFileName
+
+-- the words are `audit`, those of a tariff if one is chosen, and the names of a topology and of a
+-- journal
+pub record AreAuditWords (names words : List (List ℕ)) (tariff : Option ℕ)
+    (topology journal : List ℕ) : Type 0 where
+  pub are : words ≡ codes "audit" ∷ tariff_words names tariff ++ topology ∷ journal ∷ []
+  pub is_tariff : IsChosen names tariff
   pub is_topology : IsFileName topology
   pub is_journal : IsFileName journal
 
@@ -34,59 +80,109 @@ pub record AreAuditWords (words : List (List ℕ)) (topology journal : List ℕ)
 abbrev pub IsPort : ℕ → Type 0
 IsPort = IsWithin 1 65535
 
--- the words are `serve`, the names of a topology and of a journal after it, and then three numbers:
--- of a port, of connections and of workers
-pub record AreServeWords (words : List (List ℕ)) (topology journal : List ℕ)
-    (port connections workers : ℕ) : Type 0 where
-  pub are : words ≡ codes "serve" ∷ topology ∷ journal ∷ decimal port ∷ decimal connections
-      ∷ decimal workers ∷ []
+-- the words are `serve`, those of a tariff if one is chosen, the names of a topology and of a
+-- journal, and then three numbers: of a port, of connections and of workers
+pub record AreServeWords (names words : List (List ℕ)) (tariff : Option ℕ)
+    (topology journal : List ℕ) (port connections workers : ℕ) : Type 0 where
+  pub are : words ≡ codes "serve" ∷ tariff_words names tariff ++ topology ∷ journal ∷ decimal port
+      ∷ decimal connections ∷ decimal workers ∷ []
+  pub is_tariff : IsChosen names tariff
   pub is_topology : IsFileName topology
   pub is_journal : IsFileName journal
   pub is_port : IsPort port
   pub connections_within : IsWithin 1 MOST_CONNECTIONS connections
   pub workers_within : IsWithin 1 MOST_WORKERS workers
 
--- the first word is `serve`, whatever follows it
-abbrev pub AsksToServe : List (List ℕ) → Type 0
-AsksToServe words = IsFirst (λ word. word ≡ codes "serve") words
-
 -- the words are those of no command
-pub record AreWrongWords (words : List (List ℕ)) : Type 0 where
-  pub no_run : (journal : Option (List ℕ)) → ¬ AreRunWords words journal
-  pub no_audit : (topology journal : List ℕ) → ¬ AreAuditWords words topology journal
-  pub no_serve : (topology journal : List ℕ) (port connections workers : ℕ)
-      → ¬ AreServeWords words topology journal port connections workers
+pub record AreWrongWords (names words : List (List ℕ)) : Type 0 where
+  pub no_run : (tariff : Option ℕ) (journal : Option (List ℕ))
+      → ¬ AreRunWords names words tariff journal
+  pub no_audit : (tariff : Option ℕ) (topology journal : List ℕ)
+      → ¬ AreAuditWords names words tariff topology journal
+  pub no_serve : (tariff : Option ℕ) (topology journal : List ℕ) (port connections workers : ℕ)
+      → ¬ AreServeWords names words tariff topology journal port connections workers
 
--- the words are those of a command
-abbrev pub AreWordsOf : List (List ℕ) → Command → Type 0
-AreWordsOf words Run = (journal : Option (List ℕ)) × AreRunWords words journal
-AreWordsOf words Audit =
-    (topology : List ℕ) × (journal : List ℕ) × AreAuditWords words topology journal
-AreWordsOf words (Serve service) = (topology : List ℕ) × (journal : List ℕ)
-    × AreServeWords words topology journal service.port service.connections service.workers
+-- the words are those of a command that waits for nobody
+abbrev pub AreWordsOf : List (List ℕ) → List (List ℕ) → Command → Type 0
+AreWordsOf names words (Run tariff journal) =
+    AreRunWords names words tariff (option_map (λ name. name.now) journal)
+AreWordsOf names words (Audit tariff topology journal) =
+    AreAuditWords names words tariff topology.now journal.now
+
+-- the words are those of a server
+abbrev pub AreServiceWords : List (List ℕ) → List (List ℕ) → Service → Type 0
+AreServiceWords names words service =
+    AreServeWords names words service.tariff service.topology.now service.journal.now service.port
+    service.connections service.workers
+
+-- ---- which words are wrong
+
+-- the commands, by their first word
+pub data Verb : Type 0 where
+  run : Verb
+  audit : Verb
+  serve : Verb
 
 -- the word that a command begins with
-abbrev pub command_word : Command → List ℕ
-command_word Run = codes "run"
-command_word Audit = codes "audit"
-command_word (Serve service) = codes "serve"
+abbrev pub verb_word : Verb → List ℕ
+verb_word run = codes "run"
+verb_word audit = codes "audit"
+verb_word serve = codes "serve"
 
--- what may stand after it: a journal or nothing; or a topology and a journal; or these two, and the
--- numbers of a port, of connections and of workers
-abbrev pub command_form : Command → Form
-command_form Run = maybe (place IsFileName finish)
-command_form Audit = place IsFileName (place IsFileName finish)
-command_form (Serve service) = place IsFileName (place IsFileName (place (TellsNumber IsPort)
-    (place (TellsNumber (IsWithin 1 MOST_CONNECTIONS))
-    (place (TellsNumber (IsWithin 1 MOST_WORKERS)) finish))))
+-- the first word is that of the command, whatever follows it
+abbrev pub AsksFor : Verb → List (List ℕ) → Type 0
+AsksFor verb words = IsFirst (λ word. word ≡ verb_word verb) words
+
+-- the first word is `serve`
+abbrev pub AsksToServe : List (List ℕ) → Type 0
+AsksToServe words = AsksFor serve words
+
+-- what may stand first after it: the option, or the name of a file
+pub data Start : Type 0 where
+  option : Start
+  named : List ℕ → Start
+
+abbrev pub IsStart : Start → Type 0
+IsStart option = ⊤
+IsStart (named name) = IsFileName name
+
+abbrev pub start_word : Start → List ℕ
+start_word option = tariff_option
+start_word (named name) = name
+
+-- what may stand after that: the name of a tariff and the whole form, or the form after the file
+abbrev pub start_form : List (List ℕ) → Form → Form → Start → Form
+start_form names form after option = place (IsTariffName names) form
+start_form names form after (named name) = after
+
+-- a form that begins with the name of a file, and before it a tariff if one is chosen
+abbrev pub with_tariff : List (List ℕ) → Form → Form → Form
+with_tariff names form after = branch IsStart start_word (start_form names form after)
+
+-- a name and this
+abbrev pub named_form : Form → Form
+named_form form = place IsFileName form
+
+-- the numbers of a server
+abbrev pub numbers_form : Form
+numbers_form = place (TellsNumber IsPort) (place (TellsNumber (IsWithin 1 MOST_CONNECTIONS))
+    (place (TellsNumber (IsWithin 1 MOST_WORKERS)) finish))
+
+-- what may stand after the word of a command: a tariff or none, and then a journal or none; the
+-- names of a topology and of a journal; or these two, and the numbers of a server
+abbrev pub verb_form : List (List ℕ) → Verb → Form
+verb_form names run = maybe (with_tariff names (maybe (named_form finish)) finish)
+verb_form names audit = with_tariff names (named_form (named_form finish)) (named_form finish)
+verb_form names serve =
+    with_tariff names (named_form (named_form numbers_form)) (named_form numbers_form)
 
 -- what the words may be
-abbrev pub words_form : Form
-words_form = branch Each command_word command_form
+abbrev pub words_form : List (List ℕ) → Form
+words_form names = branch Each verb_word (verb_form names)
 
 -- the first of the words that is not allowed
-abbrev pub IsFirstWrong : List (List ℕ) → ℕ → Type 0
-IsFirstWrong words word = IsFirstNotAllowed (grammar_of words_form) [] words word
+abbrev pub IsFirstWrong : List (List ℕ) → List (List ℕ) → ℕ → Type 0
+IsFirstWrong names words word = IsFirstNotAllowed (grammar_of (words_form names)) [] words word
 
 -- the words from that of a number on are to come, counted from 1
 abbrev pub at_word : ℕ → List (List ℕ) → Position

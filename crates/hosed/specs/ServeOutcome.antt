@@ -7,14 +7,14 @@ use Rattle.hose_graph.specs.Network.{Network}
 use Rattle.hose_audit.specs.Audit.{audit_text}
 use Rattle.hose_disk.specs.declared.cabinet.Cabinet.{Ghosts as CabinetGhosts}
 use Rattle.hose_disk.specs.declared.disk.Disk.{Ghosts as DiskGhosts}
-use Rattle.hosed.specs.AuditOutcome.{EndsTold, NamedOutcome}
-use Rattle.hosed.specs.Ending.{IsOut}
-use Rattle.hosed.specs.Fault.{last_line, status_of}
+use Rattle.hose_offline.specs.AuditOutcome.{EndsTold, NamedOutcome}
+use Rattle.hose_offline.specs.Ending.{IsOut}
+use Rattle.hose_offline.specs.Fault.{last_line, status_of}
 use Rattle.hosed.specs.ServingDoor.{DoorSeen, ServesConnectionsIn}
-use Rattle.hosed.specs.declared.fault.Fault.{Fault}
-use Rattle.hosed.specs.declared.fault.Fault.TheVariants.{Cabinet, Door, Memory, Write}
-use Rattle.hosed.specs.declared.serve.Served.{Served}
-use Rattle.hosed.specs.declared.serve.Served.TheVariants as served
+use Rattle.hose_offline.specs.declared.fault.Fault.{Fault}
+use Rattle.hose_offline.specs.declared.fault.Fault.TheVariants.{Cabinet, Door, Memory, Write}
+use Rattle.hosed.specs.declared.serving.Served.{Served}
+use Rattle.hosed.specs.declared.serving.Served.TheVariants as served
 
 -- what came of accepting and then closing: the first fault
 abbrev pub first_failed : {A B : Type 0} → Result A Failed → Result B Failed → Result ⊤ Fault
@@ -35,9 +35,9 @@ EndsServed sink output output' status (served.Ended ledger accepting closing) =
     EndsTold sink output output' status (first_failed accepting closing)
     (audit_text ledger.network ledger.book)
 
-module _ {O C E : Type 0} (sink : SinkGhosts O) (cabinet : CabinetGhosts C E) (disk : DiskGhosts E)
-    (topology journal : List ℕ) (count : ℕ) (output output' : O) (place place' : C)
-    (door door' : DoorSeen) where
+module _ (prices : Network → Network → Type 0) {O C E : Type 0} (sink : SinkGhosts O)
+    (cabinet : CabinetGhosts C E) (disk : DiskGhosts E) (topology journal : List ℕ) (count : ℕ)
+    (output output' : O) (place place' : C) (door door' : DoorSeen) where
   -- Connections were served by the journal, which left the output as `mid` is, and then the rest
   -- was told.
   pub record IsServed (status : ℕ) (network : Network) : Type 0 where
@@ -49,5 +49,5 @@ module _ {O C E : Type 0} (sink : SinkGhosts O) (cabinet : CabinetGhosts C E) (d
 
   -- a server tells the book of the journal as it was after the last connection
   abbrev pub ServeOutcome : ℕ → Type 0
-  ServeOutcome = NamedOutcome sink cabinet disk topology journal output output' place place'
+  ServeOutcome = NamedOutcome prices sink cabinet disk topology journal output output' place place'
       IsServed (door' ≡ door) (¬ Rose door.frame door'.frame)

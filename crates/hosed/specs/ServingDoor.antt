@@ -26,14 +26,14 @@ use Rattle.hose_turn.specs.Faults.{end_of_count}
 use Rattle.hose_turn.specs.Known.{Known}
 use Rattle.hose_turn.specs.Places.{HasPlaces}
 use Rattle.hose_store.specs.declared.fault.StoreFault.{StoreFault}
-use Rattle.hosed.specs.Fault.{of_store}
-use Rattle.hosed.specs.OnDisk.{Held, opening_of}
-use Rattle.hosed.specs.ServingOnDisk.{IsNotOpened, IsNotServed}
-use Rattle.hosed.specs.declared.fault.Fault.{Fault}
-use Rattle.hosed.specs.declared.serve.Opened.{Opened}
-use Rattle.hosed.specs.declared.serve.Opened.TheVariants as opened
-use Rattle.hosed.specs.declared.serve.Served.{Served}
-use Rattle.hosed.specs.declared.serve.Served.TheVariants as served
+use Rattle.hose_offline.specs.Fault.{of_store}
+use Rattle.hose_offline.specs.OnDisk.{Held, opening_of}
+use Rattle.hose_offline.specs.ServingOnDisk.{IsNotOpened, IsNotServed}
+use Rattle.hose_offline.specs.declared.fault.Fault.{Fault}
+use Rattle.hosed.specs.declared.serving.Opened.{Opened}
+use Rattle.hosed.specs.declared.serving.Opened.TheVariants as opened
+use Rattle.hosed.specs.declared.serving.Served.{Served}
+use Rattle.hosed.specs.declared.serving.Served.TheVariants as served
 
 -- what tells that the server is ready
 abbrev pub ready_line : List ℕ

@@ -4,13 +4,14 @@
 //! a topology text and then lines `CUSTOMER COMMAND`, and writes one reply line for each; with
 //! `run JOURNAL` it keeps its book in a journal, which outlives it; `audit TOPOLOGY JOURNAL` writes
 //! what the book of a journal holds; `serve TOPOLOGY JOURNAL PORT CONNECTIONS WORKERS` serves
-//! customers at a port, each in a session, by the book of a journal that they share:
+//! customers at a port, each in a session, by the book of a journal that they share. With `--tariff`
+//! each plans by the costs that a tariff makes of the lengths of links:
 //!
 //! ```
 //! let input = &mut StdSource::new(stdin);
 //! let output = &mut StdSink::new(stdout);
 //! let (cabinet, door) = (&mut DirCabinet::new(rt), &mut TcpDoor::new(rt));
-//! let status = hosed(&rt, alloc, &words, input, output, cabinet, door, &PlainGate);
+//! let status = hosed(&rt, alloc, &words, input, output, cabinet, door, &tariffs, &PlainGate);
 //! ```
 //!
 //! Each reply is the sequential book's at its place in one history; each admitted tree's
@@ -19,51 +20,47 @@
 //! command, in order, and then at most the one that was being written.
 #![tactic(auto)]
 
-ghost use Rattle.std.specs.Prelude.{◌≡◌, ◌↔◌, ◌⊎◌, IsTrue, None, map};
+ghost use Rattle.std.specs.Prelude.{◌≡◌, ◌⊎◌, None, map};
 ghost use Rattle.std.specs.String.{string_bytes};
 ghost use Rattle.hose_io.specs.Frame.{Stays};
 ghost use Rattle.hose_disk.specs.Cabinet.{object_of};
-ghost use Rattle.hosed.specs.Ending.{IsLastLine, status_of_done};
 ghost use Rattle.hosed.specs.Hosed.{HosedOutcome};
 ghost use Rattle.hosed.specs.Offline.{OfflineOutcome};
-ghost use Rattle.hosed.specs.ProgramWords.{AsksToServe};
+ghost use Rattle.hosed.specs.ProgramWords.{AsksToServe, costs_at};
 ghost use Rattle.hosed.specs.ServingDoor.{seen_of};
 
-mod audit;
-mod cabinet_text;
-mod fault;
-mod journal;
-mod run;
-mod script_line;
-mod serve;
+mod chosen;
+mod serving;
 mod words;
 
-use audit::audit;
-use fault::Fault;
+use chosen::{audit_by, run_by, serve_by};
 use hose_disk::Cabinet;
 use hose_io::{Door, Sink, Source};
+use hose_offline::{Fault, end};
 use hose_pool::Gate;
-use run::run;
-use serve::serve;
+use hose_tariff::{Prices, Tariff};
 use std::alloc::Global;
 use std::sync::Wait;
 use std::thread::Threads;
 pub use words::MOST_CONNECTIONS;
-use words::{Command, command_of};
+use words::{Command, asks_to_serve, command_of, service_of};
 
 /// Does what the words say, and gives the exit status. The words are those after the program's
 /// name: `run`, and the name of a journal in the cabinet if the book is to be kept in one; `audit`,
 /// the name of a text in the cabinet with a topology, and that of a journal of it; or `serve`, the
-/// same names, a port, how many connections are to be served, and by how many workers.
+/// same names, a port, how many connections are to be served, and by how many workers. After the
+/// first of them `--tariff` may stand, and the name of one of the tariffs, of which the first with
+/// that name is meant. A text whose name ends in `.json` is JSON.
 ///
 /// The status is 0 where all was read to its end, and the journal closed. Else it tells the first
 /// fault, and the last line of the output tells it too: 1 `words K`, the number of the first word
-/// that is not allowed; 2 `topology LINE WORD`, the first word of the topology that is not allowed;
-/// 3 `read`; 4 a failed output, which has no last line; 5 `journal other KEPT GIVEN`, a journal of
-/// another network, by both digests, or `journal damaged at P`, at this byte; 6 `cabinet`, a text
-/// that could not be read, or a journal that could not be opened or closed; 7 `no memory`; 8
-/// `too long`, an input or a topology of more than 1 GiB; 9 `door`, a port that could not be
-/// opened, or a connection that could not be accepted.
+/// that is not allowed; 2 `topology LINE WORD`, the first word of the topology that is not allowed,
+/// or `topology` and the first fault of one in JSON; 3 `read`; 4 a failed output, which has no last
+/// line; 5 `journal other KEPT GIVEN`, a journal of another network, by both digests, or
+/// `journal damaged at P`, at this byte; 6 `cabinet`, a text that could not be read, or a journal
+/// that could not be opened or closed; 7 `no memory`; 8 `too long`, an input or a topology of more
+/// than 1 GiB, or JSON of more than 16 MiB; 9 `door`, a port that could not be opened, or a
+/// connection that could not be accepted.
 ///
 /// With `serve` it waits for customers, and for threads of its own: what it promises it keeps if it
 /// returns. It writes `ready` once the port is open, and what the book holds once all is closed.
@@ -82,10 +79,13 @@ pub fn hosed<
     output: &mut O,
     cabinet: &mut C,
     door: &mut L,
+    tariffs: &[Tariff],
     gate: &G,
 ) -> u8
     requires { (C.frame cabinet.old).out ≡ None }
     ensures outcome { HosedOutcome I.Source O.Sink C.Cabinet C.Disk.Disk
+        (map (λ tariff. tariff.name) tariffs.now)
+        (λ tariff. costs_at ⟦<Tariff as Prices>⟧.prices tariffs.now tariff)
         (map string_bytes words.now) input.old input.new output.old output.new
         cabinet.old cabinet.new
         (seen_of (L.frame door.old) (L.told door.old))
@@ -99,19 +99,14 @@ pub fn hosed<
     ensures door { Stays (L.frame door.old) (L.frame door.new) }
 {
     if !asks_to_serve(words) {
-        return offline(alloc, words, input, output, cabinet);
+        return offline(alloc, words, input, output, cabinet, tariffs);
     }
-    match command_of(words) {
-        Ok(Command::Serve(service)) => {
-            let (topology, journal) = (words[1].as_str(), words[2].as_str());
-            let (status, _) = serve(
-                rt, alloc, topology, journal, service, output, cabinet, door, gate,
-            );
+    match service_of(words, tariffs) {
+        Ok(service) => {
+            let (status, _) = serve_by(rt, alloc, tariffs, service, output, cabinet, door, gate);
             status
         }
         Err(wrong) => end(Err(Fault::Words(wrong)), output),
-        // These words do not begin with `serve`.
-        Ok(_) => unreachable!(),
     }
 }
 
@@ -123,10 +118,13 @@ pub fn offline<I: Source, O: Sink, C: Cabinet>(
     input: &mut I,
     output: &mut O,
     cabinet: &mut C,
+    tariffs: &[Tariff],
 ) -> u8
     requires none_out { (C.frame cabinet.old).out ≡ None }
     requires waits_for_nobody { ¬ AsksToServe (map string_bytes words.now) }
     ensures outcome { OfflineOutcome I.Source O.Sink C.Cabinet C.Disk.Disk
+        (map (λ tariff. tariff.name) tariffs.now)
+        (λ tariff. costs_at ⟦<Tariff as Prices>⟧.prices tariffs.now tariff)
         (map string_bytes words.now) input.old input.new output.old output.new
         cabinet.old cabinet.new result }
     ensures back { (C.frame cabinet.new).out ≡ None }
@@ -134,40 +132,17 @@ pub fn offline<I: Source, O: Sink, C: Cabinet>(
     ensures output { Stays (O.frame output.old) (O.frame output.new) }
     ensures cabinet { Stays (object_of (C.frame cabinet.old)) (object_of (C.frame cabinet.new)) }
 {
-    match command_of(words) {
-        Ok(Command::Run) => {
-            let done = run(alloc, &words[1..], input, output, cabinet);
-            end(done, output)
+    match command_of(words, tariffs) {
+        Ok(Command::Run { tariff, journal }) => {
+            run_by(alloc, tariffs, tariff, journal, input, output, cabinet)
         }
-        Ok(Command::Audit) => audit(alloc, words[1].as_str(), words[2].as_str(), output, cabinet),
-        // These words begin with `serve`.
-        Ok(Command::Serve(_)) => unreachable!(),
-        Err(word) => end(Err(Fault::Words(word)), output),
-    }
-}
-
-// The status of what was done, after its last line, if it has one.
-fn end<O: Sink>(done: Result<(), Fault>, output: &mut O) -> u8
-    ensures status { result ≡ status_of_done done }
-    ensures last_line { IsLastLine O.Sink output.old output.new done }
-    ensures output { Stays (O.frame output.old) (O.frame output.new) }
-{
-    match done {
-        Ok(()) => 0,
-        Err(fault) => {
-            // The status stays that of the fault where its line cannot be written.
-            let _ = fault.put(output);
-            fault.status()
-        }
-    }
-}
-
-// Whether the first word is `serve`.
-fn asks_to_serve(words: &[String]) -> bool
-    ensures { IsTrue result ↔ AsksToServe (map string_bytes words.now) }
-{
-    match words {
-        [first, ..] => first.as_str() == "serve",
-        [] => false,
+        Ok(
+            Command::Audit {
+                tariff,
+                topology,
+                journal,
+            },
+        ) => audit_by(alloc, tariffs, tariff, topology, journal, output, cabinet),
+        Err(wrong) => end(Err(Fault::Words(wrong)), output),
     }
 }

@@ -1,31 +1,44 @@
-// The words that the program is run with.
-ghost use Rattle.std.specs.Prelude.{◌≡◌, ◌≢◌, ◌↔◌, ◌∷◌, ◌+◌, ◌≤◌, [], ℕ, List, Option, Ok, Err, IfErr, IfNone, IfOk, IfSome, IsTrue, OnOk, codes, decimal, map};
+// The words of the program, and what they ask for.
+ghost use Rattle.std.specs.Prelude.{◌≡◌, ◌↔◌, ◌+◌, ◌<◌, ◌≤◌, ℕ, [], IfErr, IfNone, IfOk, IfSome, IsTrue, OnOk, decimal, get_or, length, map};
 ghost use Rattle.std.specs.String.{string_bytes};
 ghost use Rattle.hose_words.specs.Cursor.{Misses, Took};
 ghost use Rattle.hose_words.specs.Form.{IsWithin, TellsNumber};
-ghost use Rattle.hosed.specs.ProgramWords.{AreAuditWords, AreRunWords, AreServeWords, AreWordsOf, AsksToServe, IsFileName, IsFirstWrong, at_word};
+ghost use Rattle.hose_words.specs.Grammar.{IsFirst};
+ghost use Rattle.hosed.specs.ProgramWords.{AreServiceWords, AreWordsOf, AsksFor, AsksToServe, IsFileName, IsFirstNamed, IsFirstWrong, IsTariffName, at_word, tariff_option};
+ghost use Rattle.hosed.specs.Reading.{Chooses};
+ghost use Rattle.hosed.specs.ProgramWords.Verb.{audit, run};
 
 use hose_pool::MOST_WORKERS;
+use hose_tariff::{Tariff, find};
 use hose_words::number;
 
 /// The most connections that a server may be told to accept.
 pub const MOST_CONNECTIONS: u32 = 10_000;
 
-/// What the program is to do.
-#[derive(Clone, Copy, Debug, PartialEq, Eq)]
-pub enum Command {
-    /// Answers lines, by a book in memory or in the journal that is named.
-    Run,
-    /// Tells the book of a journal; a topology is named, and then the journal.
-    Audit,
-    /// Answers the callers of a door, by the book of a journal; a topology is named, and then the
-    /// journal, before the numbers.
-    Serve(Service),
+/// What the program is to do, where it waits for nobody. A tariff is chosen by its place.
+#[derive(Clone, Copy)]
+pub enum Command<'w> {
+    /// Answers lines, by a book in the journal that is named, or in memory.
+    Run {
+        tariff: Option<usize>,
+        journal: Option<&'w str>,
+    },
+    /// Tells the book of a journal.
+    Audit {
+        tariff: Option<usize>,
+        topology: &'w str,
+        journal: &'w str,
+    },
 }
 
-/// The numbers that a server is run with.
-#[derive(Clone, Copy, Debug, PartialEq, Eq)]
-pub struct Service {
+/// A server: the callers of a door are answered by the book of a journal.
+#[derive(Clone, Copy)]
+pub struct Service<'w> {
+    /// The place of the tariff that is chosen.
+    pub tariff: Option<usize>,
+    /// The names of the text of its topology and of its journal.
+    pub topology: &'w str,
+    pub journal: &'w str,
     /// The port of its door.
     pub port: u16,
     /// How many connections it accepts before it ends.
@@ -34,125 +47,154 @@ pub struct Service {
     pub workers: u32,
 }
 
-/// The command of the words, or the first of them that is not allowed, counted from 1. A word that
-/// is missing counts as one that is not allowed.
-pub fn command_of(words: &[String]) -> Result<Command, u64>
-    ensures ok { IfOk result (AreWordsOf (map string_bytes words.now)) }
-    ensures run { (journal : Option (List ℕ)) → AreRunWords (map string_bytes words.now) journal
-        → result ≡ Ok Command.Run }
-    ensures audit { (topology journal : List ℕ)
-        → AreAuditWords (map string_bytes words.now) topology journal
-        → result ≡ Ok Command.Audit }
-    ensures serve { (topology journal : List ℕ) (port connections workers : ℕ)
-        → AreServeWords (map string_bytes words.now) topology journal port connections workers
-        → result ≡ Ok (Command.Serve (record {
-          port = port;
-          connections = connections;
-          workers = workers;
-        })) }
-    ensures wrong { IfErr result (IsFirstWrong (map string_bytes words.now)) }
+/// Whether the first word is `serve`.
+pub fn asks_to_serve(words: &[String]) -> bool
+    ensures { IsTrue result ↔ AsksToServe (map string_bytes words.now) }
+{
+    begin_with(words, "serve")
+}
+
+/// The command of words that do not ask to serve, or the first of them that is not allowed, counted
+/// from 1. A word that is missing counts as one that is not allowed.
+pub fn command_of<'w>(words: &'w [String], tariffs: &[Tariff]) -> Result<Command<'w>, u64>
+    requires { ¬ AsksToServe (map string_bytes words.now) }
+    ensures ok { IfOk result (AreWordsOf (map (λ tariff. tariff.name) tariffs.now)
+        (map string_bytes words.now)) }
+    ensures wrong { IfErr result (IsFirstWrong (map (λ tariff. tariff.name) tariffs.now)
+        (map string_bytes words.now)) }
+{
+    if begin_with(words, "run") {
+        run_of(words, tariffs)
+    } else if begin_with(words, "audit") {
+        audit_of(words, tariffs)
+    } else {
+        Err(1)
+    }
+}
+
+// Whether this is the first of the words.
+fn begin_with(words: &[String], word: &str) -> bool
+    ensures { IsTrue result
+        ↔ IsFirst (λ first. first ≡ word.now) (map string_bytes words.now) }
 {
     match words {
-        [first, names @ ..] if first.as_str() == "run" => after_run(names),
-        [first, names @ ..] if first.as_str() == "audit" => after_audit(names),
-        [first, ..] if first.as_str() == "serve" => Ok(Command::Serve(service_of(words)?)),
-        _ => Err(1),
+        [first, ..] => first.as_str() == word,
+        [] => false,
     }
 }
 
-// The same of the words after `run`: the name of a journal may follow, and nothing else.
-fn after_run(names: &[String]) -> Result<Command, u64>
-    ensures ok { IfOk result (AreWordsOf (codes "run" ∷ map string_bytes names.now)) }
-    ensures run { (journal : Option (List ℕ))
-        → AreRunWords (codes "run" ∷ map string_bytes names.now) journal
-        → result ≡ Ok Command.Run }
-    ensures wrong { IfErr result (IsFirstWrong (codes "run" ∷ map string_bytes names.now)) }
+// The run that the words ask for: a tariff and the name of a journal may follow, and nothing else.
+fn run_of<'w>(words: &'w [String], tariffs: &[Tariff]) -> Result<Command<'w>, u64>
+    requires { AsksFor run (map string_bytes words.now) }
+    ensures ok { IfOk result (AreWordsOf (map (λ tariff. tariff.name) tariffs.now)
+        (map string_bytes words.now)) }
+    ensures wrong { IfErr result (IsFirstWrong (map (λ tariff. tariff.name) tariffs.now)
+        (map string_bytes words.now)) }
 {
-    match names {
-        [] => Ok(Command::Run),
-        [name, more @ ..] if is_file_name(name.as_bytes()) => at_end(more, Command::Run, 3),
-        _ => Err(2),
+    let (tariff, at) = tariff_at(words, tariffs)?;
+    if (words.len() as u64) < at {
+        return Ok(Command::Run {
+            tariff,
+            journal: None,
+        });
     }
+    let journal = name_at(words, at)?;
+    none_at(words, at + 1)?;
+    Ok(Command::Run {
+        tariff,
+        journal: Some(journal),
+    })
 }
 
-// The same of the words after `audit`: the names of a topology and of a journal have to follow, and
-// nothing else.
-fn after_audit(names: &[String]) -> Result<Command, u64>
-    ensures ok { IfOk result (AreWordsOf (codes "audit" ∷ map string_bytes names.now)) }
-    ensures audit { (topology journal : List ℕ)
-        → AreAuditWords (codes "audit" ∷ map string_bytes names.now) topology journal
-        → result ≡ Ok Command.Audit }
-    ensures wrong { IfErr result (IsFirstWrong (codes "audit" ∷ map string_bytes names.now)) }
+// The audit that the words ask for: a tariff may follow, the names of a topology and of a journal
+// have to, and nothing else.
+fn audit_of<'w>(words: &'w [String], tariffs: &[Tariff]) -> Result<Command<'w>, u64>
+    requires { AsksFor audit (map string_bytes words.now) }
+    ensures ok { IfOk result (AreWordsOf (map (λ tariff. tariff.name) tariffs.now)
+        (map string_bytes words.now)) }
+    ensures wrong { IfErr result (IsFirstWrong (map (λ tariff. tariff.name) tariffs.now)
+        (map string_bytes words.now)) }
 {
-    match names {
-        [name, more @ ..] if is_file_name(name.as_bytes()) => after_topology(name.as_bytes(), more),
-        _ => Err(2),
-    }
+    let (tariff, at) = tariff_at(words, tariffs)?;
+    let topology = name_at(words, at)?;
+    let journal = name_at(words, at + 1)?;
+    none_at(words, at + 2)?;
+    Ok(Command::Audit {
+        tariff,
+        topology,
+        journal,
+    })
 }
 
-// The same of the words after `audit` and the name of a topology.
-fn after_topology(topology: &[u8], names: &[String]) -> Result<Command, u64>
-    requires { IsFileName topology.now }
-    ensures ok { IfOk result
-        (AreWordsOf (codes "audit" ∷ topology.now ∷ map string_bytes names.now)) }
-    ensures audit { (named journal : List ℕ)
-        → AreAuditWords (codes "audit" ∷ topology.now ∷ map string_bytes names.now) named journal
-        → result ≡ Ok Command.Audit }
-    ensures wrong { IfErr result
-        (IsFirstWrong (codes "audit" ∷ topology.now ∷ map string_bytes names.now)) }
-{
-    match names {
-        [name, more @ ..] if is_file_name(name.as_bytes()) => at_end(more, Command::Audit, 4),
-        _ => Err(3),
-    }
-}
-
-// The command, where no more words follow; else the number of the first that does.
-fn at_end(more: &[String], command: Command, number: u64) -> Result<Command, u64>
-    ensures ok { IfOk result (λ which. (which ≡ command) × (map string_bytes more.now ≡ [])) }
-    ensures wrong { IfErr result (λ wrong. (wrong ≡ number)
-        × (map string_bytes more.now ≢ [])) }
-{
-    if more.is_empty() {
-        Ok(command)
-    } else {
-        Err(number)
-    }
-}
-
-// The numbers of the words, which begin with `serve`; or the first word that is not allowed.
-fn service_of(words: &[String]) -> Result<Service, u64>
+/// The server that the words ask for, or the first of them that is not allowed.
+pub fn service_of<'w>(words: &'w [String], tariffs: &[Tariff]) -> Result<Service<'w>, u64>
     requires { AsksToServe (map string_bytes words.now) }
-    ensures ok { IfOk result (λ service. (topology : List ℕ) × (journal : List ℕ)
-        × AreServeWords (map string_bytes words.now) topology journal service.port
-        service.connections service.workers) }
-    ensures wrong { IfErr result (IsFirstWrong (map string_bytes words.now)) }
+    ensures ok { IfOk result (AreServiceWords (map (λ tariff. tariff.name) tariffs.now)
+        (map string_bytes words.now)) }
+    ensures wrong { IfErr result (IsFirstWrong (map (λ tariff. tariff.name) tariffs.now)
+        (map string_bytes words.now)) }
 {
-    name_at(words, 2)?;
-    name_at(words, 3)?;
-    let port = number_at(words, 4, u32::from(u16::MAX))?;
-    let connections = number_at(words, 5, MOST_CONNECTIONS)?;
-    let workers = number_at(words, 6, MOST_WORKERS)?;
-    if words.len() > 6 {
-        return Err(7);
-    }
+    let (tariff, at) = tariff_at(words, tariffs)?;
+    let topology = name_at(words, at)?;
+    let journal = name_at(words, at + 1)?;
+    let port = number_at(words, at + 2, u32::from(u16::MAX))?;
+    let connections = number_at(words, at + 3, MOST_CONNECTIONS)?;
+    let workers = number_at(words, at + 4, MOST_WORKERS)?;
+    none_at(words, at + 5)?;
     Ok(Service {
+        tariff,
+        topology,
+        journal,
         port: port as u16,
         connections,
         workers,
     })
 }
 
-// Makes sure that this word, counted from 1, may name a file; else its number is told.
-fn name_at(words: &[String], at: u64) -> Result<(), u64>
+// The tariff that the words after the first choose, and the number of the word from which on the
+// others follow; or the first of them that is not allowed.
+fn tariff_at(words: &[String], tariffs: &[Tariff]) -> Result<(Option<usize>, u64), u64>
+    ensures ok { IfOk result (λ found. Chooses (map (λ tariff. tariff.name) tariffs.now)
+        (map string_bytes words.now) found.0 found.1) }
+    ensures at { IfOk result (λ found. (2 ≤ found.1) × (found.1 ≤ 4)) }
+    ensures wrong { IfErr result (λ wrong. (wrong ≡ 3)
+        × Took (at_word 2 (map string_bytes words.now))
+        (at_word 3 (map string_bytes words.now)) tariff_option
+        × Misses (IsTariffName (map (λ tariff. tariff.name) tariffs.now))
+        (at_word 3 (map string_bytes words.now)) wrong) }
+{
+    match word_at(words, 2) {
+        Some(option) if option == "--tariff" => match named_at(words, tariffs) {
+            Some(place) => Ok((Some(place), 4)),
+            None => Err(3),
+        },
+        _ => Ok((None, 2)),
+    }
+}
+
+// The place of the tariff that the third word names, if it names one.
+fn named_at(words: &[String], tariffs: &[Tariff]) -> Option<usize>
+    ensures some { IfSome result (λ place. IsFirstNamed (map (λ tariff. tariff.name) tariffs.now)
+        place × Took (at_word 3 (map string_bytes words.now))
+        (at_word 4 (map string_bytes words.now))
+        (get_or (map (λ tariff. tariff.name) tariffs.now) place [])) }
+    ensures none { IfNone result (¬ IsFirst
+        (IsTariffName (map (λ tariff. tariff.name) tariffs.now))
+        (at_word 3 (map string_bytes words.now)).left) }
+{
+    find(tariffs, word_at(words, 3)?.as_bytes())
+}
+
+// The name of a file that this word is, counted from 1; else its number is told.
+fn name_at(words: &[String], at: u64) -> Result<&str, u64>
     requires { 1 ≤ at }
-    ensures ok { OnOk result ((name : List ℕ) × IsFileName name
-        × Took (at_word at (map string_bytes words.now))
-        (at_word (at + 1) (map string_bytes words.now)) name) }
+    ensures ok { IfOk result (λ name. Took (at_word at (map string_bytes words.now))
+        (at_word (at + 1) (map string_bytes words.now)) name.now) }
+    ensures named { IfOk result (λ name. IsFileName name.now) }
     ensures wrong { IfErr result (Misses IsFileName (at_word at (map string_bytes words.now))) }
 {
     match word_at(words, at) {
-        Some(name) if is_file_name(name) => Ok(()),
+        Some(name) if is_file_name(name.as_bytes()) => Ok(name),
         _ => Err(at),
     }
 }
@@ -166,27 +208,44 @@ fn number_at(words: &[String], at: u64, most: u32) -> Result<u32, u64>
     ensures wrong { IfErr result
         (Misses (TellsNumber (IsWithin 1 most)) (at_word at (map string_bytes words.now))) }
 {
-    let Some(word) = word_at(words, at) else {
-        return Err(at);
+    match word_at(words, at) {
+        Some(word) => number_of(word, most).ok_or(at),
+        None => Err(at),
+    }
+}
+
+// The number from 1 to the most that a word tells, if it tells one.
+fn number_of(word: &str, most: u32) -> Option<u32>
+    ensures some { IfSome result (λ value. (word.now ≡ decimal value) × IsWithin 1 most value) }
+    ensures none { IfNone result (¬ TellsNumber (IsWithin 1 most) word.now) }
+{
+    let Some(value) = number(word.as_bytes(), u64::from(most)) else {
+        return None;
     };
-    let Some(value) = number(word, u64::from(most)) else {
-        return Err(at);
-    };
-    if value == 0 {
+    if value == 0 { None } else { Some(value as u32) }
+}
+
+// Makes sure that there is no such word, counted from 1; else its number is told.
+fn none_at(words: &[String], at: u64) -> Result<(), u64>
+    requires { 1 ≤ at }
+    ensures ok { OnOk result ((at_word at (map string_bytes words.now)).left ≡ []) }
+    ensures wrong { IfErr result (λ wrong. (wrong ≡ at) × (at ≤ length words.now)) }
+{
+    if words.len() as u64 >= at {
         Err(at)
     } else {
-        Ok(value as u32)
+        Ok(())
     }
 }
 
 // This word, counted from 1, if there is one.
-fn word_at(words: &[String], at: u64) -> Option<&[u8]>
+fn word_at(words: &[String], at: u64) -> Option<&str>
     requires { 1 ≤ at }
     ensures some { IfSome result (λ word. Took (at_word at (map string_bytes words.now))
         (at_word (at + 1) (map string_bytes words.now)) word.now) }
     ensures none { IfNone result ((at_word at (map string_bytes words.now)).left ≡ []) }
 {
-    Some(words.get(at as usize - 1)?.as_bytes())
+    Some(words.get(at as usize - 1)?.as_str())
 }
 
 // Whether a word may name a file.

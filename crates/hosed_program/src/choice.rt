@@ -3,12 +3,12 @@ ghost use Rattle.std.specs.Prelude.{◌≡◌, ◌⊎◌, None, map};
 ghost use Rattle.std.specs.String.{string_bytes};
 ghost use Rattle.hose_io.specs.Frame.{Stays};
 ghost use Rattle.hose_disk.specs.Cabinet.{object_of};
-ghost use Rattle.hosed.specs.Ending.{IsOut};
-ghost use Rattle.hosed.specs.Fault.{last_line};
+ghost use Rattle.hose_offline.specs.Ending.{IsOut};
+ghost use Rattle.hose_offline.specs.Fault.{last_line};
 ghost use Rattle.hosed.specs.Hosed.{HosedOutcome};
-ghost use Rattle.hosed.specs.ProgramWords.{AsksToServe};
+ghost use Rattle.hosed.specs.ProgramWords.{AsksToServe, costs_at};
 ghost use Rattle.hosed.specs.ServingDoor.{seen_of};
-ghost use Rattle.hosed.specs.declared.fault.Fault.TheVariants as fault;
+ghost use Rattle.hose_offline.specs.declared.fault.Fault.TheVariants as fault;
 ghost use Rattle.hosed_program.specs.Asked.{asked_of};
 ghost use Rattle.hosed_program.specs.Told.{IsTold};
 
@@ -16,6 +16,7 @@ use crate::texts::{HELP, VERSION};
 use hose_disk::Cabinet;
 use hose_io::{Door, Sink, Source, write_all};
 use hose_pool::Gate;
+use hose_tariff::{Prices, Tariff};
 use std::alloc::Global;
 use std::sync::Wait;
 use std::thread::Threads;
@@ -45,6 +46,7 @@ pub fn program<
     output: &mut O,
     cabinet: &mut C,
     door: &mut L,
+    tariffs: &[Tariff],
     gate: &G,
 ) -> u8
     requires { (C.frame cabinet.old).out ≡ None }
@@ -57,8 +59,11 @@ pub fn program<
 
     // All else is as the server's one call says.
     ensures service { asked_of (map string_bytes words.now) ≡ Asked.Service
-        → HosedOutcome I.Source O.Sink C.Cabinet C.Disk.Disk (map string_bytes words.now)
-        input.old input.new output.old output.new cabinet.old cabinet.new
+        → HosedOutcome I.Source O.Sink C.Cabinet C.Disk.Disk
+        (map (λ tariff. tariff.name) tariffs.now)
+        (λ tariff. costs_at ⟦<Tariff as Prices>⟧.prices tariffs.now tariff)
+        (map string_bytes words.now) input.old input.new output.old output.new
+        cabinet.old cabinet.new
         (seen_of (L.frame door.old) (L.told door.old))
         (seen_of (L.frame door.new) (L.told door.new)) result }
 
@@ -73,7 +78,9 @@ pub fn program<
     match asked_by(words) {
         Asked::Help => tell(output, HELP),
         Asked::Version => tell(output, VERSION),
-        Asked::Service => hosed::hosed(rt, alloc, words, input, output, cabinet, door, gate),
+        Asked::Service => hosed::hosed(
+            rt, alloc, words, input, output, cabinet, door, tariffs, gate,
+        ),
     }
 }
 

@@ -2,9 +2,9 @@
 
 /// What `--help` is answered with.
 pub const HELP: &str = "\
-usage: hosed run [JOURNAL] < FILE
-       hosed audit TOPOLOGY JOURNAL
-       hosed serve TOPOLOGY JOURNAL PORT CONNECTIONS WORKERS
+usage: hosed run [--tariff NAME] [JOURNAL] < FILE
+       hosed audit [--tariff NAME] TOPOLOGY JOURNAL
+       hosed serve [--tariff NAME] TOPOLOGY JOURNAL PORT CONNECTIONS WORKERS
        hosed --help | --version
 
 hosed run reads a topology, in which lines that begin with # are passed over, and then a line for
@@ -62,6 +62,16 @@ connection is a session of one customer, with one line in reply to each:
 
 PORT is 1 to 65535, CONNECTIONS is 1 to 10000, WORKERS is 1 to 16.
 
+A TOPOLOGY whose name ends in .json is JSON: an object with the members `nodes`, an array of names,
+and `links`, an array of objects with the members `a` and `b`, two names, `capacity`, `length` and,
+where it is not the length, `cost`.
+
+--tariff NAME prices the network by another rule than its own costs:
+
+    flat                                a link costs its length
+    hops                                a link costs 1
+    long                                5 and twice its length, 1,000,000 at most
+
 epoch   how many admissions and releases there have been
 N       the epoch at which the reply holds: after an admission or a release, its own
 L       a link by its number; links and nodes count from 0, in the topology's order
@@ -76,6 +86,7 @@ status  comes                           last line
 0       all was read                    none
 1       wrong words                     words K
 2       no topology                     topology LINE WORD
+        or, in JSON,                    topology json | nodes [I] | links [I]
 3       the input failed                read
 4       the output failed               none
 5       a journal of another network    journal other KEPT GIVEN
@@ -85,7 +96,8 @@ status  comes                           last line
         or a file that failed           cabinet
 7       no memory to begin              no memory
 8       input or TOPOLOGY longer
-        than 1 GiB                      too long
+        than 1 GiB, in JSON than
+        16 MiB                          too long
 9       the port could not be opened,
         or accepting failed             door
 ";
@@ -97,4 +109,5 @@ pub const VERSION: &str = "hosed 0.1.0\n";
 pub const USAGE: &str = "hosed takes `run`, which reads a topology and commands, and after it the \
     name of a journal if the book is to be kept; or `audit`, and after it the names of a topology \
     and of a journal; or `serve`, and after it these two names, a port, and how many connections \
-    and workers; or `--help`, which tells their forms, or `--version`.";
+    and workers; `--tariff` and a name may stand after the first word; or `--help`, which tells \
+    their forms, or `--version`.";

@@ -1,31 +1,44 @@
-use Rattle.std.proofs.Common.{◌≡◌, ◌≢◌, ◌∙◌, ℕ, List, codes, map, refl, sym, ap, subst, rules}
+use Rattle.std.proofs.Common.{◌≡◌, ◌≢◌, refl, map, rules}
 use Rattle.std.specs.String.{string_bytes}
-use Rattle.hosed.specs.ProgramWords.{AreServeWords, AreWordsOf}
-use Rattle.hosed.specs.ServeOutcome.{ServeOutcome}
-use Rattle.hosed.specs.ServingDoor.{seen_of}
-use Rattle.hosed.proofs.Audited.{named_not_1}
-use Rattle.hosed.proofs.Commands.{one_service, second_and_third}
-use Rattle.hosed.proofs.Served.{same_first, served_not_1}
+use Rattle.hosed.proofs.Commands.{audit_right, one_service, run_right, serve_right}
+use Rattle.hosed.proofs.Served.{same_first}
 use Rattle.hosed.proofs.hosed.Goals as goal
 
-pub returns-in-Ok-Serve-clause-outcome : goal.returns-in-Ok-Serve-clause-outcome
-returns-in-Ok-Serve-clause-outcome g c =
+pub returns-in-Ok-clause-outcome : goal.returns-in-Ok-clause-outcome
+returns-in-Ok-clause-outcome g c =
+    let names = map (λ tariff. tariff.name) c.args.tariffs.now in
     let words = map string_bytes c.args.words.now in
-    let ok = subst (AreWordsOf words) c.in-Ok-Serve.field-0-is c.in-Ok-Serve.ensures.ok in
-    let back = c.serve-status.result.1 in
-    let borrow = same_first _ _ _ _ c.serve-status.ensures.door.loan in
+    let service = c.in-Ok.service in
+    let are = c.in-Ok.ensures.ok in
+    let back = c.serve_by-status.result.1 in
+    let borrow = same_first _ _ _ _ c.serve_by-status.ensures.door.loan in
     let given : back.now ≡ c.door-1.given.0 = search rules in
-    let outcome = rw given at c.serve-status.ensures.outcome in
-    let right = named_not_1 g.O.Sink g.C.Cabinet g.C.Disk.Disk _ _ c.args.output.now c.serve-status.new.output c.args.cabinet.now c.serve-status.new.cabinet _ _ _ c.serve-status.result.0
-    (λ network told one. served_not_1 g.O.Sink told.mid c.serve-status.new.output c.serve-status.result.0 told.done told.ends one) outcome in
+    let outcome = rw given at c.serve_by-status.ensures.outcome in
+    let right = c.serve_by-status.ensures.not_words in
     record {
       offline = λ never. absurd (never (search rules));
-      words_at_1 = λ asks. ((λ one. absurd (right one)), λ wrong. absurd (wrong.no_serve ok.0 ok.1 _ _ _ ok.2));
+      words_at_1 = λ asks. ((λ one. absurd (right one)), λ wrong. absurd (wrong.no_serve _ _ _ _ _ _ are));
       wrong_words = λ asks one. absurd (right one);
-      serve = λ topology journal port connections workers are.
-          let same = one_service words ok.0 ok.1 topology journal c.in-Ok-Serve.service port connections workers ok.2 are in
-          let names = second_and_third string_bytes c.args.words.now (codes "serve") topology journal c.index-words-1.result c.index-words-2.result are.are c.index-words-1.is c.index-words-2.is in
-          let is_topology = c.as_str-topology.ensures.value ∙ names.0 in
-          let is_journal = c.as_str-journal.ensures.value ∙ names.1 in
-          (refl, rw (is_topology, is_journal, same) at outcome);
+      serve = λ tariff topology journal port connections workers other.
+          let same = one_service names words service.tariff tariff service.topology.now topology service.journal.now journal service.port port service.connections connections service.workers workers are other in
+          (refl, rw (same.tariffs, same.topologies, same.journals, same.accepted) at outcome);
+    }
+
+pub returns-in-Err-clause-outcome : goal.returns-in-Err-clause-outcome
+returns-in-Err-clause-outcome g c =
+    let names = map (λ tariff. tariff.name) c.args.tariffs.now in
+    let words = map string_bytes c.args.words.now in
+    let wrong = c.in-Err.ensures.wrong in
+    record {
+      offline = λ never. absurd (never (search rules));
+      words_at_1 = λ asks. (
+        (λ one. record {
+          no_run = λ tariff journal are. run_right names words tariff journal _ are wrong;
+          no_audit = λ tariff topology journal are. audit_right names words tariff topology journal _ are wrong;
+          no_serve = λ tariff topology journal port connections workers are. serve_right names words tariff topology journal port connections workers _ are wrong;
+        }),
+        λ none. c.end.ensures.status,
+      );
+      wrong_words = λ asks one. (refl, refl, refl, (_, wrong, c.end.ensures.last_line));
+      serve = λ tariff topology journal port connections workers are. absurd (serve_right names words tariff topology journal port connections workers _ are wrong);
     }

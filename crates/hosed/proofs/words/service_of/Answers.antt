@@ -1,61 +1,51 @@
-use Rattle.std.proofs.Common.{◌≡◌, ◌<◌, ℕ, Err, arith, length, map, refl, rules, subst}
+use Rattle.std.proofs.Common.{◌≡◌, ◌+◌, ◌≤◌, Err, arith, length, map, refl, rules, sym, subst}
 use Rattle.std.proofs.lemmas.List.{length-map}
 use Rattle.std.specs.String.{string_bytes}
 use Rattle.hose_words.specs.Cursor.{Misses}
-use Rattle.hose_words.specs.Form.{IsWithin, TellsNumber}
+use Rattle.hose_words.specs.Form.{IsWithin, TellsNumber, finish}
 use Rattle.hose_words.proofs.Forms.{wrong_later, wrong_place}
-use Rattle.hosed.proofs.Commands.{serve_wrong, seventh_wrong}
-use Rattle.hosed.specs.ProgramWords.{IsPort, at_word}
+use Rattle.hosed.specs.ProgramWords.{IsPort, at_word, named_form, numbers_form}
+use Rattle.hosed.specs.ProgramWords.Verb.{audit, run, serve}
+use Rattle.hosed.proofs.Commands.{chosen_wrong, one_too_many, run_wrong, some_left, took_to, verb_wrong}
 use Rattle.hosed.proofs.words.service_of.Goals as goal
 
-pub returns-in_err-name_at-clause-wrong : goal.returns-in_err-name_at-clause-wrong
-returns-in_err-name_at-clause-wrong c =
+pub returns-in_err-journal-clause-wrong : goal.returns-in_err-journal-clause-wrong
+returns-in_err-journal-clause-wrong g c =
     let words = map string_bytes c.args.words.now in
-    let is : c.from_residual.result ≡ Err c.in_err-name_at.field-0.0 = search rules in
-    rw is (serve_wrong words _ c.requires (wrong_place (c.in_err-name_at.ensures.wrong)))
-
-pub returns-in_err-name_at-2-clause-wrong : goal.returns-in_err-name_at-2-clause-wrong
-returns-in_err-name_at-2-clause-wrong c =
-    let words = map string_bytes c.args.words.now in
-    let topology = c.in_ok-name_at.ensures.ok in
-    let is : c.from_residual-in_err-name_at-2.result ≡ Err c.in_err-name_at-2.field-0.0 = search rules in
-    rw is (serve_wrong words _ c.requires (wrong_later topology.2 topology.1 (wrong_place (c.in_err-name_at-2.ensures.wrong))))
+    let is : c.from_residual-in_err-journal.result ≡ Err c.in_err-journal.field-0.0 = search rules in
+    rw is (verb_wrong _ serve words _ c.requires (chosen_wrong _ (named_form numbers_form) words c.in_ok-tariff.tariff c.in_ok-tariff.at _ c.in_ok-tariff.ensures.ok
+    (wrong_later c.in_ok-topology.ensures.ok c.in_ok-topology.ensures.named (wrong_place c.in_err-journal.ensures.wrong))))
 
 pub returns-in_err-port-clause-wrong : goal.returns-in_err-port-clause-wrong
-returns-in_err-port-clause-wrong c =
+returns-in_err-port-clause-wrong g c =
     let words = map string_bytes c.args.words.now in
-    let topology = c.in_ok-name_at.ensures.ok in
-    let journal = c.in_ok-name_at-2.ensures.ok in
     let is : c.from_residual-in_err-port.result ≡ Err c.in_err-port.field-0.0 = search rules in
-    let port = subst (λ (most : ℕ). Misses (TellsNumber (IsWithin 1 most)) (at_word 4 words) c.in_err-port.field-0.0) c.from.ensures c.in_err-port.ensures.wrong in
-    rw is (serve_wrong words _ c.requires (wrong_later topology.2 topology.1 (wrong_later journal.2 journal.1 (wrong_place port))))
+    let missing = subst (λ (most : _). Misses (TellsNumber (IsWithin 1 most)) (at_word (c.in_ok-tariff.at + 2) words) c.in_err-port.field-0.0) c.from.ensures c.in_err-port.ensures.wrong in
+    rw is (verb_wrong _ serve words _ c.requires (chosen_wrong _ (named_form numbers_form) words c.in_ok-tariff.tariff c.in_ok-tariff.at _ c.in_ok-tariff.ensures.ok
+    (wrong_later c.in_ok-topology.ensures.ok c.in_ok-topology.ensures.named (wrong_later (took_to words (c.in_ok-tariff.at + 1 + 1) (c.in_ok-tariff.at + 2) (omega arith) c.in_ok-journal.ensures.ok) c.in_ok-journal.ensures.named (wrong_place missing)))))
 
 pub returns-in_err-connections-clause-wrong : goal.returns-in_err-connections-clause-wrong
-returns-in_err-connections-clause-wrong c =
+returns-in_err-connections-clause-wrong g c =
     let words = map string_bytes c.args.words.now in
-    let topology = c.in_ok-name_at.ensures.ok in
-    let journal = c.in_ok-name_at-2.ensures.ok in
-    let port : IsPort c.in_ok-port.port = rw c.from.ensures at c.in_ok-port.ensures.within in
     let is : c.from_residual-in_err-connections.result ≡ Err c.in_err-connections.field-0.0 = search rules in
-    rw is (serve_wrong words _ c.requires (wrong_later topology.2 topology.1 (wrong_later journal.2 journal.1 (wrong_later (c.in_ok-port.ensures.ok) (c.in_ok-port.port, refl, port) (wrong_place (c.in_err-connections.ensures.wrong))))))
+    let port : IsPort c.in_ok-port.port = rw c.from.ensures at c.in_ok-port.ensures.within in
+    rw is (verb_wrong _ serve words _ c.requires (chosen_wrong _ (named_form numbers_form) words c.in_ok-tariff.tariff c.in_ok-tariff.at _ c.in_ok-tariff.ensures.ok
+    (wrong_later c.in_ok-topology.ensures.ok c.in_ok-topology.ensures.named (wrong_later (took_to words (c.in_ok-tariff.at + 1 + 1) (c.in_ok-tariff.at + 2) (omega arith) c.in_ok-journal.ensures.ok) c.in_ok-journal.ensures.named (wrong_later (took_to words (c.in_ok-tariff.at + 2 + 1) (c.in_ok-tariff.at + 3) (omega arith) c.in_ok-port.ensures.ok) (c.in_ok-port.port, refl, port) (wrong_place c.in_err-connections.ensures.wrong))))))
 
 pub returns-in_err-workers-clause-wrong : goal.returns-in_err-workers-clause-wrong
-returns-in_err-workers-clause-wrong c =
+returns-in_err-workers-clause-wrong g c =
     let words = map string_bytes c.args.words.now in
-    let topology = c.in_ok-name_at.ensures.ok in
-    let journal = c.in_ok-name_at-2.ensures.ok in
-    let port : IsPort c.in_ok-port.port = rw c.from.ensures at c.in_ok-port.ensures.within in
     let is : c.from_residual-in_err-workers.result ≡ Err c.in_err-workers.field-0.0 = search rules in
-    rw is (serve_wrong words _ c.requires (wrong_later topology.2 topology.1 (wrong_later journal.2 journal.1 (wrong_later (c.in_ok-port.ensures.ok) (c.in_ok-port.port, refl, port)
-    (wrong_later (c.in_ok-connections.ensures.ok) (c.in_ok-connections.connections, refl, c.in_ok-connections.ensures.within) (wrong_place (c.in_err-workers.ensures.wrong)))))))
-
-pub returns-then-words-gt6-clause-wrong : goal.returns-then-words-gt6-clause-wrong
-returns-then-words-gt6-clause-wrong c =
-    let words = map string_bytes c.args.words.now in
-    let topology = c.in_ok-name_at.ensures.ok in
-    let journal = c.in_ok-name_at-2.ensures.ok in
     let port : IsPort c.in_ok-port.port = rw c.from.ensures at c.in_ok-port.ensures.within in
-    let more : 6 < length words = omega (arith, c.if-words-gt6.true, length-map c.args.words.now string_bytes) in
-    serve_wrong words 7 c.requires (wrong_later topology.2 topology.1 (wrong_later journal.2 journal.1 (wrong_later (c.in_ok-port.ensures.ok) (c.in_ok-port.port, refl, port)
-    (wrong_later (c.in_ok-connections.ensures.ok) (c.in_ok-connections.connections, refl, c.in_ok-connections.ensures.within)
-    (wrong_later (c.in_ok-workers.ensures.ok) (c.in_ok-workers.workers, refl, c.in_ok-workers.ensures.within) (seventh_wrong words more))))))
+    rw is (verb_wrong _ serve words _ c.requires (chosen_wrong _ (named_form numbers_form) words c.in_ok-tariff.tariff c.in_ok-tariff.at _ c.in_ok-tariff.ensures.ok
+    (wrong_later c.in_ok-topology.ensures.ok c.in_ok-topology.ensures.named (wrong_later (took_to words (c.in_ok-tariff.at + 1 + 1) (c.in_ok-tariff.at + 2) (omega arith) c.in_ok-journal.ensures.ok) c.in_ok-journal.ensures.named (wrong_later (took_to words (c.in_ok-tariff.at + 2 + 1) (c.in_ok-tariff.at + 3) (omega arith) c.in_ok-port.ensures.ok) (c.in_ok-port.port, refl, port) (wrong_later (took_to words (c.in_ok-tariff.at + 3 + 1) (c.in_ok-tariff.at + 4) (omega arith) c.in_ok-connections.ensures.ok) (c.in_ok-connections.connections, refl, c.in_ok-connections.ensures.within) (wrong_place c.in_err-workers.ensures.wrong)))))))
+
+pub returns-in_err-none_at-clause-wrong : goal.returns-in_err-none_at-clause-wrong
+returns-in_err-none_at-clause-wrong g c =
+    let words = map string_bytes c.args.words.now in
+    let is : c.from_residual-in_err-none_at.result ≡ Err c.in_err-none_at.field-0.0 = search rules in
+    let port : IsPort c.in_ok-port.port = rw c.from.ensures at c.in_ok-port.ensures.within in
+    let wrong = c.in_err-none_at.ensures.wrong in
+    let more : c.in_ok-tariff.at + 5 ≤ length words = omega (arith, wrong.1, length-map c.args.words.now string_bytes) in
+    rw (is, wrong.0) (verb_wrong _ serve words _ c.requires (chosen_wrong _ (named_form numbers_form) words c.in_ok-tariff.tariff c.in_ok-tariff.at _ c.in_ok-tariff.ensures.ok
+    (wrong_later c.in_ok-topology.ensures.ok c.in_ok-topology.ensures.named (wrong_later (took_to words (c.in_ok-tariff.at + 1 + 1) (c.in_ok-tariff.at + 2) (omega arith) c.in_ok-journal.ensures.ok) c.in_ok-journal.ensures.named (wrong_later (took_to words (c.in_ok-tariff.at + 2 + 1) (c.in_ok-tariff.at + 3) (omega arith) c.in_ok-port.ensures.ok) (c.in_ok-port.port, refl, port) (wrong_later (took_to words (c.in_ok-tariff.at + 3 + 1) (c.in_ok-tariff.at + 4) (omega arith) c.in_ok-connections.ensures.ok) (c.in_ok-connections.connections, refl, c.in_ok-connections.ensures.within) (wrong_later (took_to words (c.in_ok-tariff.at + 4 + 1) (c.in_ok-tariff.at + 5) (omega arith) c.in_ok-workers.ensures.ok) (c.in_ok-workers.workers, refl, c.in_ok-workers.ensures.within) (one_too_many words (c.in_ok-tariff.at + 5) (omega arith) more))))))))

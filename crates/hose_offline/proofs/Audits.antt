@@ -1,0 +1,415 @@
+-- An audit: the text of a topology in a cabinet, and the book of a journal on its disk.
+use Rattle.std.proofs.Common.{◌≡◌, ◌≢◌, ◌∙◌, length, ◌⊎◌, ◌↔◌, inl, inr, ℕ, ◌+◌, ◌<◌, ◌≤◌, List, [], drop, Bool, Option, None, Some, IfSome, IsSome, IsTrue, Result, Ok, Err, refl, sym, ap, subst, arith, append-nil}
+use Rattle.std.specs.Prelude.{⊤}
+use Rattle.std.specs.Borrow.{GName}
+use Rattle.hose_io.specs.Frame.{Frame, Met, Rose, Stays}
+use Rattle.hose_io.specs.Stream.{Stream, Gives}
+use Rattle.hose_io.specs.declared.Failed.{Failed}
+use Rattle.hose_io.specs.declared.source.Source.{Ghosts as SourceGhosts}
+use Rattle.hose_io.proofs.Frames.{Stays-next}
+use Rattle.hose_words.specs.Reading.{WhereTold}
+use Rattle.hose_words.specs.declared.limits.TheConstants.{INPUT_LIMIT}
+use Rattle.hose_words.specs.declared.lines.LineFault.{LineFault}
+use Rattle.hose_words.specs.declared.lines.LineFault.TheVariants as line
+use Rattle.hose_graph.specs.Network.{IsNetwork, Network}
+use Rattle.hose_graph.specs.declared.entry.Entry.{Entry}
+use Rattle.hose_law.specs.History.{IsSound}
+use Rattle.hose_book.specs.Ledger.{Ledger}
+use Rattle.hose_disk.specs.Cabinet.{Has, IsTextCall, absent_after, object_of}
+use Rattle.hose_disk.specs.Disk.{IsCalled}
+use Rattle.hose_disk.specs.declared.cabinet.Cabinet.{Ghosts as CabinetGhosts}
+use Rattle.hose_disk.specs.declared.disk.Disk.{Ghosts as DiskGhosts}
+use Rattle.hose_journal.specs.Image.{Meaning, damaged, other}
+use Rattle.hose_journal.specs.Moments.{LeavesOnly}
+use Rattle.hose_store.specs.Commit.{Closes}
+use Rattle.hose_store.specs.Opening.{IsAtOpening, IsOpenedOn}
+use Rattle.hose_store.specs.Recovery.{IsHistoryOf}
+use Rattle.hose_store.specs.Store.{IsAmid, Kept}
+use Rattle.hose_topo.specs.Reading.{StopsInTopology, fault_of}
+use Rattle.hose_topo.specs.TopologyText.{IsTopologyText}
+use Rattle.hose_topo.specs.declared.fault.TopoFault.{TopoFault}
+use Rattle.hose_topo.specs.declared.fault.TopoFault.TheVariants as topo
+use Rattle.hose_offline.specs.Auditing.{HasAudited, HasReadBook, IsBookOf, IsLongAt, IsStarvedAt, IsTextFault, IsTextOf, ReadsBook, ReadsNamed, ReadsText, ReadsTopology}
+use Rattle.hose_offline.specs.CabinetText.{OnlyTextsRead, TextState, reading_frame, stream_at, text_stream, whole_text}
+use Rattle.hose_offline.specs.Fault.{of_text}
+use Rattle.hose_offline.specs.OnDisk.{CabinetFailed, CabinetHeld, Held, IsRefused, IsUnopened}
+use Rattle.hose_offline.specs.JsonRead.{IsJsonOf}
+use Rattle.hose_offline.specs.Run.{HasText, TellsNoNetwork}
+use Rattle.hose_offline.specs.TopologyTold.{Tells, TellsPriced, limit_of, notation_of, own_costs}
+use Rattle.hose_offline.specs.declared.limits.TheConstants.{JSON_LIMIT}
+use Rattle.hose_offline.specs.declared.notation.Notation.{Notation}
+use Rattle.hose_offline.specs.declared.notation.Notation.TheVariants as notation
+use Rattle.hose_offline.specs.declared.notation.Refusal.TheVariants.{Word}
+use Rattle.hose_words.proofs.OnReading.{WhereTold-map}
+use Rattle.hose_offline.specs.ServingOnDisk.{IsNotServed}
+use Rattle.hose_offline.specs.declared.fault.Fault.{Fault}
+use Rattle.hose_offline.specs.declared.fault.Fault.TheVariants as fault
+
+-- ---- the book on a disk
+
+module _ {E : Type 0} (disk : DiskGhosts E) (network : Network) (old left : E) (store : Kept E) (ledger : Ledger) (closing : Result ⊤ Failed)
+    (counts_now : (d : E) (t : ℕ) (image : List ℕ) → t ≤ disk.moment d → disk.may_leave d image → disk.left_since d t image)
+    (opened : IsOpenedOn disk old network store) (opening : LeavesOnly disk old store.journal.disk (IsAtOpening disk old network))
+    (closes : Closes disk store left closing) (call : IsCalled (disk.frame store.journal.disk) (disk.frame left) closing) (is : ledger ≡ store.ledger) where
+  amid : LeavesOnly disk store.journal.disk left (IsAmid store.ledger.network opened.history None None)
+  amid = closes.any_moment opened.history None opened.has
+
+  stands : (image : List ℕ) → IsAmid store.ledger.network opened.history None None image → IsHistoryOf network opened.history image
+  stands image (inl is_history) = subst (λ (n : Network). IsHistoryOf n opened.history image) opened.network is_history
+  stands image (inr (inl none)) = absurd none
+  stands image (inr (inr none)) = absurd none
+
+  -- a store was opened and closed
+  pub read_on : HasReadBook disk old left network ledger closing
+  read_on = record {
+    history = opened.history;
+    read = opened.read;
+    sound = subst (λ (n : Network). IsSound n 0 opened.history) opened.network opened.has.sound;
+    is = is ∙ (ap (λ (n : Network). record { network = n; book = store.ledger.book }) opened.network ∙ ap (λ b. record { network = network; book = b }) opened.has.book);
+    told = call.told;
+    images = record {
+      now = λ image may. stands image (amid.each image (counts_now left (disk.moment store.journal.disk) image amid.later may));
+      moments = λ image since. at image (amid.before (disk.moment old) image opening.later since);
+    };
+  }
+    where
+      at : (image : List ℕ) → disk.left_since store.journal.disk (disk.moment old) image ⊎ IsAmid store.ledger.network opened.history None None image → IsAtOpening disk old network image
+      at image (inl before) = opening.each image before
+      at image (inr in_closing) = inr (opened.history, opened.read, stands image in_closing)
+
+-- ---- the text of a topology
+
+module _ {C E : Type 0} (cabinet : CabinetGhosts C E) (source : SourceGhosts (TextState C)) (names : C → List GName) (one : (a b : C) → names a ≡ names b → a ≡ b)
+    (content : (t : TextState C) → source.content t ≡ text_stream cabinet t.was t.name t.from) (frame : (t : TextState C) → source.frame t ≡ reading_frame cabinet (names t.was) t)
+    (old new : C) (name : List ℕ) (start last : TextState C)
+    (was : start.was ≡ old) (value : start.cabinet.now ≡ old) (named : start.name ≡ name) (from : start.from ≡ 0)
+    (behind : last.cabinet.now ≡ new) (only : OnlyTextsRead cabinet last.was last.cabinet.now)
+    (absent : IsTrue (cabinet.frame last.was).tells → (cabinet.frame last.cabinet.now).absent ≡ (cabinet.frame last.was).absent)
+    (there : IsTrue (cabinet.frame old).tells → IsSome (cabinet.text old name)) (stays : Stays (source.frame start) (source.frame last)) where
+  -- what the text was read of is the cabinet that was lent
+  same_was : last.was ≡ old
+  same_was =
+      let loans : (reading_frame cabinet (names last.was) last).loan ≡ (reading_frame cabinet (names start.was) start).loan =
+      ap (λ (f : Frame). f.loan) (sym (frame last)) ∙ (stays.loan ∙ ap (λ (f : Frame). f.loan) (frame start)) in
+      one last.was start.was (ap (drop 1) loans) ∙ was
+
+  only_here : OnlyTextsRead cabinet old new
+  only_here = subst (λ (c : C). OnlyTextsRead cabinet old c) behind (subst (λ (c : C). OnlyTextsRead cabinet c last.cabinet.now) same_was only)
+
+  absent_here : IsTrue (cabinet.frame old).tells → (cabinet.frame new).absent ≡ (cabinet.frame old).absent
+  absent_here = subst (λ (c : C). IsTrue (cabinet.frame old).tells → (cabinet.frame c).absent ≡ (cabinet.frame old).absent) behind
+      (subst (λ (c : C). IsTrue (cabinet.frame c).tells → (cabinet.frame last.cabinet.now).absent ≡ (cabinet.frame c).absent) same_was absent)
+
+  -- the text as it was
+  first_content : source.content start ≡ whole_text cabinet old name
+  first_content = content start
+      ∙ (ap (λ (c : C). text_stream cabinet c start.name start.from) was
+      ∙ (ap (λ (n : List ℕ). text_stream cabinet old n start.from) named ∙ ap (text_stream cabinet old name) from))
+
+  faults_of : (t : TextState C) → (source.frame t).faults ≡ (cabinet.frame t.cabinet.now).faults
+  faults_of t = ap (λ (f : Frame). f.faults) (frame t)
+
+  faults_first : (source.frame start).faults ≡ (cabinet.frame old).faults
+  faults_first = faults_of start ∙ ap (λ (c : C). (cabinet.frame c).faults) value
+
+  faults_last : (source.frame last).faults ≡ (cabinet.frame new).faults
+  faults_last = faults_of last ∙ ap (λ (c : C). (cabinet.frame c).faults) behind
+
+  held : source.frame last ≡ source.frame start → CabinetHeld cabinet old new
+  held same = ap (λ (n : ℕ). record { faults = n; number = 0; loan = [] }) (sym faults_last ∙ (ap (λ (f : Frame). f.faults) same ∙ faults_first))
+
+  failed : Rose (source.frame start) (source.frame last) → CabinetFailed cabinet old new
+  failed rose = record { rose = grind (arith, rose.rose, faults_first, faults_last) }
+
+  moved : (P : Option Stream → Option Stream → Type 0) → P (source.content start) (source.content last) → P (whole_text cabinet old name) (source.content last)
+  moved P is = subst (λ (c : Option Stream). P c (source.content last)) first_content is
+
+  -- a topology was read, or none
+  read_as : (written : Notation) (done : Result Network Fault) (bytes : List ℕ) → Gives (source.content start) (source.content last) bytes → length bytes ≤ limit_of written + 1 → ((done ≡ Err fault.TooLong) ↔ (limit_of written < length bytes))
+      → IsTextOf cabinet old new written own_costs (whole_text cabinet old name) (source.content last) done → ReadsText cabinet old new written own_costs name done
+  read_as written done bytes gives limit long text = record {
+    taken = bytes;
+    left = source.content last;
+    gives = moved (λ a b. Gives a b bytes) gives;
+    limit = limit;
+    too_long = long;
+    text = text;
+    only_texts = only_here;
+    absent = λ told some. absent_here told;
+    not_there = λ told none. absurd (none_there (cabinet.text old name) none (there told));
+  }
+    where
+      none_there : (found : Option (List ℕ)) → found ≡ None → IsSome found → ⊥
+      none_there None none some = absurd (cc some)
+      none_there (Some bytes) none some = cc none
+
+  -- of a text in lines
+  module _ (bytes : List ℕ) (gives : Gives (source.content start) (source.content last) bytes) (limit : length bytes ≤ INPUT_LIMIT + 1) where
+    pub read_ok : (network : Network) → IsNetwork network → (◌≡◌ {A = Result Network Fault} (Ok network) (Err fault.TooLong) ↔ (INPUT_LIMIT < length bytes)) → source.frame last ≡ source.frame start
+        → WhereTold (source.content start) (source.content last) (λ text _. (rest : List ℕ) × IsTopologyText text network rest) → ReadsText cabinet old new notation.Lines own_costs name (Ok network)
+    read_ok network is long same text = read_as notation.Lines (Ok network) bytes gives limit long
+        (is, held same, moved (λ a b. WhereTold a b (λ text _. TellsPriced notation.Lines own_costs text network)) (WhereTold-map (source.content start) (source.content last) _ _ text (λ input left tells. (network, tells, refl))))
+
+    pub read_err : (why : TopoFault) → ((line word : ℕ) → why ≡ topo.At line word → TellsNoNetwork notation.Lines (Word line word) (source.content start) (source.content last))
+        → ((met : LineFault) → why ≡ fault_of met → WhereTold (source.content start) (source.content last) (StopsInTopology met))
+        → (why ≡ topo.Read → Rose (source.frame start) (source.frame last)) → ((why ≡ topo.Read → ⊥) → source.frame last ≡ source.frame start)
+        → (why ≡ topo.Memory → last ≡ start) → ((why ≡ topo.TooLong) ↔ (INPUT_LIMIT < length bytes)) → ReadsText cabinet old new notation.Lines own_costs name (Err (of_text why))
+    read_err why wrong stopped rose unfailed memory long = read_as notation.Lines (Err (of_text why)) bytes gives limit
+        ((λ is. long.0 (too_long_text why (cc is))), λ more. ap (λ (w : TopoFault). Err (of_text w)) (long.1 more))
+        (at why wrong stopped rose unfailed memory)
+      where
+        too_long_text : (met : TopoFault) → of_text met ≡ fault.TooLong → met ≡ topo.TooLong
+        too_long_text (topo.At l word) same = absurd (cc same)
+        too_long_text topo.Read same = absurd (cc same)
+        too_long_text topo.TooLong same = refl
+        too_long_text topo.Memory same = absurd (cc same)
+
+        at : (met : TopoFault) → ((line word : ℕ) → met ≡ topo.At line word → TellsNoNetwork notation.Lines (Word line word) (source.content start) (source.content last))
+            → ((f : LineFault) → met ≡ fault_of f → WhereTold (source.content start) (source.content last) (StopsInTopology f))
+            → (met ≡ topo.Read → Rose (source.frame start) (source.frame last)) → ((met ≡ topo.Read → ⊥) → source.frame last ≡ source.frame start)
+            → (met ≡ topo.Memory → last ≡ start) → IsTextFault cabinet old new notation.Lines (whole_text cabinet old name) (source.content last) (of_text met)
+        at (topo.At l word) wrong stopped rose unfailed memory = (moved (TellsNoNetwork notation.Lines (Word l word)) (wrong l word refl), held (unfailed (λ is. absurd (cc is))))
+        at topo.Read wrong stopped rose unfailed memory = failed (rose refl)
+        at topo.TooLong wrong stopped rose unfailed memory = (moved (λ a b. WhereTold a b (StopsInTopology line.TooLong)) (stopped line.TooLong refl), held (unfailed (λ is. absurd (cc is))))
+        at topo.Memory wrong stopped rose unfailed memory = (inl (ap source.content (memory refl) ∙ first_content), held (unfailed (λ is. absurd (cc is))))
+
+  -- of one in JSON
+  pub read_json_as : (done : Result Network Fault) (bytes : List ℕ) → Gives (source.content start) (source.content last) bytes → length bytes ≤ JSON_LIMIT + 1 → ((done ≡ Err fault.TooLong) ↔ (JSON_LIMIT < length bytes))
+      → IsJsonOf (source.content start) (source.content last) done → (done ≡ Err fault.Cabinet → Rose (source.frame start) (source.frame last)) → (done ≢ Err fault.Cabinet → source.frame last ≡ source.frame start)
+      → ReadsText cabinet old new notation.Json own_costs name done
+  read_json_as done bytes gives limit long json rose same = read_as notation.Json done bytes gives limit long (at done json rose same)
+    where
+      at : (met : Result Network Fault) → IsJsonOf (source.content start) (source.content last) met → (met ≡ Err fault.Cabinet → Rose (source.frame start) (source.frame last)) → (met ≢ Err fault.Cabinet → source.frame last ≡ source.frame start)
+          → IsTextOf cabinet old new notation.Json own_costs (whole_text cabinet old name) (source.content last) met
+      at (Ok network) is rose same = (
+        is.0,
+        held (same (λ e. absurd (cc e))),
+        moved (λ a b. WhereTold a b (λ text _. TellsPriced notation.Json own_costs text network)) (WhereTold-map (source.content start) (source.content last) _ _ is.1 (λ input left tells. (network, tells, refl))),
+      )
+      at (Err (fault.Topology refusal)) is rose same = (moved (TellsNoNetwork notation.Json refusal) is, held (same (λ e. absurd (cc e))))
+      at (Err fault.Cabinet) is rose same = failed (rose refl)
+      at (Err fault.Memory) is rose same = (inl tt, held (same (λ e. absurd (cc e))))
+      at (Err fault.TooLong) is rose same = (tt, held (same (λ e. absurd (cc e))))
+      at (Err (fault.Words word)) is rose same = absurd is
+      at (Err fault.Read) is rose same = absurd is
+      at (Err fault.Write) is rose same = absurd is
+      at (Err fault.Door) is rose same = absurd is
+      at (Err (fault.Other kept digest)) is rose same = absurd is
+      at (Err (fault.Damaged at_byte)) is rose same = absurd is
+
+-- ---- the text is asked for once before
+
+module _ {C E : Type 0} (cabinet : CabinetGhosts C E) (old mid : C) (name : List ℕ) (texts : cabinet.text mid ≡ cabinet.text old) (disks : cabinet.held mid ≡ cabinet.held old)
+    (absent : IsTrue (cabinet.frame old).tells → (cabinet.frame mid).absent ≡ absent_after (cabinet.text old name) (cabinet.frame old).absent) where
+  only_asked : {T : Type 0} (result : Result T Failed) → IsTextCall (cabinet.frame old) (cabinet.frame mid) result → OnlyTextsRead cabinet old mid
+  only_asked result call = record { texts = texts; disks = disks; stays = call.met.stays; returned = call.returned; out = call.out; tells = call.tells }
+
+  kept_absent : (found : Option (List ℕ)) (count : ℕ) → IsSome found → absent_after found count ≡ count
+  kept_absent None count some = absurd (cc some)
+  kept_absent (Some bytes) count some = refl
+
+  absent_kept : IsTrue (cabinet.frame old).tells → IsSome (cabinet.text old name) → (cabinet.frame mid).absent ≡ (cabinet.frame old).absent
+  absent_kept told some = absent told ∙ kept_absent (cabinet.text old name) (cabinet.frame old).absent some
+
+  gives_nothing : (content : Option Stream) → Gives content content []
+  gives_nothing None = tt
+  gives_nothing (Some stream) = record { taken = sym (append-nil stream.taken); left = refl }
+
+  -- it is refused
+  pub not_given : {T : Type 0} (failed : Failed) → IsTextCall {T = T} (cabinet.frame old) (cabinet.frame mid) (Err failed) → (written : Notation) → ReadsText cabinet old mid written own_costs name (Err fault.Cabinet)
+  not_given {T} failed call written = record {
+    taken = [];
+    left = whole_text cabinet old name;
+    gives = gives_nothing (whole_text cabinet old name);
+    limit = omega arith;
+    too_long = ((λ is. absurd (cc is)), λ more. absurd (omega (arith, more)));
+    text = call.met.failed refl;
+    only_texts = only_asked {T = T} (Err failed) call;
+    absent = absent_kept;
+    not_there = λ told none. refl;
+  }
+
+  -- and then it is read
+  module _ {T : Type 0} (given : T) (new : C) (call : IsTextCall {T = T} (cabinet.frame old) (cabinet.frame mid) (Ok given)) where
+    same_text : whole_text cabinet mid name ≡ whole_text cabinet old name
+    same_text = ap (λ (b : Bool). stream_at 0 b (cabinet.text mid name)) call.tells ∙ ap (λ (t : List ℕ → Option (List ℕ)). stream_at 0 (cabinet.frame old).tells (t name)) texts
+
+    held_too : CabinetHeld cabinet mid new → CabinetHeld cabinet old new
+    held_too same = same ∙ call.met.ok
+
+    failed_too : CabinetFailed cabinet mid new → CabinetFailed cabinet old new
+    failed_too rose = subst (λ (f : Frame). Rose f (object_of (cabinet.frame new))) call.met.ok rose
+
+    text_too : (written : Notation) (left : Option Stream) (done : Result Network Fault) → IsTextOf cabinet mid new written own_costs (whole_text cabinet mid name) left done → IsTextOf cabinet old new written own_costs (whole_text cabinet old name) left done
+    text_too written left (Ok network) is = (is.0, held_too is.1, subst (λ (t : Option Stream). WhereTold t left (λ bytes _. TellsPriced written own_costs bytes network)) same_text is.2)
+    text_too written left (Err (fault.Topology refusal)) is = (subst (λ (t : Option Stream). TellsNoNetwork written refusal t left) same_text is.0, held_too is.1)
+    text_too written left (Err fault.TooLong) is = (subst (λ (t : Option Stream). IsLongAt written t left) same_text is.0, held_too is.1)
+    text_too written left (Err fault.Cabinet) is = failed_too is
+    text_too written left (Err fault.Memory) is = (subst (λ (t : Option Stream). IsStarvedAt written t left ⊎ HasText written t left) same_text is.0, held_too is.1)
+    text_too written left (Err (fault.Words word)) is = absurd is
+    text_too written left (Err fault.Read) is = absurd is
+    text_too written left (Err fault.Write) is = absurd is
+    text_too written left (Err fault.Door) is = absurd is
+    text_too written left (Err (fault.Other kept digest)) is = absurd is
+    text_too written left (Err (fault.Damaged at)) is = absurd is
+
+    pub read_then : (written : Notation) (done : Result Network Fault) → (IsTrue (cabinet.frame old).tells → cabinet.text old name ≡ None → ⊥) → ReadsText cabinet mid new written own_costs name done → ReadsText cabinet old new written own_costs name done
+    read_then written done there reads = record {
+      taken = reads.taken;
+      left = reads.left;
+      gives = subst (λ (t : Option Stream). Gives t reads.left reads.taken) same_text reads.gives;
+      limit = reads.limit;
+      too_long = reads.too_long;
+      text = text_too written reads.left done reads.text;
+      only_texts = record {
+        texts = reads.only_texts.texts ∙ texts;
+        disks = reads.only_texts.disks ∙ disks;
+        stays = Stays-next call.met.stays reads.only_texts.stays;
+        returned = reads.only_texts.returned ∙ call.returned;
+        out = reads.only_texts.out ∙ call.out;
+        tells = reads.only_texts.tells ∙ call.tells;
+      };
+      absent = λ told some. reads.absent (subst IsTrue (sym call.tells) told) (subst (λ (t : List ℕ → Option (List ℕ)). IsSome (t name)) (sym texts) some) ∙ absent_kept told some;
+      not_there = λ told none. absurd (there told none);
+    }
+
+-- ---- with other costs
+
+module _ {C E : Type 0} (cabinet : CabinetGhosts C E) (old new : C) (name : List ℕ) (prices : Network → Network → Type 0) where
+  told_priced : (written : Notation) (text left : Option Stream) (told network : Network) → prices told network → WhereTold text left (λ bytes _. TellsPriced written own_costs bytes told)
+      → WhereTold text left (λ bytes _. TellsPriced written prices bytes network)
+  told_priced written text left told network priced tells = WhereTold-map text left _ _ tells
+      (λ bytes _ is. (told, subst (λ (n : Network). Tells written bytes n) (sym is.2) is.1, priced))
+
+  pub read_priced : (told network : Network) → prices told network → IsNetwork network → ReadsTopology cabinet old new own_costs name (Ok told) → ReadsTopology cabinet old new prices name (Ok network)
+  read_priced told network priced is reads = record {
+    taken = reads.taken;
+    left = reads.left;
+    gives = reads.gives;
+    limit = reads.limit;
+    too_long = ((λ long. absurd (cc long)), λ more. absurd (cc (reads.too_long.1 more)));
+    text = (is, reads.text.1, told_priced (notation_of name) _ reads.left told network priced reads.text.2);
+    only_texts = reads.only_texts;
+    absent = reads.absent;
+    not_there = λ tells none. absurd (cc (reads.not_there tells none));
+  }
+
+  pub read_starved : (told : Network) → ReadsTopology cabinet old new own_costs name (Ok told) → ReadsTopology cabinet old new prices name (Err fault.Memory)
+  read_starved told reads = record {
+    taken = reads.taken;
+    left = reads.left;
+    gives = reads.gives;
+    limit = reads.limit;
+    too_long = ((λ long. absurd (cc long)), λ more. absurd (cc (reads.too_long.1 more)));
+    text = (inr (WhereTold-map _ reads.left _ _ reads.text.2 (λ bytes _ is. (is.0, is.1))), reads.text.1);
+    only_texts = reads.only_texts;
+    absent = reads.absent;
+    not_there = λ tells none. absurd (cc (reads.not_there tells none));
+  }
+
+  pub read_none : (why : Fault) → ReadsTopology cabinet old new own_costs name (Err why) → ReadsTopology cabinet old new prices name (Err why)
+  read_none why reads = record {
+    taken = reads.taken;
+    left = reads.left;
+    gives = reads.gives;
+    limit = reads.limit;
+    too_long = ((λ long. reads.too_long.0 (cc long)), λ more. cc (reads.too_long.1 more));
+    text = reads.text;
+    only_texts = reads.only_texts;
+    absent = reads.absent;
+    not_there = λ tells none. cc (reads.not_there tells none);
+  }
+
+-- ---- both
+
+-- no store that is not opened is too long a text
+never_long : {C E : Type 0} (cabinet : CabinetGhosts C E) (disk : DiskGhosts E) (name : List ℕ) (old new : C) (network : Network) (done : Result (Ledger × Result ⊤ Failed) Fault) → ReadsBook cabinet disk name old new network done → done ≡ Err fault.TooLong → ⊥
+never_long cabinet disk name old new network (Ok read) reads long = cc long
+never_long cabinet disk name old new network (Err fault.TooLong) reads long = reads
+never_long cabinet disk name old new network (Err fault.Cabinet) reads long = cc long
+never_long cabinet disk name old new network (Err fault.Memory) reads long = cc long
+never_long cabinet disk name old new network (Err (fault.Words word)) reads long = reads
+never_long cabinet disk name old new network (Err (fault.Topology refusal)) reads long = reads
+never_long cabinet disk name old new network (Err fault.Read) reads long = reads
+never_long cabinet disk name old new network (Err fault.Write) reads long = reads
+never_long cabinet disk name old new network (Err fault.Door) reads long = reads
+never_long cabinet disk name old new network (Err (fault.Other kept digest)) reads long = cc long
+never_long cabinet disk name old new network (Err (fault.Damaged at)) reads long = cc long
+
+module _ {C E : Type 0} (cabinet : CabinetGhosts C E) (disk : DiskGhosts E) (old mid new : C) (only : OnlyTextsRead cabinet old mid) where
+  pub has_before : (name : List ℕ) (P : E → Type 0) → Has (cabinet.frame mid).tells (cabinet.held mid name) P → Has (cabinet.frame old).tells (cabinet.held old name) P
+  has_before name P has = λ told.
+      let found = has (subst IsTrue (sym only.tells) told) in
+      (found.0, ap (λ (h : List ℕ → Option E). h name) (sym only.disks) ∙ found.1, found.2)
+
+  pub held_before : (name : List ℕ) (P : List ℕ → Type 0) → Held cabinet disk mid new name P → Held cabinet disk old new name P
+  held_before name P held = has_before name (λ was. IfSome (disk.content was) P) held
+
+  unopened_before : (network : Network) (name : List ℕ) → IsUnopened cabinet disk mid new network name → IsUnopened cabinet disk old new network name
+  unopened_before network name (inl same) = inl (same ∙ only.disks)
+  unopened_before network name (inr has) = inr (has_before name _ has)
+
+  refused_before : (network : Network) (name : List ℕ) (meaning : Meaning Entry) → IsRefused cabinet disk mid new network name meaning → IsRefused cabinet disk old new network name meaning
+  refused_before network name meaning refused = record {
+    means = held_before name _ refused.means;
+    none = held_before name _ refused.none;
+    unopened = unopened_before network name refused.unopened;
+  }
+
+  -- where no call of the cabinet failed before
+  module _ (same : CabinetHeld cabinet old mid) (name : List ℕ) (network : Network) where
+    audited_before : (history : List Entry) (closing : Result ⊤ Failed) → HasAudited cabinet disk name mid new network history closing → HasAudited cabinet disk name old new network history closing
+    audited_before history closing has = record {
+      begun = held_before name _ has.begun;
+      sound = has.sound;
+      met = subst (λ (f : Frame). Met f (object_of (cabinet.frame new)) closing) same has.met;
+      left = has_before name _ has.left;
+    }
+
+    not_served_before : (why : Fault) → IsNotServed cabinet disk name mid new network (Err why) → IsNotServed cabinet disk name old new network (Err why)
+    not_served_before fault.Cabinet not = (unopened_before network name not.0, subst (λ (f : Frame). Rose f (object_of (cabinet.frame new))) same not.1)
+    not_served_before (fault.Other kept given) not = (not.0, refused_before network name (other kept) not.1)
+    not_served_before (fault.Damaged at) not = refused_before network name (damaged at) not
+    not_served_before fault.Memory not = unopened_before network name not
+    not_served_before (fault.Words word) not = absurd not
+    not_served_before (fault.Topology refusal) not = absurd not
+    not_served_before fault.Read not = absurd not
+    not_served_before fault.Write not = absurd not
+    not_served_before fault.TooLong not = absurd not
+    not_served_before fault.Door not = absurd not
+
+module _ (prices : Network → Network → Type 0) {C E : Type 0} (cabinet : CabinetGhosts C E) (disk : DiskGhosts E) (topology journal : List ℕ) (old : C) where
+  -- no topology was read
+  pub named_none : (new : C) (why : Fault) → ReadsTopology cabinet old new prices topology (Err why) → ReadsNamed prices cabinet disk topology journal old new (Err why)
+  named_none new why reads = record {
+    taken = reads.taken;
+    left = reads.left;
+    gives = reads.gives;
+    limit = reads.limit;
+    too_long = ((λ is. reads.too_long.0 (cc is)), λ more. cc (reads.too_long.1 more));
+    book = inl (reads.text, reads.only_texts.disks);
+    absent = reads.absent;
+    not_there = λ told none. cc (reads.not_there told none);
+  }
+
+  -- and then the book
+  pub named_then : (mid new : C) (network : Network) (done : Result (Ledger × Result ⊤ Failed) Fault) → ReadsTopology cabinet old mid prices topology (Ok network) → ReadsBook cabinet disk journal mid new network done
+      → (cabinet.frame new).absent ≡ (cabinet.frame mid).absent → ReadsNamed prices cabinet disk topology journal old new done
+  named_then mid new network done reads book absent = record {
+    taken = reads.taken;
+    left = reads.left;
+    gives = reads.gives;
+    limit = reads.limit;
+    too_long = ((λ is. absurd (never_long cabinet disk journal mid new network done book is)), λ more. absurd (cc (reads.too_long.1 more)));
+    book = at done book;
+    absent = λ told some. absent ∙ reads.absent told some;
+    not_there = λ told none. absurd (cc (reads.not_there told none));
+  }
+    where
+      at : (one : Result (Ledger × Result ⊤ Failed) Fault) → ReadsBook cabinet disk journal mid new network one → IsBookOf prices cabinet disk topology journal old new reads.left one
+      at (Ok read) has = record {
+        network = network;
+        text = reads.text.2;
+        is = record { history = has.history; is = has.is; audited = audited_before cabinet disk old mid new reads.only_texts reads.text.1 journal network has.history read.1 has.audited };
+      }
+      at (Err why) not = inr (record { network = network; text = reads.text.2; is = not_served_before cabinet disk old mid new reads.only_texts reads.text.1 journal network why not })

@@ -1,0 +1,154 @@
+-- What a run leaves, by what answering its lines comes to.
+use Rattle.std.proofs.Common.{◌≡◌, ◌∙◌, ℕ, List, [], ◌∷◌, ◌++◌, drop, MutBor, Option, Some, None, Result, Ok, Err, inl, inr, refl, sym, ap, subst}
+use Rattle.std.specs.Prelude.{⊤}
+use Rattle.std.specs.Borrow.{GName}
+use Rattle.hose_io.specs.Frame.{Frame, Rose}
+use Rattle.hose_io.specs.Stream.{Stream}
+use Rattle.hose_io.specs.declared.Failed.{Failed}
+use Rattle.hose_io.specs.declared.source.Source.{Ghosts}
+use Rattle.hose_io.specs.declared.sink.Sink.{Ghosts as SinkGhosts}
+use Rattle.hose_words.specs.Lines.{Reader}
+use Rattle.hose_words.specs.Reading.{WhereTold, ReadsOn}
+use Rattle.hose_words.specs.declared.lines.LineFault.{LineFault}
+use Rattle.hose_words.specs.declared.lines.LineFault.TheVariants as line
+use Rattle.hose_graph.specs.Network.{Network, IsNetwork}
+use Rattle.hose_disk.specs.declared.cabinet.Cabinet.{Ghosts as CabinetGhosts}
+use Rattle.hose_disk.specs.declared.disk.Disk.{Ghosts as DiskGhosts}
+use Rattle.hose_store.specs.Commit.{store_books}
+use Rattle.hose_topo.specs.Reading.{StopsInTopology}
+use Rattle.hose_topo.specs.TopologyText.{IsTopologyText}
+use Rattle.hose_offline.specs.OnDisk.{keeping_of, on_disk}
+use Rattle.hose_offline.specs.Run.{HasRead, HasText, in_memory, IsCutOff, IsRun, IsRunUpTo, TellsNoNetwork}
+use Rattle.hose_offline.specs.RunOutcome.{IsBroken, IsStarved, RunLeaves}
+use Rattle.hose_offline.specs.Serving.{ServesInMemory, plain_books}
+use Rattle.hose_offline.specs.TopologyTold.{TellsPriced}
+use Rattle.hose_offline.specs.declared.notation.Notation.TheVariants.{Lines}
+use Rattle.hose_words.proofs.OnReading.{WhereTold-map}
+use Rattle.hose_offline.specs.ServingOnDisk.{HasServedInCabinet, IsNotServed, ServesInCabinet, first_of}
+use Rattle.hose_offline.specs.declared.fault.Fault.{Fault}
+use Rattle.hose_offline.specs.declared.fault.Fault.TheVariants as fault
+use Rattle.hose_offline.proofs.OneRun.{OneText}
+use Rattle.hose_offline.proofs.Running.{never_told, ran, text_read}
+
+module _ (prices : Network → Network → Type 0) {S O C E : Type 0} (source : Ghosts S) (sink : SinkGhosts O) (cabinet : CabinetGhosts C E) (disk : DiskGhosts E) (start middle last : Reader S) (told network : Network) (priced : prices told network) (output output' : O) (place place' : C) (is : IsNetwork network) (empty : start.pending ≡ [])
+    (text : WhereTold (source.content start.source) (source.content middle.source) (λ input left. IsTopologyText (start.pending ++ input) told (middle.pending ++ left)))
+    (one : WhereTold (source.content start.source) (source.content middle.source) (λ input left. OneText (start.pending ++ input) told (middle.pending ++ left)))
+    (reads : ReadsOn source start middle) (none : middle.fault ≡ None) where
+  abbrev Leaves : Option (List ℕ) → C → Result ⊤ Fault → Type 0
+  Leaves journal after done = RunLeaves prices source sink cabinet disk journal start.source last.source output output' place after done
+
+  -- nothing was done after the topology
+  has_read : (Is : Network → Type 0) → last ≡ middle → Is network → HasRead Lines prices (source.content start.source) (source.content last.source) Is
+  has_read Is stays so = record {
+    network = network;
+    text = subst (λ (reader : Reader S). WhereTold (source.content start.source) (source.content reader.source) (λ input _. TellsPriced Lines prices input network)) (sym stays)
+        (text_read prices source sink start middle last told network priced output output' is empty text one reads none);
+    is = so;
+  }
+
+  has_text : last ≡ middle → HasText Lines (source.content start.source) (source.content last.source)
+  has_text stays = subst (λ (reader : Reader S). HasText Lines (source.content start.source) (source.content reader.source)) (sym stays)
+      (WhereTold-map (source.content start.source) (source.content middle.source) _ _ (text_read prices source sink start middle last told network priced output output' is empty text one reads none) (λ input left tells. (tells.0, tells.1)))
+
+  input_held : last ≡ middle → source.frame last.source ≡ source.frame start.source
+  input_held stays = ap (λ (reader : Reader S). source.frame reader.source) stays ∙ reads.unfailed (λ read. absurd (cc (none, read)))
+
+  -- lines were answered by a book in memory
+  pub leaves_in_memory : (done : Result ⊤ Fault) → ReadsOn source middle last → ServesInMemory source sink middle last output output' network done → Leaves None place done
+  leaves_in_memory done more (inl (is_memory, stays, same)) =
+      subst (Leaves None place) (sym is_memory) (inr (inl (has_text stays, refl)), input_held stays, same)
+  leaves_in_memory done more (inr (first, now, serves)) =
+      ran prices source sink start middle last told network priced output output' is empty text one reads none plain_books in_memory [] first now refl (λ history replies on told. never_told replies told) more
+      (Leaves None place)
+      (λ run held out. (run, held, out))
+      (λ run out rose. (inr (Ok tt, run, out), rose))
+      (λ run out held. (inr (Ok tt, run, out), held))
+      (λ run held rose. ((Ok tt, run), held, rose)) done serves
+
+  -- lines were answered by the book of a journal
+  module _ (name : List ℕ) where
+    served_leaves : (served : Result ⊤ Fault) (closing : Result ⊤ Failed) → ReadsOn source middle last → HasServedInCabinet source sink cabinet disk name middle last output output' place place' network served closing → Leaves (Some name) place' (first_of served closing)
+    served_leaves served (Ok done) more has =
+        ran prices source sink start middle last told network priced output output' is empty text one reads none (store_books disk) (on_disk cabinet disk place place' name (Ok done)) has.since has.first has.last has.begun has.keeps more
+        (λ done. Leaves (Some name) place' done)
+        (λ run held out. (run, held, out))
+        (λ run out rose. (inr (Ok done, run, out), rose))
+        (λ run out held. (inr (Ok done, run, out), held))
+        (λ run held rose. ((Ok done, run), held, rose)) served has.serves
+    served_leaves served (Err failed) more has =
+        ran prices source sink start middle last told network priced output output' is empty text one reads none (store_books disk) (on_disk cabinet disk place place' name (Err failed)) has.since has.first has.last has.begun has.keeps more
+        (λ done. Leaves (Some name) place' (first_of done (Err failed)))
+        (λ run held out. (inr (refl, failed, run, held, out), run.run.keeps.met.failed refl))
+        (λ run out rose. (inr (Err failed, run, out), rose))
+        (λ run out held. (inr (Err failed, run, out), held))
+        (λ run held rose. ((Err failed, run), held, rose)) served has.serves
+
+    not_served : (done : Result ⊤ Fault) → last ≡ middle → output' ≡ output → IsNotServed cabinet disk name place place' network done → Leaves (Some name) place' done
+    not_served (Ok tt) stays same why = absurd why
+    not_served (Err (fault.Words word)) stays same why = absurd why
+    not_served (Err (fault.Topology refusal)) stays same why = absurd why
+    not_served (Err fault.Read) stays same why = absurd why
+    not_served (Err fault.Write) stays same why = absurd why
+    not_served (Err fault.TooLong) stays same why = absurd why
+    not_served (Err fault.Door) stays same why = absurd why
+    not_served (Err (fault.Other kept given)) stays same why = (has_read _ stays why, input_held stays, same)
+    not_served (Err (fault.Damaged at)) stays same why = (has_read _ stays why, input_held stays, same)
+    not_served (Err fault.Cabinet) stays same why = (inl (has_read _ stays why.0, input_held stays, same), why.1)
+    not_served (Err fault.Memory) stays same why = (inr (inr (has_read _ stays why)), input_held stays, same)
+
+    pub leaves_in_cabinet : (done : Result ⊤ Fault) → ReadsOn source middle last → ServesInCabinet source sink cabinet disk name middle last output output' place place' network done → Leaves (Some name) place' done
+    leaves_in_cabinet done more (inl (why, stays, same)) = not_served done stays same why
+    leaves_in_cabinet done more (inr (served, closing, has, told)) = subst (Leaves (Some name) place') (sym told) (served_leaves served closing more has)
+
+-- ---- an input behind a borrow
+
+frame_behind : (frame other : Frame) (name one : GName) → record frame { loan = name ∷ frame.loan } ≡ record other { loan = one ∷ other.loan } → frame ≡ other
+frame_behind frame other name one same = ap (λ (f : Frame). record { faults = f.faults; number = f.number; loan = drop 1 f.loan }) same
+
+module _ (prices : Network → Network → Type 0) {T O C E : Type 0} (other : Ghosts T) (source : Ghosts (MutBor T)) (sink : SinkGhosts O) (cabinet : CabinetGhosts C E) (disk : DiskGhosts E) (journal : Option (List ℕ)) (input input' : MutBor T) (behind : T) (output output' : O) (place place' : C)
+    (content : (b : MutBor T) → source.content b ≡ other.content b.now) (frame : (b : MutBor T) → source.frame b ≡ record (other.frame b.now) { loan = b.ghost_name ∷ (other.frame b.now).loan })
+    (back : input'.now ≡ behind) where
+  moved : (P : Option Stream → Option Stream → Type 0) → P (source.content input) (source.content input') → P (other.content input.now) (other.content behind)
+  moved P is = subst (λ (now : Option Stream). P (other.content input.now) now) (content input' ∙ ap other.content back) (subst (λ (was : Option Stream). P was (source.content input')) (content input) is)
+
+  held : source.frame input' ≡ source.frame input → other.frame behind ≡ other.frame input.now
+  held same = ap other.frame (sym back) ∙ frame_behind (other.frame input'.now) (other.frame input.now) input'.ghost_name input.ghost_name (sym (frame input') ∙ (same ∙ frame input))
+
+  rose : Rose (source.frame input) (source.frame input') → Rose (other.frame input.now) (other.frame behind)
+  rose more = subst (λ (b : T). Rose (other.frame input.now) (other.frame b)) back
+      (record { rose = (subst (λ (f : Frame). Rose f (record (other.frame input'.now) { loan = input'.ghost_name ∷ (other.frame input'.now).loan })) (frame input) (subst (λ (f : Frame). Rose (source.frame input) f) (frame input') more)).rose })
+
+  moved_read : (Is : Network → Type 0) → HasRead Lines prices (source.content input) (source.content input') Is → HasRead Lines prices (other.content input.now) (other.content behind) Is
+  moved_read Is read = moved (λ was now. HasRead Lines prices was now Is) read
+
+  moved_broken : (why : LineFault) → IsBroken prices source sink cabinet disk journal input input' output output' place place' why → IsBroken prices other sink cabinet disk journal input.now behind output output' place place' why
+  moved_broken why (inl stops) = inl (moved (λ was now. WhereTold was now (StopsInTopology why)) stops.0, stops.1, stops.2)
+  moved_broken why (inr run) = inr (run.0, moved (λ was now. IsRunUpTo prices (keeping_of cabinet disk place place' journal run.0) why was now (sink.content output) (sink.content output')) run.1, run.2)
+
+  moved_starved : IsStarved prices source sink cabinet disk journal input input' output output' place place' → IsStarved prices other sink cabinet disk journal input.now behind output output' place place'
+  moved_starved (inl none) = inl (sym back ∙ ap (λ (b : MutBor T). b.now) none.0, none.1, none.2)
+  moved_starved (inr (inl text)) = inr (inl (moved (HasText Lines) text.0, text.1))
+  moved_starved (inr (inr read)) = inr (inr (moved_read _ read))
+
+  moved_run : (closing : Result ⊤ Failed) → IsRun prices (keeping_of cabinet disk place place' journal closing) (source.content input) (source.content input') (sink.content output) (sink.content output')
+      → IsRun prices (keeping_of cabinet disk place place' journal closing) (other.content input.now) (other.content behind) (sink.content output) (sink.content output')
+  moved_run closing run = moved (λ was now. IsRun prices (keeping_of cabinet disk place place' journal closing) was now (sink.content output) (sink.content output')) run
+
+  left_behind : (done : Result ⊤ Fault) → RunLeaves prices source sink cabinet disk journal input input' output output' place place' done → RunLeaves prices other sink cabinet disk journal input.now behind output output' place place' done
+  left_behind (Ok done) leaves = (moved_run (Ok tt) leaves.0, held leaves.1, leaves.2)
+  left_behind (Err (fault.Words word)) leaves = absurd leaves
+  left_behind (Err (fault.Topology refusal)) leaves = (moved (λ was now. TellsNoNetwork Lines refusal was now) leaves.0, held leaves.1, leaves.2, leaves.3)
+  left_behind (Err fault.Read) leaves = (moved_broken line.Read leaves.0, rose leaves.1)
+  left_behind (Err fault.Write) leaves =
+      ((leaves.0.0, moved (λ was now. IsCutOff prices (keeping_of cabinet disk place place' journal leaves.0.0) was now (sink.content output) (sink.content output')) leaves.0.1), held leaves.1, leaves.2)
+  left_behind (Err (fault.Other kept given)) leaves = (moved_read _ leaves.0, held leaves.1, leaves.2)
+  left_behind (Err (fault.Damaged at)) leaves = (moved_read _ leaves.0, held leaves.1, leaves.2)
+  left_behind (Err fault.Cabinet) (inl read, failed) = (inl (moved_read _ read.0, held read.1, read.2), failed)
+  left_behind (Err fault.Cabinet) (inr run, failed) = (inr (run.0, run.1, moved_run (Err run.1) run.2, held run.3, run.4), failed)
+  left_behind (Err fault.Memory) leaves = (moved_starved leaves.0, held leaves.1, leaves.2)
+  left_behind (Err fault.TooLong) leaves = (moved_broken line.TooLong leaves.0, held leaves.1)
+  left_behind (Err fault.Door) leaves = absurd leaves
+
+  -- what is left of the borrow is left of what is behind it
+  pub leaves_behind : (before : T) → input.now ≡ before → (done : Result ⊤ Fault) → RunLeaves prices source sink cabinet disk journal input input' output output' place place' done → RunLeaves prices other sink cabinet disk journal before behind output output' place place' done
+  leaves_behind before begun done leaves = subst (λ (was : T). RunLeaves prices other sink cabinet disk journal was behind output output' place place' done) begun (left_behind done leaves)

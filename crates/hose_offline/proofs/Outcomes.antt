@@ -1,0 +1,212 @@
+-- What the top call makes of a run.
+use Rattle.std.proofs.Common.{◌≡◌, ◌⊎◌, ◌∙◌, ℕ, ◌<◌, ◌≤◌, List, ◌∷◌, [], ◌++◌, Option, None, Some, IfSome, IsSome, MatchOption, Result, Ok, Err, inl, inr, refl, sym, ap, subst, arith, length, length-append}
+use Rattle.std.specs.Prelude.{⊤}
+use Rattle.hose_io.specs.Frame.{Stays}
+use Rattle.hose_io.specs.Stream.{Stream, Gives}
+use Rattle.hose_io.specs.Writing.{IsPut}
+use Rattle.hose_io.specs.declared.Failed.{Failed}
+use Rattle.hose_io.specs.declared.source.Source.{Ghosts as SourceGhosts}
+use Rattle.hose_io.specs.declared.sink.Sink.{Ghosts as SinkGhosts}
+use Rattle.hose_io.proofs.Frames.{Rose-before}
+use Rattle.hose_words.specs.Lines.{StopsAfterLines}
+use Rattle.hose_words.specs.declared.limits.TheConstants.{INPUT_LIMIT}
+use Rattle.hose_words.specs.Reading.{WhereTold}
+use Rattle.hose_words.specs.declared.lines.LineFault.{LineFault}
+use Rattle.hose_words.specs.declared.lines.LineFault.TheVariants as line
+use Rattle.hose_graph.specs.Network.{Network}
+use Rattle.hose_graph.specs.declared.entry.Entry.{Entry}
+use Rattle.hose_graph.specs.declared.reply.Reply.{Reply}
+use Rattle.hose_disk.specs.declared.cabinet.Cabinet.{Ghosts as CabinetGhosts}
+use Rattle.hose_disk.specs.declared.disk.Disk.{Ghosts as DiskGhosts}
+use Rattle.hose_journal.specs.Image.{Meaning, damaged, other}
+use Rattle.hose_store.specs.Recovery.{IsHistoryOf, digest_of}
+use Rattle.hose_law.specs.Script.{ReadLine}
+use Rattle.hose_offline.specs.Ending.{IsOut, status_of_done}
+use Rattle.hose_offline.specs.OnDisk.{Held, IsRefused, IsToldAs, keeping_of}
+use Rattle.hose_offline.specs.Run.{HasRead, HasRun, HasText, IsFor, IsRefusedText, IsRun, IsServable, Keeping, TellsNoNetwork}
+use Rattle.hose_offline.specs.RunOutcome.{EndsRefused, InputStops, IsBroken, JournalIs, NoneFailed, RunLeaves}
+use Rattle.hose_words.specs.Saying.{IsAllTaken, IsLeftOver}
+use Rattle.hose_offline.specs.TopologyTold.{TellsPriced, limit_of}
+use Rattle.hose_offline.specs.declared.fault.Fault.{Fault}
+use Rattle.hose_offline.specs.declared.notation.Notation.{Notation}
+use Rattle.hose_offline.specs.declared.notation.Notation.TheVariants.{Lines}
+use Rattle.hose_offline.specs.declared.notation.Refusal.{Refusal}
+use Rattle.hose_offline.specs.declared.fault.Fault.TheVariants.{Words, Topology, Read, Write, Other, Damaged, Cabinet, Memory, TooLong, Door}
+
+-- a text that was put is out, or a part of it
+pub out_from_put : {O T : Type 0} (sink : SinkGhosts O) (was now : O) (text : List ℕ) (result : Result T Failed) → IsPut sink was now text result → IsOut sink was now text
+out_from_put sink was now text (Ok value) put = inl (put.ok, put.met.ok)
+out_from_put sink was now text (Err failed) put = inr (put.met.failed refl, put.err)
+
+-- the status of an input that is too long
+pub too_long_at_8 : {T : Type 0} (done : Result T Fault) → status_of_done done ≡ 8 → done ≡ Err TooLong
+too_long_at_8 (Ok _) is = absurd (omega (arith, is))
+too_long_at_8 (Err (Words word)) is = absurd (omega (arith, is))
+too_long_at_8 (Err (Topology refusal)) is = absurd (omega (arith, is))
+too_long_at_8 (Err Read) is = absurd (omega (arith, is))
+too_long_at_8 (Err Write) is = absurd (omega (arith, is))
+too_long_at_8 (Err (Other old given)) is = absurd (omega (arith, is))
+too_long_at_8 (Err (Damaged at)) is = absurd (omega (arith, is))
+too_long_at_8 (Err Cabinet) is = absurd (omega (arith, is))
+too_long_at_8 (Err Memory) is = absurd (omega (arith, is))
+too_long_at_8 (Err TooLong) is = refl
+too_long_at_8 (Err Door) is = absurd (omega (arith, is))
+
+-- ---- a command is not refused for its words
+
+pub run_not_1 : {I O C E : Type 0} (prices : Network → Network → Type 0) (source : SourceGhosts I) (sink : SinkGhosts O) (cabinet : CabinetGhosts C E) (disk : DiskGhosts E) (journal : Option (List ℕ)) (input input' : I) (output left : O) (place place' : C)
+    (done : Result ⊤ Fault) → RunLeaves prices source sink cabinet disk journal input input' output left place place' done → status_of_done done ≡ 1 → ⊥
+run_not_1 prices source sink cabinet disk journal input input' output left place place' (Ok _) leaves is = omega (arith, is)
+run_not_1 prices source sink cabinet disk journal input input' output left place place' (Err (Words word)) leaves is = leaves
+run_not_1 prices source sink cabinet disk journal input input' output left place place' (Err (Topology refusal)) leaves is = omega (arith, is)
+run_not_1 prices source sink cabinet disk journal input input' output left place place' (Err Read) leaves is = omega (arith, is)
+run_not_1 prices source sink cabinet disk journal input input' output left place place' (Err Write) leaves is = omega (arith, is)
+run_not_1 prices source sink cabinet disk journal input input' output left place place' (Err (Other old given)) leaves is = omega (arith, is)
+run_not_1 prices source sink cabinet disk journal input input' output left place place' (Err (Damaged at)) leaves is = omega (arith, is)
+run_not_1 prices source sink cabinet disk journal input input' output left place place' (Err Cabinet) leaves is = omega (arith, is)
+run_not_1 prices source sink cabinet disk journal input input' output left place place' (Err Memory) leaves is = omega (arith, is)
+run_not_1 prices source sink cabinet disk journal input input' output left place place' (Err TooLong) leaves is = omega (arith, is)
+run_not_1 prices source sink cabinet disk journal input input' output left place place' (Err Door) leaves is = leaves
+
+-- ---- an input that can be served
+
+-- its topology is not refused
+pub not_refused : (written : Notation) (refusal : Refusal) (old new : Option Stream) (bytes : List ℕ) → Gives old new bytes → IsServable written old → TellsNoNetwork written refusal old new → ⊥
+not_refused written refusal (Some old) (Some new) bytes gives servable told = told.1 servable.0 servable.1
+not_refused written refusal (Some old) None bytes gives servable told = gives
+not_refused written refusal None new bytes gives servable told = servable
+
+-- it is not too long
+pub not_long : (written : Notation) (old new : Option Stream) (bytes : List ℕ) → Gives old new bytes → IsServable written old → limit_of written < length bytes → ⊥
+not_long written (Some old) (Some new) bytes gives servable long =
+    let most : length old.left ≤ limit_of written = servable.2 in
+    omega (arith, most, long, ap length gives.left, length-append bytes new.left)
+not_long written (Some old) None bytes gives servable long = gives
+not_long written None new bytes gives servable long = servable
+
+-- ---- an input whose topology is refused
+
+no_run : (prices : Network → Network → Type 0) (keeping : Keeping) (old new : Option Stream) (network : Network) (lines : List ReadLine) (replies : List Reply) (stops : List ℕ → List ℕ → List ℕ → Type 0) → IsRefusedText Lines old new
+    → HasRun prices keeping old new network lines replies stops → ⊥
+no_run prices keeping (Some old) (Some new) network lines replies stops refused run = refused run.told (run.text.0, run.text.2)
+no_run prices keeping (Some old) None network lines replies stops refused run = refused
+no_run prices keeping None new network lines replies stops refused run = refused
+
+pub no_text : (written : Notation) (old new : Option Stream) → IsRefusedText written old new → HasText written old new → ⊥
+no_text written (Some old) (Some new) refused text = refused text.0 text.1
+no_text written (Some old) None refused text = refused
+no_text written None new refused text = refused
+
+pub no_network_read : (written : Notation) (prices : Network → Network → Type 0) (old new : Option Stream) (network : Network) → IsRefusedText written old new → WhereTold old new (λ text _. TellsPriced written prices text network) → ⊥
+no_network_read written prices (Some old) (Some new) network refused text = refused text.0 text.1
+no_network_read written prices (Some old) None network refused text = refused
+no_network_read written prices None new network refused text = refused
+
+-- ---- a journal of a network
+
+-- what holds of each network of an input holds of the one that was read
+pub of_read : (written : Notation) (prices : Network → Network → Type 0) (old new : Option Stream) (bytes : List ℕ) (network : Network) (Is : Network → Type 0) → Gives old new bytes → WhereTold old new (λ text _. TellsPriced written prices text network)
+    → IsFor written prices old Is → Is network
+of_read written prices (Some old) (Some new) bytes network Is gives text all = all network text
+of_read written prices (Some old) None bytes network Is gives text all = absurd gives
+of_read written prices None new bytes network Is gives text all = absurd all
+
+of_run : (prices : Network → Network → Type 0) (keeping : Keeping) (old new : Option Stream) (bytes : List ℕ) (network : Network) (lines : List ReadLine) (replies : List Reply) (stops : List ℕ → List ℕ → List ℕ → Type 0) (Is : Network → Type 0) → Gives old new bytes
+    → HasRun prices keeping old new network lines replies stops → IsFor Lines prices old Is → Is network
+of_run prices keeping (Some old) (Some new) bytes network lines replies stops Is gives run all = all network (run.told, (run.text.0, run.text.2), run.priced)
+of_run prices keeping (Some old) None bytes network lines replies stops Is gives run all = absurd gives
+of_run prices keeping None new bytes network lines replies stops Is gives run all = absurd all
+
+module _ {C E : Type 0} (cabinet : CabinetGhosts C E) (disk : DiskGhosts E) (old new : C) where
+  some_is : (A : Type 0) (a b : A) → Some a ≡ Some b → a ≡ b
+  some_is A a b same = cc same
+
+  -- what a journal was read as, and what it was told to be
+  pub clash : (name : List ℕ) (P Q : List ℕ → Type 0) → ((bytes : List ℕ) → P bytes → Q bytes → ⊥) → Held cabinet disk old new name P → IsToldAs cabinet disk old new (Some name) Q → ⊥
+  clash name P Q apart held told =
+      let found = held told.0 in
+      let same : found.0 ≡ told.1 = some_is E found.0 told.1 (sym found.1 ∙ told.2) in
+      let is = subst (λ (disk_was : E). IfSome (disk.content disk_was) P) same found.2 in
+      let bytes = subst (λ (content : Option (List ℕ)). IfSome content P) told.4 is in
+      apart told.3 bytes told.5
+
+module _ (prices : Network → Network → Type 0) {I O C E : Type 0} (source : SourceGhosts I) (sink : SinkGhosts O) (cabinet : CabinetGhosts C E) (disk : DiskGhosts E) (journal : Option (List ℕ)) (input input' : I) (output left output' : O) (place place' : C) where
+  stops_refused : (fault : LineFault) → IsRefusedText Lines (source.content input) (source.content input') → IsBroken prices source sink cabinet disk journal input input' output left place place' fault
+      → InputStops prices source sink cabinet disk journal input input' output output' place place' fault
+  stops_refused fault refused (inl stops) = stops.0
+  stops_refused fault refused (inr run) = absurd (no_run prices _ _ _ run.1.network run.1.lines run.1.replies (StopsAfterLines fault) refused run.1.run)
+
+  abbrev Leaves : {T : Type 0} → Result T Fault → Type 0
+  Leaves done = RunLeaves prices source sink cabinet disk journal input input' output left place place' done
+
+  nothing_read : (Is : Network → Type 0) → IsRefusedText Lines (source.content input) (source.content input') → HasRead Lines prices (source.content input) (source.content input') Is → ⊥
+  nothing_read Is refused read = no_network_read Lines prices _ _ read.network refused read.text
+
+  pub refused_ends : (done : Result ⊤ Fault) → Leaves done → IsRefusedText Lines (source.content input) (source.content input')
+      → EndsRefused prices source sink cabinet disk journal input input' output output' place place' (status_of_done done)
+  refused_ends (Ok _) leaves refused = absurd (no_run prices _ _ _ leaves.0.network leaves.0.lines leaves.0.replies IsAllTaken refused leaves.0.run)
+  refused_ends (Err (Words word)) leaves refused = absurd leaves
+  refused_ends (Err (Topology refusal)) leaves refused = inl refl
+  refused_ends (Err Memory) (inl none, held, same) refused = inr (inl (refl, none.0))
+  refused_ends (Err Memory) (inr (inl text), held, same) refused = absurd (no_text Lines _ _ refused text.0)
+  refused_ends (Err Memory) (inr (inr read), held, same) refused = absurd (nothing_read _ refused read)
+  refused_ends (Err Write) leaves refused = absurd (no_run prices _ _ _ leaves.0.1.network leaves.0.1.lines (leaves.0.1.replies ++ leaves.0.1.reply ∷ []) IsLeftOver refused leaves.0.1.run)
+  refused_ends (Err (Other old given)) leaves refused = absurd (nothing_read _ refused leaves.0)
+  refused_ends (Err (Damaged at)) leaves refused = absurd (nothing_read _ refused leaves.0)
+  refused_ends (Err Cabinet) (inl read, rose) refused = absurd (nothing_read _ refused read.0)
+  refused_ends (Err Cabinet) (inr run, rose) refused = absurd (no_run prices _ _ _ run.2.network run.2.lines run.2.replies IsAllTaken refused run.2.run)
+  refused_ends (Err Read) leaves refused = inr (inr (inl (refl, stops_refused line.Read refused leaves.0)))
+  refused_ends (Err TooLong) leaves refused = inr (inr (inr (refl, stops_refused line.TooLong refused leaves.0)))
+  refused_ends (Err Door) leaves refused = absurd leaves
+
+  module _ (stays : Stays (sink.frame left) (sink.frame output')) (bytes : List ℕ) (gives : Gives (source.content input) (source.content input') bytes)
+      (servable : IsServable Lines (source.content input)) (held : NoneFailed prices source sink cabinet disk journal input input' output output' place place') where
+    abbrev Told : (Network → List ℕ → Type 0) → Type 0
+    Told Is = JournalIs prices source sink cabinet disk journal input input' output output' place place' Is
+
+    -- a refused journal is none of the network's
+    other_journal : (given : Network → Type 0) (meaning : Meaning Entry)
+        → HasRead Lines prices (source.content input) (source.content input') (λ network. given network × MatchOption journal ⊥ (λ name. IsRefused cabinet disk place place' network name meaning))
+        → Told (λ network image. (history : List Entry) × IsHistoryOf network history image) → ⊥
+    other_journal given meaning read told = at journal read.is.1 (of_read Lines prices (source.content input) (source.content input') bytes read.network _ gives read.text told)
+      where
+        at : (one : Option (List ℕ)) → MatchOption one ⊥ (λ name. IsRefused cabinet disk place place' read.network name meaning) → IsToldAs cabinet disk place place' one (λ image. (history : List Entry) × IsHistoryOf read.network history image) → ⊥
+        at None refused is = refused
+        at (Some name) refused is = clash cabinet disk place place' name _ _ (λ image none history. none history.0 history.1) refused.none is
+
+    pub completes : (done : Result ⊤ Fault) → Leaves done → (done ≡ Err TooLong → INPUT_LIMIT < length bytes) → Told (λ network image. (history : List Entry) × IsHistoryOf network history image)
+        → (status_of_done done ≡ 0) ⊎ (status_of_done done ≡ 7)
+    completes (Ok _) leaves long told = inl refl
+    completes (Err (Words word)) leaves long told = absurd leaves
+    completes (Err (Topology refusal)) leaves long told = absurd (not_refused Lines refusal _ _ bytes gives servable leaves.0)
+    completes (Err Read) leaves long told = absurd (held.reading leaves.1)
+    completes (Err Write) leaves long told = absurd (held.writing (Rose-before _ _ _ leaves.2 stays))
+    completes (Err (Other old given)) leaves long told = absurd (other_journal (λ network. given ≡ digest_of network) (other old) leaves.0 told)
+    completes (Err (Damaged at)) leaves long told = absurd (other_journal (λ network. ⊤) (damaged at) (record { network = leaves.0.network; text = leaves.0.text; is = (tt, leaves.0.is) }) told)
+    completes (Err Cabinet) leaves long told = absurd (held.keeping_it leaves.1)
+    completes (Err Memory) leaves long told = inr refl
+    completes (Err TooLong) leaves long told = absurd (not_long Lines _ _ bytes gives servable (long refl))
+    completes (Err Door) leaves long told = absurd leaves
+
+    -- no run is over a journal that stands for no history
+    no_such_run : (closing : Result ⊤ Failed) → IsSome journal → IsRun prices (keeping_of cabinet disk place place' journal closing) (source.content input) (source.content input') (sink.content output) (sink.content left)
+        → Told (λ network image. (history : List Entry) → ¬ IsHistoryOf network history image) → ⊥
+    no_such_run closing some run told = at journal some run.run.begun (of_run prices (keeping_of cabinet disk place place' journal closing) (source.content input) (source.content input') bytes run.network run.lines run.replies IsAllTaken _ gives run.run told)
+      where
+        at : (one : Option (List ℕ)) → IsSome one → (keeping_of cabinet disk place place' one closing).Begins run.network run.run.since → IsToldAs cabinet disk place place' one (λ image. (history : List Entry) → ¬ IsHistoryOf run.network history image) → ⊥
+        at None is begun told_as = absurd (cc is)
+        at (Some name) is begun told_as = clash cabinet disk place place' name _ _ (λ image history none. none run.run.since history) begun told_as
+
+    pub refuses : (done : Result ⊤ Fault) → Leaves done → (done ≡ Err TooLong → INPUT_LIMIT < length bytes) → IsSome journal → Told (λ network image. (history : List Entry) → ¬ IsHistoryOf network history image)
+        → (status_of_done done ≡ 5) ⊎ (status_of_done done ≡ 7)
+    refuses (Ok _) leaves long some told = absurd (no_such_run (Ok tt) some leaves.0 told)
+    refuses (Err (Words word)) leaves long some told = absurd leaves
+    refuses (Err (Topology refusal)) leaves long some told = absurd (not_refused Lines refusal _ _ bytes gives servable leaves.0)
+    refuses (Err Read) leaves long some told = absurd (held.reading leaves.1)
+    refuses (Err Write) leaves long some told = absurd (held.writing (Rose-before _ _ _ leaves.2 stays))
+    refuses (Err (Other old given)) leaves long some told = inl refl
+    refuses (Err (Damaged at)) leaves long some told = inl refl
+    refuses (Err Cabinet) leaves long some told = absurd (held.keeping_it leaves.1)
+    refuses (Err Memory) leaves long some told = inr refl
+    refuses (Err TooLong) leaves long some told = absurd (not_long Lines _ _ bytes gives servable (long refl))
+    refuses (Err Door) leaves long some told = absurd leaves

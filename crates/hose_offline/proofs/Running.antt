@@ -1,0 +1,252 @@
+-- A run as a whole, from its topology and the turns behind it.
+use Rattle.std.proofs.Common.{◌≡◌, ◌≢◌, ◌∙◌, ℕ, List, [], ◌∷◌, ◌++◌, length, Option, Some, None, Result, Ok, Err, inl, inr, refl, ap, subst, arith}
+use Rattle.std.specs.Prelude.{⊤}
+use Rattle.std.proofs.lemmas.List.Elements.{All-cons, All-nil}
+use Rattle.hose_io.specs.Stream.{Stream, Grows}
+use Rattle.hose_io.specs.declared.source.Source.{Ghosts}
+use Rattle.hose_words.specs.Lines.{Reader, StopsAfterLines}
+use Rattle.hose_words.specs.Reading.{WhereTold, ReadsOn}
+use Rattle.hose_words.specs.declared.lines.LineFault.{LineFault}
+use Rattle.hose_words.specs.declared.lines.LineFault.TheVariants as line
+use Rattle.hose_words.proofs.OnReading.{IsAfterLines-then, WhereTold-both, WhereTold-map, WhereTold-then}
+use Rattle.hose_graph.specs.Network.{Network, IsNetwork}
+use Rattle.hose_graph.specs.declared.entry.Entry.{Entry}
+use Rattle.hose_graph.specs.declared.reply.Reply.{Reply}
+use Rattle.hose_graph.specs.declared.reply.Reply.TheVariants.{Welcome, Admitted, Quoted, Refused, Stale, Released, NoVpn, NoQuote, TooMany, Shown, LinkState, Full, Spent, Disk, Memory, Bad, Long, Bye}
+use Rattle.hose_law.specs.History.{IsDecidedAt}
+use Rattle.hose_law.specs.Script.{IsForDisk, ReadLine, WithoutDisk, one_if_disk}
+use Rattle.hose_law.proofs.Cheapest.{decided_cheapest}
+use Rattle.hose_law.proofs.Lives.{live_held, stays_live}
+use Rattle.hose_law.proofs.Sold.{sold}
+use Rattle.hose_io.specs.Frame.{Rose}
+use Rattle.hose_book.specs.GoingOn.{GoesOn}
+use Rattle.hose_book.specs.declared.books.Books.{Ghosts as BooksGhosts}
+use Rattle.hose_disk.specs.declared.cabinet.Cabinet.{Ghosts as CabinetGhosts}
+use Rattle.hose_disk.specs.declared.disk.Disk.{Ghosts as DiskGhosts}
+use Rattle.hose_io.specs.declared.sink.Sink.{Ghosts as SinkGhosts}
+use Rattle.hose_offline.specs.RunOutcome.{RunLeaves}
+use Rattle.hose_offline.specs.Fault.{of_topology}
+use Rattle.hose_offline.specs.Run.{HasRun, IsCutOff, IsRun, IsRunUpTo, Keeping, TellsNoNetwork}
+use Rattle.hose_words.specs.Saying.{IsAllTaken, IsLeftOver, SayLines}
+use Rattle.hose_proto.specs.Replies.{CutsLast, texts_of}
+use Rattle.hose_offline.specs.TopologyTold.{TellsPriced}
+use Rattle.hose_offline.specs.declared.notation.Notation.TheVariants.{Lines}
+use Rattle.hose_offline.specs.declared.notation.Refusal.TheVariants.{Word}
+use Rattle.hose_offline.specs.Serving.{SayOneThingEach, Serves, ServesUntil, ServesUpTo, TellsDisks, SaysNext}
+use Rattle.hose_topo.specs.Reading.{fault_of, KeepsFault, StopsInTopology}
+use Rattle.hose_topo.specs.TopologyText.{IsTopologyText, IsWrongAt}
+use Rattle.hose_offline.specs.declared.fault.Fault.{Fault}
+use Rattle.hose_offline.specs.declared.fault.Fault.TheVariants as fault
+use Rattle.hose_topo.specs.declared.fault.TopoFault.{TopoFault}
+use Rattle.hose_topo.specs.declared.fault.TopoFault.TheVariants.{At, Read, TooLong, Memory as TopoMemory}
+use Rattle.hose_offline.proofs.OneRun.{OneInput, OneText, right_alone}
+
+-- reading stopped inside the topology
+pub stopped_told : {S : Type 0} (source : Ghosts S) (start last : Reader S) (fault : LineFault) → start.pending ≡ []
+    → WhereTold (source.content start.source) (source.content last.source) (λ input left. StopsInTopology fault (start.pending ++ input) left)
+    → WhereTold (source.content start.source) (source.content last.source) (StopsInTopology fault)
+stopped_told source start last fault empty told = WhereTold-map (source.content start.source) (source.content last.source) _ _ told
+    (λ a b stopped. subst (λ (p : List ℕ). StopsInTopology fault (p ++ a) b) empty stopped)
+
+-- the text of a network was read
+pub text_told : {S : Type 0} (source : Ghosts S) (start last : Reader S) (network : Network) → start.pending ≡ []
+    → WhereTold (source.content start.source) (source.content last.source) (λ input left. IsTopologyText (start.pending ++ input) network (last.pending ++ left))
+    → WhereTold (source.content start.source) (source.content last.source) (λ input _. (rest : List ℕ) × IsTopologyText input network rest)
+text_told source start last network empty told = WhereTold-map (source.content start.source) (source.content last.source) _ _ told
+    (λ a b is. (last.pending ++ b, subst (λ (p : List ℕ). IsTopologyText (p ++ a) network (last.pending ++ b)) empty is))
+
+-- the topology is wrong
+pub wrong_told : {S : Type 0} (source : Ghosts S) (start last : Reader S) (line word : ℕ) → start.pending ≡ []
+    → WhereTold (source.content start.source) (source.content last.source) (λ before after. IsWrongAt (start.pending ++ before) line word (last.pending ++ after))
+    → WhereTold (source.content start.source) (source.content last.source) (λ before _. (network : Network) (rest : List ℕ) → IsTopologyText (start.pending ++ before) network rest → ⊥)
+    → TellsNoNetwork Lines (Word line word) (source.content start.source) (source.content last.source)
+wrong_told source start last line word empty wrong none =
+    WhereTold-map (source.content start.source) (source.content last.source) _ _
+    (WhereTold-both (source.content start.source) (source.content last.source) _ _ wrong none)
+    (λ a b both. (
+      (last.pending ++ b, subst (λ (p : List ℕ). IsWrongAt (p ++ a) line word (last.pending ++ b)) empty both.0),
+      λ network tells. subst (λ (p : List ℕ). (n : Network) (rest : List ℕ) → IsTopologyText (p ++ a) n rest → ⊥) empty both.1 network tells.0 tells.1,
+    ))
+
+-- a network was read, and then lines were answered; what `stops` says behind the topology it says of the whole input
+abbrev pub has_run : {S K R : Type 0} (prices : Network → Network → Type 0) (source : Ghosts S) (books : BooksGhosts K R) (keeping : Keeping) (start middle last : Reader S) (told network : Network) (priced : prices told network) (since : List Entry) (first now : K) → keeping.Begins network since
+    → ((history : List Entry) (replies : List Reply) → GoesOn books IsDecidedAt network since first history now → TellsDisks (books.frame first).faults replies (books.frame now).faults → keeping.Keeps network since history replies)
+    → IsNetwork network → (stops : List ℕ → List ℕ → List ℕ → Type 0) (puts : List Reply → Type 0) → start.pending ≡ []
+    → WhereTold (source.content start.source) (source.content middle.source) (λ input left. IsTopologyText (start.pending ++ input) told (middle.pending ++ left))
+    → ReadsOn source start middle
+    → WhereTold (source.content start.source) (source.content middle.source) (λ input left. (behind rest : List ℕ) → stops (middle.pending ++ left) behind rest → stops (start.pending ++ input) behind rest)
+    → (served : ServesUpTo source books middle last network since first now stops puts)
+    → HasRun prices keeping (source.content start.source) (source.content last.source) network served.lines served.replies stops
+has_run prices source books keeping start middle last told network priced since first now begun keeps is stops puts empty text reads joins served = record {
+  told = told;
+  priced = priced;
+  since = since;
+  history = served.answered.history;
+  begun = begun;
+  begins = served.answered.begins;
+  text = WhereTold-then (source.content start.source) (source.content middle.source) (source.content last.source) reads.takes.0 _ _ _ reads.takes.1
+      (WhereTold-both (source.content start.source) (source.content middle.source) _ _ text joins) served.said
+      (λ a b c before said. (
+        middle.pending ++ b,
+        said.0,
+        subst (λ (p : List ℕ). IsTopologyText (p ++ a) told (middle.pending ++ b)) empty before.0,
+        said.1,
+        subst (λ (p : List ℕ). stops (p ++ a) said.0 c) empty (before.1 said.0 c said.2),
+      ));
+  left = served.answered.left;
+  script = served.answered.script;
+  decided = served.answered.decided;
+  keeps = keeps served.answered.history served.replies served.answered.goes_on served.answered.disks;
+  none_oversold = λ place l. sold network 0 served.answered.history place l served.answered.decided.sound;
+  held = live_held 0 served.answered.history;
+  kept = stays_live 0 served.answered.history;
+  cheapest = decided_cheapest network is 0 (length since) served.answered.history served.answered.decided;
+}
+
+-- up to the end of the input
+pub run_of : (prices : Network → Network → Type 0) (keeping : Keeping) (old new : Option Stream) (network : Network) (lines : List ReadLine) (replies : List Reply) (before after : Option (List ℕ)) → IsNetwork network
+    → (run : HasRun prices keeping old new network lines replies IsAllTaken) → WhereTold old new (λ input _. OneInput input run.told network) → Grows before after (texts_of network replies) → IsRun prices keeping old new before after
+run_of prices keeping old new network lines replies before after is run one out = record {
+  network = network;
+  lines = lines;
+  replies = replies;
+  run = run;
+  out = out;
+  alone = λ memory disk. WhereTold-map old new _ _ (WhereTold-both old new _ _ one run.text)
+      (λ input left both output right.
+      let text = both.1 in
+      right_alone prices run.told network run.since input text.0 output lines replies run.history run.left is both.0 text.2
+      (subst (SayLines (SaysNext network) text.0 lines) text.4.0 text.3) run.script (record { memory = memory; disk = disk }) right);
+}
+
+-- up to a reply that was cut off
+pub cut_of : (prices : Network → Network → Type 0) (keeping : Keeping) (old new : Option Stream) (network : Network) (lines : List ReadLine) (replies : List Reply) (before after : Option (List ℕ))
+    → HasRun prices keeping old new network lines replies IsLeftOver → CutsLast network before after replies → IsCutOff prices keeping old new before after
+cut_of prices keeping old new network lines replies before after run cuts = record {
+  network = network;
+  lines = lines;
+  replies = cuts.0;
+  reply = cuts.1;
+  run = subst (λ (r : List Reply). HasRun prices keeping old new network lines r IsLeftOver) cuts.2 run;
+  out = cuts.3;
+}
+
+-- where a count never rises no failure of a disk is told
+pub never_told : (replies : List Reply) → TellsDisks 0 replies 0 → WithoutDisk replies
+never_told [] told = All-nil (λ reply. ¬ IsForDisk reply)
+never_told (reply ∷ replies) (inr most) = absurd (omega (arith, most))
+never_told (reply ∷ replies) (inl told) = All-cons (λ r. ¬ IsForDisk r) reply replies (is_none reply (omega (arith, told))) (never_told replies (inl (omega (arith, told))))
+  where
+    is_none : (one : Reply) → one_if_disk one ≡ 0 → ¬ IsForDisk one
+    is_none (Disk at) none disk = cc none
+    is_none (Welcome at) none disk = disk
+    is_none (Admitted id cost at amounts) none disk = disk
+    is_none (Quoted quote cost at amounts) none disk = disk
+    is_none (Refused at side) none disk = disk
+    is_none (Stale seen now) none disk = disk
+    is_none (Released id at) none disk = disk
+    is_none (NoVpn id at) none disk = disk
+    is_none (NoQuote quote at) none disk = disk
+    is_none (TooMany at) none disk = disk
+    is_none (Shown id cost at hose amounts) none disk = disk
+    is_none (LinkState link load at) none disk = disk
+    is_none (Full at) none disk = disk
+    is_none (Spent at) none disk = disk
+    is_none Memory none disk = disk
+    is_none (Bad word) none disk = disk
+    is_none Long none disk = disk
+    is_none Bye none disk = disk
+
+-- ---- what a run leaves
+
+-- the reader has no fault of reading where that is not why no topology was read
+pub not_read : (topology : TopoFault) (old new : Option LineFault) → old ≡ None → KeepsFault old new (Err topology) → (topology ≡ Read → ⊥) → new ≢ Some line.Read
+not_read (At l word) old new none kept other read = cc (kept.1, read)
+not_read Read old new none kept other read = other refl
+not_read TooLong old new none kept other read = cc (kept, read)
+not_read TopoMemory old new none kept other read = cc (kept, none, read)
+
+-- where no topology was read
+pub leaves_topology : {S O C E : Type 0} (T : Type 0) (prices : Network → Network → Type 0) (source : Ghosts S) (sink : SinkGhosts O) (cabinet : CabinetGhosts C E) (disk : DiskGhosts E) (journal : Option (List ℕ)) (start last : Reader S) (output : O) (place : C) (topology : TopoFault)
+    → ((line word : ℕ) → topology ≡ At line word → TellsNoNetwork Lines (Word line word) (source.content start.source) (source.content last.source))
+    → ((fault : LineFault) → topology ≡ fault_of fault → WhereTold (source.content start.source) (source.content last.source) (StopsInTopology fault))
+    → (topology ≡ Read → Rose (source.frame start.source) (source.frame last.source)) → ((topology ≡ Read → ⊥) → source.frame last.source ≡ source.frame start.source)
+    → (topology ≡ TopoMemory → last ≡ start) → RunLeaves prices source sink cabinet disk journal start.source last.source output output place place {T = T} (Err (of_topology topology))
+leaves_topology T prices source sink cabinet disk journal start last output place (At line word) wrong stopped read unfailed memory = (wrong line word refl, unfailed (λ is. absurd (cc is)), refl, refl)
+leaves_topology T prices source sink cabinet disk journal start last output place Read wrong stopped read unfailed memory = (inl (stopped line.Read refl, refl, refl), read refl)
+leaves_topology T prices source sink cabinet disk journal start last output place TooLong wrong stopped read unfailed memory = (inl (stopped line.TooLong refl, refl, refl), unfailed (λ is. absurd (cc is)))
+leaves_topology {S = S} T prices source sink cabinet disk journal start last output place TopoMemory wrong stopped read unfailed memory =
+    (inl (ap (λ (reader : Reader S). reader.source) (memory refl), refl, refl), unfailed (λ is. absurd (cc is)), refl)
+
+-- where a topology was read
+module _ (prices : Network → Network → Type 0) {S O : Type 0} (source : Ghosts S) (sink : SinkGhosts O) (start middle last : Reader S) (told network : Network) (priced : prices told network) (output output' : O) (is : IsNetwork network) (empty : start.pending ≡ [])
+    (text : WhereTold (source.content start.source) (source.content middle.source) (λ input left. IsTopologyText (start.pending ++ input) told (middle.pending ++ left)))
+    (one : WhereTold (source.content start.source) (source.content middle.source) (λ input left. OneText (start.pending ++ input) told (middle.pending ++ left)))
+    (reads : ReadsOn source start middle) (none : middle.fault ≡ None) where
+  held_before : source.frame middle.source ≡ source.frame start.source
+  held_before = reads.unfailed (λ read. absurd (cc (none, read)))
+
+  -- the text of a network was read
+  pub text_read : WhereTold (source.content start.source) (source.content middle.source) (λ input _. TellsPriced Lines prices input network)
+  text_read = WhereTold-map (source.content start.source) (source.content middle.source) _ _ (text_told source start middle told empty text) (λ input left tells. (told, tells, priced))
+
+  -- and then lines were answered
+  module _ {K R : Type 0} (books : BooksGhosts K R) (keeping : Keeping) (since : List Entry) (first now : K) (begun : keeping.Begins network since)
+      (keeps : (history : List Entry) (replies : List Reply) → GoesOn books IsDecidedAt network since first history now → TellsDisks (books.frame first).faults replies (books.frame now).faults → keeping.Keeps network since history replies)
+      (more : ReadsOn source middle last) where
+    held_over : last.fault ≢ Some line.Read → source.frame last.source ≡ source.frame start.source
+    held_over other = more.unfailed other ∙ held_before
+
+    -- where `stops` says nothing of the text before
+    whatever_before : (stops : List ℕ → List ℕ → Type 0) → WhereTold (source.content start.source) (source.content middle.source) (λ _ _. (behind rest : List ℕ) → stops behind rest → stops behind rest)
+    whatever_before stops = WhereTold-map (source.content start.source) (source.content middle.source) _ _ text (λ _ _ _ _ _ same. same)
+
+    -- each line after the topology says one thing
+    one_input : WhereTold (source.content middle.source) (source.content last.source) (λ was _. SayOneThingEach network (middle.pending ++ was) [])
+        → WhereTold (source.content start.source) (source.content last.source) (λ input _. OneInput input told network)
+    one_input each = WhereTold-then (source.content start.source) (source.content middle.source) (source.content last.source) reads.takes.0 _ _ _ reads.takes.1 one each
+        (λ a b c alone lines. record {
+          rest = middle.pending ++ b;
+          text = subst (λ (p : List ℕ). OneText (p ++ a) told (middle.pending ++ b)) empty alone;
+          lines = lines;
+        })
+
+    run_until : (fault : LineFault) → ServesUntil source sink books middle last output output' network since first now fault
+        → IsRunUpTo prices keeping fault (source.content start.source) (source.content last.source) (sink.content output) (sink.content output')
+    run_until fault served =
+        let joins = WhereTold-map (source.content start.source) (source.content middle.source) _
+        (λ input left. (behind rest : List ℕ) → StopsAfterLines fault (middle.pending ++ left) behind rest → StopsAfterLines fault (start.pending ++ input) behind rest)
+        (reads.whole none served.before_end)
+        (λ input left lines behind rest stops. (IsAfterLines-then (start.pending ++ input) (middle.pending ++ left) behind lines stops.0, stops.1)) in
+        record {
+          network = network;
+          lines = served.serves.lines;
+          replies = served.serves.replies;
+          run = has_run prices source books keeping start middle last told network priced since first now begun keeps is (StopsAfterLines fault) _ empty text reads joins served.serves;
+          out = served.serves.out;
+        }
+
+    -- what answering them comes to, of the whole input
+    pub ran : (P : Result ⊤ Fault → Type 0)
+        → (IsRun prices keeping (source.content start.source) (source.content last.source) (sink.content output) (sink.content output') → source.frame last.source ≡ source.frame start.source → sink.frame output' ≡ sink.frame output → P (Ok tt))
+        → (IsRunUpTo prices keeping line.Read (source.content start.source) (source.content last.source) (sink.content output) (sink.content output') → sink.frame output' ≡ sink.frame output → Rose (source.frame start.source) (source.frame last.source) → P (Err fault.Read))
+        → (IsRunUpTo prices keeping line.TooLong (source.content start.source) (source.content last.source) (sink.content output) (sink.content output') → sink.frame output' ≡ sink.frame output → source.frame last.source ≡ source.frame start.source → P (Err fault.TooLong))
+        → (IsCutOff prices keeping (source.content start.source) (source.content last.source) (sink.content output) (sink.content output') → source.frame last.source ≡ source.frame start.source → Rose (sink.frame output) (sink.frame output') → P (Err fault.Write))
+        → (done : Result ⊤ Fault) → Serves source sink books middle last output output' network since first now done → P done
+    ran P to_end at_read at_too_long at_write (Ok tt) served = to_end
+        (run_of prices keeping (source.content start.source) (source.content last.source) network served.0.lines served.0.replies (sink.content output) (sink.content output') is
+        (has_run prices source books keeping start middle last told network priced since first now begun keeps is IsAllTaken _ empty text reads (whatever_before (IsAllTaken [])) served.0) (one_input served.3) served.0.out)
+        (held_over (λ read. absurd (cc (served.1, read)))) served.2
+    ran P to_end at_read at_too_long at_write (Err (fault.Words word)) served = absurd served
+    ran P to_end at_read at_too_long at_write (Err (fault.Topology refusal)) served = absurd served
+    ran P to_end at_read at_too_long at_write (Err fault.Memory) served = absurd served
+    ran P to_end at_read at_too_long at_write (Err (fault.Other kept given)) served = absurd served
+    ran P to_end at_read at_too_long at_write (Err (fault.Damaged at)) served = absurd served
+    ran P to_end at_read at_too_long at_write (Err fault.Cabinet) served = absurd served
+    ran P to_end at_read at_too_long at_write (Err fault.Door) served = absurd served
+    ran P to_end at_read at_too_long at_write (Err fault.Read) served = at_read (run_until line.Read served.0) served.0.held (rw held_before at served.1)
+    ran P to_end at_read at_too_long at_write (Err fault.TooLong) served = at_too_long (run_until line.TooLong served) served.held (held_over (λ read. absurd (cc (served.kept, read))))
+    ran P to_end at_read at_too_long at_write (Err fault.Write) served = at_write
+        (cut_of prices keeping (source.content start.source) (source.content last.source) network served.0.lines served.0.replies (sink.content output) (sink.content output')
+        (has_run prices source books keeping start middle last told network priced since first now begun keeps is IsLeftOver _ empty text reads (whatever_before (IsLeftOver [])) served.0) served.0.out)
+        (held_over (λ read. absurd (cc (served.1, read)))) served.2

@@ -1,0 +1,17 @@
+use Rattle.std.proofs.Common.{◌∙◌, [], inr, ap, subst}
+use Rattle.hose_book.specs.Ledger.{Ledger}
+use Rattle.hose_book.specs.declared.books.Plain.{Plain}
+use Rattle.hose_graph.specs.Network.{Network}
+use Rattle.hose_offline.specs.Serving.{Serves, plain_books}
+use Rattle.hose_offline.proofs.answering.answer_in_memory.Goals as goal
+
+pub returns-clause-serves : goal.returns-clause-serves
+returns-clause-serves g c =
+    let book = c.in_ok-book.ensures in
+    let network = ap (λ (p : Plain). p.book.network) c.new-core.ensures.books ∙ ap (λ (l : Ledger). l.network) book in
+    let serves = c.answer_all.ensures.serves [] tt (c.new-core.ensures.fits 0 [] (ap (λ (l : Ledger). l.book) book)) in
+    inr (
+      c.new-core.result.books,
+      c.answer_all.new.core.books,
+      subst (λ (n : Network). Serves g.S.Source g.O.Sink plain_books c.args.lines.now c.answer_all.new.lines c.args.output.now c.answer_all.new.output n [] c.new-core.result.books c.answer_all.new.core.books c.answer_all.result) network serves,
+    )

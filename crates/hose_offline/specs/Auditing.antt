@@ -1,0 +1,168 @@
+-- What an audit does, step by step: it reads the text of a topology, and the book of a journal.
+use Rattle.std.specs.Prelude.{◌≡◌, ◌⊎◌, ◌↔◌, ℕ, ◌+◌, ◌<◌, ◌≤◌, List, Option, None, IfSome, IsSome, IsTrue, Result, Ok, Err, is_err, length, ⊤}
+use Rattle.hose_io.specs.Frame.{Met}
+use Rattle.hose_io.specs.Stream.{Stream, Gives}
+use Rattle.hose_io.specs.declared.Failed.{Failed}
+use Rattle.hose_words.specs.Reading.{WhereTold}
+use Rattle.hose_words.specs.declared.lines.LineFault.TheVariants as line
+use Rattle.hose_graph.specs.Network.{IsNetwork, Network}
+use Rattle.hose_graph.specs.declared.entry.Entry.{Entry}
+use Rattle.hose_law.specs.History.{IsSound, book_of}
+use Rattle.hose_book.specs.Ledger.{Ledger}
+use Rattle.hose_disk.specs.Cabinet.{Has, object_of}
+use Rattle.hose_disk.specs.declared.cabinet.Cabinet.{Ghosts as CabinetGhosts}
+use Rattle.hose_disk.specs.declared.disk.Disk.{Ghosts as DiskGhosts}
+use Rattle.hose_journal.specs.Moments.{Images}
+use Rattle.hose_store.specs.Opening.{IsAtOpening}
+use Rattle.hose_store.specs.Recovery.{IsHistoryOf}
+use Rattle.hose_topo.specs.Reading.{StopsInTopology}
+use Rattle.hose_offline.specs.CabinetText.{OnlyTextsRead, whole_text}
+use Rattle.hose_offline.specs.OnDisk.{CabinetFailed, CabinetHeld, Held}
+use Rattle.hose_offline.specs.Run.{HasRead, HasText, TellsNoNetwork}
+use Rattle.hose_offline.specs.ServingOnDisk.{IsNotOpened, IsNotServed}
+use Rattle.hose_offline.specs.TopologyTold.{TellsPriced, limit_of, notation_of}
+use Rattle.hose_offline.specs.declared.fault.Fault.{Fault}
+use Rattle.hose_offline.specs.declared.notation.Notation.{Notation}
+use Rattle.hose_offline.specs.declared.notation.Notation.TheVariants as notation
+use Rattle.hose_offline.specs.declared.fault.Fault.TheVariants as fault
+
+-- ---- the topology
+
+-- No memory was wanted after the first byte of a text that is read in lines; JSON is read as a
+-- whole first.
+abbrev pub IsStarvedAt : Notation → Option Stream → Option Stream → Type 0
+IsStarvedAt notation.Lines text left = left ≡ text
+IsStarvedAt notation.Json text left = ⊤
+
+-- where a text in lines was too long, it was neither refused nor ended before
+abbrev pub IsLongAt : Notation → Option Stream → Option Stream → Type 0
+IsLongAt notation.Lines text left = WhereTold text left (StopsInTopology line.TooLong)
+IsLongAt notation.Json text left = ⊤
+
+module _ {C E : Type 0} (cabinet : CabinetGhosts C E) (old new : C) where
+  -- Why no topology was read of a text, of which this is left. There may have been no memory for
+  -- the costs of one that was read.
+  abbrev pub IsTextFault : Notation → Option Stream → Option Stream → Fault → Type 0
+  IsTextFault written text left (fault.Topology refusal) =
+      TellsNoNetwork written refusal text left × CabinetHeld cabinet old new
+  IsTextFault written text left fault.TooLong =
+      IsLongAt written text left × CabinetHeld cabinet old new
+  IsTextFault written text left fault.Cabinet = CabinetFailed cabinet old new
+  IsTextFault written text left fault.Memory =
+      (IsStarvedAt written text left ⊎ HasText written text left) × CabinetHeld cabinet old new
+  IsTextFault written text left _ = ⊥
+
+  -- what a text came to: it tells a network, of which prices make this one, or none was read
+  abbrev pub IsTextOf : Notation → (Network → Network → Type 0) → Option Stream → Option Stream
+      → Result Network Fault → Type 0
+  IsTextOf written prices text left (Ok network) = IsNetwork network × CabinetHeld cabinet old new
+      × WhereTold text left (λ bytes _. TellsPriced written prices bytes network)
+  IsTextOf written prices text left (Err why) = IsTextFault written text left why
+
+  -- The topology of a text of the cabinet was read. These bytes of it were taken, and this is left.
+  -- A text that is not there is a failure; one that is there does not count as absent.
+  pub record ReadsText (written : Notation) (prices : Network → Network → Type 0) (name : List ℕ)
+      (result : Result Network Fault) : Type 0 where
+    pub taken : List ℕ
+    pub left : Option Stream
+    pub gives : Gives (whole_text cabinet old name) left taken
+    pub limit : length taken ≤ limit_of written + 1
+    pub too_long : (result ≡ Err fault.TooLong) ↔ (limit_of written < length taken)
+    pub text : IsTextOf written prices (whole_text cabinet old name) left result
+    pub only_texts : OnlyTextsRead cabinet old new
+    pub absent : IsTrue (cabinet.frame old).tells → IsSome (cabinet.text old name)
+        → (cabinet.frame new).absent ≡ (cabinet.frame old).absent
+    pub not_there : IsTrue (cabinet.frame old).tells → cabinet.text old name ≡ None
+        → result ≡ Err fault.Cabinet
+
+  -- the same of a text that is written as its name says
+  abbrev pub ReadsTopology : (Network → Network → Type 0) → List ℕ → Result Network Fault → Type 0
+  ReadsTopology prices name = ReadsText (notation_of name) prices name
+
+-- ---- the book on a disk
+
+-- Each image that a stop may leave of a disk stands for the history. At each moment since its
+-- opening each image is one that it had then, or stands for what it stood for as it was read.
+pub record IsLeftWith {E : Type 0} (disk : DiskGhosts E) (old : E) (network : Network)
+    (history : List Entry) (left : E) : Type 0 where
+  pub now : Images disk left (IsHistoryOf network history)
+  pub moments : (image : List ℕ) → disk.left_since left (disk.moment old) image
+      → IsAtOpening disk old network image
+
+-- The book of a journal was read, and the journal was closed: it is that of the history for which
+-- the disk stood as it was read.
+pub record HasReadBook {E : Type 0} (disk : DiskGhosts E) (old left : E) (network : Network)
+    (ledger : Ledger) (closing : Result ⊤ Failed) : Type 0 where
+  pub history : List Entry
+  pub read : IfSome (disk.content old) (IsHistoryOf network history)
+  pub sound : IsSound network 0 history
+  pub is : ledger ≡ record { network = network; book = book_of 0 history }
+  pub told : (disk.frame left).has_failed ≡ is_err closing
+  pub images : IsLeftWith disk old network history left
+
+-- no store was opened, or the book was read
+abbrev pub ReadsBookOnDisk : {E : Type 0} → DiskGhosts E → E → E → Network
+    → Result (Ledger × Result ⊤ Failed) Fault → Type 0
+ReadsBookOnDisk disk old left network (Ok read) = HasReadBook disk old left network read.0 read.1
+ReadsBookOnDisk disk old left network (Err why) = IsNotOpened disk old left network (Err why)
+
+-- ---- the book in a cabinet
+
+-- The journal of a name stood for the history, as it was read at its opening, and is left with it.
+-- The cabinet failed exactly where closing did.
+pub record HasAudited {C E : Type 0} (cabinet : CabinetGhosts C E) (disk : DiskGhosts E)
+    (name : List ℕ) (old new : C) (network : Network) (history : List Entry)
+    (closing : Result ⊤ Failed) : Type 0 where
+  pub begun : Held cabinet disk old new name (IsHistoryOf network history)
+  pub sound : IsSound network 0 history
+  pub met : Met (object_of (cabinet.frame old)) (object_of (cabinet.frame new)) closing
+  pub left : Has (cabinet.frame old).tells (cabinet.held old name) (λ was.
+      Has (cabinet.frame new).tells (cabinet.held new name) (λ left.
+      IsLeftWith disk was network history left))
+
+-- the book that was read is that of the history
+pub record AuditsBook {C E : Type 0} (cabinet : CabinetGhosts C E) (disk : DiskGhosts E)
+    (name : List ℕ) (old new : C) (network : Network) (ledger : Ledger)
+    (closing : Result ⊤ Failed) : Type 0 where
+  pub history : List Entry
+  pub is : ledger ≡ record { network = network; book = book_of 0 history }
+  pub audited : HasAudited cabinet disk name old new network history closing
+
+-- no store was opened, or the book was read
+abbrev pub ReadsBook : {C E : Type 0} → CabinetGhosts C E → DiskGhosts E → List ℕ → C → C → Network
+    → Result (Ledger × Result ⊤ Failed) Fault → Type 0
+ReadsBook cabinet disk name old new network (Ok read) =
+    AuditsBook cabinet disk name old new network read.0 read.1
+ReadsBook cabinet disk name old new network (Err why) =
+    IsNotServed cabinet disk name old new network (Err why)
+
+-- ---- both
+
+module _ (prices : Network → Network → Type 0) {C E : Type 0} (cabinet : CabinetGhosts C E)
+    (disk : DiskGhosts E) (topology journal : List ℕ) (old new : C) where
+  -- No topology was read of the text, of which this is left, or no store was opened, and why.
+  abbrev pub IsNotAudited : Option Stream → Fault → Type 0
+  IsNotAudited left why = (IsTextFault cabinet old new (notation_of topology)
+      (whole_text cabinet old topology) left why × (cabinet.held new ≡ cabinet.held old))
+      ⊎ HasRead (notation_of topology) prices (whole_text cabinet old topology) left
+      (λ network. IsNotServed cabinet disk journal old new network (Err why))
+
+  -- the book of the journal was read, of the network that the text begins with; or not
+  abbrev pub IsBookOf : Option Stream → Result (Ledger × Result ⊤ Failed) Fault → Type 0
+  IsBookOf left (Ok read) =
+      HasRead (notation_of topology) prices (whole_text cabinet old topology) left
+      (λ network. AuditsBook cabinet disk journal old new network read.0 read.1)
+  IsBookOf left (Err why) = IsNotAudited left why
+
+  -- the same, and what was taken of the text
+  pub record ReadsNamed (result : Result (Ledger × Result ⊤ Failed) Fault) : Type 0 where
+    pub taken : List ℕ
+    pub left : Option Stream
+    pub gives : Gives (whole_text cabinet old topology) left taken
+    pub limit : length taken ≤ limit_of (notation_of topology) + 1
+    pub too_long : (result ≡ Err fault.TooLong) ↔ (limit_of (notation_of topology) < length taken)
+    pub book : IsBookOf left result
+    pub absent : IsTrue (cabinet.frame old).tells → IsSome (cabinet.text old topology)
+        → (cabinet.frame new).absent ≡ (cabinet.frame old).absent
+    pub not_there : IsTrue (cabinet.frame old).tells → cabinet.text old topology ≡ None
+        → result ≡ Err fault.Cabinet

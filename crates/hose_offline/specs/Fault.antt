@@ -1,0 +1,87 @@
+-- What tells a fault: the status with which the program ends, and the last line that it writes.
+use Rattle.std.specs.Prelude.{ℕ, List, [], ◌++◌, codes, decimal}
+use Rattle.hex.specs.Hex.{encode_lower}
+use Rattle.hose_words.specs.declared.lines.LineFault.{LineFault}
+use Rattle.hose_words.specs.declared.lines.LineFault.TheVariants as line
+use Rattle.hose_topo.specs.declared.fault.TopoFault.{TopoFault}
+use Rattle.hose_topo.specs.declared.fault.TopoFault.TheVariants as topology
+use Rattle.hose_topo_json.specs.declared.fault.JsonFault.{JsonFault}
+use Rattle.hose_topo_json.specs.declared.fault.JsonFault.TheVariants as json
+use Rattle.hose_store.specs.declared.fault.StoreFault.{StoreFault}
+use Rattle.hose_store.specs.declared.fault.StoreFault.TheVariants as store
+use Rattle.hose_proto.specs.ReplyText.{line_of}
+use Rattle.hose_offline.specs.declared.fault.Fault.{Fault}
+use Rattle.hose_offline.specs.declared.notation.Refusal.{Refusal}
+use Rattle.hose_offline.specs.declared.notation.Refusal.TheVariants.{Word, Json, Nodes, Node, Links, Link}
+use Rattle.hose_offline.specs.declared.fault.Fault.TheVariants.{Words, Topology, Read, Write, Other, Damaged, Cabinet, Memory, TooLong, Door}
+
+-- the status
+abbrev pub status_of : Fault → ℕ
+status_of (Words word) = 1
+status_of (Topology refusal) = 2
+status_of Read = 3
+status_of Write = 4
+status_of (Other kept given) = 5
+status_of (Damaged at) = 5
+status_of Cabinet = 6
+status_of Memory = 7
+status_of TooLong = 8
+status_of Door = 9
+
+-- where a topology is wrong
+abbrev pub refusal_words : Refusal → List ℕ
+refusal_words (Word line word) = decimal line ++ codes " " ++ decimal word
+refusal_words Json = codes "json"
+refusal_words Nodes = codes "nodes"
+refusal_words (Node index) = codes "nodes " ++ decimal index
+refusal_words Links = codes "links"
+refusal_words (Link index) = codes "links " ++ decimal index
+
+-- the last line, with its line feed; none where the output failed
+abbrev pub last_line : Fault → List ℕ
+last_line (Words word) = line_of (codes "words " ++ decimal word)
+last_line (Topology refusal) = line_of (codes "topology " ++ refusal_words refusal)
+last_line Read = line_of (codes "read")
+last_line Write = []
+last_line (Other kept given) =
+    line_of (codes "journal other " ++ encode_lower kept ++ codes " " ++ encode_lower given)
+last_line (Damaged at) = line_of (codes "journal damaged at " ++ decimal at)
+last_line Cabinet = line_of (codes "cabinet")
+last_line Memory = line_of (codes "no memory")
+last_line TooLong = line_of (codes "too long")
+last_line Door = line_of (codes "door")
+
+-- what a fault of reading lines is for a run
+abbrev pub of_line : LineFault → Fault
+of_line line.Read = Read
+of_line line.TooLong = TooLong
+
+-- what a fault of reading a topology is for a run
+abbrev pub of_topology : TopoFault → Fault
+of_topology (topology.At line word) = Topology (Word line word)
+of_topology topology.Read = Read
+of_topology topology.TooLong = TooLong
+of_topology topology.Memory = Memory
+
+-- the same where it was read of a text of the cabinet
+abbrev pub of_text : TopoFault → Fault
+of_text (topology.At line word) = Topology (Word line word)
+of_text topology.Read = Cabinet
+of_text topology.TooLong = TooLong
+of_text topology.Memory = Memory
+
+-- what a fault of reading one in JSON is
+abbrev pub of_json : JsonFault → Fault
+of_json json.Json = Topology Json
+of_json json.Nodes = Topology Nodes
+of_json (json.Node index) = Topology (Node index)
+of_json json.Links = Topology Links
+of_json (json.Link index) = Topology (Link index)
+of_json json.Memory = Memory
+
+-- what a fault of opening a store is for a run
+abbrev pub of_store : StoreFault → Fault
+of_store store.Disk = Cabinet
+of_store (store.Other kept given) = Other kept given
+of_store (store.Damaged at) = Damaged at
+of_store store.Memory = Memory

@@ -1,0 +1,31 @@
+-- What reading a topology in JSON of a source comes to.
+use Rattle.std.specs.Prelude.{ℕ, ◌+◌, ◌<◌, ◌≤◌, List, Option, Result, Ok, Err, length, ⊤}
+use Rattle.hose_io.specs.Stream.{Gives, Stream}
+use Rattle.hose_words.specs.Reading.{WhereTold}
+use Rattle.hose_graph.specs.Network.{IsNetwork, Network}
+use Rattle.hose_topo_json.specs.JsonTopology.{IsJsonTopology}
+use Rattle.hose_offline.specs.Run.{TellsNoNetwork}
+use Rattle.hose_offline.specs.declared.fault.Fault.{Fault}
+use Rattle.hose_offline.specs.declared.fault.Fault.TheVariants.{Topology, Cabinet, Memory, TooLong}
+use Rattle.hose_offline.specs.declared.limits.TheConstants.{JSON_LIMIT}
+use Rattle.hose_offline.specs.declared.notation.Notation.TheVariants as notation
+
+-- why the bytes that a source had left were not taken all
+abbrev pub IsPieceFault : Option Stream → Option Stream → Fault → Type 0
+IsPieceFault old new TooLong = (bytes : List ℕ) × Gives old new bytes
+    × (JSON_LIMIT < length bytes) × (length bytes ≤ JSON_LIMIT + 1)
+IsPieceFault old new Cabinet =
+    (bytes : List ℕ) × Gives old new bytes × (length bytes ≤ JSON_LIMIT)
+IsPieceFault old new Memory =
+    (bytes : List ℕ) × Gives old new bytes × (length bytes ≤ JSON_LIMIT)
+IsPieceFault old new fault = ⊥
+
+-- the topology that the bytes are, or why none was read
+abbrev pub IsJsonOf : Option Stream → Option Stream → Result Network Fault → Type 0
+IsJsonOf old new (Ok network) =
+    IsNetwork network × WhereTold old new (λ bytes _. IsJsonTopology bytes network)
+IsJsonOf old new (Err (Topology refusal)) = TellsNoNetwork notation.Json refusal old new
+IsJsonOf old new (Err Cabinet) = ⊤
+IsJsonOf old new (Err Memory) = ⊤
+IsJsonOf old new (Err TooLong) = ⊤
+IsJsonOf old new (Err fault) = ⊥

@@ -1,0 +1,13 @@
+pub mod AuditOutcome
+pub mod Auditing
+pub mod CabinetText
+pub mod Ending
+pub mod Fault
+pub mod JsonRead
+pub mod OnDisk
+pub mod Run
+pub mod RunOutcome
+pub mod ScriptLine
+pub mod Serving
+pub mod ServingOnDisk
+pub mod TopologyTold

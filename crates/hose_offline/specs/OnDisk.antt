@@ -1,0 +1,84 @@
+-- What a run does to the disk of its journal, which a cabinet holds under a name.
+use Rattle.std.specs.Prelude.{◌≡◌, ◌⊎◌, ℕ, List, Option, Some, None, IfSome, IsTrue, MatchOption, Result, is_some, ⊤}
+use Rattle.hose_io.specs.Frame.{Met, Rose}
+use Rattle.hose_io.specs.declared.Failed.{Failed}
+use Rattle.hose_graph.specs.Network.{Network}
+use Rattle.hose_graph.specs.declared.entry.Entry.{Entry}
+use Rattle.hose_graph.specs.declared.reply.Reply.{Reply}
+use Rattle.hose_law.specs.History.{IsDecidedAt}
+use Rattle.hose_disk.specs.Cabinet.{Has, object_of}
+use Rattle.hose_disk.specs.declared.cabinet.Cabinet.{Ghosts as CabinetGhosts}
+use Rattle.hose_disk.specs.declared.disk.Disk.{Ghosts as DiskGhosts}
+use Rattle.hose_journal.specs.Image.{Meaning}
+use Rattle.hose_store.specs.Beginning.{Beginning, HasLeft}
+use Rattle.hose_store.specs.Opening.{IsAtOpening}
+use Rattle.hose_store.specs.Recovery.{IsHistoryOf, IsRecoveredAs}
+use Rattle.hose_offline.specs.Run.{Keeping, in_memory}
+use Rattle.hose_offline.specs.Serving.{TellsDisks}
+
+-- the opening of a disk that stood for a history then
+abbrev pub opening_of : {E : Type 0} → DiskGhosts E → Network → List Entry → E → Beginning
+opening_of disk network since was = record {
+  since = since;
+  network = network;
+  moment = disk.moment was;
+  tells = is_some (disk.content was);
+}
+
+-- Failures of a disk were told no more often than the disk has failed. The cabinet failed where
+-- closing did. What is left of the disk stands for the history, as `HasLeft` says, beside what it
+-- had at its opening.
+pub record KeptOnDisk {C E : Type 0} (cabinet : CabinetGhosts C E) (disk : DiskGhosts E)
+    (name : List ℕ) (old new : C) (closing : Result ⊤ Failed) (network : Network)
+    (since history : List Entry) (replies : List Reply) : Type 0 where
+  pub told : TellsDisks 0 replies (cabinet.frame new).returned
+  pub met : Met (object_of (cabinet.frame old)) (object_of (cabinet.frame new)) closing
+  pub left : Has (cabinet.frame old).tells (cabinet.held old name) (λ was.
+      Has (cabinet.frame new).tells (cabinet.held new name) (λ left.
+      HasLeft disk IsDecidedAt (disk.may_leave was) (opening_of disk network since was) history
+      left closing))
+
+-- no call of the cabinet failed; or one did
+abbrev pub CabinetHeld : {C E : Type 0} → CabinetGhosts C E → C → C → Type 0
+CabinetHeld cabinet old new = object_of (cabinet.frame new) ≡ object_of (cabinet.frame old)
+
+abbrev pub CabinetFailed : {C E : Type 0} → CabinetGhosts C E → C → C → Type 0
+CabinetFailed cabinet old new = Rose (object_of (cabinet.frame old)) (object_of (cabinet.frame new))
+
+module _ {C E : Type 0} (cabinet : CabinetGhosts C E) (disk : DiskGhosts E) (old new : C) where
+  -- as it was read at its opening, the disk of this name held bytes of this kind
+  abbrev pub Held : List ℕ → (List ℕ → Type 0) → Type 0
+  Held name Is = Has (cabinet.frame old).tells (cabinet.held old name) (λ was.
+      IfSome (disk.content was) Is)
+
+  -- the book on the disk of this name, once closing came to this
+  abbrev pub on_disk : List ℕ → Result ⊤ Failed → Keeping
+  on_disk name closing = record {
+    Begins = λ network since. Held name (IsHistoryOf network since);
+    Keeps = KeptOnDisk cabinet disk name old new closing;
+  }
+
+  -- where a run keeps its book: in memory, or in a journal of a name
+  abbrev pub keeping_of : Option (List ℕ) → Result ⊤ Failed → Keeping
+  keeping_of None closing = in_memory
+  keeping_of (Some name) closing = on_disk name closing
+
+  -- Nothing was entered: at each moment since its opening, each image of the disk is one that it
+  -- had, or stands for what it stood for.
+  abbrev pub IsUnopened : Network → List ℕ → Type 0
+  IsUnopened network name = (cabinet.held new ≡ cabinet.held old)
+      ⊎ Has (cabinet.frame old).tells (cabinet.held old name) (λ was.
+      Has (cabinet.frame new).tells (cabinet.held new name) (λ left. (image : List ℕ) →
+      disk.left_since left (disk.moment was) image → IsAtOpening disk was network image))
+
+  -- The journal is not one of the network: it means this, and so it stands for no history.
+  pub record IsRefused (network : Network) (name : List ℕ) (meaning : Meaning Entry) : Type 0 where
+    pub means : Held name (λ bytes. IsRecoveredAs network bytes meaning)
+    pub none : Held name (λ bytes. (history : List Entry) → ¬ IsHistoryOf network history bytes)
+    pub unopened : IsUnopened network name
+
+  -- The disk of the journal, if there is one, is told, and this holds of what is read of it.
+  abbrev pub IsToldAs : Option (List ℕ) → (List ℕ → Type 0) → Type 0
+  IsToldAs journal Is = MatchOption journal ⊤ (λ name. IsTrue (cabinet.frame old).tells
+      × (was : E) × (cabinet.held old name ≡ Some was)
+      × (bytes : List ℕ) × (disk.content was ≡ Some bytes) × Is bytes)

@@ -1,0 +1,156 @@
+-- A run from its first byte to its last.
+use Rattle.std.specs.Prelude.{◌≡◌, ℕ, ◌≤◌, List, [], ◌∷◌, ◌++◌, length, Option, None, Some, take}
+use mathlib.Core.List.{IsPrefix}
+use Rattle.hose_io.specs.Stream.{Stream, Grows}
+use Rattle.hose_words.specs.Lines.{StopsAfterLines}
+use Rattle.hose_words.specs.declared.lines.LineFault.{LineFault}
+use Rattle.hose_graph.specs.declared.entry.Entry.{Entry}
+use Rattle.hose_graph.specs.declared.reply.Reply.{Reply}
+use Rattle.hose_graph.specs.Network.{Network}
+use Rattle.hose_law.specs.Book.{IsOversold}
+use Rattle.hose_law.specs.Cheapest.{AreCheapest}
+use Rattle.hose_law.specs.History.{book_of, IsDecided}
+use Rattle.hose_law.specs.Live.{AreLiveHeld, StaysLive}
+use Rattle.hose_law.specs.Quotes.{Holdings, nothing_held}
+use Rattle.hose_law.specs.Script.{ReadLine, IsScript, WithoutDisk, WithoutMemory}
+use Rattle.hose_topo.specs.TopologyText.{IsTopologyText}
+use Rattle.hose_words.specs.Reading.{WhereTold}
+use Rattle.hose_proto.specs.ReplyText.{line_of, reply_text}
+use Rattle.hose_proto.specs.Replies.{GrowsShort, texts_of}
+use Rattle.hose_words.specs.Saying.{IsAllTaken, IsLeftOver, SayLines}
+use Rattle.hose_offline.specs.Serving.{SaysNext}
+use Rattle.hose_offline.specs.TopologyTold.{IsRefusedAs, Tells, TellsPriced, limit_of}
+use Rattle.hose_offline.specs.declared.notation.Notation.{Notation}
+use Rattle.hose_offline.specs.declared.notation.Refusal.{Refusal}
+
+-- Where a run keeps its book: the history with which it may begin, and what holds of that history,
+-- the one at the end and the replies.
+pub record Keeping : Type 1 where
+  pub Begins : Network → List Entry → Type 0
+  pub Keeps : Network → List Entry → List Entry → List Reply → Type 0
+
+-- in memory: it begins with nothing, and no reply is for a failure of a disk
+abbrev pub in_memory : Keeping
+in_memory = record {
+  Begins = λ network since. since ≡ [];
+  Keeps = λ network since history replies. WithoutDisk replies;
+}
+
+-- This output is right for this input, a book of this history, and this network: the input is the
+-- text of one that prices make this of, and then lines; the output is the replies of their script from this history on, none of
+-- which is for want of memory or for a failure of a disk.
+pub record IsRightFor (prices : Network → Network → Type 0) (network : Network)
+    (since : List Entry) (input output : List ℕ) : Type 0 where
+  pub told : Network
+  pub rest : List ℕ
+  pub lines : List ReadLine
+  pub replies : List Reply
+  pub history : List Entry
+  pub topology : IsTopologyText input told rest
+  pub priced : prices told network
+  pub said : SayLines (SaysNext network) rest lines []
+  pub left : Holdings
+  pub script : IsScript network 0 since nothing_held lines replies history left
+  pub memory : WithoutMemory replies
+  pub disk : WithoutDisk replies
+  pub out : output ≡ texts_of network replies
+
+-- The input is the text of a network, of which prices make this one, and then lines that were
+-- answered: the replies are those of
+-- the script of the lines from the history with which the book began, where no customer holds a
+-- quote. The history that it leads to goes on from there and is sound, and decided from there on.
+-- At each place of it no link is oversold, and exactly those VPNs are live that were admitted
+-- before it and not released since, each as it was admitted. What each admission after the
+-- beginning reserves carries every matrix within the rates of its hose, and no tree over the links
+-- allowed at the book before it carries them at less cost. `stops` says how the input stands to
+-- what comes after the lines and to what is left.
+pub record HasRun (prices : Network → Network → Type 0) (keeping : Keeping)
+    (old new : Option Stream) (network : Network)
+    (lines : List ReadLine) (replies : List Reply)
+    (stops : List ℕ → List ℕ → List ℕ → Type 0) : Type 0 where
+  pub told : Network
+  pub priced : prices told network
+  pub since : List Entry
+  pub history : List Entry
+  pub begun : keeping.Begins network since
+  pub begins : IsPrefix since history
+  pub text : WhereTold old new (λ input left. (lines_text rest : List ℕ)
+      × IsTopologyText input told lines_text × SayLines (SaysNext network) lines_text lines rest
+      × stops input rest left)
+  pub left : Holdings
+  pub script : IsScript network 0 since nothing_held lines replies history left
+  pub decided : IsDecided network 0 (length since) history
+  pub keeps : keeping.Keeps network since history replies
+  pub none_oversold : (place l : ℕ) → ¬ IsOversold network (book_of 0 (take place history)) l
+  pub held : (place : ℕ) → place ≤ length history → AreLiveHeld 0 history place
+  pub kept : (place : ℕ) → StaysLive 0 history place
+  pub cheapest : AreCheapest network 0 (length since) history
+
+-- The input was read to its end, and the output has the replies to its lines. Without a reply for
+-- want of memory or for a failure of a disk no other output is right for the input and the history
+-- at the beginning.
+pub record IsRun (prices : Network → Network → Type 0) (keeping : Keeping) (old new : Option Stream)
+    (before after : Option (List ℕ)) : Type 0 where
+  pub network : Network
+  pub lines : List ReadLine
+  pub replies : List Reply
+  pub run : HasRun prices keeping old new network lines replies IsAllTaken
+  pub out : Grows before after (texts_of network replies)
+  pub alone : WithoutMemory replies → WithoutDisk replies → WhereTold old new (λ input _.
+      (output : List ℕ) → IsRightFor prices network run.since input output → output ≡ texts_of network replies)
+
+-- Reading stopped at a fault after the topology and whole lines, and the output has the replies to
+-- these lines.
+pub record IsRunUpTo (prices : Network → Network → Type 0) (keeping : Keeping) (fault : LineFault) (old new : Option Stream)
+    (before after : Option (List ℕ)) : Type 0 where
+  pub network : Network
+  pub lines : List ReadLine
+  pub replies : List Reply
+  pub run : HasRun prices keeping old new network lines replies (StopsAfterLines fault)
+  pub out : Grows before after (texts_of network replies)
+
+-- The output was cut off in a reply: it has the replies before, and a part of this one. Bytes after
+-- the lines may have been taken.
+pub record IsCutOff (prices : Network → Network → Type 0) (keeping : Keeping) (old new : Option Stream)
+    (before after : Option (List ℕ)) : Type 0 where
+  pub network : Network
+  pub lines : List ReadLine
+  pub replies : List Reply
+  pub reply : Reply
+  pub run : HasRun prices keeping old new network lines (replies ++ reply ∷ []) IsLeftOver
+  pub out : GrowsShort before after (texts_of network replies) (line_of (reply_text network reply))
+
+-- the text tells no network, and is refused so
+abbrev pub TellsNoNetwork : Notation → Refusal → Option Stream → Option Stream → Type 0
+TellsNoNetwork written refusal old new = WhereTold old new (λ text _.
+    IsRefusedAs written refusal text × ((network : Network) → ¬ Tells written text network))
+
+-- The text is told, and tells no network.
+abbrev pub IsRefusedText : Notation → Option Stream → Option Stream → Type 0
+IsRefusedText written (Some old) (Some new) = (network : Network) → ¬ Tells written old.left network
+IsRefusedText written _ _ = ⊥
+
+-- The text is told: it tells a network, and is not too long.
+abbrev pub IsServable : Notation → Option Stream → Type 0
+IsServable written None = ⊥
+IsServable written (Some stream) = (network : Network) × Tells written stream.left network
+    × (length stream.left ≤ limit_of written)
+
+-- The text is told, and this holds of each network that prices make of one that it tells.
+abbrev pub IsFor : Notation → (Network → Network → Type 0) → Option Stream → (Network → Type 0)
+    → Type 0
+IsFor written prices None Is = ⊥
+IsFor written prices (Some stream) Is =
+    (network : Network) → TellsPriced written prices stream.left network → Is network
+
+-- the text tells a network
+abbrev pub HasText : Notation → Option Stream → Option Stream → Type 0
+HasText written old new =
+    WhereTold old new (λ text _. (network : Network) × Tells written text network)
+
+-- the text tells a network, and of the one that prices make of it this holds
+pub record HasRead (written : Notation) (prices : Network → Network → Type 0)
+    (old new : Option Stream) (Is : Network → Type 0) : Type 0 where
+  pub network : Network
+  pub text : WhereTold old new (λ text _. TellsPriced written prices text network)
+  pub is : Is network

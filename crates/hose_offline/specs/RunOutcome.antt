@@ -1,0 +1,142 @@
+-- What stands after `run`, by what ended it.
+use Rattle.std.specs.Prelude.{◌≡◌, ◌⊎◌, ℕ, List, Option, IsSome, MatchOption, Result, Ok, Err, ⊤}
+use Rattle.hose_io.specs.Frame.{Rose}
+use Rattle.hose_io.specs.declared.Failed.{Failed}
+use Rattle.hose_io.specs.declared.source.Source.{Ghosts as SourceGhosts}
+use Rattle.hose_io.specs.declared.sink.Sink.{Ghosts as SinkGhosts}
+use Rattle.hose_words.specs.Reading.{WhereTold}
+use Rattle.hose_words.specs.declared.lines.LineFault.{LineFault}
+use Rattle.hose_words.specs.declared.lines.LineFault.TheVariants as line
+use Rattle.hose_graph.specs.Network.{Network}
+use Rattle.hose_graph.specs.declared.entry.Entry.{Entry}
+use Rattle.hose_disk.specs.declared.cabinet.Cabinet.{Ghosts as CabinetGhosts}
+use Rattle.hose_disk.specs.declared.disk.Disk.{Ghosts as DiskGhosts}
+use Rattle.hose_journal.specs.Image.{damaged, other}
+use Rattle.hose_store.specs.Recovery.{IsHistoryOf, digest_of}
+use Rattle.hose_topo.specs.Reading.{StopsInTopology}
+use Rattle.hose_offline.specs.Ending.{IsLastLine, TakesWithinLimit, status_of_done}
+use Rattle.hose_offline.specs.OnDisk.{CabinetFailed, IsRefused, IsToldAs, IsUnopened, keeping_of}
+use Rattle.hose_offline.specs.Run.{HasRead, HasText, IsCutOff, IsFor, IsRefusedText, IsRun, IsRunUpTo, IsServable, Keeping, TellsNoNetwork}
+use Rattle.hose_offline.specs.declared.fault.Fault.{Fault}
+use Rattle.hose_offline.specs.declared.notation.Notation.TheVariants.{Lines}
+use Rattle.hose_offline.specs.declared.fault.Fault.TheVariants.{Words, Topology, Read, Write, Other, Damaged, Cabinet, Memory, TooLong, Door}
+
+module _ (prices : Network → Network → Type 0) {I O C E : Type 0} (source : SourceGhosts I) (sink : SinkGhosts O)
+    (cabinet : CabinetGhosts C E) (disk : DiskGhosts E) (journal : Option (List ℕ))
+    (input input' : I) (output output' : O) (place place' : C) where
+  -- the input did not fail, and the output did not
+  abbrev pub InputHeld : Type 0
+  InputHeld = source.frame input' ≡ source.frame input
+
+  abbrev pub OutputHeld : Type 0
+  OutputHeld = sink.frame output' ≡ sink.frame output
+
+  -- where the book was, once closing the journal came to this
+  abbrev pub keeping : Result ⊤ Failed → Keeping
+  keeping = keeping_of cabinet disk place place' journal
+
+  -- the input stopped at a fault before its topology ended or was refused
+  abbrev pub InputStops : LineFault → Type 0
+  InputStops fault =
+      WhereTold (source.content input) (source.content input') (StopsInTopology fault)
+
+  -- The input stopped inside the topology, and nothing is out; or after it, and the output has the
+  -- replies of a script to all whole lines that were taken and to no part of one.
+  abbrev pub IsBroken : LineFault → Type 0
+  IsBroken fault = (InputStops fault × (output' ≡ output) × (place' ≡ place))
+      ⊎ ((closing : Result ⊤ Failed)
+      × IsRunUpTo prices (keeping closing) fault (source.content input) (source.content input')
+      (sink.content output) (sink.content output') × OutputHeld)
+
+  -- the text of a network was read, for which this holds
+  abbrev pub TextRead : (Network → Type 0) → Type 0
+  TextRead = HasRead Lines prices (source.content input) (source.content input')
+
+  -- the journal, which there is, is so for a network
+  abbrev pub OfJournal : (Network → List ℕ → Type 0) → Network → Type 0
+  OfJournal Is network = MatchOption journal ⊥ (Is network)
+
+  -- there was no memory: nothing was taken, or the text of a network was read, and the costs of the
+  -- network may have been made
+  abbrev pub IsStarved : Type 0
+  IsStarved = ((input' ≡ input) × (output' ≡ output) × (place' ≡ place))
+      ⊎ ((HasText Lines (source.content input) (source.content input') × (place' ≡ place))
+      ⊎ TextRead (OfJournal (IsUnopened cabinet disk place place')))
+
+  -- What a run leaves, before the last line that tells its fault.
+  abbrev pub RunLeaves : {T : Type 0} → Result T Fault → Type 0
+  RunLeaves (Ok _) = IsRun prices (keeping (Ok tt)) (source.content input) (source.content input')
+      (sink.content output) (sink.content output') × InputHeld × OutputHeld
+  RunLeaves (Err (Words _)) = ⊥
+  RunLeaves (Err (Topology refusal)) =
+      TellsNoNetwork Lines refusal (source.content input) (source.content input')
+      × InputHeld × (output' ≡ output) × (place' ≡ place)
+  RunLeaves (Err Read) = IsBroken line.Read × Rose (source.frame input) (source.frame input')
+  RunLeaves (Err Write) = ((closing : Result ⊤ Failed)
+      × IsCutOff prices (keeping closing) (source.content input) (source.content input')
+      (sink.content output) (sink.content output'))
+      × InputHeld × Rose (sink.frame output) (sink.frame output')
+  RunLeaves (Err (Other kept given)) = TextRead (λ network. (given ≡ digest_of network)
+      × OfJournal (λ network name.
+      IsRefused cabinet disk place place' network name (other kept)) network)
+      × InputHeld × (output' ≡ output)
+  RunLeaves (Err (Damaged at)) = TextRead (OfJournal (λ network name.
+      IsRefused cabinet disk place place' network name (damaged at)))
+      × InputHeld × (output' ≡ output)
+  RunLeaves (Err Cabinet) = ((TextRead (OfJournal (IsUnopened cabinet disk place place'))
+      × InputHeld × (output' ≡ output))
+      ⊎ (IsSome journal × (failed : Failed)
+      × IsRun prices (keeping (Err failed)) (source.content input) (source.content input')
+      (sink.content output) (sink.content output') × InputHeld × OutputHeld))
+      × CabinetFailed cabinet place place'
+  RunLeaves (Err Memory) = IsStarved × InputHeld × (output' ≡ output)
+  RunLeaves (Err TooLong) = IsBroken line.TooLong × InputHeld
+  RunLeaves (Err Door) = ⊥
+
+  -- A topology that is refused gives 2, but for want of memory and an input that stopped inside it.
+  abbrev pub EndsRefused : ℕ → Type 0
+  EndsRefused status = (status ≡ 2) ⊎ (((status ≡ 7) × (input' ≡ input))
+      ⊎ (((status ≡ 3) × InputStops line.Read) ⊎ ((status ≡ 8) × InputStops line.TooLong)))
+
+  -- no call failed
+  pub record NoneFailed : Type 0 where
+    pub reading : ¬ Rose (source.frame input) (source.frame input')
+    pub writing : ¬ Rose (sink.frame output) (sink.frame output')
+    pub keeping_it : ¬ CabinetFailed cabinet place place'
+
+  -- the journal, if there is one, is told, and is so for each network with whose text the input
+  -- begins
+  abbrev pub JournalIs : (Network → List ℕ → Type 0) → Type 0
+  JournalIs Is = IsFor Lines prices (source.content input) (λ network.
+      IsToldAs cabinet disk place place' journal (Is network))
+
+-- The run left the output as `left` is, and then the last line was put, which tells the fault, if
+-- there is one.
+pub record RunOutcome (prices : Network → Network → Type 0) {I O C E : Type 0} (source : SourceGhosts I) (sink : SinkGhosts O)
+    (cabinet : CabinetGhosts C E) (disk : DiskGhosts E) (journal : Option (List ℕ))
+    (input input' : I) (output output' : O) (place place' : C) (status : ℕ) : Type 0 where
+  pub done : Result ⊤ Fault
+  pub left : O
+  pub leaves : RunLeaves prices source sink cabinet disk journal input input' output left place place'
+      done
+  pub last_line : IsLastLine sink left output' done
+  pub is_status : status ≡ status_of_done done
+  pub takes : TakesWithinLimit Lines (source.content input) (source.content input') status
+  -- no text is asked for
+  pub absent : (cabinet.frame place').absent ≡ (cabinet.frame place).absent
+  pub refused : IsRefusedText Lines (source.content input) (source.content input')
+      → EndsRefused prices source sink cabinet disk journal input input' output output' place place'
+      status
+  -- an input that can be served with a journal of its network is served to its end, but for want of
+  -- memory and where a call failed
+  pub complete : IsServable Lines (source.content input)
+      → JournalIs prices source sink cabinet disk journal input input' output output' place place'
+      (λ network bytes. (history : List Entry) × IsHistoryOf network history bytes)
+      → NoneFailed prices source sink cabinet disk journal input input' output output' place place'
+      → (status ≡ 0) ⊎ (status ≡ 7)
+  -- with a journal that stands for no history of its network it is refused
+  pub refused_journal : IsServable Lines (source.content input) → IsSome journal
+      → JournalIs prices source sink cabinet disk journal input input' output output' place place'
+      (λ network bytes. (history : List Entry) → ¬ IsHistoryOf network history bytes)
+      → NoneFailed prices source sink cabinet disk journal input input' output output' place place'
+      → (status ≡ 5) ⊎ (status ≡ 7)

@@ -1,0 +1,222 @@
+-- What the lines after a topology say, and what is answered to them.
+use Rattle.std.specs.Prelude.{◌≡◌, ◌≢◌, ◌⊎◌, ℕ, ◌+◌, ◌-◌, ◌^◌, ◌<◌, ◌≤◌, Bool, true, false, IsFalse, List, [], ◌++◌, length, Option, None, Some, Result, Ok, Err, ⊤}
+use Rattle.std.specs.List.{before_first, after_first}
+use mathlib.Core.List.{IsPrefix}
+use Rattle.hose_io.specs.Frame.{Rose, Stays}
+use Rattle.hose_io.specs.Stream.{Grows}
+use Rattle.hose_io.specs.Writing.{GrowsInPart}
+use Rattle.hose_io.specs.declared.sink.Sink.{Ghosts as SinkGhosts}
+use Rattle.hose_io.specs.declared.source.Source.{Ghosts}
+use Rattle.hose_words.specs.Grammar.{IsFirstNotAllowed}
+use Rattle.hose_words.specs.Words.{words_of}
+use Rattle.hose_words.specs.Lines.{Reader, StopsAfterLines, is_line_feed}
+use Rattle.hose_words.specs.Saying.{IsAllTaken, IsLeftOver, IsOver, SayLines, SaysUpTo, StopsReading, TakesLine}
+use Rattle.hose_words.specs.declared.limits.TheConstants.{LINE_LIMIT}
+use Rattle.hose_words.specs.declared.lines.LineFault.{LineFault}
+use Rattle.hose_words.specs.declared.lines.LineFault.TheVariants as line_fault
+use Rattle.hose_words.specs.declared.lines.Line.{Line}
+use Rattle.hose_words.specs.declared.lines.Line.TheVariants as line
+use Rattle.hose_graph.specs.declared.entry.Entry.{Entry}
+use Rattle.hose_graph.specs.declared.reply.Reply.{Reply}
+use Rattle.hose_graph.specs.Network.{Network}
+use Rattle.hose_law.specs.History.{IsDecided, IsDecidedAt}
+use Rattle.hose_law.specs.Quotes.{Holdings, nothing_held}
+use Rattle.hose_law.specs.Script.{ReadLine, IsFixedReply, IsScript, disks_in}
+use Rattle.hose_law.specs.Script.ReadLine.{Asks, IsBad, IsLong, Unread}
+use Rattle.hose_offline.specs.ScriptLine.{IsAsking, WantsMemory, script_grammar}
+use Rattle.hose_proto.specs.Replies.{CutsLast, texts_of}
+use Rattle.hose_proto.specs.ReplyText.{line_of, reply_text}
+use Rattle.hose_book.specs.Commit.{Commits, IsMet, unfailing}
+use Rattle.hose_book.specs.GoingOn.{GoesOn}
+use Rattle.hose_book.specs.declared.books.Books.{Ghosts as BooksGhosts}
+use Rattle.hose_book.specs.declared.books.Plain.{Plain}
+use Rattle.hose_core.specs.Holding.{State}
+use Rattle.hose_core.specs.Stepping.{FitsHistory, Steps, committed_of}
+use Rattle.hose_words.specs.Reading.{WhereTold}
+use Rattle.hose_offline.specs.declared.fault.Fault.{Fault}
+use Rattle.hose_offline.specs.declared.fault.Fault.TheVariants as fault
+
+-- What a line of bytes says: a customer's command, a first word that is not allowed, or too much;
+-- or it is left unread for want of memory, which its command may take.
+abbrev pub Says : Network → List ℕ → ReadLine → Type 0
+Says network bytes (Asks customer command) =
+    (length bytes ≤ LINE_LIMIT) × IsAsking network bytes customer command
+Says network bytes (IsBad word) = (length bytes ≤ LINE_LIMIT)
+    × IsFirstNotAllowed (script_grammar network) [] (words_of bytes) word
+Says network bytes IsLong = LINE_LIMIT < length bytes
+Says network bytes Unread = (length bytes ≤ LINE_LIMIT) × WantsMemory (words_of bytes)
+
+-- the same of a line as a reader of lines gives it
+abbrev pub SaysRead : Network → Line → ReadLine → Type 0
+SaysRead network (line.Text bytes) (Asks customer command) =
+    IsAsking network bytes.now customer command
+SaysRead network (line.Text bytes) (IsBad word) =
+    IsFirstNotAllowed (script_grammar network) [] (words_of bytes.now) word
+SaysRead network (line.Text bytes) Unread = WantsMemory (words_of bytes.now)
+SaysRead network line.Long IsLong = ⊤
+SaysRead network _ _ = ⊥
+
+-- the line was read
+abbrev pub IsRead : ReadLine → Type 0
+IsRead Unread = ⊥
+IsRead _ = ⊤
+
+-- but for being left unread, the line says one thing at most
+abbrev pub SaysOneThing : Network → List ℕ → Type 0
+SaysOneThing network bytes = (one other : ReadLine) → Says network bytes one
+    → Says network bytes other → IsRead one → IsRead other → one ≡ other
+
+-- what a line of a script says rests on no line before it
+abbrev pub SaysNext : Network → List ReadLine → List ℕ → ReadLine → Type 0
+SaysNext network before = Says network
+
+-- each line between the start of a text and this rest of it says one thing
+pub data SayOneThingEach (network : Network) : List ℕ → List ℕ → Type 0 where
+  none_said : {text : List ℕ} → SayOneThingEach network text text
+  line_more : {text rest : List ℕ} → SayOneThingEach network text rest → rest ≢ []
+      → SaysOneThing network (before_first is_line_feed rest)
+      → SayOneThingEach network text (after_first is_line_feed rest)
+
+-- A core answered a line: a command by a step at each history that the core fits, and any other
+-- line with the reply that stands for it, which changes nothing. A failure of a disk raised the
+-- count of the books.
+abbrev pub AnswersLine : {K R : Type 0} → BooksGhosts K R → State K → State K → ReadLine → Reply
+    → Type 0
+AnswersLine books old new (Asks customer command) answer =
+    Steps books old new customer command answer
+    × ((books.ledger new.books).network ≡ (books.ledger old.books).network)
+    × IsMet (books.frame old.books) (committed_of answer) (books.frame new.books)
+AnswersLine books old new line answer = IsFixedReply line answer × (new ≡ old)
+
+-- Failures of a disk were told at most as often as a count rose, or it stands at its type's end.
+abbrev pub TellsDisks : ℕ → List Reply → ℕ → Type 0
+TellsDisks before replies after = (before + disks_in replies ≤ after) ⊎ (2 ^ 64 - 1 ≤ after)
+
+-- Lines that were answered from a history on, where no customer held a quote: the replies are those
+-- of a script, whose history goes on from the first one by entries that are decided and were
+-- committed. Failures of a disk were told no more often than the count of the books rose.
+pub record AreAnswered {K R : Type 0} (books : BooksGhosts K R) (network : Network)
+    (since : List Entry) (first last : K) (lines : List ReadLine) (replies : List Reply) :
+    Type 0 where
+  pub history : List Entry
+  pub left : Holdings
+  pub script : IsScript network 0 since nothing_held lines replies history left
+  pub decided : IsDecided network 0 (length since) history
+  pub begins : IsPrefix since history
+  pub goes_on : GoesOn books IsDecidedAt network since first history last
+  pub stays : Stays (books.frame first) (books.frame last)
+  pub disks : TellsDisks (books.frame first).faults replies (books.frame last).faults
+
+-- A turn: the first line that was to come was read and answered, and it says one thing. `puts` says
+-- how much is out of the line of its reply.
+pub record TakesTurn {S : Type 0} (source : Ghosts S) (old new : Reader S) (network : Network)
+    (Answers : ReadLine → Reply → Type 0) (puts : List ℕ → Type 0) : Type 0 where
+  pub said : ReadLine
+  pub reply : Reply
+  pub line : TakesLine source old new (λ line. Says network line said × SaysOneThing network line)
+  pub answers : Answers said reply
+  pub out : puts (line_of (reply_text network reply))
+  pub progress : length new.pending + old.taken < length old.pending + new.taken
+
+-- What the next line comes to: it has its reply; or there is none; or reading met a fault, and
+-- nothing is out; or the output failed in the reply.
+abbrev pub ServesLine : {S O K R : Type 0} → Ghosts S → SinkGhosts O → BooksGhosts K R → Reader S
+    → Reader S → O → O → State K → State K → Result Bool Fault → Type 0
+ServesLine source sink books old new output output' core core' (Ok true) =
+    TakesTurn source old new (books.ledger core.books).network (AnswersLine books core core')
+    (Grows (sink.content output) (sink.content output'))
+    × (new.fault ≡ None) × (sink.frame output' ≡ sink.frame output)
+ServesLine source sink books old new output output' core core' (Ok false) =
+    IsOver source old new × (new.fault ≡ None) × (output' ≡ output) × (core' ≡ core)
+ServesLine source sink books old new output output' core core' (Err fault.Read) =
+    StopsReading source old new line_fault.Read
+    × Rose (source.frame old.source) (source.frame new.source) × (output' ≡ output)
+    × (core' ≡ core)
+ServesLine source sink books old new output output' core core' (Err fault.TooLong) =
+    StopsReading source old new line_fault.TooLong × (output' ≡ output) × (core' ≡ core)
+ServesLine source sink books old new output output' core core' (Err fault.Write) =
+    TakesTurn source old new (books.ledger core.books).network (AnswersLine books core core')
+    (GrowsInPart (sink.content output) (sink.content output'))
+    × (new.fault ≡ None) × Rose (sink.frame output) (sink.frame output')
+ServesLine source sink books old new output output' core core' (Err _) = ⊥
+
+-- Turns from a history on: lines that were to come were read and answered, each by a reply that is
+-- out, and each says one thing.
+pub record HasServed {S K R : Type 0} (source : Ghosts S) (books : BooksGhosts K R)
+    (start now : Reader S) (since : List Entry) (first core : State K)
+    (before after : Option (List ℕ)) : Type 0 where
+  pub lines : List ReadLine
+  pub replies : List Reply
+  pub said : WhereTold (source.content start.source) (source.content now.source) (λ was left.
+      SayLines (SaysNext (books.ledger first.books).network) (start.pending ++ was) lines
+      (now.pending ++ left))
+  pub alone : WhereTold (source.content start.source) (source.content now.source) (λ was left.
+      SayOneThingEach (books.ledger first.books).network (start.pending ++ was)
+      (now.pending ++ left))
+  pub answered : AreAnswered books (books.ledger first.books).network since first.books core.books
+      lines replies
+  pub fits : FitsHistory books core 0 answered.history answered.left
+  pub network : (books.ledger core.books).network ≡ (books.ledger first.books).network
+  pub out : Grows before after (texts_of (books.ledger first.books).network replies)
+
+-- Lines that were to come were answered from a history on, while the books went from the first to
+-- the last. `stops` says how the text that was to come stands to what comes after them and to what
+-- the source has left, and `puts` how much is out of the replies.
+pub record ServesUpTo {S K R : Type 0} (source : Ghosts S) (books : BooksGhosts K R)
+    (start now : Reader S) (network : Network) (since : List Entry) (first last : K)
+    (stops : List ℕ → List ℕ → List ℕ → Type 0) (puts : List Reply → Type 0) : Type 0 where
+  pub lines : List ReadLine
+  pub replies : List Reply
+  pub said : SaysUpTo source start now (SaysNext network) lines stops
+  pub answered : AreAnswered books network since first last lines replies
+  pub out : puts replies
+
+-- Lines that were to come were answered, until reading met a fault.
+pub record ServesUntil {S O K R : Type 0} (source : Ghosts S) (sink : SinkGhosts O)
+    (books : BooksGhosts K R) (start now : Reader S) (output output' : O) (network : Network)
+    (since : List Entry) (first last : K) (fault : LineFault) : Type 0 where
+  pub serves : ServesUpTo source books start now network since first last (StopsAfterLines fault)
+      (λ replies. Grows (sink.content output) (sink.content output') (texts_of network replies))
+  pub before_end : IsFalse start.ended
+  pub kept : now.fault ≡ Some fault
+  pub held : sink.frame output' ≡ sink.frame output
+
+-- What answering all lines comes to: each has its reply and says one thing, and no more is to come;
+-- or reading met a fault, or the output failed in a reply.
+abbrev pub Serves : {S O K R T : Type 0} → Ghosts S → SinkGhosts O → BooksGhosts K R → Reader S
+    → Reader S → O → O → Network → List Entry → K → K → Result T Fault → Type 0
+Serves source sink books start now output output' network since first last (Ok _) =
+    ServesUpTo source books start now network since first last IsAllTaken
+    (λ replies. Grows (sink.content output) (sink.content output') (texts_of network replies))
+    × (now.fault ≡ None) × (sink.frame output' ≡ sink.frame output)
+    × WhereTold (source.content start.source) (source.content now.source) (λ was _.
+    SayOneThingEach network (start.pending ++ was) [])
+Serves source sink books start now output output' network since first last (Err fault.Read) =
+    ServesUntil source sink books start now output output' network since first last line_fault.Read
+    × Rose (source.frame start.source) (source.frame now.source)
+Serves source sink books start now output output' network since first last (Err fault.TooLong) =
+    ServesUntil source sink books start now output output' network since first last
+    line_fault.TooLong
+Serves source sink books start now output output' network since first last (Err fault.Write) =
+    ServesUpTo source books start now network since first last IsLeftOver
+    (CutsLast network (sink.content output) (sink.content output'))
+    × (now.fault ≡ None) × Rose (sink.frame output) (sink.frame output')
+Serves source sink books start now output output' network since first last (Err _) = ⊥
+
+-- a book in memory as books
+abbrev pub plain_books : BooksGhosts Plain ⊤
+plain_books = record {
+  ledger = λ plain. plain.book;
+  frame = λ _. unfailing;
+  fits = λ _ _. ⊤;
+  went = λ old entry result new. Commits old.book entry result new.book;
+}
+
+-- There was no memory for a book or for rows, and nothing was done; or lines were answered from an
+-- empty book on.
+abbrev pub ServesInMemory : {S O T : Type 0} → Ghosts S → SinkGhosts O → Reader S → Reader S → O → O
+    → Network → Result T Fault → Type 0
+ServesInMemory source sink start now output output' network result =
+    ((result ≡ Err fault.Memory) × (now ≡ start) × (output' ≡ output))
+    ⊎ ((first : Plain) × (last : Plain)
+    × Serves source sink plain_books start now output output' network [] first last result)

@@ -1,0 +1,121 @@
+-- What answering lines by the book of a journal comes to, and what it does to the journal's disk.
+use Rattle.std.specs.Prelude.{◌≡◌, ◌⊎◌, ℕ, ◌≤◌, List, IfSome, true, Result, Ok, Err, is_err, ⊤}
+use Rattle.hose_io.specs.declared.Failed.{Failed}
+use Rattle.hose_io.specs.declared.source.Source.{Ghosts as SourceGhosts}
+use Rattle.hose_io.specs.declared.sink.Sink.{Ghosts as SinkGhosts}
+use Rattle.hose_words.specs.Lines.{Reader}
+use Rattle.hose_graph.specs.Network.{Network}
+use Rattle.hose_graph.specs.declared.entry.Entry.{Entry}
+use Rattle.hose_graph.specs.declared.reply.Reply.{Reply}
+use Rattle.hose_law.specs.History.{IsDecidedAt}
+use Rattle.hose_book.specs.GoingOn.{GoesOn}
+use Rattle.hose_disk.specs.declared.cabinet.Cabinet.{Ghosts as CabinetGhosts}
+use Rattle.hose_disk.specs.declared.disk.Disk.{Ghosts as DiskGhosts}
+use Rattle.hose_journal.specs.Image.{Meaning, damaged, other}
+use Rattle.hose_journal.specs.Moments.{LeavesOnly}
+use Rattle.hose_store.specs.Beginning.{HasLeft}
+use Rattle.hose_store.specs.Commit.{store_books}
+use Rattle.hose_store.specs.Opening.{IsAtOpening}
+use Rattle.hose_store.specs.Recovery.{IsHistoryOf, IsRecoveredAs, digest_of}
+use Rattle.hose_store.specs.Store.{Kept}
+use Rattle.hose_offline.specs.OnDisk.{CabinetFailed, Held, IsRefused, IsUnopened, KeptOnDisk, opening_of}
+use Rattle.hose_offline.specs.Serving.{Serves, TellsDisks}
+use Rattle.hose_offline.specs.declared.fault.Fault.{Fault}
+use Rattle.hose_offline.specs.declared.fault.Fault.TheVariants as fault
+
+-- the first fault of answering lines and then closing
+abbrev pub first_of : Result ⊤ Fault → Result ⊤ Failed → Result ⊤ Fault
+first_of served (Ok _) = served
+first_of (Ok _) (Err failed) = Err fault.Cabinet
+first_of (Err why) (Err failed) = Err why
+
+-- ---- on a disk
+
+-- as it was read, the disk meant this, and so it stood for no history
+abbrev pub Refuses : {E : Type 0} → DiskGhosts E → E → Network → Meaning Entry → Type 0
+Refuses disk old network meaning = IfSome (disk.content old) (λ bytes.
+    IsRecoveredAs network bytes meaning
+    × ((history : List Entry) → ¬ IsHistoryOf network history bytes))
+
+-- why no store was opened
+abbrev pub IsWhy : {E : Type 0} → DiskGhosts E → E → E → Network → Result ⊤ Fault → Type 0
+IsWhy disk old left network (Err fault.Cabinet) = (disk.frame left).has_failed ≡ true
+IsWhy disk old left network (Err (fault.Other kept given)) =
+    (given ≡ digest_of network) × Refuses disk old network (other kept)
+IsWhy disk old left network (Err (fault.Damaged at)) = Refuses disk old network (damaged at)
+IsWhy disk old left network (Err fault.Memory) = ⊤
+IsWhy disk old left network _ = ⊥
+
+-- No store was opened, and nothing was entered.
+pub record IsNotOpened {E : Type 0} (disk : DiskGhosts E) (old left : E) (network : Network)
+    (result : Result ⊤ Fault) : Type 0 where
+  pub why : IsWhy disk old left network result
+  pub images : LeavesOnly disk old left (IsAtOpening disk old network)
+
+-- Lines were answered by a store, which was closed then.
+pub record HasServedOnDisk {S O E : Type 0} (source : SourceGhosts S) (sink : SinkGhosts O)
+    (disk : DiskGhosts E) (start now : Reader S) (output output' : O) (network : Network)
+    (old left : E) (served : Result ⊤ Fault) (closing : Result ⊤ Failed) : Type 0 where
+  pub since : List Entry
+  pub first : Kept E
+  pub last : Kept E
+  pub read : IfSome (disk.content old) (IsHistoryOf network since)
+  pub serves : Serves source sink (store_books disk) start now output output' network since first
+      last served
+  pub faults : (disk.frame last.journal.disk).faults ≤ (disk.frame left).faults
+  pub told : (disk.frame left).has_failed ≡ is_err closing
+  pub leaves : (history : List Entry)
+      → GoesOn (store_books disk) IsDecidedAt network since first history last
+      → HasLeft disk IsDecidedAt (disk.may_leave old) (opening_of disk network since old) history
+      left closing
+
+-- no store was opened, or lines were answered by it, and the first fault is told
+abbrev pub ServesOnDisk : {S O E : Type 0} → SourceGhosts S → SinkGhosts O → DiskGhosts E → Reader S
+    → Reader S → O → O → Network → E → E → Result ⊤ Fault → Type 0
+ServesOnDisk source sink disk start now output output' network old left result =
+    (IsNotOpened disk old left network result × (now ≡ start) × (output' ≡ output))
+    ⊎ ((served : Result ⊤ Fault) × (closing : Result ⊤ Failed)
+    × HasServedOnDisk source sink disk start now output output' network old left served closing
+    × (result ≡ first_of served closing))
+
+-- ---- in a cabinet
+
+-- no line was answered, and why
+abbrev pub IsNotServed : {C E : Type 0} → CabinetGhosts C E → DiskGhosts E → List ℕ → C → C
+    → Network → Result ⊤ Fault → Type 0
+IsNotServed cabinet disk name old new network (Err fault.Cabinet) =
+    IsUnopened cabinet disk old new network name
+    × CabinetFailed cabinet old new
+IsNotServed cabinet disk name old new network (Err (fault.Other kept given)) =
+    (given ≡ digest_of network) × IsRefused cabinet disk old new network name (other kept)
+IsNotServed cabinet disk name old new network (Err (fault.Damaged at)) =
+    IsRefused cabinet disk old new network name (damaged at)
+IsNotServed cabinet disk name old new network (Err fault.Memory) =
+    IsUnopened cabinet disk old new network name
+IsNotServed cabinet disk name old new network _ = ⊥
+
+-- Lines were answered by the book of the journal, which was closed and put back then.
+pub record HasServedInCabinet {S O C E : Type 0} (source : SourceGhosts S) (sink : SinkGhosts O)
+    (cabinet : CabinetGhosts C E) (disk : DiskGhosts E) (name : List ℕ) (start now : Reader S)
+    (output output' : O) (old new : C) (network : Network) (served : Result ⊤ Fault)
+    (closing : Result ⊤ Failed) : Type 0 where
+  pub since : List Entry
+  pub first : Kept E
+  pub last : Kept E
+  pub begun : Held cabinet disk old new name (IsHistoryOf network since)
+  pub serves : Serves source sink (store_books disk) start now output output' network since first
+      last served
+  pub keeps : (history : List Entry) (replies : List Reply)
+      → GoesOn (store_books disk) IsDecidedAt network since first history last
+      → TellsDisks (disk.frame first.journal.disk).faults replies
+      (disk.frame last.journal.disk).faults
+      → KeptOnDisk cabinet disk name old new closing network since history replies
+
+abbrev pub ServesInCabinet : {S O C E : Type 0} → SourceGhosts S → SinkGhosts O → CabinetGhosts C E
+    → DiskGhosts E → List ℕ → Reader S → Reader S → O → O → C → C → Network → Result ⊤ Fault
+    → Type 0
+ServesInCabinet source sink cabinet disk name start now output output' old new network result =
+    (IsNotServed cabinet disk name old new network result × (now ≡ start) × (output' ≡ output))
+    ⊎ ((served : Result ⊤ Fault) × (closing : Result ⊤ Failed)
+    × HasServedInCabinet source sink cabinet disk name start now output output' old new network
+    served closing × (result ≡ first_of served closing))

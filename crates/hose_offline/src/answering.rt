@@ -1,0 +1,217 @@
+// A run: a topology, and then a reply for each line.
+ghost use Rattle.std.specs.Prelude.{◌≡◌, ◌≢◌, ◌↔◌, ◌+◌, [], ◌<◌, ◌≤◌, ℕ, List, length, None, Err};
+ghost use Rattle.std.specs.Prelude.{option_map};
+ghost use Rattle.hose_io.specs.Frame.{Stays};
+ghost use Rattle.hose_io.specs.Stream.{Gives};
+ghost use Rattle.hose_law.specs.History.{IsSound};
+ghost use Rattle.hose_law.specs.Quotes.{nothing_held};
+ghost use Rattle.hose_law.specs.Script.{ReadLine};
+ghost use Rattle.hose_words.specs.Lines.{Shows};
+ghost use Rattle.hose_words.specs.Reading.{ReadsOn};
+ghost use Rattle.hose_graph.specs.Naming.{NamesPlaces};
+ghost use Rattle.hose_graph.specs.declared.entry.Entry.{Entry};
+ghost use Rattle.hose_core.specs.Stepping.{FitsHistory};
+ghost use Rattle.hose_disk.specs.Cabinet.{object_of};
+ghost use Rattle.hose_offline.specs.RunOutcome.{RunLeaves, RunOutcome};
+ghost use Rattle.hose_offline.specs.Serving.{SaysOneThing, SaysRead, AnswersLine, Serves, ServesInMemory, ServesLine};
+
+use crate::fault::{Fault, end};
+use crate::journal::answer_in_cabinet;
+use crate::script_line::read_line;
+use hose_book::{Book, Books, Plain};
+use hose_core::Core;
+use hose_disk::Cabinet;
+use hose_graph::{Reply, Topology};
+use hose_io::{Sink, Source};
+use hose_paths::{RowMaker, RowTable, TableRows};
+use hose_proto::{ReadFault, put_reply};
+use hose_tariff::Prices;
+use hose_topo::read;
+use hose_words::{INPUT_LIMIT, Line, LineReader};
+use std::alloc::Global;
+
+/// Reads a topology and then lines of the input, writes a reply for each line, and gives the exit
+/// status. The network has these costs. The book is kept in the journal of the name, or in memory where there is none.
+pub fn run<P: Prices, I: Source, O: Sink, C: Cabinet>(
+    alloc: Global,
+    costs: &P,
+    journal: Option<&str>,
+    input: &mut I,
+    output: &mut O,
+    cabinet: &mut C,
+) -> u8
+    requires { (C.frame cabinet.old).out ≡ None }
+    ensures outcome { RunOutcome (P.prices costs.now) I.Source O.Sink C.Cabinet C.Disk.Disk
+        (option_map (λ name. name.now) journal.entry) input.old input.new output.old output.new
+        cabinet.old cabinet.new result }
+    ensures not_words { result ≢ 1 }
+    ensures in_memory { journal.entry ≡ None → cabinet.new ≡ cabinet.old }
+    ensures back { (C.frame cabinet.new).out ≡ None }
+    ensures input { Stays (I.frame input.old) (I.frame input.new) }
+    ensures output { Stays (O.frame output.old) (O.frame output.new) }
+    ensures cabinet { Stays (object_of (C.frame cabinet.old)) (object_of (C.frame cabinet.new)) }
+{
+    let done = run_input(alloc, costs, journal, input, output, cabinet);
+    end(done, output)
+}
+
+// What a run comes to, before its last line.
+fn run_input<P: Prices, I: Source, O: Sink, C: Cabinet>(
+    alloc: Global,
+    costs: &P,
+    journal: Option<&str>,
+    input: &mut I,
+    output: &mut O,
+    cabinet: &mut C,
+) -> Result<(), Fault>
+    requires { (C.frame cabinet.old).out ≡ None }
+    ensures leaves { RunLeaves (P.prices costs.now) I.Source O.Sink C.Cabinet C.Disk.Disk
+        (option_map (λ name. name.now) journal.entry) input.old input.new output.old output.new
+        cabinet.old cabinet.new result }
+    ensures takes { (bytes : List ℕ) × Gives (I.content input.old) (I.content input.new) bytes
+        × (length bytes ≤ INPUT_LIMIT + 1)
+        × ((result ≡ Err Fault.TooLong) ↔ (INPUT_LIMIT < length bytes)) }
+    ensures in_memory { journal.entry ≡ None → cabinet.new ≡ cabinet.old }
+    ensures absent { (C.frame cabinet.new).absent ≡ (C.frame cabinet.old).absent }
+    ensures back { (C.frame cabinet.new).out ≡ None }
+    ensures input { Stays (I.frame input.old) (I.frame input.new) }
+    ensures output { Stays (O.frame output.old) (O.frame output.new) }
+    ensures cabinet { Stays (object_of (C.frame cabinet.old)) (object_of (C.frame cabinet.new)) }
+{
+    let mut lines = LineReader::new(input);
+    let done = run_lines(alloc, costs, journal, &mut lines, output, cabinet);
+    // What is known of the input again comes from here.
+    let _ = lines.into_source();
+    done
+}
+
+// The same with a reader that has taken nothing.
+fn run_lines<P: Prices, S: Source, O: Sink, C: Cabinet>(
+    alloc: Global,
+    costs: &P,
+    journal: Option<&str>,
+    lines: &mut LineReader<S>,
+    output: &mut O,
+    cabinet: &mut C,
+) -> Result<(), Fault>
+    requires pending { lines.old.pending ≡ [] }
+    requires taken { lines.old.taken ≡ 0 }
+    requires fault { lines.old.fault ≡ None }
+    requires none_out { (C.frame cabinet.old).out ≡ None }
+    ensures leaves { RunLeaves (P.prices costs.now) S.Source O.Sink C.Cabinet C.Disk.Disk
+        (option_map (λ name. name.now) journal.entry) lines.old.source lines.new.source
+        output.old output.new cabinet.old cabinet.new result }
+    ensures too_long { (result ≡ Err Fault.TooLong) ↔ (INPUT_LIMIT < lines.new.taken) }
+    ensures reads_on { ReadsOn S.Source lines.old lines.new }
+    ensures limit { lines.new.taken ≤ INPUT_LIMIT + 1 }
+    ensures in_memory { journal.entry ≡ None → cabinet.new ≡ cabinet.old }
+    ensures absent { (C.frame cabinet.new).absent ≡ (C.frame cabinet.old).absent }
+    ensures back { (C.frame cabinet.new).out ≡ None }
+    ensures output { Stays (O.frame output.old) (O.frame output.new) }
+    ensures cabinet { Stays (object_of (C.frame cabinet.old)) (object_of (C.frame cabinet.new)) }
+{
+    let told = read(alloc, lines)?;
+    let topology = costs.apply(alloc, told)?;
+    match journal {
+        None => answer_in_memory(alloc, topology, lines, output),
+        Some(name) => answer_in_cabinet(alloc, name, topology, lines, output, cabinet),
+    }
+}
+
+/// Answers all lines by a book in memory. The rows of all nodes are made first.
+pub fn answer_in_memory<S: Source, O: Sink>(
+    alloc: Global,
+    topology: Topology,
+    lines: &mut LineReader<S>,
+    output: &mut O,
+) -> Result<(), Fault>
+    requires limit { lines.old.taken ≤ INPUT_LIMIT }
+    requires no_fault { lines.old.fault ≡ None }
+    ensures serves { ServesInMemory S.Source O.Sink lines.old lines.new output.old output.new
+        topology result }
+    ensures too_long { (result ≡ Err Fault.TooLong) ↔ (INPUT_LIMIT < lines.new.taken) }
+    ensures reads_on { ReadsOn S.Source lines.old lines.new }
+    ensures limit { lines.new.taken ≤ INPUT_LIMIT + 1 }
+    ensures output { Stays (O.frame output.old) (O.frame output.new) }
+{
+    let book = Book::new(alloc, topology)?;
+    let table = RowTable::of_all(alloc, book.topology())?;
+    let mut core = Core::new(alloc, Plain { book });
+    answer_all(alloc, &mut core, lines, output, &mut TableRows::new(&table))
+}
+
+/// Answers all lines that are to come.
+pub fn answer_all<S: Source, O: Sink, K: Books + Drop, R: RowMaker>(
+    alloc: Global,
+    core: &mut Core<K>,
+    lines: &mut LineReader<S>,
+    output: &mut O,
+    rows: &mut R,
+) -> Result<(), Fault>
+    requires limit { lines.old.taken ≤ INPUT_LIMIT + 1 }
+    requires no_fault { lines.old.fault ≡ None }
+    ensures serves { (since : List Entry) → IsSound (K.ledger core.old.books).network 0 since
+        → FitsHistory K.Books core.old 0 since nothing_held
+        → Serves S.Source O.Sink K.Books lines.old lines.new output.old output.new
+        (K.ledger core.old.books).network since core.old.books core.new.books result }
+    ensures too_long { (result ≡ Err Fault.TooLong) ↔ (INPUT_LIMIT < lines.new.taken) }
+    ensures reads_on { ReadsOn S.Source lines.old lines.new }
+    ensures limit { lines.new.taken ≤ INPUT_LIMIT + 1 }
+    ensures output { Stays (O.frame output.old) (O.frame output.new) }
+{
+    while answer_line(alloc, core, lines, output, rows)? {}
+    Ok(())
+}
+
+// Answers the next line, and says whether there was one.
+fn answer_line<S: Source, O: Sink, K: Books + Drop, R: RowMaker>(
+    alloc: Global,
+    core: &mut Core<K>,
+    lines: &mut LineReader<S>,
+    output: &mut O,
+    rows: &mut R,
+) -> Result<bool, Fault>
+    requires no_fault { lines.old.fault ≡ None }
+    ensures serves { ServesLine S.Source O.Sink K.Books lines.old lines.new output.old output.new
+        core.old core.new result }
+    ensures too_long { (result ≡ Err Fault.TooLong) ↔ (INPUT_LIMIT < lines.new.taken) }
+    ensures reads_on { ReadsOn S.Source lines.old lines.new }
+    ensures limit { lines.new.taken ≤ INPUT_LIMIT + 1 }
+    ensures output { Stays (O.frame output.old) (O.frame output.new) }
+{
+    let Some(line) = lines.next()? else {
+        return Ok(false);
+    };
+    let reply = reply_to(alloc, core, line, rows);
+    put_reply(output, core.books().book().topology(), &reply)?;
+    Ok(true)
+}
+
+// The reply to a line.
+fn reply_to<K: Books + Drop, R: RowMaker>(
+    alloc: Global,
+    core: &mut Core<K>,
+    line: Line<'_>,
+    rows: &mut R,
+) -> Reply
+    ensures network { (K.ledger core.new.books).network ≡ (K.ledger core.old.books).network }
+    ensures names { NamesPlaces (K.ledger core.old.books).network result }
+    ensures answers { (said : ReadLine)
+        × SaysRead (K.ledger core.old.books).network line.entry said
+        × AnswersLine K.Books core.old core.new said result }
+    // The line, whatever its bytes are, could not have been read as another thing.
+    ensures alone { (bytes : List ℕ) → Shows line.entry bytes
+        → SaysOneThing (K.ledger core.old.books).network bytes }
+{
+    let Line::Text(text) = line else {
+        return Reply::Long;
+    };
+    match read_line(alloc, core.books().book().topology(), text) {
+        Ok(asked) => {
+            let customer = asked.0;
+            core.step(alloc, &customer, asked.1, rows)
+        }
+        Err(ReadFault::Bad { word }) => Reply::Bad { word },
+        Err(ReadFault::Memory) => Reply::Memory,
+    }
+}

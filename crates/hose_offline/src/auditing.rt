@@ -1,0 +1,204 @@
+// An audit: the book of a journal, as a text.
+ghost use Rattle.std.specs.Prelude.{◌≡◌, ◌≢◌, IsSome, IsTrue, None};
+ghost use Rattle.hose_io.specs.Frame.{Stays};
+ghost use Rattle.hose_audit.specs.Audit.{audit_text};
+ghost use Rattle.hose_disk.specs.Cabinet.{object_of};
+ghost use Rattle.hose_offline.specs.AuditOutcome.{AuditOutcome, EndsTold, closing_fault};
+ghost use Rattle.hose_offline.specs.TopologyTold.{own_costs};
+ghost use Rattle.hose_offline.specs.Auditing.{ReadsBook, ReadsBookOnDisk, ReadsNamed, ReadsText, ReadsTopology};
+
+use crate::cabinet_text::CabinetText;
+use crate::fault::{Fault, end};
+use crate::json_text::read_whole_json;
+use crate::notation::Notation;
+use hose_book::Book;
+use hose_disk::{Cabinet, Disk};
+use hose_graph::Topology;
+use hose_io::{Failed, Sink};
+use hose_store::{Store, law_one_meaning};
+use hose_tariff::Prices;
+use hose_topo::read;
+use hose_words::LineReader;
+use std::alloc::Global;
+
+/// Reads the topology of a text and the book of a journal, closes the journal, writes what the book
+/// holds, and gives the exit status. The book is told where closing failed too.
+pub fn audit<P: Prices, O: Sink, C: Cabinet>(
+    alloc: Global,
+    costs: &P,
+    topology: &str,
+    journal: &str,
+    output: &mut O,
+    cabinet: &mut C,
+) -> u8
+    requires { (C.frame cabinet.old).out ≡ None }
+    ensures outcome { AuditOutcome (P.prices costs.now) O.Sink C.Cabinet C.Disk.Disk topology.now journal.now
+        output.old output.new cabinet.old cabinet.new result }
+    ensures not_words { result ≢ 1 }
+    ensures back { (C.frame cabinet.new).out ≡ None }
+    ensures output { Stays (O.frame output.old) (O.frame output.new) }
+    ensures cabinet { Stays (object_of (C.frame cabinet.old)) (object_of (C.frame cabinet.new)) }
+{
+    match read_named(alloc, costs, topology, journal, cabinet) {
+        Ok(read) => tell(&read.0, as_fault(read.1), output),
+        Err(why) => end(Err(why), output),
+    }
+}
+
+/// Writes what a book holds, and the last line of a fault that was met before, if one was; gives
+/// the exit status.
+pub fn tell<O: Sink>(book: &Book, done: Result<(), Fault>, output: &mut O) -> u8
+    ensures ends { EndsTold O.Sink output.old output.new result done
+        (audit_text book.now.network book.now.book) }
+    ensures output { Stays (O.frame output.old) (O.frame output.new) }
+{
+    let told = hose_audit::audit(book, output);
+    match done {
+        Ok(()) => match told {
+            Ok(()) => 0,
+            Err(_) => Fault::Write.status(),
+        },
+        // After a failed write nothing more is written.
+        Err(why) => match told {
+            Ok(()) => end(Err(why), output),
+            Err(_) => why.status(),
+        },
+    }
+}
+
+// What closing a journal came to, as a fault of the program.
+fn as_fault(closing: Result<(), Failed>) -> Result<(), Fault>
+    ensures { result ≡ closing_fault closing }
+{
+    match closing {
+        Ok(()) => Ok(()),
+        Err(_) => Err(Fault::Cabinet),
+    }
+}
+
+// The book of a journal of the network that a text tells, and what closing the journal came to.
+fn read_named<P: Prices, C: Cabinet>(
+    alloc: Global,
+    costs: &P,
+    topology: &str,
+    journal: &str,
+    cabinet: &mut C,
+) -> Result<(Book, Result<(), Failed>), Fault>
+    requires { (C.frame cabinet.old).out ≡ None }
+    ensures reads { ReadsNamed (P.prices costs.now) C.Cabinet C.Disk.Disk topology.now journal.now
+        cabinet.old cabinet.new result }
+    ensures back { (C.frame cabinet.new).out ≡ None }
+    ensures cabinet { Stays (object_of (C.frame cabinet.old)) (object_of (C.frame cabinet.new)) }
+{
+    let topology = read_topology(alloc, costs, topology, cabinet)?;
+    read_book(alloc, journal, topology, cabinet)
+}
+
+/// The network that the text of a name tells, with these costs. It is written in JSON where its
+/// name ends in `.json`.
+pub fn read_topology<P: Prices, C: Cabinet>(
+    alloc: Global,
+    costs: &P,
+    name: &str,
+    cabinet: &mut C,
+) -> Result<Topology, Fault>
+    ensures reads { ReadsTopology C.Cabinet cabinet.old cabinet.new (P.prices costs.now) name.now
+        result }
+{
+    let told = read_told(alloc, name, cabinet)?;
+    let topology = costs.apply(alloc, told)?;
+    Ok(topology)
+}
+
+// The same with the costs that the text tells.
+fn read_told<C: Cabinet>(alloc: Global, name: &str, cabinet: &mut C) -> Result<Topology, Fault>
+    ensures reads { ReadsTopology C.Cabinet cabinet.old cabinet.new own_costs name.now result }
+{
+    // A text that is not there is told before a topology is looked for in it.
+    let Ok(_) = cabinet.text(name, 0, &mut [0]) else {
+        return Err(Fault::Cabinet);
+    };
+    read_there(alloc, name, cabinet)
+}
+
+// The same of a text that is there.
+fn read_there<C: Cabinet>(alloc: Global, name: &str, cabinet: &mut C) -> Result<Topology, Fault>
+    requires { IsTrue (C.frame cabinet.old).tells → IsSome (C.text cabinet.old name.now) }
+    ensures reads { ReadsTopology C.Cabinet cabinet.old cabinet.new own_costs name.now result }
+{
+    match Notation::of(name) {
+        Notation::Lines => read_text(alloc, name, cabinet),
+        Notation::Json => read_json_text(alloc, name, cabinet),
+    }
+}
+
+// The topology of a text in lines.
+fn read_text<C: Cabinet>(alloc: Global, name: &str, cabinet: &mut C) -> Result<Topology, Fault>
+    requires { IsTrue (C.frame cabinet.old).tells → IsSome (C.text cabinet.old name.now) }
+    ensures reads { ReadsText C.Cabinet cabinet.old cabinet.new Notation.Lines own_costs name.now
+        result }
+{
+    let mut lines = LineReader::new(CabinetText::new(cabinet, name));
+    let topology = read(alloc, &mut lines);
+    // What is known of the cabinet again comes from here.
+    let _ = lines.into_source().into_cabinet();
+    match topology {
+        Ok(topology) => Ok(topology),
+        Err(fault) => Err(Fault::of_text(fault)),
+    }
+}
+
+// The topology of a text in JSON.
+fn read_json_text<C: Cabinet>(alloc: Global, name: &str, cabinet: &mut C) -> Result<Topology, Fault>
+    requires { IsTrue (C.frame cabinet.old).tells → IsSome (C.text cabinet.old name.now) }
+    ensures reads { ReadsText C.Cabinet cabinet.old cabinet.new Notation.Json own_costs name.now
+        result }
+{
+    let mut text = CabinetText::new(cabinet, name);
+    let topology = read_whole_json(alloc, &mut text);
+    // What is known of the cabinet again comes from here.
+    let _ = text.into_cabinet();
+    topology
+}
+
+// The book of the journal of a name, and what closing it came to. The disk is back in the cabinet
+// then.
+fn read_book<C: Cabinet>(
+    alloc: Global,
+    name: &str,
+    topology: Topology,
+    cabinet: &mut C,
+) -> Result<(Book, Result<(), Failed>), Fault>
+    requires { (C.frame cabinet.old).out ≡ None }
+    ensures reads { ReadsBook C.Cabinet C.Disk.Disk name.now cabinet.old cabinet.new
+        topology result }
+    ensures absent { (C.frame cabinet.new).absent ≡ (C.frame cabinet.old).absent }
+    ensures back { (C.frame cabinet.new).out ≡ None }
+    ensures cabinet { Stays (object_of (C.frame cabinet.old)) (object_of (C.frame cabinet.new)) }
+{
+    let Ok(disk) = cabinet.disk(name) else {
+        return Err(Fault::Cabinet);
+    };
+    let read = read_book_on_disk(alloc, topology, disk);
+    cabinet.back(read.1);
+    read.0
+}
+
+// The same on a disk, which comes back.
+fn read_book_on_disk<D: Disk>(
+    alloc: Global,
+    topology: Topology,
+    disk: D,
+) -> (Result<(Book, Result<(), Failed>), Fault>, D)
+    ensures { ReadsBookOnDisk D.Disk disk result.1 topology result.0 }
+{
+    // What is known of each image of the disk comes from the law.
+    law_one_meaning(&topology);
+    match Store::open(alloc, disk, topology) {
+        Ok(store) => {
+            let (closed, disk, book) = store.close();
+            (Ok((book, closed)), disk)
+        }
+        Err(refused) => (Err(Fault::from(refused.0)), refused.1),
+    }
+}

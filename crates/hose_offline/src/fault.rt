@@ -1,0 +1,262 @@
+// What ends a run before its input is all read, and how that is told.
+ghost use Rattle.std.specs.Prelude.{◌≡◌, ◌++◌, [], decimal};
+ghost use Rattle.hex.specs.Hex.{encode_lower};
+ghost use Rattle.hose_io.specs.Frame.{Stays};
+ghost use Rattle.hose_io.specs.Gather.{IsAdded};
+ghost use Rattle.hose_io.specs.Writing.{IsPut};
+ghost use Rattle.hose_offline.specs.declared.fault.Fault.TheVariants.{Memory, Write};
+ghost use Rattle.hose_offline.specs.Ending.{IsLastLine, status_of_done};
+ghost use Rattle.hose_offline.specs.Fault.{status_of, last_line, of_json, of_line, of_store, of_text, of_topology, refusal_words};
+
+use crate::notation::Refusal;
+use hose_io::{Failed, Gather, Sink, write_all};
+use hose_store::StoreFault;
+use hose_topo::TopoFault;
+use hose_topo_json::JsonFault;
+use hose_words::LineFault;
+use std::alloc::AllocError;
+
+/// Why a run ended early.
+#[derive(Clone, Copy, Debug, PartialEq, Eq)]
+pub enum Fault {
+    /// The program's word of this number, counted from 1, is not one that it takes there.
+    Words(u64),
+    /// The topology was refused, and is wrong first there.
+    Topology(Refusal),
+    /// The input failed.
+    Read,
+    /// The output failed.
+    Write,
+    /// The journal is that of another network: the digest that it keeps, and the network's.
+    Other { kept: [u8; 32], given: [u8; 32] },
+    /// No whole record stands at this place of the journal, or one of an entry that the book does
+    /// not take.
+    Damaged { at: u64 },
+    /// The journal could not be opened, or not be closed.
+    Cabinet,
+    /// There was no memory to begin with.
+    Memory,
+    /// The input is too long.
+    TooLong,
+    /// The door could not be opened, or it failed.
+    Door,
+}
+
+impl Fault {
+    /// What a fault of reading a topology is, where it is read of a text of the cabinet.
+    pub fn of_text(fault: TopoFault) -> Fault
+        ensures { result ≡ of_text fault }
+    {
+        match fault {
+            TopoFault::At { line, word } => Fault::Topology(Refusal::Word { line, word }),
+            TopoFault::Read => Fault::Cabinet,
+            TopoFault::TooLong => Fault::TooLong,
+            TopoFault::Memory => Fault::Memory,
+        }
+    }
+
+    /// The status with which the program ends.
+    pub fn status(self) -> u8
+        ensures { result ≡ status_of self }
+    {
+        match self {
+            Fault::Words(_) => 1,
+            Fault::Topology(_) => 2,
+            Fault::Read => 3,
+            Fault::Write => 4,
+            Fault::Other { .. } | Fault::Damaged { .. } => 5,
+            Fault::Cabinet => 6,
+            Fault::Memory => 7,
+            Fault::TooLong => 8,
+            Fault::Door => 9,
+        }
+    }
+
+    /// Writes the last line, which tells the fault. Where the output failed there is none.
+    pub fn put<O: Sink>(self, output: &mut O) -> Result<(), Failed>
+        ensures put { IsPut O.Sink output.old output.new (last_line self) result }
+        ensures calls_none { last_line self ≡ [] → output.new ≡ output.old }
+    {
+        match self {
+            Fault::Words(word) => put_words(output, word),
+            Fault::Topology(refusal) => put_refusal(output, refusal),
+            Fault::Read => write_all(output, b"read\n"),
+            Fault::Write => Ok(()),
+            Fault::Other { kept, given } => put_digests(output, &kept, &given),
+            Fault::Damaged { at } => put_damage(output, at),
+            Fault::Cabinet => write_all(output, b"cabinet\n"),
+            Fault::Memory => write_all(output, b"no memory\n"),
+            Fault::TooLong => write_all(output, b"too long\n"),
+            Fault::Door => write_all(output, b"door\n"),
+        }
+    }
+}
+
+impl From<AllocError> for Fault {
+    ghost from_gives = { λ _ fault. fault ≡ Memory };
+
+    fn from(_error: AllocError) -> Fault {
+        Fault::Memory
+    }
+}
+
+impl From<Failed> for Fault {
+    ghost from_gives = { λ _ fault. fault ≡ Write };
+
+    fn from(_error: Failed) -> Fault {
+        Fault::Write
+    }
+}
+
+impl From<LineFault> for Fault {
+    ghost from_gives = { λ line fault. fault ≡ of_line line };
+
+    fn from(fault: LineFault) -> Fault {
+        match fault {
+            LineFault::Read => Fault::Read,
+            LineFault::TooLong => Fault::TooLong,
+        }
+    }
+}
+
+impl From<TopoFault> for Fault {
+    ghost from_gives = { λ topology fault. fault ≡ of_topology topology };
+
+    fn from(fault: TopoFault) -> Fault {
+        match fault {
+            TopoFault::At { line, word } => Fault::Topology(Refusal::Word { line, word }),
+            TopoFault::Read => Fault::Read,
+            TopoFault::TooLong => Fault::TooLong,
+            TopoFault::Memory => Fault::Memory,
+        }
+    }
+}
+
+impl From<JsonFault> for Fault {
+    ghost from_gives = { λ topology fault. fault ≡ of_json topology };
+
+    fn from(fault: JsonFault) -> Fault {
+        match fault {
+            JsonFault::Json => Fault::Topology(Refusal::Json),
+            JsonFault::Nodes => Fault::Topology(Refusal::Nodes),
+            JsonFault::Node { index } => Fault::Topology(Refusal::Node { index }),
+            JsonFault::Links => Fault::Topology(Refusal::Links),
+            JsonFault::Link { index } => Fault::Topology(Refusal::Link { index }),
+            JsonFault::Memory => Fault::Memory,
+        }
+    }
+}
+
+impl From<StoreFault> for Fault {
+    ghost from_gives = { λ store fault. fault ≡ of_store store };
+
+    fn from(fault: StoreFault) -> Fault {
+        match fault {
+            StoreFault::Disk => Fault::Cabinet,
+            StoreFault::Other { kept, given } => Fault::Other { kept, given },
+            StoreFault::Damaged { at } => Fault::Damaged { at },
+            StoreFault::Memory => Fault::Memory,
+        }
+    }
+}
+
+// Writes the last line that tells which of the program's words is wrong.
+fn put_words<O: Sink>(output: &mut O, word: u64) -> Result<(), Failed>
+    ensures { IsPut O.Sink output.old output.new (last_line (Fault.Words word)) result }
+{
+    let mut gather = Gather::new();
+    gather.add(output, b"words ");
+    gather.add_number(output, word);
+    gather.add(output, b"\n");
+    gather.finish(output)
+}
+
+// Writes the last line that tells where the topology is wrong.
+fn put_refusal<O: Sink>(output: &mut O, refusal: Refusal) -> Result<(), Failed>
+    ensures { IsPut O.Sink output.old output.new (last_line (Fault.Topology refusal)) result }
+{
+    let mut gather = Gather::new();
+    gather.add(output, b"topology ");
+    add_refusal(&mut gather, output, refusal);
+    gather.add(output, b"\n");
+    gather.finish(output)
+}
+
+// Adds the words that tell where a topology is wrong.
+fn add_refusal<O: Sink>(gather: &mut Gather, output: &mut O, refusal: Refusal)
+    ensures { IsAdded O.Sink gather.old output.old gather.new output.new (refusal_words refusal) }
+{
+    match refusal {
+        Refusal::Word { line, word } => {
+            gather.add_number(output, line);
+            gather.add(output, b" ");
+            gather.add_number(output, word);
+        }
+        Refusal::Json => gather.add(output, b"json"),
+        Refusal::Nodes => gather.add(output, b"nodes"),
+        Refusal::Node { index } => add_element(gather, output, b"nodes ", index),
+        Refusal::Links => gather.add(output, b"links"),
+        Refusal::Link { index } => add_element(gather, output, b"links ", index),
+    }
+}
+
+// Adds an element by its number.
+fn add_element<O: Sink>(gather: &mut Gather, output: &mut O, of: &[u8], index: u64)
+    ensures { IsAdded O.Sink gather.old output.old gather.new output.new
+        (of.now ++ decimal index) }
+{
+    gather.add(output, of);
+    gather.add_number(output, index);
+}
+
+// Writes the last line that tells which journal is kept in place of which.
+fn put_digests<O: Sink>(output: &mut O, kept: &[u8; 32], given: &[u8; 32]) -> Result<(), Failed>
+    ensures { IsPut O.Sink output.old output.new (last_line (Fault.Other kept.now given.now))
+        result }
+{
+    let mut gather = Gather::new();
+    gather.add(output, b"journal other ");
+    add_digest(&mut gather, output, kept);
+    gather.add(output, b" ");
+    add_digest(&mut gather, output, given);
+    gather.add(output, b"\n");
+    gather.finish(output)
+}
+
+// Adds a digest in hexadecimal digits.
+fn add_digest<O: Sink>(gather: &mut Gather, output: &mut O, digest: &[u8; 32])
+    ensures { IsAdded O.Sink gather.old output.old gather.new output.new
+        (encode_lower digest.now) }
+{
+    let mut digits = [0; 64];
+    // There are two digits for each byte.
+    let _ = hex::encode_to_slice(digest.as_slice(), &mut digits);
+    gather.add(output, &digits);
+}
+
+// Writes the last line that tells where the journal is damaged.
+fn put_damage<O: Sink>(output: &mut O, at: u64) -> Result<(), Failed>
+    ensures { IsPut O.Sink output.old output.new (last_line (Fault.Damaged at)) result }
+{
+    let mut gather = Gather::new();
+    gather.add(output, b"journal damaged at ");
+    gather.add_number(output, at);
+    gather.add(output, b"\n");
+    gather.finish(output)
+}
+
+/// The status of what was done, after its last line, if it has one.
+pub fn end<O: Sink>(done: Result<(), Fault>, output: &mut O) -> u8
+    ensures status { result ≡ status_of_done done }
+    ensures last_line { IsLastLine O.Sink output.old output.new done }
+    ensures output { Stays (O.frame output.old) (O.frame output.new) }
+{
+    match done {
+        Ok(()) => 0,
+        Err(fault) => {
+            // The status stays that of the fault where its line cannot be written.
+            let _ = fault.put(output);
+            fault.status()
+        }
+    }
+}

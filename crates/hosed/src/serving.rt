@@ -1,0 +1,424 @@
+// Connections that are served: a door, a crew, and the book of a journal that they share.
+ghost use Rattle.std.specs.Prelude.{◌≡◌, ◌≢◌, ◌↔◌, ◌⊎◌, ◌<◌, ◌≤◌, ℕ, Err, IfErr, IfOk, List, [], None, Ok, Option};
+ghost use mathlib.Core.List.{IsPrefix};
+ghost use Rattle.hose_io.specs.Frame.{Stays};
+ghost use Rattle.hose_graph.specs.Network.{Network};
+ghost use Rattle.hose_graph.specs.declared.entry.Entry.{Entry};
+ghost use Rattle.hose_disk.specs.Cabinet.{object_of};
+ghost use Rattle.hose_shared.specs.Sharing.{IsPassOf, IsSamePass};
+ghost use Rattle.hose_offline.specs.Fault.{of_store};
+ghost use Rattle.hosed.specs.ServeOutcome.{EndsServed, ServeOutcome, first_failed};
+ghost use Rattle.hose_offline.specs.ServingOnDisk.{IsNotOpened};
+ghost use Rattle.hosed.specs.ServingDoor.{IsOpening, ServesByJournal, ServesByStore, ServesConnectionsIn, ServesOpened, as_fault, seen_of, served_of};
+
+use crate::words::Service;
+use hose_book::{Book, Books};
+use hose_crew::{Crew, Start};
+use hose_disk::{Cabinet, Disk};
+use hose_graph::Topology;
+use hose_io::{Door, Failed, Sink, write_all};
+use hose_offline::{Fault, end, read_topology, tell};
+use hose_paths::RowTable;
+use hose_pool::{Gate, MOST_WORKERS, table_of_all};
+use hose_shared::{Begun, Shared, law_passes};
+use hose_store::{Decided, Store, StoreFault, law_closed, law_one_meaning, law_opened, law_run};
+use hose_tariff::Prices;
+use hose_turn::Pass;
+use std::alloc::{AllocError, Global};
+use std::marker::{Brand, PhantomData};
+use std::snapshot::Snapshot;
+use std::sync::Wait;
+use std::sync::ledger::Blank;
+use std::thread::Threads;
+
+/// What came of serving connections by a store that was opened.
+pub enum Served {
+    /// There was no memory to begin with.
+    Starved,
+    /// The door did not open.
+    Shut,
+    /// The line that tells that the server is ready could not be written.
+    Unheard,
+    /// Connections were served, and the store was closed. It had this book.
+    Ended {
+        book: Book,
+        accepting: Result<(), Failed>,
+        closing: Result<(), Failed>,
+    },
+}
+
+/// On which disk a store was opened, as it was then, and of which network. A caller names them
+/// here, since a lock has no other way to tell for what its store stood.
+pub trait AtOpening: Start {
+    /// The images that a stop might have left of the disk.
+    ghost had: { List ℕ → Type 0 };
+
+    /// What was read of it, where it told, and its moment.
+    ghost content: { Option (List ℕ) };
+
+    ghost moment: { ℕ };
+
+    ghost network: { Network };
+}
+
+// A caller's proof names them.
+impl AtOpening for Brand {
+    ghost use Rattle.std.specs.Prelude.{None, [], ⊤};
+
+    ghost had = { λ image. ⊤ };
+
+    ghost content = { None };
+
+    ghost moment = { 0 };
+
+    ghost network = { record { nodes = []; links = [] } };
+}
+
+/// The store that is shared was just opened so.
+struct JustOpened<N> {
+    at: PhantomData<N>,
+}
+
+impl<D: Disk, N: AtOpening> Begun<D> for JustOpened<N> {
+    ghost use Rattle.hosed.specs.ServingDoor.{OpensAt};
+
+    ghost begins = { OpensAt D.Disk N.had N.content N.moment N.network };
+}
+
+/// What came of opening a door and serving its connections along a pass.
+pub enum Opened {
+    /// The door did not open.
+    Shut,
+    /// The line that tells that the server is ready could not be written.
+    Unheard,
+    /// Connections were served, and accepting came to this.
+    Ended(Result<(), Failed>),
+}
+
+// Opens the door, says that the server is ready, and serves its connections along the pass.
+fn open_and_serve<
+    R: Threads + Wait + Sync,
+    O: Sink,
+    D: Disk + Send,
+    B: Begun<D> + Send,
+    L: Door + Send,
+    N: Start + Send + Sync,
+    G: Gate + Sync,
+>(
+    rt: &R,
+    alloc: Global,
+    crew: Crew<L, N>,
+    blank: Blank,
+    shared: &Shared<D, B>,
+    table: &RowTable,
+    pass: Pass,
+    port: u16,
+    output: &mut O,
+    door: L,
+    gate: &G,
+) -> (Opened, Pass, L)
+    requires of { IsPassOf shared.now pass }
+    requires shares { crew.workers < pass.share }
+    requires own { pass.own ≡ [] }
+    requires since { IsPrefix pass.origin.since pass.seen }
+    requires name { blank.name ≡ N.name }
+    requires parts { (blank.parts ≡ N.parts) × (blank.parts ≡ crew.workers) }
+    requires start { N.start ≡ record {
+      frame = L.frame door;
+      told = L.told door;
+      connections = crew.connections;
+    } }
+    ensures serves { ServesOpened O.Sink crew.connections output.old output.new
+        (seen_of (L.frame door) (L.told door))
+        (seen_of (L.frame result.2) (L.told result.2)) pass result.1 result.0 }
+    ensures same { IsSamePass pass result.1 }
+    ensures output { Stays (O.frame output.old) (O.frame output.new) }
+    ensures door { Stays (L.frame door) (L.frame result.2) }
+{
+    law_passes(&pass);
+    let mut door = door;
+    if door.open(port).is_err() {
+        return (Opened::Shut, pass, door);
+    }
+    if write_all(output, b"ready\n").is_err() {
+        return (Opened::Unheard, pass, door);
+    }
+    let (accepting, pass, door) = crew.serve(rt, alloc, shared, table, pass, door, blank, gate);
+    (Opened::Ended(accepting), pass, door)
+}
+
+// Serves the connections of a door by a store that was just opened on the disk that was once so,
+// and closes it. Where there is no memory to share the store, its disk is gone.
+fn serve_store<
+    R: Threads + Wait + Sync,
+    O: Sink,
+    D: Disk + Send,
+    L: Door + Send,
+    N: AtOpening + Send + Sync,
+    G: Gate + Sync,
+>(
+    rt: &R,
+    alloc: Global,
+    store: Store<D>,
+    was: Snapshot<D>,
+    service: Service<'_>,
+    blank: Blank,
+    output: &mut O,
+    door: L,
+    gate: &G,
+) -> (Served, Option<D>, L)
+    requires workers { (1 ≤ service.workers) × (service.workers ≤ MOST_WORKERS) }
+    requires name { blank.name ≡ N.name }
+    requires parts { (blank.parts ≡ N.parts) × (blank.parts ≡ service.workers) }
+    requires start { N.start ≡ record {
+      frame = L.frame door;
+      told = L.told door;
+      connections = service.connections;
+    } }
+    requires had { (image : List ℕ) → N.had image ↔ D.may_leave was.value image }
+    requires content { N.content ≡ D.content was.value }
+    requires moment { N.moment ≡ D.moment was.value }
+    requires network { N.network ≡ store.ledger.network }
+    requires opened { (since : List Entry)
+        × IsOpening D.Disk was.value store.ledger.network since store }
+    ensures serves { ServesByStore D.Disk O.Sink was.value result.1 store.ledger.network
+        service.entry.connections output.old output.new
+        (seen_of (L.frame door) (L.told door))
+        (seen_of (L.frame result.2) (L.told result.2)) result.0 }
+    ensures output { Stays (O.frame output.old) (O.frame output.new) }
+    ensures door { Stays (L.frame door) (L.frame result.2) }
+{
+    law_run::<D, Decided>();
+    law_closed::<D, Decided>();
+    // What the disk was is there for the clauses alone.
+    let _ = was;
+    let Ok((crew, table)) = begin::<R, L, N>(rt, alloc, store.book().topology(), service) else {
+        let (_, disk, _) = store.close();
+        return (Served::Starved, Some(disk), door);
+    };
+    let Ok((shared, pass)) = Shared::<D, JustOpened<N>>::new(alloc, store) else {
+        return (Served::Starved, None, door);
+    };
+    let (opened, pass, door) = open_and_serve(
+        rt,
+        alloc,
+        crew,
+        blank,
+        &shared,
+        &table,
+        pass,
+        service.port,
+        output,
+        door,
+        gate,
+    );
+    let (closing, disk, book) = shared.close(pass).close();
+    (served_of(opened, book, closing), Some(disk), door)
+}
+
+// The workers, and the rows of all nodes, which as many threads make.
+fn begin<R: Threads + Sync, L: Door + Send, N: Start + Send + Sync>(
+    rt: &R,
+    alloc: Global,
+    network: &Topology,
+    service: Service,
+) -> Result<(Crew<L, N>, RowTable), AllocError>
+    requires workers { (1 ≤ service.workers) × (service.workers ≤ MOST_WORKERS) }
+    ensures { IfOk result (λ begun. begun.0
+        ≡ record { workers = service.entry.workers; connections = service.entry.connections }) }
+{
+    let crew = Crew::new(alloc, service.workers, service.connections)?;
+    let table = table_of_all(rt, alloc, network, service.workers)?;
+    Ok((crew, table))
+}
+
+// What came of serving, once the store was closed.
+fn served_of(opened: Opened, book: Book, closing: Result<(), Failed>) -> Served
+    ensures { result ≡ served_of opened book closing }
+{
+    match opened {
+        Opened::Shut => Served::Shut,
+        Opened::Unheard => Served::Unheard,
+        Opened::Ended(accepting) => Served::Ended {
+            book,
+            accepting,
+            closing,
+        },
+    }
+}
+
+// Opens the store on a disk, or says why it is not opened.
+fn open_store<D: Disk>(
+    alloc: Global,
+    topology: Topology,
+    disk: D,
+) -> Result<Store<D>, (StoreFault, D)>
+    ensures network { IfOk result (λ store. store.ledger.network ≡ topology) }
+    ensures opens { IfOk result (λ store. (since : List Entry)
+        × IsOpening D.Disk disk topology since store) }
+    ensures refused { IfErr result (λ refused. IsNotOpened D.Disk disk refused.1 topology
+        (Err (of_store refused.0))) }
+{
+    law_one_meaning(&topology);
+    law_opened::<D, Decided>();
+    Store::open(alloc, disk, topology)
+}
+
+// Serves the connections of a door by the journal on a disk, which comes back but for want of
+// memory to share it.
+fn serve_on_disk<R: Threads + Wait + Sync, O: Sink, D: Disk + Send, L: Door + Send, G: Gate + Sync>(
+    rt: &R,
+    alloc: Global,
+    topology: Topology,
+    disk: D,
+    service: Service<'_>,
+    output: &mut O,
+    door: L,
+    gate: &G,
+) -> (Result<Served, StoreFault>, Option<D>, L)
+    requires workers { (1 ≤ service.workers) × (service.workers ≤ MOST_WORKERS) }
+    ensures serves { ServesByJournal D.Disk O.Sink disk result.1 topology service.entry.connections
+        output.old output.new
+        (seen_of (L.frame door) (L.told door))
+        (seen_of (L.frame result.2) (L.told result.2)) result.0 }
+    ensures output { Stays (O.frame output.old) (O.frame output.new) }
+    ensures door { Stays (L.frame door) (L.frame result.2) }
+{
+    let was = Snapshot::of(&disk);
+    let store = match open_store(alloc, topology, disk) {
+        Ok(store) => store,
+        Err(refused) => return (Err(refused.0), Some(refused.1), door),
+    };
+    let blank = Blank::new(u64::from(service.workers));
+    let (served, disk, door) = serve_store::<R, O, D, L, Brand, G>(
+        rt, alloc, store, was, service, blank, output, door, gate,
+    );
+    (Ok(served), disk, door)
+}
+
+// Serves the connections of a door by the journal that is named. Its disk is back in the cabinet
+// then, but for want of memory to share its store.
+fn serve_in_cabinet<R: Threads + Wait + Sync, O: Sink, C: Cabinet, L: Door + Send, G: Gate + Sync>(
+    rt: &R,
+    alloc: Global,
+    topology: Topology,
+    service: Service<'_>,
+    output: &mut O,
+    cabinet: &mut C,
+    door: L,
+    gate: &G,
+) -> (Result<Served, Fault>, L)
+    requires none_out { (C.frame cabinet.old).out ≡ None }
+    requires workers { (1 ≤ service.workers) × (service.workers ≤ MOST_WORKERS) }
+    ensures serves { ServesConnectionsIn C.Cabinet C.Disk.Disk O.Sink service.entry.journal.now
+        cabinet.old cabinet.new topology service.entry.connections output.old output.new
+        (seen_of (L.frame door) (L.told door))
+        (seen_of (L.frame result.1) (L.told result.1)) result.0 }
+    ensures absent { (C.frame cabinet.new).absent ≡ (C.frame cabinet.old).absent }
+    ensures back { ((C.frame cabinet.new).out ≡ None) ⊎ (result.0 ≡ Ok Served.Starved) }
+    ensures output { Stays (O.frame output.old) (O.frame output.new) }
+    ensures cabinet { Stays (object_of (C.frame cabinet.old)) (object_of (C.frame cabinet.new)) }
+    ensures door { Stays (L.frame door) (L.frame result.1) }
+{
+    let Ok(disk) = cabinet.disk(service.journal) else {
+        return (Err(Fault::Cabinet), door);
+    };
+    let (served, disk, door) = serve_on_disk(
+        rt, alloc, topology, disk, service, output, door, gate,
+    );
+    let served = as_fault(served);
+    match disk {
+        Some(disk) => {
+            cabinet.back(disk);
+            (served, door)
+        }
+        None => (served, door),
+    }
+}
+
+// Why no store was opened, as a fault of the program.
+fn as_fault(served: Result<Served, StoreFault>) -> Result<Served, Fault>
+    ensures { result ≡ as_fault served }
+{
+    match served {
+        Ok(served) => Ok(served),
+        Err(why) => Err(Fault::from(why)),
+    }
+}
+
+/// Reads the topology that is named, serves the connections of a door by the journal, writes what
+/// its book holds, and gives the exit status. The book is told where accepting or closing
+/// failed too.
+pub fn serve<
+    R: Threads + Wait + Sync,
+    P: Prices,
+    O: Sink,
+    C: Cabinet,
+    L: Door + Send,
+    G: Gate + Sync,
+>(
+    rt: &R,
+    alloc: Global,
+    costs: &P,
+    service: Service<'_>,
+    output: &mut O,
+    cabinet: &mut C,
+    door: L,
+    gate: &G,
+) -> (u8, L)
+    requires none_out { (C.frame cabinet.old).out ≡ None }
+    requires workers { (1 ≤ service.workers) × (service.workers ≤ MOST_WORKERS) }
+    ensures outcome { ServeOutcome (P.prices costs.now) O.Sink C.Cabinet C.Disk.Disk
+        service.entry.topology.now service.entry.journal.now service.entry.connections
+        output.old output.new cabinet.old cabinet.new
+        (seen_of (L.frame door) (L.told door))
+        (seen_of (L.frame result.1) (L.told result.1)) result.0 }
+    ensures not_words { result.0 ≢ 1 }
+    ensures back { ((C.frame cabinet.new).out ≡ None) ⊎ (result.0 ≡ 7) }
+    ensures output { Stays (O.frame output.old) (O.frame output.new) }
+    ensures cabinet { Stays (object_of (C.frame cabinet.old)) (object_of (C.frame cabinet.new)) }
+    ensures door { Stays (L.frame door) (L.frame result.1) }
+{
+    let topology = match read_topology(alloc, costs, service.topology, cabinet) {
+        Ok(topology) => topology,
+        Err(why) => return (end(Err(why), output), door),
+    };
+    let (served, door) = serve_in_cabinet(
+        rt, alloc, topology, service, output, cabinet, door, gate,
+    );
+    match served {
+        Ok(served) => (tell_served(served, output), door),
+        Err(why) => (end(Err(why), output), door),
+    }
+}
+
+// Writes what is left to write once connections were served, and gives the exit status.
+fn tell_served<O: Sink>(served: Served, output: &mut O) -> u8
+    ensures ends { EndsServed O.Sink output.old output.new result served }
+    ensures output { Stays (O.frame output.old) (O.frame output.new) }
+{
+    match served {
+        Served::Ended {
+            book,
+            accepting,
+            closing,
+        } => tell(&book, first_failed(accepting, closing), output),
+        Served::Starved => end(Err(Fault::Memory), output),
+        Served::Shut => end(Err(Fault::Door), output),
+        // After a failed write nothing more is written.
+        Served::Unheard => Fault::Write.status(),
+    }
+}
+
+// What came of accepting and then closing.
+fn first_failed(accepting: Result<(), Failed>, closing: Result<(), Failed>) -> Result<(), Fault>
+    ensures { result ≡ first_failed accepting closing }
+{
+    match accepting {
+        Err(_) => Err(Fault::Door),
+        Ok(()) => match closing {
+            Err(_) => Err(Fault::Cabinet),
+            Ok(()) => Ok(()),
+        },
+    }
+}
