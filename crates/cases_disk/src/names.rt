@@ -77,8 +77,11 @@ pub fn number(digits: &str) -> Result<usize, Trouble> {
 }
 
 fn write_over(bytes: &mut [u8], place: usize, written: &[u8]) {
-    for (to, from) in bytes.iter_mut().skip(place).zip(written) {
-        *to = *from;
+    for number in 0..written.len() {
+        let at = place.saturating_add(number);
+        if at < bytes.len() {
+            bytes[at] = written[number];
+        }
     }
 }
 

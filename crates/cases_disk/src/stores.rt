@@ -5,7 +5,7 @@ use crate::subject::other;
 use crate::trouble::Trouble;
 use hose_book::{Book, Books, Committed};
 use hose_codec::decode;
-use hose_disk::{Disk, MemDisk, Pick};
+use hose_disk::{Disk, Failed, MemDisk, Pick};
 use hose_graph::Topology;
 use hose_io::MemSource;
 use hose_store::{Store, StoreFault};
@@ -112,10 +112,15 @@ fn length(disk: &mut MemDisk) -> Result<u64, Trouble> {
 }
 
 fn returned(alloc: Global, network: &str, bytes: &[u8]) -> Result<MemDisk, Trouble> {
-    match open(alloc, disk_of(alloc, bytes)?, topology(alloc, network)?) {
-        Err(refused) => Ok(refused.1),
+    let opened = open(alloc, disk_of(alloc, bytes)?, topology(alloc, network)?);
+    match opened {
+        Err(refused) => Ok(disk_in(refused)),
         Ok(_) => Err(Trouble::Word),
     }
+}
+
+fn disk_in(refused: (StoreFault, MemDisk)) -> MemDisk {
+    refused.1
 }
 
 /// What comes of entries that are committed to a new store, which is then closed. For `commits`
@@ -143,8 +148,7 @@ pub fn committed(
 }
 
 fn told_length(alloc: Global, told: &str, disk: &mut MemDisk) -> Result<String, Trouble> {
-    let calls = disk.calls();
-    let len = length(disk)?;
+    let (calls, len) = (disk.calls(), length(disk)?);
     Ok(format!(in alloc; "{told}, {len} bytes after {calls} calls")?)
 }
 
@@ -207,11 +211,16 @@ fn failing(alloc: Global, words: &str) -> Result<MemDisk, Trouble> {
 
 fn fail_all(alloc: Global, disk: &mut MemDisk, words: &str) -> Result<(), Trouble> {
     for word in words.split_whitespace() {
-        if word.contains(':') {
+        if names_call(word) {
             fail(alloc, disk, word)?;
         }
     }
     Ok(())
+}
+
+// Whether a word has a call of the disk fail.
+fn names_call(word: &str) -> bool {
+    word.split_once(':').is_some()
 }
 
 fn commit_all(
@@ -222,7 +231,7 @@ fn commit_all(
     told: &mut String,
 ) -> Result<(), Trouble> {
     for word in words.split_whitespace() {
-        if !word.contains(':') {
+        if !names_call(word) {
             let spelling = names.get(word).ok_or(Trouble::Word)?;
             told.push_str(commit(alloc, store, spelling)?)?;
         }
@@ -266,14 +275,25 @@ fn closed(
     store: Store<MemDisk>,
     told: String,
 ) -> Result<(String, MemDisk), Trouble> {
-    let (result, disk, book) = store.close();
-    let verdict = if result.is_ok() {
-        "closed"
-    } else {
-        "not closed"
-    };
-    let book = told_book(alloc, &book)?;
-    Ok((format!(in alloc; "{told}{verdict} {book}")?, disk))
+    let (closing, disk, book) = close(store);
+    let told = told_closing(alloc, told.as_str(), closing.is_ok(), &book)?;
+    Ok((told, disk))
+}
+
+// The one call that closes a store, whose contract is long.
+fn close(store: Store<MemDisk>) -> (Result<(), Failed>, MemDisk, Book) {
+    store.close()
+}
+
+fn told_closing(
+    alloc: Global,
+    told: &str,
+    is_closed: bool,
+    book: &Book,
+) -> Result<String, AllocError> {
+    let verdict = if is_closed { "closed" } else { "not closed" };
+    let book = told_book(alloc, book)?;
+    format!(in alloc; "{told}{verdict} {book}")
 }
 
 fn pick_of(word: &str) -> Result<Pick, Trouble> {

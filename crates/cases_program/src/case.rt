@@ -58,8 +58,18 @@ pub struct Journal {
     pub left: Option<Vec<u8>>,
     /// The calls of it that fail, by their kinds and their numbers, counted from 1.
     pub failing: Vec<(DiskCall, u64)>,
-    /// Whether the program is stopped after each call of it.
-    pub stops: bool,
+    /// What is found after stops of the program.
+    pub stops: Vec<Stop>,
+}
+
+/// Stops of the program after so many calls of its disk.
+#[derive(Drop)]
+pub struct Stop {
+    pub from: u64,
+    /// The last number of calls, which is one of them.
+    pub to: u64,
+    /// The numbers of the books of which one must be found, counted from 1.
+    pub books: Vec<u64>,
 }
 
 /// What a case calls.
@@ -97,6 +107,8 @@ pub struct Case {
     pub taken: Option<u64>,
     /// At which epoch the book of the journal is found afterwards.
     pub at: Option<u64>,
+    /// The audits of the books that stops name.
+    pub books: Vec<Vec<u8>>,
     /// Whether the gate holds sessions up.
     pub holds: bool,
     /// Whether connections are judged by the rules of replies, and not by their bytes.
@@ -123,7 +135,7 @@ impl Journal {
             bytes: Vec::new(alloc),
             left: None,
             failing: Vec::new(alloc),
-            stops: false,
+            stops: Vec::new(alloc),
         }
     }
 }
@@ -147,6 +159,7 @@ impl Case {
             status: 0,
             taken: None,
             at: None,
+            books: Vec::new(alloc),
             holds: false,
             is_judged: false,
             cuts: false,
@@ -175,7 +188,6 @@ impl Case {
             Line::Journal(rest) => self.journal.bytes = bytes_of(alloc, rest)?,
             Line::DiskFails(rest) => add_disk_calls(alloc, &mut self.journal.failing, rest)?,
             Line::CabinetFails(nth) => self.failing = Some(nth),
-            Line::Stops => self.journal.stops = true,
             Line::Cuts => self.cuts = true,
             Line::Holds => self.holds = true,
             Line::Judged => self.is_judged = true,
@@ -185,6 +197,7 @@ impl Case {
                 add_said(&mut self.connections, nth, pattern)?;
             }
             Line::DoorFails(rest) => self.door_failing = calls_of(alloc, rest)?,
+            Line::Book(nth, pattern) => add_audited(alloc, &mut self.books, nth, pattern)?,
             wanted => self.add_wanted(alloc, wanted)?,
         }
         Ok(())
@@ -198,6 +211,7 @@ impl Case {
             Line::Taken(taken) => self.taken = Some(taken),
             Line::At(at) => self.at = Some(at),
             Line::Left(rest) => self.journal.left = Some(bytes_of(alloc, rest)?),
+            Line::Stop(rest) => self.journal.stops.push(stop_of(alloc, rest)?)?,
             Line::Told(nth, pattern) => {
                 add_connections(alloc, &mut self.connections, nth)?;
                 add_told(&mut self.connections, nth, pattern)?;
@@ -247,6 +261,33 @@ fn add_told(
         Some(connection) => pattern.add_to(&mut connection.wanted),
         None => Err(Trouble::Connection),
     }
+}
+
+// Adds bytes to the audit of the book of this number, which is the next or one before it.
+fn add_audited(
+    alloc: Global,
+    books: &mut Vec<Vec<u8>>,
+    nth: u64,
+    pattern: Pattern<'_>,
+) -> Result<(), Trouble> {
+    if nth == (books.len() as u64).saturating_add(1) {
+        books.push(Vec::new(alloc))?;
+    }
+    match books.get_mut(nth.wrapping_sub(1) as usize) {
+        Some(book) => pattern.add_to(book),
+        None => Err(Trouble::Book),
+    }
+}
+
+// The stops of a line: the first and the last number of calls, and the numbers of books.
+fn stop_of(alloc: Global, rest: &str) -> Result<Stop, Trouble> {
+    let (from, rest) = rest.split_once(' ').unwrap_or((rest, ""));
+    let (to, books) = rest.split_once(' ').unwrap_or((rest, ""));
+    Ok(Stop {
+        from: number(from)?,
+        to: number(to)?,
+        books: calls_of(alloc, books)?,
+    })
 }
 
 // Has a call of a connection fail. The words are the numbers of both.

@@ -27,8 +27,6 @@ pub fn differences<R: Threads + Wait + Sync>(
 ) -> Result<String, Trouble> {
     let mut told = String::new(alloc);
     add_outcome(rt, alloc, &mut told, case)?;
-    let lost = stops_that_differ(rt, alloc, case)?;
-    add_lost(alloc, &mut told, lost, "stops another history is found")?;
     let lost = cuts_that_differ(rt, alloc, case)?;
     add_lost(alloc, &mut told, lost, "failed calls something else comes")?;
     Ok(told)
@@ -63,7 +61,23 @@ fn add_differences<R: Threads + Wait + Sync>(
     add_numbers(alloc, told, case, outcome)?;
     add_output(alloc, told, case, outcome)?;
     add_given(alloc, told, case, outcome)?;
+    add_stops(rt, alloc, told, case, outcome)?;
     add_journal(rt, alloc, told, case, outcome)
+}
+
+// Adds how many stops leave another book than one of those that are wanted.
+fn add_stops<R: Threads + Wait + Sync>(
+    rt: &R,
+    alloc: Global,
+    told: &mut String,
+    case: &Case,
+    outcome: &Outcome,
+) -> Result<(), AllocError> {
+    let Some(disk) = &outcome.disk else {
+        return Ok(());
+    };
+    let lost = stops_that_differ(rt, alloc, case, disk)?;
+    add_lost(alloc, told, lost, "stops another book is found")
 }
 
 // What comes of a case, with a line where its gate found that sessions are not beside each other.
@@ -99,7 +113,7 @@ fn run_held<R: Threads + Wait + Sync>(
     case: &Case,
 ) -> Result<Outcome, Trouble> {
     let (input, journal) = (&case.input.bytes, &case.journal.bytes);
-    let gate = HoldingGate::new();
+    let gate = HoldingGate::new(case.connections.len() as u64);
     let outcome = run_program(rt, alloc, case, input, journal, &gate)?;
     if gate.is_alone() {
         told.push_str("a session went on before the other had come so far\n")?;
@@ -164,11 +178,17 @@ fn add_given(
     if case.is_judged {
         return Ok(());
     }
-    for (place, connection) in case.connections.iter().enumerate() {
+    for place in 0..case.connections.len() {
         let number = place.saturating_add(1);
         let name = format!(in alloc; "connection {number}")?;
         let given = given_at(&outcome.given, place);
-        add_bytes(alloc, told, name.as_str(), given, &connection.wanted)?;
+        add_bytes(
+            alloc,
+            told,
+            name.as_str(),
+            given,
+            &case.connections[place].wanted,
+        )?;
     }
     Ok(())
 }
@@ -182,7 +202,13 @@ fn given_at(given: &[Vec<u8>], place: usize) -> &[u8] {
 
 // How many of these tell a place before one that they told.
 fn going_back(given: &[Vec<u8>]) -> usize {
-    given.iter().filter(|output| !never_go_back(output)).count()
+    let mut wrong = 0usize;
+    for output in given {
+        if !never_go_back(output) {
+            wrong = wrong.saturating_add(1);
+        }
+    }
+    wrong
 }
 
 // How many of these are not told one admission each, of an id that no other is told.
@@ -239,18 +265,26 @@ fn add_bytes(
         return Ok(());
     }
     let place = common(output, wanted);
-    let above = &output[..place];
-    let line = above
-        .iter()
-        .filter(|byte| **byte == b'\n')
-        .count()
-        .saturating_add(1);
+    let line = line_at(output, place);
     let is = shown(alloc, output, place)?;
     let wanted = shown(alloc, wanted, place)?;
     let line = format!(in alloc;
         "line {line} of {place_of} has {is:?}, and {wanted:?} is wanted\n"
     )?;
     told.push_str(line.as_str())
+}
+
+// The number of the line in which a place stands, counted from 1.
+fn line_at(bytes: &[u8], place: usize) -> usize
+    requires { place ≤ length bytes.now }
+{
+    let mut line = 1usize;
+    for byte in &bytes[..place] {
+        if *byte == b'\n' {
+            line = line.saturating_add(1);
+        }
+    }
+    line
 }
 
 // How many bytes they begin with in common.

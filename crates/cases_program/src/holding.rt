@@ -1,16 +1,18 @@
-// A gate that holds two sessions beside each other.
+// A gate that holds sessions beside each other.
 use hose_pool::{Gate, Point};
 use std::sync::atomic::{AtomicBool, Ordering};
 
 // How often a session looks whether the other one has come so far.
 const MOST_LOOKS: u64 = 1_000_000_000;
 
-/// Holds session 1, whose hose is planned, until session 2 has been welcomed and answered; and
-/// session 2, once it is welcomed, until the hose of session 1 is planned. So both are welcomed
-/// at 0. A server of one session after the other cannot pass: session 1 waits for a session that is
-/// not accepted yet, and goes on when it has looked often enough.
+/// Holds session 1, whose hose is planned, until the last session has been welcomed and answered;
+/// and the last one, once it is welcomed, until the hose of session 1 is planned. So of two both are
+/// welcomed at 0. A server of one session after the other cannot pass: session 1 waits for a session
+/// that is not accepted yet, and goes on when it has looked often enough. Nor can one of two workers
+/// each of which is there for one session, where the last is the third.
 #[derive(Drop)]
 pub struct HoldingGate {
+    last: u64,
     is_planned: AtomicBool,
     is_welcomed: AtomicBool,
     is_answered: AtomicBool,
@@ -18,9 +20,10 @@ pub struct HoldingGate {
 }
 
 impl HoldingGate {
-    /// A gate that holds nobody yet.
-    pub fn new() -> HoldingGate {
+    /// A gate that holds nobody yet, for so many sessions.
+    pub fn new(sessions: u64) -> HoldingGate {
         HoldingGate {
+            last: sessions,
             is_planned: AtomicBool::new(false),
             is_welcomed: AtomicBool::new(false),
             is_answered: AtomicBool::new(false),
@@ -51,7 +54,7 @@ impl Gate for HoldingGate {
                 self.is_planned.store(true, Ordering::SeqCst);
                 self.wait_for(&self.is_answered);
             }
-            Point::Answered { session: 2 } => {
+            Point::Answered { session } if session == self.last => {
                 if self.is_welcomed.swap(true, Ordering::SeqCst) {
                     self.is_answered.store(true, Ordering::SeqCst);
                 } else {

@@ -21,6 +21,8 @@ pub enum Line<'a> {
     Says(u64, Pattern<'a>),
     /// Bytes that the connection of this number is given.
     Told(u64, Pattern<'a>),
+    /// Bytes of the audit of the book of this number.
+    Book(u64, Pattern<'a>),
     /// That sessions are served, and not the program.
     Session,
     /// That two customers converse at once, and each admits and releases so often.
@@ -59,8 +61,8 @@ pub enum Line<'a> {
     Judged,
     /// At which epoch the book of the journal is found afterwards.
     At(u64),
-    /// That the program is stopped after each call of that disk.
-    Stops,
+    /// The stops after which one of some books is found.
+    Stop(&'a str),
     /// That each call of the output fails in turn.
     Cuts,
 }
@@ -85,6 +87,9 @@ impl<'a> Line<'a> {
         }
         if let Some((connection, rest)) = numbered(line, '>') {
             return Ok(Line::Told(connection, Pattern::read(rest)?));
+        }
+        if let Some((book, rest)) = numbered(line, '|') {
+            return Ok(Line::Book(book, Pattern::read(rest)?));
         }
         let (word, rest) = line.split_once(' ').unwrap_or((line, ""));
         Line::read_setting(word, rest)
@@ -114,7 +119,7 @@ impl<'a> Line<'a> {
             "holds" => Ok(Line::Holds),
             "judged" => Ok(Line::Judged),
             "at" => Ok(Line::At(number(rest)?)),
-            "stops" => Ok(Line::Stops),
+            "stop" => Ok(Line::Stop(rest)),
             "cuts" => Ok(Line::Cuts),
             _ => Err(Trouble::Word),
         }

@@ -67,11 +67,20 @@ fn add_mark(bytes: &mut Vec<u8>, mark: &str, nth: u64) -> Result<(), Trouble> {
         "s" => bytes.push(b' ')?,
         "t" => bytes.push(b'\t')?,
         "r" => bytes.push(b'\r')?,
-        first => {
-            let first = number(first).ok().ok_or(Trouble::Brace)?;
-            let count = first.saturating_add(nth);
-            bytes.extend_from_slice(Buffer::new().format(count).as_bytes())?;
-        }
+        "o" => bytes.push(b'{')?,
+        "c" => bytes.push(b'}')?,
+        mark => match mark.strip_prefix('b') {
+            Some(byte) => bytes.push(byte.parse().ok().ok_or(Trouble::Brace)?)?,
+            None => add_count(bytes, mark, nth)?,
+        },
     }
+    Ok(())
+}
+
+// Adds a number, which each further time is one more.
+fn add_count(bytes: &mut Vec<u8>, first: &str, nth: u64) -> Result<(), Trouble> {
+    let first = number(first).ok().ok_or(Trouble::Brace)?;
+    let count = first.saturating_add(nth);
+    bytes.extend_from_slice(Buffer::new().format(count).as_bytes())?;
     Ok(())
 }

@@ -2,13 +2,17 @@
 ghost use Rattle.std.specs.Prelude.{◌≡◌, ◌≢◌, All, IfOk, None};
 ghost use Rattle.hose_disk.specs.CabinetState.{cabinet_frame};
 ghost use Rattle.hose_io.specs.DoorState.{IsFresh};
+ghost use Rattle.hose_graph.specs.Limit.{IsUpTo};
+ghost use Rattle.hose_graph.specs.declared.limits.TheConstants.{MOST_LENGTH};
+ghost use Rattle.hose_tariff.specs.Fact.{IsPrice};
 
 use crate::case::{Case, Connection, Stream};
 use crate::streams::{LongSource, NarrowSink};
 use hose_disk::{Cabinet, Disk, MemCabinet, MemDisk};
 use hose_io::{MemDoor, MemSink, MemSource};
 use hose_pool::Gate;
-use hosed_program::program;
+use hose_tariff::Tariff;
+use hosed_program::{flat, hops, long, program, tariffs};
 use std::alloc::{AllocError, Global};
 use std::sync::Wait;
 use std::thread::Threads;
@@ -16,8 +20,8 @@ use std::thread::Threads;
 /// The name of the journal in the cabinet.
 pub const JOURNAL: &str = "j";
 
-// The name of the text in it.
-const TEXT: &str = "t";
+/// The name of the text in it.
+pub const TEXT: &str = "t";
 
 // The status at which the disk of the journal may be gone: there was no memory to share it.
 const NO_MEMORY: u8 = 7;
@@ -54,6 +58,28 @@ pub fn run_program<R: Threads + Wait + Sync, G: Gate + Sync>(
     let mut output = sink_of(alloc, &case.output, 0)?;
     let mut cabinet = cabinet_of(alloc, case, journal)?;
     let mut door = door_of(alloc, case)?;
+    let by_flat = Box::new(
+        alloc,
+        |length: u64| -> u64
+            requires { IsUpTo MOST_LENGTH length }
+            ensures { IsPrice 0 1 length result }
+        { flat(length) },
+    )?;
+    let by_hops = Box::new(
+        alloc,
+        |length: u64| -> u64
+            requires { IsUpTo MOST_LENGTH length }
+            ensures { IsPrice 1 0 length result }
+        { hops(length) },
+    )?;
+    let by_long = Box::new(
+        alloc,
+        |length: u64| -> u64
+            requires { IsUpTo MOST_LENGTH length }
+            ensures { IsPrice 5 2 length result }
+        { long(length) },
+    )?;
+    let tariffs = tariffs(alloc, by_flat, by_hops, by_long)?;
     let status = call(
         rt,
         alloc,
@@ -62,6 +88,7 @@ pub fn run_program<R: Threads + Wait + Sync, G: Gate + Sync>(
         &mut output,
         &mut cabinet,
         &mut door,
+        &tariffs,
         gate,
     );
     let disk = if status == NO_MEMORY {
@@ -87,12 +114,23 @@ fn call<R: Threads + Wait + Sync, G: Gate + Sync>(
     output: &mut NarrowSink,
     cabinet: &mut MemCabinet,
     door: &mut MemDoor,
+    tariffs: &[Tariff],
     gate: &G,
 ) -> u8
     requires { (cabinet_frame cabinet.old).out ≡ None }
     ensures { result ≢ 7 → (cabinet_frame cabinet.new).out ≡ None }
 {
-    program(rt, alloc, &case.words, input, output, cabinet, door, gate)
+    program(
+        rt,
+        alloc,
+        &case.words,
+        input,
+        output,
+        cabinet,
+        door,
+        tariffs,
+        gate,
+    )
 }
 
 // The journal's disk, as it was put back.
@@ -146,7 +184,10 @@ fn cabinet_of(alloc: Global, case: &Case, journal: &[u8]) -> Result<MemCabinet, 
     let disk = disk_of(alloc, case, journal)?;
     let mut cabinet = MemCabinet::of(alloc, JOURNAL.as_bytes(), disk)?;
     if !case.text.is_empty() {
+        // A name says how its text is written.
         cabinet.add_text(alloc, TEXT.as_bytes(), &case.text)?;
+        cabinet.add_text(alloc, b"t.json", &case.text)?;
+        cabinet.add_text(alloc, b".json", &case.text)?;
     }
     if let Some(nth) = case.failing {
         cabinet.fail(alloc, nth)?;

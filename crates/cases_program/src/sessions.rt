@@ -61,11 +61,11 @@ pub fn share(alloc: Global, case: &Case) -> Result<(Book, Pass), Trouble>
 {
     let source = MemSource::new(alloc, &case.text, 4_096)?;
     let Ok(top) = read(alloc, &mut LineReader::new(source)) else {
-        return Err(Trouble::Book);
+        return Err(Trouble::Opening);
     };
     match Store::open(alloc, disk_of(alloc, case, &case.journal.bytes)?, top) {
         Ok(store) => Ok(Shared::new(alloc, store)?),
-        Err(_) => Err(Trouble::Book),
+        Err(_) => Err(Trouble::Opening),
     }
 }
 

@@ -1,7 +1,7 @@
-// A case that is stopped: after each call of its disk, or at each call of its output.
+// A case that is stopped: after calls of its disk, or at each call of its output.
 use crate::case::Case;
 use crate::places::last_place;
-use crate::run::{JOURNAL, Outcome, held, run_program};
+use crate::run::{JOURNAL, Outcome, TEXT, held, run_program};
 use crate::sessions::run_session;
 use crate::trouble::Trouble;
 use hose_disk::{MemDisk, Pick};
@@ -22,80 +22,72 @@ const PICKS: [Pick; 5] = [
 // The status of a session whose output failed.
 const WRITE: u64 = 4;
 
-/// After how many stops of a case another history is found than that of the lines that were
-/// answered, or that with the entry of the next line. A stop is one after any call of the journal's
-/// disk, with any of the picks.
+/// After how many stops of a case, with any of the picks, another book is found than one of those
+/// that it names.
 pub fn stops_that_differ<R: Threads + Wait + Sync>(
     rt: &R,
     alloc: Global,
     case: &Case,
+    disk: &MemDisk,
 ) -> Result<u64, AllocError> {
-    if !case.journal.stops {
-        return Ok(0);
-    }
-    let mut lost = 0u64;
-    // A journal that is there at first was written and synced.
-    let mut from = if case.journal.bytes.is_empty() { 0 } else { 2 };
-    let mut answered = run_front(rt, alloc, case, 0)?;
-    for lines in 0..lines_of(case) {
-        let next = run_front(rt, alloc, case, lines.saturating_add(1))?;
-        let differ = differ_within(rt, alloc, case, from, &answered, &next)?;
-        lost = lost.saturating_add(differ);
-        from = calls_of(&next);
-        answered = next;
-    }
-    Ok(lost)
-}
-
-// How many calls of the disk were made before it was closed, which is one call.
-fn calls_of(outcome: &Outcome) -> u64 {
-    match &outcome.disk {
-        Some(disk) => disk.calls().saturating_sub(1),
-        None => 0,
-    }
-}
-
-// After how many stops from a call on up to the next reply neither the history that was answered is
-// found, nor the next.
-fn differ_within<R: Threads + Wait + Sync>(
-    rt: &R,
-    alloc: Global,
-    case: &Case,
-    from: u64,
-    answered: &Outcome,
-    next: &Outcome,
-) -> Result<u64, AllocError> {
-    let Some(disk) = &next.disk else {
-        return Ok(0);
-    };
-    let topology = topology_of(&case.input.bytes);
-    let wanted = [last_place(&answered.output), last_place(&next.output)];
+    let audit = audit_of(alloc, case)?;
     let mut differ = 0u64;
-    for calls in from..=calls_of(next) {
-        for pick in PICKS {
-            let found = epoch_after(rt, alloc, topology, disk, calls, pick)?;
-            if !wanted.contains(&found) {
-                differ = differ.saturating_add(1);
+    for stop in &case.journal.stops {
+        for calls in stop.from..=stop.to {
+            for pick in PICKS {
+                let told = audit_after(rt, alloc, &audit, disk, calls, pick)?;
+                if !is_named(&case.books, &stop.books, &told) {
+                    differ = differ.saturating_add(1);
+                }
             }
         }
     }
     Ok(differ)
 }
 
-// The epoch that a run after a stop finds.
-fn epoch_after<R: Threads + Wait + Sync>(
+// An audit of the journal over the network of a case: its text `t`, or else that of its input.
+fn audit_of(alloc: Global, case: &Case) -> Result<Case, AllocError> {
+    let mut audit = Case::new(alloc);
+    for word in ["audit", TEXT, JOURNAL] {
+        audit.words.push(String::from_str(alloc, word)?)?;
+    }
+    let network = if case.text.is_empty() {
+        topology_of(&case.input.bytes)
+    } else {
+        case.text.as_slice()
+    };
+    audit.text.extend_from_slice(network)?;
+    Ok(audit)
+}
+
+// What an audit tells after a stop: nothing where so many calls were not made.
+fn audit_after<R: Threads + Wait + Sync>(
     rt: &R,
     alloc: Global,
-    topology: &[u8],
+    audit: &Case,
     disk: &MemDisk,
     calls: u64,
     pick: Pick,
-) -> Result<Option<u64>, AllocError> {
+) -> Result<Vec<u8>, AllocError> {
     if calls > disk.calls() {
-        return Ok(None);
+        return Ok(Vec::new(alloc));
     }
     let mut image = disk.stop_image(alloc, calls, pick)?;
-    epoch_of(rt, alloc, topology, &held(alloc, &mut image)?)
+    let journal = held(alloc, &mut image)?;
+    let Outcome { output, .. } = run_program(rt, alloc, audit, &[], &journal, &PlainGate)?;
+    Ok(output)
+}
+
+// Whether a text is the audit of one of the books of these numbers.
+fn is_named(books: &[Vec<u8>], numbers: &[u64], told: &[u8]) -> bool {
+    for number in numbers {
+        if let Some(book) = books.get(number.wrapping_sub(1) as usize) {
+            if book.as_slice() == told {
+                return true;
+            }
+        }
+    }
+    false
 }
 
 /// The epoch that a run on a journal finds.
@@ -114,56 +106,16 @@ pub fn epoch_of<R: Threads + Wait + Sync>(
     Ok(last_place(&found.output))
 }
 
-// What comes of the topology and the first lines of a case.
-fn run_front<R: Threads + Wait + Sync>(
-    rt: &R,
-    alloc: Global,
-    case: &Case,
-    lines: usize,
-) -> Result<Outcome, AllocError> {
-    let input = case.input.bytes.as_slice();
-    let mut end = topology_of(input).len();
-    for _ in 0..lines {
-        end = end.saturating_add(line_at(input, end));
-    }
-    let end = end.min(input.len());
-    run_program(
-        rt,
-        alloc,
-        case,
-        &input[..end],
-        &case.journal.bytes,
-        &PlainGate,
-    )
-}
-
-// How many lines come after the topology.
-fn lines_of(case: &Case) -> usize {
-    let start = topology_of(&case.input.bytes).len();
-    let lines = case.input.bytes.iter().skip(start);
-    lines.filter(|byte| **byte == b'\n').count()
-}
-
 /// The topology with which bytes begin, up to its line `end`.
 pub fn topology_of(bytes: &[u8]) -> &[u8] {
     let mut len = 0usize;
-    for line in bytes.split_inclusive(|byte| *byte == b'\n') {
-        len = len.saturating_add(line.len());
-        if line == b"end\n".as_slice() {
+    for line in str::from_utf8(bytes).unwrap_or("").lines() {
+        len = len.saturating_add(line.len()).saturating_add(1);
+        if line == "end" {
             break;
         }
     }
     &bytes[..len.min(bytes.len())]
-}
-
-// How many bytes the line at a place has.
-fn line_at(bytes: &[u8], place: usize) -> usize {
-    let start = place.min(bytes.len());
-    let rest = &bytes[start..];
-    match rest.iter().position(|byte| *byte == b'\n') {
-        Some(place) => place.saturating_add(1),
-        None => rest.len(),
-    }
 }
 
 /// After how many failed calls of its output, each in turn, something else comes of a session than
@@ -202,7 +154,10 @@ fn is_right<R: Threads + Wait + Sync>(
     let journal = held(alloc, disk)?;
     let found = epoch_of(rt, alloc, &case.text, &journal)?;
     let told = last_place(whole_lines(&cut.output));
-    let is_next = told.is_some_and(|told| found == Some(told.saturating_add(1)));
+    let is_next = match told {
+        Some(told) => found == Some(told.saturating_add(1)),
+        None => false,
+    };
     Ok(
         cut.status == WRITE
             && cut.output.len() as u64 == nth.saturating_sub(1)
@@ -213,8 +168,11 @@ fn is_right<R: Threads + Wait + Sync>(
 
 // The lines of an output that end with a line feed.
 fn whole_lines(output: &[u8]) -> &[u8] {
-    match output.iter().rposition(|byte| *byte == b'\n') {
-        Some(place) => &output[..place],
-        None => &[],
+    let mut len = 0usize;
+    for place in 0..output.len() {
+        if output[place] == b'\n' {
+            len = place;
+        }
     }
+    &output[..len.min(output.len())]
 }

@@ -10,7 +10,7 @@ pub enum Trouble {
     Word,
     #[error("a number is wanted")]
     Number,
-    #[error("a brace holds s, t, r or a number to count up from, and is closed")]
+    #[error("a brace holds s, t, r, o, c, b and a byte, or a number to count up from, and is closed")]
     Brace,
     #[error("a piece has one byte at least, and calls are counted from 1")]
     Zero,
@@ -20,13 +20,15 @@ pub enum Trouble {
     Kind,
     #[error("connections are counted from 1, and begin in order")]
     Connection,
+    #[error("books are counted from 1, and begin in order")]
+    Book,
     #[error("the case says nothing of status, output, what is taken, what is left or what a \
             connection is given")]
     NothingToCompare,
     #[error("the file has no case")]
     NoCase,
     #[error("the text is no network, or the journal none of its")]
-    Book,
+    Opening,
     #[error("the store is not closed")]
     Close,
     #[error("no memory")]

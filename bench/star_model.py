@@ -1,0 +1,230 @@
+"""A plain model of a server on a star, whose journal is on a disk that fails where it is told to.
+
+It follows docs/GUIDE.md: a disk that is a text of bytes, of which a failed call changes nothing; a
+journal whose entry counts once its gate is written and synced, and whose entry in doubt is revoked
+before the next one and at the end; replies, and what an audit tells. It knows no plans but those of
+a star, where each endpoint is at the end of a link, and shares no code with the crates.
+"""
+
+from collections import Counter
+
+STAR = ("node a", "node b", "node c", "node h", "link a h 10 1", "link b h 10 2", "link c h 10 3",
+        "end")
+NAMES, COSTS = "abch", (1, 2, 3)
+# What `sha256sum` gives for the canonical text.
+DIGEST = "24fcb75877abb3e7844a793bdf784d862da4700e66d9e0ec6fbcf8c50249eda4"
+HEAD = bytes.fromhex("484f534501" + DIGEST + "00")  # what follows the first gate
+EMPTY = b"\1" + HEAD
+
+
+class Failed(Exception):
+    pass
+
+
+class Disk:
+    """What reads give, the calls so far, and those that fail."""
+
+    def __init__(self, held, failing):
+        self.held, self.failing, self.made, self.calls = held, failing, Counter(), []
+
+    def call(self, kind):
+        self.made[kind] += 1
+        self.calls.append((kind, self.made[kind]))
+        if self.calls[-1] in self.failing:
+            raise Failed
+
+    def write(self, at, written):
+        self.call("write")
+        self.held = self.held[:at] + written + self.held[at + len(written):]
+
+    def put(self, at, written):
+        self.write(at, written)
+        self.call("sync")
+
+    def cut(self, to):
+        self.call("cut")
+        self.held = self.held[:to]
+
+
+# ---- Entries, and what is told of them.
+
+
+def pairs_text(pairs):
+    return " ".join(f"{number}:{value}" for number, value in pairs)
+
+
+def hose_of(words):
+    ends = [word.split(":") for word in words]
+    return tuple(sorted((NAMES.index(node), int(rate)) for node, rate in ends))
+
+
+def plan(hose):
+    """What the hose reserves, where each endpoint is at the end of a link, and the cost."""
+    total = sum(rate for _, rate in hose)
+    links = tuple((node, min(rate, total - rate)) for node, rate in hose)
+    return links, sum(COSTS[link] * amount for link, amount in links)
+
+
+def live_of(entries):
+    """The customers and hoses of the live VPNs."""
+    live = {}
+    for epoch, (kind, customer, told) in enumerate(entries, 1):
+        if kind == "admit":
+            live[epoch] = (customer, told)
+        else:
+            del live[told]
+    return live
+
+
+def link_of(entries, link):
+    load = sum(dict(plan(hose)[0]).get(link, 0) for _, hose in live_of(entries).values())
+    return f"link {link} {NAMES[link]} h capacity 10 cost {COSTS[link]} load {load}"
+
+
+def told_of(hose, place=""):
+    """What a hose costs, its ends and its links."""
+    links, cost = plan(hose)
+    ends = " ".join(f"{NAMES[node]}:{rate}" for node, rate in hose)
+    return f"cost {cost}{place} ends {ends} links {pairs_text(links)}"
+
+
+def audit(entries):
+    """The text of the book of some entries."""
+    live = live_of(entries)
+    yield f"epoch {len(entries)}"
+    yield from (link_of(entries, link) for link in range(len(COSTS)))
+    for epoch, (customer, hose) in live.items():
+        yield f"vpn {epoch} {customer} {told_of(hose)}"
+    yield f"live {len(live)} cost {sum(plan(hose)[1] for _, hose in live.values())}"
+
+
+def spelled_pairs(pairs):
+    return b"".join(number.to_bytes(2, "big") + value.to_bytes(4, "big") for number, value in pairs)
+
+
+def spelled(entry):
+    """The body of an entry's record."""
+    kind, customer, told = entry
+    name = bytes([len(customer)]) + customer.encode()
+    if kind == "release":
+        return b"\2" + name + told.to_bytes(4, "big")
+    links, _ = plan(told)
+    counted = bytes([len(told)]) + spelled_pairs(told) + len(links).to_bytes(2, "big")
+    return b"\1" + name + counted + spelled_pairs(links)
+
+
+def record(entry):
+    """What follows an entry's gate."""
+    body = spelled(entry)
+    return len(body).to_bytes(4, "big") + body + b"\0"
+
+
+def journal_of(entries):
+    """The bytes of a journal that has these entries."""
+    return EMPTY[:-1] + b"".join(b"\1" + record(entry)[:-1] for entry in entries) + b"\0"
+
+
+# ---- The journal.
+
+
+class Journal:
+    """A journal on a disk that is empty or has some entries.
+
+    In `since` is from which number of calls on which lists of entries a stop may leave.
+    """
+
+    def __init__(self, disk, entries=()):
+        self.disk, self.entries, self.doubted = disk, entries, None
+        self.since = [(0, (entries,))]
+        disk.call("sync")
+        self.load()
+        if not disk.held:
+            disk.cut(0)
+            disk.call("sync")
+            disk.put(0, b"\0")
+            disk.put(1, HEAD)
+            disk.put(0, b"\1")
+            self.load()
+
+    def load(self):
+        self.disk.call("len")
+        self.disk.call("read")
+
+    def gate(self):
+        """The place of the last gate."""
+        return len(journal_of(self.entries)) - 1
+
+    def note(self, more=0):
+        found = (self.entries,) if self.doubted is None else (self.entries, self.doubted)
+        self.since.append((len(self.disk.calls) + more, found))
+
+    def settle(self):
+        if self.doubted is not None:
+            self.disk.put(self.gate(), b"\0")
+            self.doubted = None
+            self.note()
+
+    def enter(self, entry):
+        self.settle()
+        self.disk.put(self.gate() + 1, record(entry))
+        # The entry is in doubt as soon as its gate is written.
+        self.doubted = self.entries + (entry,)
+        self.note(1)
+        self.disk.put(self.gate(), b"\1")
+        self.entries, self.doubted = self.doubted, None
+        self.note()
+
+    def close(self):
+        if self.doubted is not None:
+            self.settle()
+        else:
+            self.disk.call("sync")
+
+
+# ---- The server.
+
+
+class Server:
+    """What is replied to lines, over a journal."""
+
+    def __init__(self, journal):
+        self.journal, self.quotes = journal, {}
+
+    def enter(self, entry, reply):
+        try:
+            self.journal.enter(entry)
+        except Failed:
+            return f"disk at {len(self.journal.entries)}"
+        return reply
+
+    def admit(self, customer, hose):
+        links, cost = plan(hose)
+        epoch = len(self.journal.entries) + 1
+        reply = f"admitted {epoch} cost {cost} at {epoch} links {pairs_text(links)}"
+        return self.enter(("admit", customer, hose), reply)
+
+    def reply(self, line):
+        customer, command, *words = line.split()
+        at = len(self.journal.entries)
+        if command == "admit":
+            return self.admit(customer, hose_of(words))
+        if command == "quote":
+            self.quotes[1] = hose_of(words)
+            links, cost = plan(self.quotes[1])
+            return f"quoted 1 cost {cost} at {at} links {pairs_text(links)}"
+        if command == "take":
+            return self.admit(customer, self.quotes.pop(1))
+        number = int(words[0])
+        if command == "link":
+            return f"{link_of(self.journal.entries, number)} at {at}"
+        if not self.is_live(customer, number):
+            return f"no vpn {number} at {at}"
+        if command == "show":
+            hose = self.journal.entries[number - 1][2]
+            return f"vpn {number} {told_of(hose, f' at {at}')}"
+        return self.enter(("release", customer, number), f"released {number} at {at + 1}")
+
+    def is_live(self, customer, number):
+        entries = self.journal.entries
+        is_theirs = 0 < number <= len(entries) and entries[number - 1][:2] == ("admit", customer)
+        return is_theirs and ("release", customer, number) not in entries
