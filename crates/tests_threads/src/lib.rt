@@ -8,6 +8,8 @@ mod passes;
 #[cfg(test)]
 mod shared;
 #[cfg(test)]
+mod stale;
+#[cfg(test)]
 mod turn;
 #[cfg(test)]
 mod workers;

@@ -39,30 +39,35 @@ const LARGE: [Endpoint; 3] = [(0, 3), (1, 4), (2, 5)];
 /// The rate 1 at `a` and `b`, which costs 1·1 + 1·2 = 3.
 const SMALL: [Endpoint; 2] = [(0, 1), (1, 1)];
 
-type Star = Shared<MemDisk, AnyStore>;
+/// A book on a disk in memory that many passes use.
+pub type Book = Shared<MemDisk, AnyStore>;
 
 pub fn star(alloc: Global) -> Result<Topology, Fail> {
-    let source = MemSource::new(alloc, STAR.as_bytes(), 4_096)?;
+    network(alloc, STAR)
+}
+
+fn network(alloc: Global, text: &str) -> Result<Topology, Fail> {
+    let source = MemSource::new(alloc, text.as_bytes(), 4_096)?;
     Ok(read(alloc, &mut LineReader::new(source))?)
 }
 
-fn acme() -> Result<Name, Fail> {
+pub fn acme() -> Result<Name, Fail> {
     Ok(Name::read(b"acme").ok_or("no name")?)
 }
 
-/// The star's empty book on a disk in memory, and its first pass.
-fn shared(alloc: Global) -> Result<(Star, Pass), Fail>
+/// A network's empty book on a disk in memory, and its first pass.
+pub fn shared(alloc: Global, text: &str) -> Result<(Book, Pass), Fail>
     ensures of { IfOk result (λ made. IsPassOf made.0 made.1) }
     ensures share { IfOk result (λ made. made.1.share ≡ ALL_SHARES) }
 {
-    match Store::open(alloc, MemDisk::new(alloc)?, star(alloc)?) {
+    match Store::open(alloc, MemDisk::new(alloc)?, network(alloc, text)?) {
         Ok(store) => Ok(Shared::new(alloc, store)?),
         Err(refused) => Err(Fail::from(refused.0)),
     }
 }
 
 /// The hose of these endpoints, where they are nodes of the network.
-fn hose(alloc: Global, top: &Topology, ends: &[Endpoint]) -> Result<Hose, Fail>
+pub fn hose(alloc: Global, top: &Topology, ends: &[Endpoint]) -> Result<Hose, Fail>
     ensures { IfOk result (AreNodes top.now) }
 {
     let hose = Hose::build(alloc, ends)?;
@@ -77,7 +82,7 @@ fn hose(alloc: Global, top: &Topology, ends: &[Endpoint]) -> Result<Hose, Fail>
 fn admit<W: Wait, R: RowMaker>(
     rt: &W,
     alloc: Global,
-    star: &Star,
+    star: &Book,
     pass: Pass,
     customer: &Name,
     hose: Hose,
@@ -94,7 +99,7 @@ fn admit<W: Wait, R: RowMaker>(
 fn quote<W: Wait, R: RowMaker>(
     rt: &W,
     alloc: Global,
-    star: &Star,
+    star: &Book,
     pass: Pass,
     hose: Hose,
     rows: &mut R,
@@ -178,7 +183,7 @@ struct Answered {
 fn ask_slowly<W: Wait>(
     rt: &W,
     alloc: Global,
-    star: &Star,
+    star: &Book,
     pass: Pass,
     asked: Asked,
     customer: &Name,
@@ -204,7 +209,7 @@ fn ask_slowly<W: Wait>(
 fn admit_meanwhile<W: Wait>(
     rt: &W,
     alloc: Global,
-    star: &Star,
+    star: &Book,
     pass: Pass,
     customer: &Name,
     hose: Hose,
@@ -227,7 +232,7 @@ fn ask_beside<W: Wait + Threads + Sync>(
     asked: Asked,
 ) -> Result<(Answered, Answered), Fail> {
     let customer = acme()?;
-    let (star, mut pass) = shared(alloc)?;
+    let (star, mut pass) = shared(alloc, STAR)?;
     let large = hose(alloc, star.topology(), &LARGE)?;
     let small = hose(alloc, star.topology(), &SMALL)?;
     let other = star.split(&mut pass);

@@ -1,0 +1,198 @@
+// An admission whose plan goes stale as often as it is made outside of the lock.
+ghost use Rattle.std.specs.Prelude.{◌≡◌, ◌≤◌};
+ghost use Rattle.hose_graph.specs.declared.limits.TheConstants.{MOST_EPOCH};
+ghost use Rattle.hose_law.specs.Plan.{AreNodes};
+ghost use Rattle.hose_shared.specs.Sharing.{IsPassOf};
+
+use crate::shared::{Book, acme, hose, shared, tells};
+use hose_graph::{Endpoint, Hose, Name, Reply};
+use hose_paths::PlainRows;
+use hose_pool::{Gate, PlainGate, Point};
+use hose_turn::Pass;
+use std::alloc::Global;
+use std::sync::Wait;
+use std::sync::atomic::{AtomicU64, Ordering};
+use std::test::Fail;
+use std::thread;
+use std::thread::Threads;
+
+/// A dear link beside a cheap one.
+const LANES: &str = "node a\nnode b\nlink a b 10 1\nlink a b 10 5\nend\n";
+
+/// The rate 6 at `a` and `b`: it reserves 6 of the cheap link, for 6, and where that has less than
+/// 6 free, of the dear link, for 6·5 = 30.
+const WIDE: [Endpoint; 2] = [(0, 6), (1, 6)];
+
+/// The rate 5 at `a` and `b`: it reserves 5 of the cheap link, for 5, and leaves 5 of it free.
+const NARROW: [Endpoint; 2] = [(0, 5), (1, 5)];
+
+/// How often a thread looks at a count before it gives up.
+const MOST_LOOKS: u32 = 1_000_000_000;
+
+/// How many plans of one thread were made, and how many of them the other one has spoilt.
+#[derive(Drop)]
+struct Plans {
+    made: AtomicU64,
+    spoilt: AtomicU64,
+}
+
+impl Plans {
+    fn new() -> Plans {
+        Plans {
+            made: AtomicU64::new(0),
+            spoilt: AtomicU64::new(0),
+        }
+    }
+}
+
+/// Waits until a count is reached.
+fn wait_for(count: &AtomicU64, wanted: u64) {
+    for _ in 0..MOST_LOOKS {
+        if count.load(Ordering::SeqCst) >= wanted {
+            return;
+        }
+    }
+}
+
+/// A plan that was made is not taken before it is spoilt.
+impl Gate for Plans {
+    fn at(&self, point: Point) {
+        if let Point::Planned { .. } = point {
+            let made = self.made.load(Ordering::SeqCst).saturating_add(1);
+            self.made.store(made, Ordering::SeqCst);
+            wait_for(&self.spoilt, made);
+        }
+    }
+}
+
+/// Admits the wide hose, and tells what is answered.
+fn admit_wide<W: Wait>(
+    rt: &W,
+    alloc: Global,
+    lanes: &Book,
+    pass: Pass,
+    customer: &Name,
+    wide: Hose,
+    plans: &Plans,
+) -> Reply
+    requires of { IsPassOf lanes.now pass }
+    requires nodes { AreNodes lanes.now.network wide }
+{
+    let mut rows = PlainRows::new();
+    let (reply, _pass) = lanes.admit(rt, alloc, pass, customer, wide, &mut rows, plans, 1);
+    reply
+}
+
+/// Takes up a part of the cheap link.
+fn narrow_lane<W: Wait>(
+    rt: &W,
+    alloc: Global,
+    lanes: &Book,
+    pass: Pass,
+    customer: &Name,
+    narrow: Hose,
+) -> (Reply, Pass)
+    requires of { IsPassOf lanes.now pass }
+    requires nodes { AreNodes lanes.now.network narrow }
+    ensures { IsPassOf lanes.now result.1 }
+{
+    let mut rows = PlainRows::new();
+    lanes.admit(rt, alloc, pass, customer, narrow, &mut rows, &PlainGate, 2)
+}
+
+/// Gives it up again.
+fn widen_lane<W: Wait>(
+    rt: &W,
+    alloc: Global,
+    lanes: &Book,
+    pass: Pass,
+    customer: &Name,
+    id: u64,
+) -> (Reply, Pass)
+    requires of { IsPassOf lanes.now pass }
+    requires id { id ≤ MOST_EPOCH }
+    ensures { IsPassOf lanes.now result.1 }
+{
+    lanes.release(rt, alloc, pass, customer, id)
+}
+
+/// What the thread was answered that spoilt three plans.
+#[derive(Debug, Drop)]
+struct Spoilt {
+    first: Reply,
+    second: Reply,
+    third: Reply,
+}
+
+/// Spoils three plans of the wide hose, each once it is made: the first and the third rest on a
+/// cheap link that is free, the second on one that is not.
+fn spoil<W: Wait>(
+    rt: &W,
+    alloc: Global,
+    lanes: &Book,
+    pass: Pass,
+    customer: &Name,
+    narrow: Hose,
+    other: Hose,
+    plans: &Plans,
+) -> Spoilt
+    requires of { IsPassOf lanes.now pass }
+    requires narrow { AreNodes lanes.now.network narrow }
+    requires other { AreNodes lanes.now.network other }
+{
+    wait_for(&plans.made, 1);
+    let (first, pass) = narrow_lane(rt, alloc, lanes, pass, customer, narrow);
+    plans.spoilt.store(1, Ordering::SeqCst);
+    wait_for(&plans.made, 2);
+    let (second, pass) = widen_lane(rt, alloc, lanes, pass, customer, 1);
+    plans.spoilt.store(2, Ordering::SeqCst);
+    wait_for(&plans.made, 3);
+    let (third, _pass) = narrow_lane(rt, alloc, lanes, pass, customer, other);
+    plans.spoilt.store(3, Ordering::SeqCst);
+    Spoilt {
+        first,
+        second,
+        third,
+    }
+}
+
+/// What the two were answered, and how many plans were made outside of the lock.
+fn admit_on_spoilt_plans<W: Wait + Threads + Sync>(
+    rt: &W,
+    alloc: Global,
+) -> Result<(Reply, Spoilt, u64), Fail> {
+    let customer = acme()?;
+    let (lanes, mut pass) = shared(alloc, LANES)?;
+    let wide = hose(alloc, lanes.topology(), &WIDE)?;
+    let narrow = hose(alloc, lanes.topology(), &NARROW)?;
+    let again = hose(alloc, lanes.topology(), &NARROW)?;
+    let other = lanes.split(&mut pass);
+    let plans = Plans::new();
+    let (reply, spoilt) = thread::join(
+        rt,
+        || admit_wide(rt, alloc, &lanes, pass, &customer, wide, &plans),
+        || spoil(rt, alloc, &lanes, other, &customer, narrow, again, &plans),
+    );
+    Ok((reply, spoilt, plans.made.load(Ordering::SeqCst)))
+}
+
+/// After the third plan the hose is decided under the lock, where no plan can go stale.
+#[test]
+fn three_plans_go_stale(rt: HostRuntime) -> Result<(), Fail> {
+    let (reply, spoilt, made) = admit_on_spoilt_plans(&rt, rt.alloc())?;
+    tells(
+        rt.alloc(),
+        &spoilt,
+        "Spoilt { first: Admitted { id: 1, cost: 5, at: 1, \
+            amounts: Amounts { pairs: [(0, 5)] } }, \
+            second: Released { id: 1, at: 2 }, \
+            third: Admitted { id: 3, cost: 5, at: 3, \
+            amounts: Amounts { pairs: [(0, 5)] } } }",
+    )?;
+    tells(
+        rt.alloc(),
+        &reply,
+        "Admitted { id: 4, cost: 30, at: 4, amounts: Amounts { pairs: [(1, 6)] } }",
+    )?;
+    tells(rt.alloc(), &made, "3")
+}
