@@ -1,16 +1,17 @@
 #!/usr/bin/env bash
-# Decisions a second on a random network of 512 nodes and 2,048 links: 200 admissions of 2 to 5
-# endpoints. What it takes to read the topology and answer 200 questions about a link is measured in
-# the same run, and is not part of the decisions' time.
+# Decisions on a random network of 512 nodes and 2,048 links: 2,400 admissions of 2 to 5 endpoints,
+# beside plain Rust that does the same work (planner.rs) where rustc is there, and else beside a
+# plain loop over the same bytes. The time is that of the whole run, with reading the topology and
+# making the rows of all nodes; what these two take alone is measured in the same run.
 # usage: bench/decisions.sh [PROGRAM [SEED]]
 . "$(dirname "$0")/setup.sh"
 
-RUNS=3
+RUNS=5
 python3 - "$work" "${2:-1}" <<'END'
 import sys
 
 work, seed = sys.argv[1:]
-NODES, LINKS, HOSES = 512, 2048, 200
+NODES, LINKS, HOSES = 512, 2048, 2400
 state = int(seed)
 
 
@@ -46,26 +47,38 @@ def admit_line():
 
 topology = [f"node n{node}" for node in range(NODES)]
 topology += [link_line(number) for number in range(LINKS)] + ["end"]
-scripts = {"questions": ["c0 link 0"] * HOSES, "admits": [admit_line() for _ in range(HOSES)]}
+scripts = {"topology": [], "admits": [admit_line() for _ in range(HOSES)]}
 for name, script in scripts.items():
     with open(f"{work}/{name}", "w") as text:
         text.write("\n".join(topology + script) + "\n")
 END
-cp "$work/questions" "$work/input"
+cp "$work/topology" "$work/input"
 measure "$RUNS"
-questions=$taken
+begun=$processor
 cp "$work/admits" "$work/input"
 measure "$RUNS"
-python3 - "$taken" "$questions" "$work/replies" <<'END'
+python3 - "$processor" "$begun" "$peak" "$work/replies" <<'END'
 import sys
 from collections import Counter
 
-whole, questions = map(float, sys.argv[1:3])
-taken = whole - questions
-with open(sys.argv[3]) as replies:
+whole, begun = map(float, sys.argv[1:3])
+with open(sys.argv[4]) as replies:
     kinds = Counter(line.split()[0] for line in replies)
 counts = ", ".join(f"{count} {kind}" for kind, count in sorted(kinds.items()))
-print(f"decisions: {kinds.total() / taken:.0f} a second, {taken * 1000:.0f} ms, {counts}")
-print(f"the topology and as many questions about a link: {questions * 1000:.1f} ms")
+print(f"decisions: {whole * 1000:.0f} ms of a processor, {counts}, {sys.argv[3]} KiB")
+print(f"of these {begun * 1000:.0f} ms before the first: the topology, and the rows of all nodes")
 END
-reference
+command -v rustc >/dev/null || { reference; exit; }
+rustc --edition 2021 -O -o "$work/planner" bench/planner.rs
+mv "$work/replies" "$work/decided"
+figure=$processor
+program=$work/planner
+measure "$RUNS"
+cmp "$work/decided" "$work/replies"
+python3 - "$figure" "$processor" <<'END'
+import sys
+
+figure, reference = map(float, sys.argv[1:])
+took = f"{reference * 1000:.0f} ms, ratio {reference / figure:.2f}"
+print(f"reference: plain Rust that keeps its rows {took}")
+END

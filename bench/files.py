@@ -35,6 +35,7 @@ with open("demo/star.txt", encoding="ascii") as star:
 ORDER, REPLY = "acme admit a:1 b:1\n", "admitted 1 cost 3 at 1 links 0:1 1:1\n"
 RECORD = 4 + 1 + (1 + 4) + (1 + 2 * (2 + 4)) + (2 + 2 * (2 + 4)) + 1
 HEAD = 39  # bytes of a journal that was begun
+JSON_LIMIT = 16_777_216  # bytes of a topology in JSON
 
 # ---- What the program did.
 
@@ -263,6 +264,24 @@ def trial_of_a_text(work):
     yield "the text that replaced it", (found[0], found[1].split()[:2]), (5, ["journal", "other"])
 
 
+def trial_of_json(work):
+    """A text in JSON may be as long as its limit; a folder of such a name is the cabinet's fault."""
+    place = Place(work, "json")
+    text = '{"nodes":["a","b"],"links":[{"a":"a","b":"b","capacity":1,"length":1}]'
+    book = "epoch 0\nlink 0 a b capacity 1 cost 1 load 0\nlive 0 cost 0\n"
+    os.mkdir(place.at("folder.json"))
+    for name, size, wanted in (
+        (".json", len(text) + 1, (0, book)),
+        ("at.json", JSON_LIMIT, (0, book)),
+        ("past.json", JSON_LIMIT + 1, (8, "too long\n")),
+        ("folder.json", None, (6, "cabinet\n")),
+    ):
+        if size is not None:
+            with open(place.at(name), "w", encoding="ascii") as file:
+                file.write(text + " " * (size - len(text) - 1) + "}")
+        yield f"the topology {name}", place.run(["audit", name, name + ".journal"]), wanted
+
+
 def trial_of_locks_and_modes(work):
     """A journal that is locked is not opened; a new one is its owner's alone."""
     place = Place(work, "locked")
@@ -332,6 +351,7 @@ def all_trials(work):
     yield from trial_of_pieces(work)
     yield from trial_of_another_file(work)
     yield from trial_of_a_text(work)
+    yield from trial_of_json(work)
     yield from trial_of_locks_and_modes(work)
     yield from trial_of_a_limit(work)
 

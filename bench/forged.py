@@ -1,0 +1,390 @@
+#!/usr/bin/env python3
+"""Audits forged journals, and compares what is told with an independent reader of journals.
+
+A journal of eight orders on a small network is made by the slow planner of compare_planner.py, and
+spelled here. It is audited as it stands, cut to each length, with each single bit turned, and with
+EDITS random edits by a rule with a SEED: bytes that are set, turned, added, left out or taken from
+elsewhere, numbers that are one more or less, records that are doubled, left out or exchanged, and
+other names. For each the reader here, which follows docs/GUIDE.md and shares no code with the
+crates, says what must be told: the book, the place of the damage, or that the journal is another
+network's. Prints how many of each there were, or the first that differs, with its bytes, and ends
+with status 1.
+
+usage: bench/forged.py [PROGRAM [EDITS [SEED]]]
+The PROGRAM (./hosed) is seen from the top of the repository.
+"""
+
+import hashlib
+import os
+import random
+import subprocess
+import sys
+import tempfile
+from collections import Counter
+from concurrent.futures import ThreadPoolExecutor
+
+from compare_planner import Server, Vpn, pairs_text, plan_cost, random_command, random_network
+from compare_planner import FORCED, WEIGHTS
+
+ORDERS = 8
+EMPTY = 39  # bytes of a journal without an entry
+MARK = b"HOSE\1"
+MOST_BODY = 3_471
+MOST = {"rate": 1_000_000, "amount": 32_000_000, "id": 4_000_000_000}
+NAME = frozenset(b"abcdefghijklmnopqrstuvwxyz0123456789-")
+HANGS = 60  # seconds
+WORKERS = 4
+
+
+# ---- Spelling.
+
+
+def canonical(network):
+    lines = [f"node {name}\n" for name in network.nodes]
+    for link in network.links:
+        a, b = network.nodes[link.a], network.nodes[link.b]
+        lines.append(f"link {a} {b} {link.capacity} {link.length} {link.cost}\n")
+    return "".join(lines) + "end\n"
+
+
+def spelled_name(customer):
+    return bytes([len(customer)]) + customer.encode()
+
+
+def spelled_pairs(pairs):
+    return b"".join(number.to_bytes(2, "big") + value.to_bytes(4, "big") for number, value in pairs)
+
+
+def spelled(entry):
+    kind, customer, *rest = entry
+    if kind == "release":
+        return b"\2" + spelled_name(customer) + rest[0].to_bytes(4, "big")
+    hose, plan = rest
+    counted = bytes([len(hose)]) + spelled_pairs(hose) + len(plan).to_bytes(2, "big")
+    return b"\1" + spelled_name(customer) + counted + spelled_pairs(plan)
+
+
+def journal_of(network, entries):
+    bodies = [spelled(entry) for entry in entries]
+    digest = hashlib.sha256(canonical(network).encode()).digest()
+    records = b"".join(b"\1" + len(body).to_bytes(4, "big") + body for body in bodies)
+    return b"\1" + MARK + digest + records + b"\0"
+
+
+# ---- Reading.
+
+
+class Wrong(Exception):
+    """A body that is the spelling of no entry."""
+
+
+class Body:
+    def __init__(self, held):
+        self.held, self.at = held, 0
+
+    def number(self, size, least, most):
+        end = self.at + size
+        if end > len(self.held):
+            raise Wrong
+        number = int.from_bytes(self.held[self.at:end], "big")
+        self.at = end
+        if not least <= number <= most:
+            raise Wrong
+        return number
+
+    def name(self):
+        size = self.number(1, 1, 16)
+        name = self.held[self.at:self.at + size]
+        self.at += size
+        if len(name) < size or not set(name) <= NAME:
+            raise Wrong
+        return name.decode()
+
+    def pairs(self, count, most_number, most_value):
+        pairs = []
+        for _ in range(count):
+            number = self.number(2, pairs[-1][0] + 1 if pairs else 0, most_number)
+            pairs.append((number, self.number(4, 1, most_value)))
+        return pairs
+
+    def end(self):
+        if self.at != len(self.held):
+            raise Wrong
+
+
+def entry_of(held):
+    body = Body(held)
+    kind = body.number(1, 1, 2)
+    customer = body.name()
+    if kind == 2:
+        entry = ("release", customer, body.number(4, 0, MOST["id"]))
+    else:
+        hose = body.pairs(body.number(1, 2, 64), 511, MOST["rate"])
+        entry = ("admit", customer, hose, body.pairs(body.number(2, 1, 511), 2_047, MOST["amount"]))
+    body.end()
+    return entry
+
+
+class Book:
+    """The live VPNs of a network, by the epochs after their admissions."""
+
+    def __init__(self, network):
+        self.network, self.epoch, self.live = network, 0, {}
+
+    def loads(self):
+        loads = [0] * len(self.network.links)
+        for vpn in self.live.values():
+            for number, amount in vpn.plan:
+                loads[number] += amount
+        return loads
+
+    def is_tree_of(self, hose, plan):
+        """Whether these amounts are what the hose reserves on a tree of the network's links."""
+        network = self.network
+        if hose[-1][0] >= len(network.nodes) or plan[-1][0] >= len(network.links):
+            return False
+        used = [number for number, _ in plan]
+        ends = {node for number in used for node in network.links[number][:2]}
+        everywhere = self.part(used, network.links[used[0]].a)
+        if everywhere != ends or len(ends) != len(used) + 1:
+            return False
+        if not all(node in ends for node, _ in hose):
+            return False
+        total = sum(rate for _, rate in hose)
+        for number, amount in plan:
+            rest = [other for other in used if other != number]
+            side = self.part(rest, network.links[number].a)
+            rates = sum(rate for node, rate in hose if node in side)
+            if amount != min(rates, total - rates):
+                return False
+        return True
+
+    def part(self, links, start):
+        """The nodes that these links lead to."""
+        found, grows = {start}, True
+        while grows:
+            grows = False
+            for number in links:
+                pair = set(self.network.links[number][:2])
+                if pair & found and not pair <= found:
+                    found |= pair
+                    grows = True
+        return found
+
+    def enters(self, entry):
+        """Enters an entry if it is sound."""
+        kind, customer, *rest = entry
+        if kind == "release":
+            vpn = self.live.get(rest[0])
+            if vpn is None or vpn.customer != customer:
+                return False
+            del self.live[rest[0]]
+        else:
+            hose, plan = rest
+            if not self.is_tree_of(hose, plan):
+                return False
+            loads = self.loads()
+            if any(loads[n] + amount > self.network.links[n].capacity for n, amount in plan):
+                return False
+            vpn = Vpn(customer, hose, plan, plan_cost(self.network, plan))
+            self.live[self.epoch + 1] = vpn
+        self.epoch += 1
+        return True
+
+    def audit(self):
+        network, loads = self.network, self.loads()
+        lines = [f"epoch {self.epoch}"]
+        for number, link in enumerate(network.links):
+            a, b = network.nodes[link.a], network.nodes[link.b]
+            rest = f"capacity {link.capacity} cost {link.cost} load {loads[number]}"
+            lines.append(f"link {number} {a} {b} {rest}")
+        for number, vpn in self.live.items():
+            ends = " ".join(f"{network.nodes[node]}:{rate}" for node, rate in vpn.hose)
+            told = f"ends {ends} links {pairs_text(vpn.plan)}"
+            lines.append(f"vpn {number} {vpn.customer} cost {vpn.cost} {told}")
+        total = sum(load * link.cost for load, link in zip(loads, network.links))
+        return lines + [f"live {len(self.live)} cost {total}"]
+
+
+def judged(network, held):
+    """The lines and the status that an audit of these bytes must have."""
+    book = Book(network)
+    if len(held) < EMPTY or len(held) == EMPTY and held[0] != 1:
+        return book.audit(), 0
+    if held[0] != 1:
+        return ["journal damaged at 0"], 5
+    if held[1:6] != MARK:
+        return ["journal damaged at 1"], 5
+    digest = hashlib.sha256(canonical(network).encode()).hexdigest()
+    if held[6:38].hex() != digest:
+        return [f"journal other {held[6:38].hex()} {digest}"], 5
+    gate = 38
+    while held[gate] == 1:
+        size = int.from_bytes(held[gate + 1:gate + 5], "big")
+        after = gate + 5 + size
+        try:
+            if size > MOST_BODY or after >= len(held):
+                raise Wrong
+            if not book.enters(entry_of(held[gate + 5:after])):
+                raise Wrong
+        except Wrong:
+            return [f"journal damaged at {gate}"], 5
+        gate = after
+    return book.audit(), 0
+
+
+# ---- Forging.
+
+
+def orders(seed):
+    """A network, and the entries of eight orders on it."""
+    draw = random.Random(seed)
+    while True:
+        server, entries = Server(random_network(draw, FORCED)), []
+        for _ in range(200):
+            before = dict(server.live)
+            _, reply = random_command(draw, server, FORCED, WEIGHTS)
+            kind, number = reply.split()[0], reply.split()[1]
+            if kind == "admitted":
+                vpn = server.live[int(number)]
+                entries.append(("admit", vpn.customer, vpn.hose, vpn.plan))
+            elif kind == "released":
+                entries.append(("release", before[int(number)].customer, int(number)))
+            if len(entries) == ORDERS:
+                if any(entry[0] == "release" for entry in entries):
+                    return server.network, entries
+                break
+
+
+class Draws:
+    """Numbers by a rule: the state is multiplied and added to, and its high bits are drawn."""
+
+    def __init__(self, seed):
+        self.state = seed
+
+    def below(self, most):
+        self.state = (self.state * 6364136223846793005 + 1442695040888963407) % (1 << 64)
+        return (self.state >> 33) % most
+
+
+def gates_of(held):
+    gate, gates = 38, []
+    while held[gate] == 1:
+        gates.append(gate)
+        gate += 5 + int.from_bytes(held[gate + 1:gate + 5], "big")
+    return gates + [gate]
+
+
+def edited(held, draws):
+    """The bytes after one edit. Places behind the head come more often than those in it."""
+    at = draws.below(len(held)) if draws.below(4) == 0 else 38 + draws.below(len(held) - 38)
+    other, few = draws.below(len(held)), 1 + draws.below(6)
+    gates = gates_of(held)
+    gate = gates[draws.below(len(gates) - 1)]
+    after = gates[gates.index(gate) + 1]
+    kind = draws.below(10)
+    if kind == 0:
+        return held[:at] + bytes([draws.below(256)]) + held[at + 1:]
+    if kind == 1:
+        return held[:at] + bytes([held[at] ^ (1 << draws.below(8))]) + held[at + 1:]
+    if kind == 2:
+        return held[:at] + bytes(draws.below(256) for _ in range(few)) + held[at:]
+    if kind == 3:
+        return held[:at] + held[at + few:]
+    if kind == 4:
+        return held[:at] + held[other:other + few] + held[at + few:]
+    if kind == 5:
+        # A number one above or below, in the two bytes of a place.
+        number = int.from_bytes(held[at:at + 2], "big") + (1 if draws.below(2) else -1)
+        return held[:at] + (number % 65_536).to_bytes(2, "big")[:len(held) - at] + held[at + 2:]
+    if kind == 6:
+        return held[:after] + held[gate:after] + held[after:]
+    if kind == 7:
+        return held[:gate] + held[after:]
+    if kind == 8:
+        # Two records in the other order, where there is one after this.
+        then = gates[min(gates.index(after) + 1, len(gates) - 1)]
+        return held[:gate] + held[after:then] + held[gate:after] + held[then:]
+    # A name of the same length, in each place.
+    return held.replace(b"acme", b"beta") if draws.below(2) else held.replace(b"zeta", b"acme")
+
+
+def forged(held, edits, draws):
+    yield "as it stands", held
+    for length in range(len(held)):
+        yield f"cut to {length} bytes", held[:length]
+    for bit in range(8 * len(held)):
+        place = bit // 8
+        turned = bytes([held[place] ^ (1 << bit % 8)])
+        yield f"bit {bit} turned", held[:place] + turned + held[place + 1:]
+    for number in range(1, edits + 1):
+        # An edit may leave a record that the next one cannot begin at: then it is one edit alone.
+        changed = edited(held, draws)
+        for _ in range(draws.below(2)):
+            with_both = again(changed, draws)
+            changed = changed if with_both is None else with_both
+        yield f"edit {number}", changed
+
+
+def again(held, draws):
+    try:
+        return edited(held, draws)
+    except (IndexError, ValueError, ZeroDivisionError):
+        return None
+
+
+# ---- The program.
+
+
+def told(program, topology, journal, held):
+    with open(journal, "wb") as file:
+        file.write(held)
+    words = [program, "audit", topology, journal]
+    done = subprocess.run(words, stdout=subprocess.PIPE, stdin=subprocess.DEVNULL, timeout=HANGS)
+    return done.stdout.decode("ascii", "replace").splitlines(), done.returncode
+
+
+def kind_of(lines, status):
+    return "a sound book" if status == 0 else " ".join(lines[0].split()[:2])
+
+
+def compare(program, work, edits, seed):
+    network, entries = orders(seed)
+    held = journal_of(network, entries)
+    topology = os.path.join(work, "topology")
+    with open(topology, "w", encoding="ascii") as file:
+        file.write(canonical(network))
+    assert judged(network, held)[1] == 0, "the reader refuses the journal that is not forged"
+
+    def differs(numbered):
+        number, (name, changed) = numbered
+        journal = os.path.join(work, f"journal {number % WORKERS}-{number}")
+        wanted, found = judged(network, changed), told(program, topology, journal, changed)
+        os.remove(journal)
+        return name, changed, wanted, found
+
+    kinds = Counter()
+    with ThreadPoolExecutor(WORKERS) as pool:
+        for name, changed, wanted, found in pool.map(
+            differs, enumerate(forged(held, edits, Draws(seed)))
+        ):
+            if wanted != found:
+                sys.exit(f"forged: {name}\n{changed.hex()}\nexpected: {wanted}\ntold:     {found}")
+            kinds[kind_of(*found)] += 1
+    return held, kinds
+
+
+def main():
+    program = os.path.abspath(sys.argv[1] if len(sys.argv) > 1 else "./hosed")
+    edits, seed = (int(word) for word in (sys.argv[2:] + ["10000", "7"][len(sys.argv[2:]):]))
+    with tempfile.TemporaryDirectory() as work:
+        held, kinds = compare(program, work, edits, seed)
+    counts = ", ".join(f"{count} {kind}" for kind, count in sorted(kinds.items()))
+    total = sum(kinds.values())
+    print(f"forged: {total} journals, {edits} by random edits, of one of {ORDERS} orders")
+    print(f"forged: {counts}; all as the reader says, of {len(held)} bytes before")
+
+
+if __name__ == "__main__":
+    os.chdir(os.path.join(os.path.dirname(os.path.abspath(__file__)), ".."))
+    main()
