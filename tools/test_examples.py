@@ -1,6 +1,7 @@
 """Runs the examples of the documents that speak to a server, move VPNs, or read GraphML, without
 the program. Where it stands in them, what it has to answer was worked out by the planner of bench/;
 bench/examples.py runs all examples with the program."""
+import json
 import os
 import re
 import subprocess
@@ -93,12 +94,23 @@ class Moves(unittest.TestCase):
 class Importers(unittest.TestCase):
     def test_the_alps(self):
         """What the program reads is the topology in demo/, and the script after it."""
-        line = example("python3 tools/from_graphml.py").partition("| ./hosed run")[0]
+        line = example("python3 tools/from_graphml.py demo").partition("| ./hosed run")[0]
         texts = []
         for name in ("alps.txt", "alps_script.txt"):
             with open(os.path.join(TOP, "demo", name), encoding="ascii") as file:
                 texts.append(file.read())
         self.assertEqual(run(line), (0, "".join(texts)))
+
+    def test_the_alps_in_json(self):
+        """README.md makes what is in demo/, which tells the same nodes and links as the text."""
+        line = example("python3 tools/from_graphml.py --json").partition(" > ")[0]
+        told = text_of("demo/alps.json")
+        self.assertEqual(run(line), (0, told))
+        topology = json.loads(told)
+        lines = [f"node {name}" for name in topology["nodes"]]
+        lines += ["link {a} {b} {capacity} {length}".format(**link) for link in topology["links"]]
+        text = text_of("demo/alps.txt").splitlines()
+        self.assertEqual(lines, [line for line in text if line.startswith(("node ", "link "))])
 
 
 if __name__ == "__main__":
