@@ -9,6 +9,7 @@
 //! `cost`. Other members are passed over.
 #![tactic(auto)]
 
+mod by_name;
 mod fault;
 mod links;
 mod member;

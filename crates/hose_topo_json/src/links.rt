@@ -11,12 +11,13 @@ ghost use Rattle.hose_topo_json.specs.JsonValue.{number_at, text_at};
 ghost use Rattle.hose_topo_json.specs.JsonTopology.{TellsLink, unlinked};
 ghost use Rattle.hose_topo_json.specs.Refused.{IsWrongLink};
 
+use crate::by_name::NodesByName;
 use crate::member::{number_up_to, text};
 use hose_graph::{Link, MOST_CAPACITY, MOST_COST, MOST_LENGTH, Name, Topology};
 use serde_json::Value;
 
 /// Adds the links that values tell; or the place of the lowest one that tells none.
-pub fn add_links(top: &mut Topology, values: &[Value]) -> Result<(), u64>
+pub fn add_links(top: &mut Topology, by_name: &NodesByName, values: &[Value]) -> Result<(), u64>
     requires unlinked { top.old ≡ unlinked top.old.nodes }
     requires few { length values.now ≤ MOST_LINKS }
     ensures ok { OnOk result
@@ -25,7 +26,7 @@ pub fn add_links(top: &mut Topology, values: &[Value]) -> Result<(), u64>
     ensures wrong { IfErr result (IsWrongLink top.old.nodes (map view values.now)) }
 {
     for (place, value) in values.iter().enumerate() {
-        let Some(link) = read_link(top, value) else {
+        let Some(link) = read_link(top, by_name, value) else {
             return Err(place as u64);
         };
         top.push_link(link);
@@ -34,17 +35,17 @@ pub fn add_links(top: &mut Topology, values: &[Value]) -> Result<(), u64>
 }
 
 // The link that a value tells.
-fn read_link(top: &Topology, value: &Value) -> Option<Link>
+fn read_link(top: &Topology, by_name: &NodesByName, value: &Value) -> Option<Link>
     ensures some { IfSome result (TellsLink top.now.nodes (view value.now)) }
     ensures none { IfNone result
         ((link : Link) → ¬ TellsLink top.now.nodes (view value.now) link) }
 {
     // The call tells the proof what holds of each network.
     let _nodes = top.nodes();
-    let Some(a) = node(top, value, "a") else {
+    let Some(a) = node(top, by_name, value, "a") else {
         return None;
     };
-    let Some(b) = node(top, value, "b") else {
+    let Some(b) = node(top, by_name, value, "b") else {
         return None;
     };
     if a == b {
@@ -69,7 +70,7 @@ fn read_link(top: &Topology, value: &Value) -> Option<Link>
 }
 
 // The node that the text under a name names.
-fn node(top: &Topology, value: &Value, member: &str) -> Option<u32>
+fn node(top: &Topology, by_name: &NodesByName, value: &Value, member: &str) -> Option<u32>
     requires { IsNetwork top.now }
     ensures some { IfSome result (λ node. text_at member.now (view value.now)
         ≡ Some (name_of top.now node)) }
@@ -83,7 +84,7 @@ fn node(top: &Topology, value: &Value, member: &str) -> Option<u32>
     let Some(name) = Name::read(text.as_bytes()) else {
         return None;
     };
-    top.find(&name)
+    by_name.find(top, &name)
 }
 
 // The cost that a value tells, or else the length.

@@ -8,6 +8,7 @@ ghost use Rattle.hose_topo_json.specs.JsonTopology.{HasLinks, HasNodes, IsJsonTo
 ghost use Rattle.hose_topo_json.specs.Refused.{IsRefused};
 ghost use Rattle.hose_topo_json.specs.declared.fault.JsonFault.{JsonFault};
 
+use crate::by_name::NodesByName;
 use crate::fault::JsonFault;
 use crate::links::add_links;
 use crate::member::list;
@@ -47,7 +48,8 @@ fn read_members(alloc: Global, bytes: &[u8]) -> Result<Topology, JsonFault>
     let Some(links) = links_of(&value) else {
         return Err(JsonFault::Links);
     };
-    if let Err(index) = add_links(&mut top, links) {
+    let by_name = NodesByName::build(alloc, &top)?;
+    if let Err(index) = add_links(&mut top, &by_name, links) {
         return Err(JsonFault::Link { index });
     }
     // The call tells the proof what holds of each network.
