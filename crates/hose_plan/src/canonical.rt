@@ -1,5 +1,5 @@
 // The canonical plan of a hose over a set of links.
-ghost use Rattle.std.specs.Prelude.{◌≡◌, ◌<◌, ◌≤◌, length, All, IfOk, IfSome, Some};
+ghost use Rattle.std.specs.Prelude.{◌≡◌, ◌<◌, ◌≤◌, length, All, IfNone, IfOk, IfSome, None, Some};
 ghost use Rattle.hose_graph.specs.Amounts.{amount_of};
 ghost use Rattle.hose_graph.specs.Hose.{IsHose};
 ghost use Rattle.hose_graph.specs.Network.{IsNetwork};
@@ -28,6 +28,8 @@ pub fn plan<R: RowMaker>(
     requires places { length links.now ≡ length top.now.links }
     requires nodes { AreNodes top.now hose.now }
     ensures plan { IfOk result (IsPlanOver top.now links.now hose.now) }
+    ensures no_root { IfOk result
+        (λ found. IfNone found (IsBestRoot top.now links.now hose.now None)) }
     ensures links { IfOk result (λ found. IfSome found (AreOnLinks top.now)) }
     ensures few { IfOk result (λ found. IfSome found (λ plan. length plan ≤ MOST_TREE_LINKS)) }
     ensures amounts { IfOk result
@@ -52,6 +54,8 @@ fn plan_by_kept(
     requires rows { AreRows top.now links.now kept.now }
     requires nodes { AreNodes top.now hose.now }
     ensures plan { IfOk result (IsPlanOver top.now links.now hose.now) }
+    ensures no_root { IfOk result
+        (λ found. IfNone found (IsBestRoot top.now links.now hose.now None)) }
     ensures links { IfOk result (λ found. IfSome found (AreOnLinks top.now)) }
     ensures few { IfOk result (λ found. IfSome found (λ plan. length plan ≤ MOST_TREE_LINKS)) }
     ensures amounts { IfOk result
@@ -77,6 +81,8 @@ fn plan_by_new<R: RowMaker>(
     requires places { length links.now ≡ length top.now.links }
     requires nodes { AreNodes top.now hose.now }
     ensures plan { IfOk result (IsPlanOver top.now links.now hose.now) }
+    ensures no_root { IfOk result
+        (λ found. IfNone found (IsBestRoot top.now links.now hose.now None)) }
     ensures links { IfOk result (λ found. IfSome found (AreOnLinks top.now)) }
     ensures few { IfOk result (λ found. IfSome found (λ plan. length plan ≤ MOST_TREE_LINKS)) }
     ensures amounts { IfOk result

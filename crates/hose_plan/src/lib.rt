@@ -15,5 +15,6 @@ mod holding;
 mod root;
 mod safe;
 
+pub use canonical::plan;
 pub use decision::{Decision, Grounds, decide};
 pub use holding::grounds_hold;

@@ -1,6 +1,7 @@
 -- Words ask for one command at most, and then none of them is wrong.
 use Rattle.std.proofs.Common.{◌≡◌, ◌⊎◌, ◌∙◌, ℕ, List, [], get_or, map, drop, refl, sym, ap, subst, inl, inr, arith, Result, Ok, Err, IfOk}
 use Rattle.std.specs.List.Sorted.{IsPermutation}
+use Rattle.hose_words.specs.Form.{grammar_of}
 use Rattle.hose_words.specs.Grammar.{IsFirstNotAllowed}
 use Rattle.hose_words.proofs.Passing.{Passes, pass_branch, pass_finish, pass_list, pass_place}
 use Rattle.hose_graph.specs.Hose.{IsHose}
@@ -97,6 +98,17 @@ module _ (network : Network) (is : IsNetwork network) where
       subst (Passes (command_form network)) (sym cut) (pass_branch verb.Show tt verbs_apart (pass_place (id, refl, within) pass_finish))
   pass_command words (Link link) (cut, within) =
       subst (Passes (command_form network)) (sym cut) (pass_branch verb.Link tt verbs_apart (pass_branch link within (links_apart network is) pass_finish))
+
+-- words spell one hose at most
+pub ends_unique : (network : Network) (words : List (List ℕ)) (hose other : List (ℕ × ℕ)) → IsNetwork network → AreEndsOf network words hose → AreEndsOf network words other → hose ≡ other
+ends_unique network words hose other is are are' =
+    let same : are.ends ≡ are'.ends = sym (ends_found network is words hose are) ∙ ends_found network is words other are' in
+    one_hose are.ends hose other are.same_ends (subst (λ (ends : List (ℕ × ℕ)). IsPermutation ends other) (sym same) are'.same_ends) are.is_hose.is_hose are'.is_hose.is_hose
+
+-- where words spell a hose, none of them is wrong
+pub ends_not_wrong : (network : Network) (words : List (List ℕ)) (hose : List (ℕ × ℕ)) (place : ℕ) → IsNetwork network → AreEndsOf network words hose
+    → IsFirstNotAllowed (grammar_of (ends_form network)) [] words place → ⊥
+ends_not_wrong network words hose place is are wrong = (pass_ends network is words hose are).none place wrong
 
 -- words ask for one command at most
 pub command_unique : (network : Network) (words : List (List ℕ)) (one other : Command) → IsNetwork network → IsCommand network words one → IsCommand network words other → one ≡ other

@@ -1,7 +1,7 @@
 // Commands read from words.
-ghost use Rattle.std.specs.Prelude.{◌≡◌, ◌⊎◌, ℕ, ◌+◌, ◌≤◌, ◌↔◌, [], ◌∷◌, decimal, length, drop, Ok, Err, IfOk, IfErr, IfSome, IfNone, IsTrue, Any};
+ghost use Rattle.std.specs.Prelude.{◌≡◌, ◌⊎◌, ℕ, List, ◌+◌, ◌≤◌, ◌↔◌, [], ◌∷◌, decimal, length, drop, Ok, Err, IfOk, IfErr, IfSome, IfNone, IsTrue, Any};
 ghost use Rattle.hose_words.specs.Cursor.{Took, IsWrong, MissesItem};
-ghost use Rattle.hose_words.specs.Form.{IsChoice};
+ghost use Rattle.hose_words.specs.Form.{IsChoice, grammar_of};
 ghost use Rattle.hose_words.specs.Grammar.{IsFirst, IsFirstNotAllowed};
 ghost use Rattle.hose_words.specs.Words.{words_of};
 ghost use Rattle.hose_graph.specs.Hose.{Endpoint, node_of};
@@ -132,8 +132,25 @@ fn read_link(top: &Topology, words: &mut Cursor<'_>) -> Result<u32, WrongWord>
     Ok(link)
 }
 
-// The hose of the endpoints that are left.
-fn read_hose(alloc: Global, top: &Topology, words: &mut Cursor<'_>) -> Result<Hose, ReadFault>
+/// The hose of the endpoints `NAME:RATE` that are left of a line. They may stand in any order.
+pub fn read_hose(alloc: Global, top: &Topology, words: &mut Cursor<'_>) -> Result<Hose, ReadFault>
+    ensures ok { IfOk result (AreEndsOf top.now words.old.left) }
+    ensures bad { IfErr result (IsFaultOf (ends_form top.now) words.old) }
+
+    // Whatever is answered, these words spell one hose at most, and where they spell one, none of
+    // them is wrong.
+    ensures alone { (hose other : List Endpoint) → AreEndsOf top.now words.old.left hose
+        → AreEndsOf top.now words.old.left other → hose ≡ other }
+    ensures never_wrong { (hose : List Endpoint) (word : ℕ) → AreEndsOf top.now words.old.left hose
+        → IsFirstNotAllowed (grammar_of (ends_form top.now)) [] words.old.left word → ⊥ }
+{
+    // The call tells the proof what holds of each network: that no two nodes have one name.
+    let _nodes = top.nodes();
+    read_ends(alloc, top, words)
+}
+
+// The same of a network.
+fn read_ends(alloc: Global, top: &Topology, words: &mut Cursor<'_>) -> Result<Hose, ReadFault>
     requires { IsNetwork top.now }
     ensures ok { IfOk result (AreEndsOf top.now words.old.left) }
     ensures bad { IfErr result (IsFaultOf (ends_form top.now) words.old) }

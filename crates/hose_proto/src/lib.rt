@@ -15,7 +15,7 @@ mod reply_reader;
 mod reply_text;
 mod verb;
 
-pub use command::{read_command, read_command_at};
+pub use command::{read_command, read_command_at, read_hose};
 pub use fault::ReadFault;
 pub use places::read_name;
 pub use reply_reader::read_reply;

@@ -19,6 +19,7 @@ pub struct Tariff {
     per: u64,
     rule: Rule,
     ghost keeps: { KeepsFact (Rule.pre rule) (Rule.post rule) base per },
+    ghost few: { (base ≤ MOST_COST) × (per ≤ MOST_COST) },
 }
 
 impl Tariff {
@@ -45,6 +46,22 @@ impl Tariff {
         ensures { result ≡ self.now.name }
     {
         self.name
+    }
+
+    /// The least cost of a link, whatever its length.
+    pub fn base(&self) -> u64
+        ensures value { result ≡ self.now.base }
+        ensures within { result ≤ MOST_COST }
+    {
+        self.base
+    }
+
+    /// What each unit of length adds at most.
+    pub fn per(&self) -> u64
+        ensures value { result ≡ self.now.per }
+        ensures within { result ≤ MOST_COST }
+    {
+        self.per
     }
 
     /// What a unit of bandwidth costs on a link of this length.

@@ -2,7 +2,7 @@ use Rattle.std.proofs.Common.{length}
 use Rattle.hose_words.proofs.Listing.{Listing}
 use Rattle.hose_proto.specs.Command.{AreNewEnds, ends_form}
 use Rattle.hose_proto.specs.Places.{end_word}
-use Rattle.hose_proto.proofs.command.read_hose.Given as goal
+use Rattle.hose_proto.proofs.command.read_ends.Given as goal
 
 abbrev pub invariant-loop-ends : goal.invariant-loop-ends
 invariant-loop-ends l = record {
