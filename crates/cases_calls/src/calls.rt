@@ -32,7 +32,7 @@ fn of_network(alloc: Global, top: &Topology, call: &str, words: &str) -> Result<
         "copies" => values::copies(alloc, top),
         "canonical" => topologies::canonical(alloc, top),
         "row" | "weight" | "tree" | "heaviest" | "attain" => of_root(alloc, top, call, words),
-        "reserve" | "endpoints" | "long" | "gather" | "lines" | "ended" => {
+        "reserve" | "endpoints" | "long" | "gather" | "lines" | "ended" | "generate" => {
             of_numbers(alloc, top, call, words)
         }
         _ => alone(alloc, call, words),
@@ -71,6 +71,7 @@ fn of_numbers(alloc: Global, top: &Topology, call: &str, words: &str) -> Result<
         "long" => lines::long(alloc, one),
         "gather" => Ok(streams::gathered(alloc, one)?),
         "ended" => topologies::ended(alloc, one),
+        "generate" => topologies::generated(alloc, one),
         "reserve" => judging::reserved(alloc, top, one, number(rest)?),
         _ => {
             let (other, text) = first(rest);

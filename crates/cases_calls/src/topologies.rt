@@ -1,5 +1,6 @@
-// The canonical text of a network, its digest, and texts that end early.
+// The canonical text of a network, its digest, texts that end early, and networks of a seed.
 use crate::trouble::Trouble;
+use hose_gen::{LEAST_NODES, generate};
 use hose_graph::Topology;
 use hose_io::{MemSink, MemSource};
 use hose_topo::{digest, put_canonical, read};
@@ -28,4 +29,11 @@ pub fn ended(alloc: Global, failing: u64) -> Result<String, Trouble> {
         Ok(top) => Ok(format!(in alloc; "{} {:?}", top.nodes(), lines.next())?),
         Err(fault) => Ok(format!(in alloc; "{fault:?}")?),
     }
+}
+
+/// How many nodes, links and commands the smallest network and script of a seed have.
+pub fn generated(alloc: Global, seed: u64) -> Result<String, Trouble> {
+    let made = generate(alloc, seed, LEAST_NODES, LEAST_NODES - 1, 0)?;
+    let (nodes, links) = (made.top.nodes(), made.top.links());
+    Ok(format!(in alloc; "{nodes} {links} {}", made.script.len())?)
 }

@@ -1,0 +1,4 @@
+mod Counted
+mod Free
+mod Numbered
+mod Sorted

@@ -1,0 +1,27 @@
+// Numbers that follow one from another, from a seed on.
+ghost use Rattle.std.specs.Prelude.{◌≡◌, ◌<◌};
+ghost use Rattle.hose_gen.specs.Draws.{drawn, next_state};
+
+// Those of a linear congruential generator over 64 bits.
+const MULTIPLIER: u64 = 6_364_136_223_846_793_005;
+
+const INCREMENT: u64 = 1_442_695_040_888_963_407;
+
+/// The numbers that follow a seed, which is the first state.
+#[derive(Drop)]
+pub struct Draws {
+    pub state: u64,
+}
+
+impl Draws {
+    /// The next number below a limit, of the upper 31 bits of the next state.
+    pub fn draw(&mut self, limit: u32) -> u32
+        requires { 0 < limit }
+        ensures number { result ≡ drawn self.old.state limit }
+        ensures state { self.new.state ≡ next_state self.old.state }
+        ensures below { result < limit }
+    {
+        self.state = self.state.wrapping_mul(MULTIPLIER).wrapping_add(INCREMENT);
+        ((self.state >> 33) % u64::from(limit)) as u32
+    }
+}

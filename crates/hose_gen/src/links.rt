@@ -1,0 +1,101 @@
+// The nodes and links of a network.
+ghost use Rattle.std.specs.Prelude.{◌≡◌, ◌≢◌, ◌+◌, ◌≤◌, ◌<◌, [], length};
+ghost use Rattle.hose_graph.specs.Network.{IsLink, Network};
+ghost use Rattle.hose_gen.specs.Draws.{next_state};
+ghost use Rattle.hose_gen.specs.Generated.{after_link, after_link_of_two, after_links, first_links, link_at, node_names, link_of_two, joining_link, further_link};
+
+use crate::draws::Draws;
+use crate::limits::LEAST_NODES;
+use crate::names::numbered;
+use hose_graph::{Link, MOST_LINKS, MOST_NODES, Topology};
+
+/// Adds so many nodes to an empty network.
+pub fn add_nodes(top: &mut Topology, nodes: u32)
+    requires empty { top.old ≡ record { nodes = []; links = [] } }
+    requires few { nodes ≤ MOST_NODES }
+    ensures { top.new ≡ record { nodes = node_names nodes; links = [] } }
+{
+    for node in 0..nodes {
+        top.push_node(numbered(b'n', node));
+    }
+}
+
+/// Adds so many links to a network of so many nodes.
+pub fn add_links(top: &mut Topology, draws: &mut Draws, nodes: u32, links: u32)
+    requires nodes { top.old ≡ record { nodes = node_names nodes; links = [] } }
+    requires enough { LEAST_NODES ≤ nodes }
+    requires few_nodes { nodes ≤ MOST_NODES }
+    requires few_links { links ≤ MOST_LINKS }
+    ensures added { top.new ≡ record {
+      nodes = node_names nodes;
+      links = first_links nodes draws.old.state links;
+    } }
+    ensures state { draws.new.state ≡ after_links nodes draws.old.state links }
+{
+    for number in 0..links {
+        let link = draw_link(draws, nodes, number);
+        top.push_link(link);
+    }
+}
+
+// The link of a number.
+fn draw_link(draws: &mut Draws, nodes: u32, number: u32) -> Link
+    requires enough { LEAST_NODES ≤ nodes }
+    requires few { nodes ≤ MOST_NODES }
+    ensures link { result ≡ link_at nodes draws.old.state number }
+    ensures state { draws.new.state ≡ after_link nodes draws.old.state number }
+    ensures is_link { (network : Network) → length network.nodes ≡ nodes
+        → IsLink network result }
+{
+    if number < nodes - 1 {
+        next_link(draws, number)
+    } else {
+        other_link(draws, nodes)
+    }
+}
+
+// The link that joins the next node to one before it.
+fn next_link(draws: &mut Draws, number: u32) -> Link
+    requires { number + 1 < MOST_NODES }
+    ensures link { result ≡ joining_link draws.old.state number }
+    ensures state { draws.new.state ≡ after_link_of_two (next_state draws.old.state) }
+    ensures is_link { (network : Network) → number + 1 < length network.nodes
+        → IsLink network result }
+{
+    let a = number + 1;
+    let b = draws.draw(a);
+    link_between(draws, a, b)
+}
+
+// A link between any two nodes.
+fn other_link(draws: &mut Draws, nodes: u32) -> Link
+    requires { LEAST_NODES ≤ nodes }
+    ensures link { result ≡ further_link nodes draws.old.state }
+    ensures state { draws.new.state
+        ≡ after_link_of_two (next_state (next_state draws.old.state)) }
+    ensures is_link { (network : Network) → length network.nodes ≡ nodes
+        → IsLink network result }
+{
+    let a = draws.draw(nodes);
+    let drawn = draws.draw(nodes - 1);
+    let b = if drawn >= a { drawn + 1 } else { drawn };
+    link_between(draws, a, b)
+}
+
+// A link between two nodes, which costs as much as it is long.
+fn link_between(draws: &mut Draws, a: u32, b: u32) -> Link
+    ensures link { result ≡ link_of_two draws.old.state a b }
+    ensures state { draws.new.state ≡ after_link_of_two draws.old.state }
+    ensures is_link { (network : Network) → a < length network.nodes → b < length network.nodes
+        → a ≢ b → IsLink network result }
+{
+    let capacity = 1000 + u64::from(draws.draw(9001));
+    let length = 1 + u64::from(draws.draw(100));
+    Link {
+        a,
+        b,
+        capacity,
+        length,
+        cost: length,
+    }
+}
