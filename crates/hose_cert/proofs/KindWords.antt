@@ -1,0 +1,32 @@
+-- The kinds of a certificate's lines, and the words that tell them.
+use Rattle.std.proofs.Common.{◌≡◌, ◌∙◌, ℕ, List, refl, sym, ap, arith}
+use Rattle.std.specs.List.{All}
+use Rattle.hose_words.proofs.Keywords.{choice_of}
+use Rattle.hose_cert.specs.Statement.{kind_word}
+use Rattle.hose_cert.specs.declared.statement.Kind.{Kind}
+use Rattle.hose_cert.specs.declared.statement.Kind.TheVariants as kind
+use Rattle.hose_cert.specs.declared.statement.TheConstants.{KINDS}
+
+-- the kind that a word tells
+abbrev pub kind_of_word : List ℕ → Kind
+kind_of_word word = choice_of kind_word KINDS kind.End word
+
+pub kind_of_word-word : (one : Kind) → kind_of_word (kind_word one) ≡ one
+kind_of_word-word kind.Cost = refl
+kind_of_word-word kind.Hose = refl
+kind_of_word-word kind.Use = refl
+kind_of_word-word kind.Without = refl
+kind_of_word-word kind.Pot = refl
+kind_of_word-word kind.End = refl
+
+-- no two kinds have one word
+pub kinds_apart : (one other : Kind) → kind_word one ≡ kind_word other → one ≡ other
+kinds_apart one other same = sym (kind_of_word-word one) ∙ ap kind_of_word same ∙ kind_of_word-word other
+
+pub every_kind : (P : Kind → Type 0) → All P KINDS → (one : Kind) → P one
+every_kind P all kind.Cost = all 0 kind.End (omega arith)
+every_kind P all kind.Hose = all 1 kind.End (omega arith)
+every_kind P all kind.Use = all 2 kind.End (omega arith)
+every_kind P all kind.Without = all 3 kind.End (omega arith)
+every_kind P all kind.Pot = all 4 kind.End (omega arith)
+every_kind P all kind.End = all 5 kind.End (omega arith)

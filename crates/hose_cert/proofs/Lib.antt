@@ -1,0 +1,10 @@
+mod Certified
+mod Changing
+mod Checked
+mod Drafting
+mod Judged
+mod KindWords
+mod LinesRead
+mod Once
+mod Spelling
+mod Weighed

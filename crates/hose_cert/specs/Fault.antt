@@ -1,0 +1,9 @@
+-- What a fault of reading lines is called.
+use Rattle.hose_words.specs.declared.lines.LineFault.{LineFault}
+use Rattle.hose_words.specs.declared.lines.LineFault.TheVariants as line
+use Rattle.hose_cert.specs.declared.fault.CertFault.{CertFault}
+use Rattle.hose_cert.specs.declared.fault.CertFault.TheVariants.{Read, TooLong}
+
+abbrev pub of_line : LineFault → CertFault
+of_line line.Read = Read
+of_line line.TooLong = TooLong

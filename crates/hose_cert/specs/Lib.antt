@@ -1,0 +1,11 @@
+pub mod CertLine
+pub mod Certificate
+pub mod Draft
+pub mod Fault
+pub mod Following
+pub mod Judging
+pub mod Reading
+pub mod Rules
+pub mod Statement
+pub mod Taking
+pub mod Verdict

@@ -1,0 +1,25 @@
+-- What is read of the words of a certificate's lines.
+use Rattle.std.specs.Prelude.{◌≡◌, ◌<◌, ◌≤◌, ℕ, List, ◌∷◌, All, Option, MatchOption, decimal, length, map}
+use Rattle.hose_graph.specs.Network.{Network}
+use Rattle.hose_cert.specs.CertLine.{CertLine, IsSpelled, line_of}
+use Rattle.hose_cert.specs.Statement.{kind_word}
+use Rattle.hose_cert.specs.declared.limits.TheConstants.{MOST_NUMBER}
+use Rattle.hose_cert.specs.declared.statement.Kind.{Kind}
+use Rattle.hose_cert.specs.declared.statement.Statement.{Statement}
+
+-- what was read is so, or nothing is
+abbrev pub IsTold : (CertLine → Type 0) → Option Statement → Type 0
+IsTold Is told = MatchOption told ((line : CertLine) → Is line → ⊥) (λ one. Is (line_of one))
+
+-- the same of the words after one that tells a kind of lines
+abbrev pub IsToldAfter : Network → Kind → List (List ℕ) → Option Statement → Type 0
+IsToldAfter network kind words told = IsTold (IsSpelled network (kind_word kind ∷ words)) told
+
+-- a number from the least to below the end
+abbrev pub IsFrom : ℕ → ℕ → ℕ → Type 0
+IsFrom least end number = (least ≤ number) × (number < end)
+
+-- so many numbers
+abbrev pub AreNumbers : ℕ → List (List ℕ) → List ℕ → Type 0
+AreNumbers count words numbers = (words ≡ map decimal numbers)
+    × (length numbers ≡ count) × All (λ number. number ≤ MOST_NUMBER) numbers

@@ -1,0 +1,114 @@
+//! Certificates of least cost, and a checker of its own: it answers without planning, and what it
+//! says yes to is cheapest, whoever wrote it.
+//!
+//! ```
+//! match check_certificate(alloc, &mut lines, &topology)? {
+//!     Verdict::Yes { cost, .. } => println!("yes {cost}"),
+//!     Verdict::No { rule } => println!("no {rule}"),
+//! }
+//! ```
+//!
+//! A certificate is a text of lines with one space between words: what the plan costs, for whom it
+//! is, what it reserves on each of its links, the links that it was to leave out, and for each node
+//! as a root a number for each node.
+//!
+//! ```text
+//! cost 26
+//! hose a:3 b:4 c:5
+//! use 0 3
+//! use 1 4
+//! use 2 5
+//! pot 0 0 0 3 4 1
+//! pot 1 0 3 0 5 2
+//! pot 2 0 4 5 0 3
+//! pot 3 0 1 2 3 0
+//! end
+//! ```
+//!
+//! Numbers that start at 0 and change along no link by more than its cost are at most the distances
+//! from their root. So where the hose weighs enough by each root's numbers, no root weighs less
+//! than the plan costs, and the plan is a cheapest one.
+#![tactic(auto)]
+
+ghost use Rattle.std.specs.Prelude.{◌≡◌, ◌++◌, ℕ, List, IfOk, OnOk};
+ghost use Rattle.hose_words.specs.Reading.{WhereTold};
+ghost use Rattle.hose_cert.specs.CertLine.{CertLine};
+ghost use Rattle.hose_cert.specs.Certificate.{IsCertText};
+ghost use Rattle.hose_cert.specs.Taking.{IsAllRead, ReadsUpTo, fault_in};
+ghost use Rattle.hose_cert.specs.Rules.{Claim};
+ghost use Rattle.hose_cert.specs.Verdict.{AreCheapestFound, IsFound, IsValid, IsYesOf};
+
+mod draft;
+mod fault;
+mod judging;
+mod limits;
+mod parsing;
+mod reading;
+mod rows;
+mod statement;
+
+pub use fault::CertFault;
+use hose_graph::{Amounts, Hose, Topology};
+use hose_io::Source;
+use hose_links::LinkSet;
+use hose_words::LineReader;
+use judging::judge;
+pub use limits::{LINE_NUMBERS, MOST_NUMBER};
+use reading::{read_text, refuse};
+use std::alloc::Global;
+
+/// What is found of a text.
+#[derive(Drop)]
+pub enum Verdict {
+    /// It is a valid certificate, and so the amounts are cheapest.
+    Yes {
+        /// For whom the plan is.
+        hose: Hose,
+        /// The links that the plan was to leave out.
+        without: LinkSet,
+        /// What the plan reserves.
+        amounts: Amounts,
+        /// What it costs.
+        cost: u64,
+    },
+    /// It is none, and this is the lowest rule that it breaks.
+    No {
+        /// 1 where the text is not that of a certificate; 2 where the amounts are not the hose's on
+        /// a tree, 3 where they do not cost what is claimed; 4 where a root's number at itself is
+        /// not 0, 5 where numbers change along a link by more than it costs, 6 where the hose
+        /// weighs too little by a root's numbers.
+        rule: u8,
+    },
+}
+
+/// Reads a certificate of a network, to the end of the input, and judges it. One row of numbers is
+/// kept at a time.
+pub fn check_certificate<S: Source>(
+    alloc: Global,
+    lines: &mut LineReader<S>,
+    top: &Topology,
+) -> Result<Verdict, CertFault>
+    // All that was to come is a certificate that is valid, or breaks this rule first.
+    ensures found { WhereTold (S.content lines.old.source) (S.content lines.new.source)
+        (λ before _. IfOk result (IsFound top.now (lines.old.pending ++ before))) }
+    ensures all { OnOk result (IsAllRead S.Source lines.old lines.new) }
+
+    // It is found valid exactly where it is so. A text has the lines of one certificate at most.
+    ensures valid { (claim : Claim)
+        → WhereTold (S.content lines.old.source) (S.content lines.new.source) (λ before _.
+        IsValid top.now (lines.old.pending ++ before) claim
+        → IfOk result (λ verdict. IsYesOf verdict claim)) }
+    ensures alone { (text : List ℕ) (some others : List CertLine)
+        → IsCertText top.now text some → IsCertText top.now text others → some ≡ others }
+
+    // What is found valid is cheapest over the links that no line leaves out, whoever wrote it.
+    ensures cheapest { IfOk result (AreCheapestFound top.now) }
+
+    // What became of the reader, and what a fault comes of. Want of memory tells nothing.
+    ensures reads { ReadsUpTo S.Source lines.old lines.new (fault_in result) }
+{
+    match read_text(alloc, top, lines)? {
+        Some(body) => Ok(judge(top, body)),
+        None => refuse(lines),
+    }
+}

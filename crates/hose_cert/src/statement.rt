@@ -1,0 +1,73 @@
+// What a line of a certificate says, and the words that begin it.
+ghost use Rattle.std.specs.Prelude.{◌≡◌};
+ghost use Rattle.hose_cert.specs.Statement.{kind_word};
+
+use hose_graph::{Hose, ReservedLink};
+use hose_words::Keyword;
+
+/// What a line of a certificate says.
+#[derive(Drop)]
+pub enum Statement {
+    Cost(u64),
+    Hose(Hose),
+    Use(ReservedLink),
+    Without(u32),
+    Pot(Pot),
+    End,
+}
+
+/// Numbers of a root, for one node after the other from the first one on.
+#[derive(Drop)]
+pub struct Pot {
+    pub root: u32,
+    pub from: u32,
+    pub numbers: Vec<u64>,
+}
+
+/// What the first word of a line says that it is.
+#[derive(Clone, Copy, Debug)]
+pub enum Kind {
+    Cost,
+    Hose,
+    Use,
+    Without,
+    Pot,
+    End,
+}
+
+const KINDS: [Kind; 6] = [
+    Kind::Cost,
+    Kind::Hose,
+    Kind::Use,
+    Kind::Without,
+    Kind::Pot,
+    Kind::End,
+];
+
+impl Keyword for Kind {
+    ghost word_of = { kind_word };
+
+    fn of(word: &[u8]) -> Option<Kind> {
+        for kind in KINDS {
+            if kind.word() == word {
+                return Some(kind);
+            }
+        }
+        None
+    }
+}
+
+impl Kind {
+    fn word(self) -> &'static [u8]
+        ensures { result.now ≡ kind_word self }
+    {
+        match self {
+            Kind::Cost => b"cost",
+            Kind::Hose => b"hose",
+            Kind::Use => b"use",
+            Kind::Without => b"without",
+            Kind::Pot => b"pot",
+            Kind::End => b"end",
+        }
+    }
+}
