@@ -1,0 +1,9 @@
+pub mod Alike
+pub mod Best
+pub mod Bounding
+pub mod Firsts
+pub mod Pushed
+pub mod Rivals
+pub mod Roots
+pub mod Tables
+pub mod Weaker
