@@ -102,7 +102,7 @@ module _ (prices : Network → Network → Type 0) {S O C E : Type 0} (source : 
 
 -- ---- an input behind a borrow
 
-frame_behind : (frame other : Frame) (name one : GName) → record frame { loan = name ∷ frame.loan } ≡ record other { loan = one ∷ other.loan } → frame ≡ other
+pub frame_behind : (frame other : Frame) (name one : GName) → record frame { loan = name ∷ frame.loan } ≡ record other { loan = one ∷ other.loan } → frame ≡ other
 frame_behind frame other name one same = ap (λ (f : Frame). record { faults = f.faults; number = f.number; loan = drop 1 f.loan }) same
 
 module _ (prices : Network → Network → Type 0) {T O C E : Type 0} (other : Ghosts T) (source : Ghosts (MutBor T)) (sink : SinkGhosts O) (cabinet : CabinetGhosts C E) (disk : DiskGhosts E) (journal : Option (List ℕ)) (input input' : MutBor T) (behind : T) (output output' : O) (place place' : C)

@@ -1,13 +1,19 @@
 pub mod Audited
 pub mod Audits
+mod GenOutcomes
 pub mod Journals
 pub mod JsonLemmas
+mod Judging
 pub mod Leaving
 pub mod OneReading
 pub mod OneRun
+mod OrdersAnswered
 pub mod Outcomes
+mod Priced
 pub mod PutBack
 pub mod Running
+mod Sheets
+mod Tallies
 pub mod Texts
 pub mod Turns
 mod Unused

@@ -1,5 +1,5 @@
 -- A store that was opened, and closed before anything was asked of it.
-use Rattle.std.proofs.Common.{inl, inr, ⊎_elim, ℕ, List, None, Result, Err, subst}
+use Rattle.std.proofs.Common.{inl, inr, ℕ, List, None, Result, Err, subst}
 use Rattle.std.specs.Prelude.{⊤}
 use Rattle.hose_io.specs.declared.Failed.{Failed}
 use Rattle.hose_graph.specs.Network.{Network}

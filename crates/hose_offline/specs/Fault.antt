@@ -1,6 +1,8 @@
 -- What tells a fault: the status with which the program ends, and the last line that it writes.
 use Rattle.std.specs.Prelude.{ℕ, List, [], ◌++◌, codes, decimal}
 use Rattle.hex.specs.Hex.{encode_lower}
+use Rattle.hose_cert.specs.declared.fault.CertFault.{CertFault}
+use Rattle.hose_cert.specs.declared.fault.CertFault.TheVariants as certificate
 use Rattle.hose_words.specs.declared.lines.LineFault.{LineFault}
 use Rattle.hose_words.specs.declared.lines.LineFault.TheVariants as line
 use Rattle.hose_topo.specs.declared.fault.TopoFault.{TopoFault}
@@ -78,6 +80,12 @@ of_json (json.Node index) = Topology (Node index)
 of_json json.Links = Topology Links
 of_json (json.Link index) = Topology (Link index)
 of_json json.Memory = Memory
+
+-- what a fault of judging a certificate is
+abbrev pub of_certificate : CertFault → Fault
+of_certificate certificate.Read = Read
+of_certificate certificate.TooLong = TooLong
+of_certificate certificate.Memory = Memory
 
 -- what a fault of opening a store is for a run
 abbrev pub of_store : StoreFault → Fault

@@ -37,8 +37,8 @@ in_memory = record {
 }
 
 -- This output is right for this input, a book of this history, and this network: the input is the
--- text of one that prices make this of, and then lines; the output is the replies of their script from this history on, none of
--- which is for want of memory or for a failure of a disk.
+-- text of one that prices make this of, and then lines; the output is the replies of their script
+-- from this history on, none of which is for want of memory or for a failure of a disk.
 pub record IsRightFor (prices : Network → Network → Type 0) (network : Network)
     (since : List Entry) (input output : List ℕ) : Type 0 where
   pub told : Network
@@ -56,14 +56,13 @@ pub record IsRightFor (prices : Network → Network → Type 0) (network : Netwo
   pub out : output ≡ texts_of network replies
 
 -- The input is the text of a network, of which prices make this one, and then lines that were
--- answered: the replies are those of
--- the script of the lines from the history with which the book began, where no customer holds a
--- quote. The history that it leads to goes on from there and is sound, and decided from there on.
--- At each place of it no link is oversold, and exactly those VPNs are live that were admitted
--- before it and not released since, each as it was admitted. What each admission after the
--- beginning reserves carries every matrix within the rates of its hose, and no tree over the links
--- allowed at the book before it carries them at less cost. `stops` says how the input stands to
--- what comes after the lines and to what is left.
+-- answered: the replies are those of the script of the lines from the history with which the book
+-- began, where no customer holds a quote. The history that it leads to goes on from there and is
+-- sound, and decided from there on. At each place of it no link is oversold, and exactly those VPNs
+-- are live that were admitted before it and not released since, each as it was admitted. What each
+-- admission after the beginning reserves carries every matrix within the rates of its hose, and no
+-- tree over the links allowed at the book before it carries them at less cost. `stops` says how the
+-- input stands to what comes after the lines and to what is left.
 pub record HasRun (prices : Network → Network → Type 0) (keeping : Keeping)
     (old new : Option Stream) (network : Network)
     (lines : List ReadLine) (replies : List Reply)
@@ -97,12 +96,13 @@ pub record IsRun (prices : Network → Network → Type 0) (keeping : Keeping) (
   pub run : HasRun prices keeping old new network lines replies IsAllTaken
   pub out : Grows before after (texts_of network replies)
   pub alone : WithoutMemory replies → WithoutDisk replies → WhereTold old new (λ input _.
-      (output : List ℕ) → IsRightFor prices network run.since input output → output ≡ texts_of network replies)
+      (output : List ℕ) → IsRightFor prices network run.since input output
+      → output ≡ texts_of network replies)
 
 -- Reading stopped at a fault after the topology and whole lines, and the output has the replies to
 -- these lines.
-pub record IsRunUpTo (prices : Network → Network → Type 0) (keeping : Keeping) (fault : LineFault) (old new : Option Stream)
-    (before after : Option (List ℕ)) : Type 0 where
+pub record IsRunUpTo (prices : Network → Network → Type 0) (keeping : Keeping)
+    (fault : LineFault) (old new : Option Stream) (before after : Option (List ℕ)) : Type 0 where
   pub network : Network
   pub lines : List ReadLine
   pub replies : List Reply
@@ -111,8 +111,8 @@ pub record IsRunUpTo (prices : Network → Network → Type 0) (keeping : Keepin
 
 -- The output was cut off in a reply: it has the replies before, and a part of this one. Bytes after
 -- the lines may have been taken.
-pub record IsCutOff (prices : Network → Network → Type 0) (keeping : Keeping) (old new : Option Stream)
-    (before after : Option (List ℕ)) : Type 0 where
+pub record IsCutOff (prices : Network → Network → Type 0) (keeping : Keeping)
+    (old new : Option Stream) (before after : Option (List ℕ)) : Type 0 where
   pub network : Network
   pub lines : List ReadLine
   pub replies : List Reply

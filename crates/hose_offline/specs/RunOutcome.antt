@@ -21,8 +21,9 @@ use Rattle.hose_offline.specs.declared.fault.Fault.{Fault}
 use Rattle.hose_offline.specs.declared.notation.Notation.TheVariants.{Lines}
 use Rattle.hose_offline.specs.declared.fault.Fault.TheVariants.{Words, Topology, Read, Write, Other, Damaged, Cabinet, Memory, TooLong, Door}
 
-module _ (prices : Network → Network → Type 0) {I O C E : Type 0} (source : SourceGhosts I) (sink : SinkGhosts O)
-    (cabinet : CabinetGhosts C E) (disk : DiskGhosts E) (journal : Option (List ℕ))
+module _ (prices : Network → Network → Type 0) {I O C E : Type 0} (source : SourceGhosts I)
+    (sink : SinkGhosts O) (cabinet : CabinetGhosts C E) (disk : DiskGhosts E)
+    (journal : Option (List ℕ))
     (input input' : I) (output output' : O) (place place' : C) where
   -- the input did not fail, and the output did not
   abbrev pub InputHeld : Type 0
@@ -112,13 +113,14 @@ module _ (prices : Network → Network → Type 0) {I O C E : Type 0} (source : 
 
 -- The run left the output as `left` is, and then the last line was put, which tells the fault, if
 -- there is one.
-pub record RunOutcome (prices : Network → Network → Type 0) {I O C E : Type 0} (source : SourceGhosts I) (sink : SinkGhosts O)
-    (cabinet : CabinetGhosts C E) (disk : DiskGhosts E) (journal : Option (List ℕ))
+pub record RunOutcome (prices : Network → Network → Type 0) {I O C E : Type 0}
+    (source : SourceGhosts I) (sink : SinkGhosts O) (cabinet : CabinetGhosts C E)
+    (disk : DiskGhosts E) (journal : Option (List ℕ))
     (input input' : I) (output output' : O) (place place' : C) (status : ℕ) : Type 0 where
   pub done : Result ⊤ Fault
   pub left : O
-  pub leaves : RunLeaves prices source sink cabinet disk journal input input' output left place place'
-      done
+  pub leaves : RunLeaves prices source sink cabinet disk journal input input' output left place
+      place' done
   pub last_line : IsLastLine sink left output' done
   pub is_status : status ≡ status_of_done done
   pub takes : TakesWithinLimit Lines (source.content input) (source.content input') status

@@ -31,7 +31,8 @@ use hose_words::{INPUT_LIMIT, Line, LineReader};
 use std::alloc::Global;
 
 /// Reads a topology and then lines of the input, writes a reply for each line, and gives the exit
-/// status. The network has these costs. The book is kept in the journal of the name, or in memory where there is none.
+/// status. The network has these costs. The book is kept in the journal of the name, or in memory
+/// where there is none.
 pub fn run<P: Prices, I: Source, O: Sink, C: Cabinet>(
     alloc: Global,
     costs: &P,

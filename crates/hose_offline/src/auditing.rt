@@ -32,8 +32,8 @@ pub fn audit<P: Prices, O: Sink, C: Cabinet>(
     cabinet: &mut C,
 ) -> u8
     requires { (C.frame cabinet.old).out ≡ None }
-    ensures outcome { AuditOutcome (P.prices costs.now) O.Sink C.Cabinet C.Disk.Disk topology.now journal.now
-        output.old output.new cabinet.old cabinet.new result }
+    ensures outcome { AuditOutcome (P.prices costs.now) O.Sink C.Cabinet C.Disk.Disk topology.now
+        journal.now output.old output.new cabinet.old cabinet.new result }
     ensures not_words { result ≢ 1 }
     ensures back { (C.frame cabinet.new).out ≡ None }
     ensures output { Stays (O.frame output.old) (O.frame output.new) }

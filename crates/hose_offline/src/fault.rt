@@ -4,11 +4,13 @@ ghost use Rattle.hex.specs.Hex.{encode_lower};
 ghost use Rattle.hose_io.specs.Frame.{Stays};
 ghost use Rattle.hose_io.specs.Gather.{IsAdded};
 ghost use Rattle.hose_io.specs.Writing.{IsPut};
+ghost use Rattle.hose_proto.specs.ReplyText.{line_of};
 ghost use Rattle.hose_offline.specs.declared.fault.Fault.TheVariants.{Memory, Write};
 ghost use Rattle.hose_offline.specs.Ending.{IsLastLine, status_of_done};
-ghost use Rattle.hose_offline.specs.Fault.{status_of, last_line, of_json, of_line, of_store, of_text, of_topology, refusal_words};
+ghost use Rattle.hose_offline.specs.Fault.{status_of, last_line, of_certificate, of_json, of_line, of_store, of_text, of_topology, refusal_words};
 
 use crate::notation::Refusal;
+use hose_cert::CertFault;
 use hose_io::{Failed, Gather, Sink, write_all};
 use hose_store::StoreFault;
 use hose_topo::TopoFault;
@@ -78,12 +80,12 @@ impl Fault {
         ensures calls_none { last_line self ≡ [] → output.new ≡ output.old }
     {
         match self {
-            Fault::Words(word) => put_words(output, word),
+            Fault::Words(word) => put_numbered(output, b"words ", word),
             Fault::Topology(refusal) => put_refusal(output, refusal),
             Fault::Read => write_all(output, b"read\n"),
             Fault::Write => Ok(()),
             Fault::Other { kept, given } => put_digests(output, &kept, &given),
-            Fault::Damaged { at } => put_damage(output, at),
+            Fault::Damaged { at } => put_numbered(output, b"journal damaged at ", at),
             Fault::Cabinet => write_all(output, b"cabinet\n"),
             Fault::Memory => write_all(output, b"no memory\n"),
             Fault::TooLong => write_all(output, b"too long\n"),
@@ -147,6 +149,18 @@ impl From<JsonFault> for Fault {
     }
 }
 
+impl From<CertFault> for Fault {
+    ghost from_gives = { λ certificate fault. fault ≡ of_certificate certificate };
+
+    fn from(fault: CertFault) -> Fault {
+        match fault {
+            CertFault::Read => Fault::Read,
+            CertFault::TooLong => Fault::TooLong,
+            CertFault::Memory => Fault::Memory,
+        }
+    }
+}
+
 impl From<StoreFault> for Fault {
     ghost from_gives = { λ store fault. fault ≡ of_store store };
 
@@ -160,13 +174,13 @@ impl From<StoreFault> for Fault {
     }
 }
 
-// Writes the last line that tells which of the program's words is wrong.
-fn put_words<O: Sink>(output: &mut O, word: u64) -> Result<(), Failed>
-    ensures { IsPut O.Sink output.old output.new (last_line (Fault.Words word)) result }
+/// Writes a line of words and the number after them.
+pub fn put_numbered<O: Sink>(output: &mut O, words: &[u8], number: u64) -> Result<(), Failed>
+    ensures { IsPut O.Sink output.old output.new (line_of (words.now ++ decimal number)) result }
 {
     let mut gather = Gather::new();
-    gather.add(output, b"words ");
-    gather.add_number(output, word);
+    gather.add(output, words);
+    gather.add_number(output, number);
     gather.add(output, b"\n");
     gather.finish(output)
 }
@@ -232,17 +246,6 @@ fn add_digest<O: Sink>(gather: &mut Gather, output: &mut O, digest: &[u8; 32])
     // There are two digits for each byte.
     let _ = hex::encode_to_slice(digest.as_slice(), &mut digits);
     gather.add(output, &digits);
-}
-
-// Writes the last line that tells where the journal is damaged.
-fn put_damage<O: Sink>(output: &mut O, at: u64) -> Result<(), Failed>
-    ensures { IsPut O.Sink output.old output.new (last_line (Fault.Damaged at)) result }
-{
-    let mut gather = Gather::new();
-    gather.add(output, b"journal damaged at ");
-    gather.add_number(output, at);
-    gather.add(output, b"\n");
-    gather.finish(output)
 }
 
 /// The status of what was done, after its last line, if it has one.

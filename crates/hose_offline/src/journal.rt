@@ -47,8 +47,9 @@ pub fn answer_in_cabinet<S: Source, O: Sink, C: Cabinet>(
     served.0
 }
 
-// The same on a disk, which comes back. The first fault is told. The rows of all nodes are made once
-// the journal is open; where there is no memory for them, it is closed as it is.
+// Answers all lines by the book of a journal on a disk, which comes back. The first fault is told.
+// The rows of all nodes are made once the journal is open; where there is no memory for them, it is
+// closed as it is.
 fn answer_on_disk<S: Source, O: Sink, D: Disk>(
     alloc: Global,
     topology: Topology,

@@ -1,18 +1,20 @@
 -- The program's words, one after the other.
 use Rattle.std.specs.Prelude.{MatchOption, option_map, ⊤}
-use Rattle.std.proofs.Common.{◌≡◌, ◌≢◌, ◌∙◌, ◌⊎◌, ℕ, ◌+◌, ◌<◌, ◌≤◌, ◌-◌, List, [], ◌∷◌, ◌++◌, Option, None, Some, IfNone, IfSome, codes, decimal, inl, inr, suc, zero, length, take, drop, get_or, map, refl, sym, ap, subst, arith}
+use Rattle.std.proofs.Common.{◌≡◌, ◌≢◌, ◌∙◌, ◌⊎◌, ℕ, ◌+◌, ◌<◌, ◌≤◌, ◌-◌, ◌^◌, List, [], ◌∷◌, ◌++◌, Option, None, Some, IfNone, IfSome, codes, decimal, inl, inr, suc, zero, length, take, drop, get_or, map, refl, sym, ap, subst, arith}
 use Rattle.std.proofs.lemmas.Bool.{cases_lt}
 use Rattle.std.proofs.lemmas.Fmt.{decimal_injective}
 use Rattle.std.proofs.lemmas.List.{drop-map, drop_more, get_or-map, length-drop, length-map, take_rest}
 use Rattle.hose_graph.specs.Network.{Network}
 use Rattle.hose_words.specs.Cursor.{IsWrong, Misses, Position, Took}
-use Rattle.hose_words.specs.Form.{Each, Form, IsChoice, finish, grammar_of, maybe, place}
+use Rattle.hose_words.specs.Form.{Fits64, Form, IsChoice, TellsNumber, branch, finish, grammar_of, maybe, number, place}
 use Rattle.hose_words.specs.Grammar.{IsFirst, IsFirstNotAllowed}
-use Rattle.hose_words.proofs.Forms.{AreApart, after_place, front_wrong, wrong_at_start, wrong_choice, wrong_chosen, wrong_later, wrong_maybe, wrong_place}
+use Rattle.hose_words.proofs.DecimalLemmas.{decimal_told, told_decimal}
+use Rattle.hose_words.specs.Number.{IsNumber}
+use Rattle.hose_words.proofs.Forms.{AreApart, Misses-stronger, after_place, front_wrong, wrong_at_start, wrong_choice, wrong_chosen, wrong_later, wrong_maybe, wrong_place}
 use Rattle.hose_words.proofs.Passing.{Passes, pass_branch, pass_finish, pass_maybe, pass_nothing, pass_place}
-use Rattle.hosed.specs.ProgramWords.{AreAuditWords, AreRunWords, AreServeWords, AsksFor, AsksToServe, IsChosen, IsFileName, IsFirstNamed, IsFirstWrong, IsStart, IsTariffName, Start, Verb, at_word, name_words, costs_at, named_form, numbers_form, start_form, start_word, tariff_option, tariff_words, verb_form, verb_word, with_tariff, words_form}
+use Rattle.hosed.specs.ProgramWords.{AreAuditWords, AreCheckWords, AreGenerateWords, ArePriceWords, ArePriceable, AreRunWords, AreServeWords, AsksFor, AsksToServe, IsChosen, IsFileName, IsFirstNamed, IsFirstWrong, IsNodeCount, IsOffered, IsStart, IsTariffName, Start, Verb, at_word, name_words, costs_at, named_form, numbers_form, sizes_form, start_form, start_word, tariff_option, tariff_words, verb_form, verb_word, with_tariff, words_form}
 use Rattle.hosed.specs.ProgramWords.Start.{named, option}
-use Rattle.hosed.specs.ProgramWords.Verb.{audit, run, serve}
+use Rattle.hosed.specs.ProgramWords.Verb.{audit, check, generate, price, run, serve}
 use Rattle.hosed.specs.Reading.{Chooses}
 
 -- ---- words of a slice
@@ -48,22 +50,64 @@ none_left words at some few = empty (drop (at - 1) words) (omega (arith, length-
 pub some_left : (words : List (List ℕ)) (at : ℕ) → 1 ≤ at → at ≤ length words → (at_word at words).left ≡ [] → ⊥
 some_left words at some enough none = omega (arith, length-drop (at - 1) words, ap length none, some, enough)
 
+-- ---- seeds
+
+-- a seed that was read is the one that the word tells
+pub seed_some : (most : ℕ) (bytes word : List ℕ) (found : Option ℕ) → most < 2 ^ 64 → bytes ≡ word → IfSome found (λ n. IsNumber bytes n × (n ≤ most)) → IfSome found (λ n. (word ≡ decimal n) × Fits64 n)
+seed_some most bytes word None small same told = tt
+seed_some most bytes word (Some n) small same told = (sym same ∙ told_decimal bytes n told.0 (omega (arith, told.1, small)), omega (arith, told.1, small))
+
+-- and where none was read it tells none
+pub seed_none : (most : ℕ) (bytes word : List ℕ) (found : Option ℕ) → ((n : ℕ) → n < 2 ^ 64 → n ≤ most) → bytes ≡ word → IfNone found ((n : ℕ) → n ≤ most → IsNumber bytes n → ⊥) → IfNone found (TellsNumber Fits64 word → ⊥)
+seed_none most bytes word (Some n) all same none = tt
+seed_none most bytes word None all same none = λ tells. none tells.0 (all tells.0 tells.2) (decimal_told bytes tells.0 (same ∙ tells.1) tells.2)
+
 -- ---- which words are wrong
 
 -- each command has a word of its own
-verbs_apart : AreApart Each verb_word
-verbs_apart = record { apart = λ one other here there same. at one other (ap (λ (w : List ℕ). get_or w 0 0) same) }
+verb_apart : (one other : Verb) → verb_word one ≡ verb_word other → one ≡ other
+verb_apart one other same = at one other (ap (λ (w : List ℕ). get_or w 0 0) same)
   where
     at : (one other : Verb) → get_or (verb_word one) 0 0 ≡ get_or (verb_word other) 0 0 → one ≡ other
     at run run same = refl
     at run audit same = absurd (omega (arith, same))
+    at run generate same = absurd (omega (arith, same))
+    at run check same = absurd (omega (arith, same))
+    at run price same = absurd (omega (arith, same))
     at run serve same = absurd (omega (arith, same))
     at audit run same = absurd (omega (arith, same))
     at audit audit same = refl
+    at audit generate same = absurd (omega (arith, same))
+    at audit check same = absurd (omega (arith, same))
+    at audit price same = absurd (omega (arith, same))
     at audit serve same = absurd (omega (arith, same))
+    at generate run same = absurd (omega (arith, same))
+    at generate audit same = absurd (omega (arith, same))
+    at generate generate same = refl
+    at generate check same = absurd (omega (arith, same))
+    at generate price same = absurd (omega (arith, same))
+    at generate serve same = absurd (omega (arith, same))
+    at check run same = absurd (omega (arith, same))
+    at check audit same = absurd (omega (arith, same))
+    at check generate same = absurd (omega (arith, same))
+    at check check same = refl
+    at check price same = absurd (omega (arith, same))
+    at check serve same = absurd (omega (arith, same))
+    at price run same = absurd (omega (arith, same))
+    at price audit same = absurd (omega (arith, same))
+    at price generate same = absurd (omega (arith, same))
+    at price check same = absurd (omega (arith, same))
+    at price price same = refl
+    at price serve same = absurd (omega (arith, same))
     at serve run same = absurd (omega (arith, same))
     at serve audit same = absurd (omega (arith, same))
+    at serve generate same = absurd (omega (arith, same))
+    at serve check same = absurd (omega (arith, same))
+    at serve price same = absurd (omega (arith, same))
     at serve serve same = refl
+
+verbs_apart : (names : List (List ℕ)) → AreApart (IsOffered names) verb_word
+verbs_apart names = record { apart = λ one other here there same. verb_apart one other same }
 
 -- the option names no file
 no_file : IsFileName tariff_option → ⊥
@@ -78,22 +122,39 @@ starts_apart = record { apart = at }
     at (named name) option here there same = absurd (no_file (subst IsFileName same here))
     at (named name) (named other) here there same = ap named same
 
+-- numbers of nodes are told apart
+pub counts_apart : AreApart IsNodeCount decimal
+counts_apart = record { apart = λ one other here there same. decimal_injective one other (omega (arith, here)) (omega (arith, there)) same }
+
+-- a word tells no number of nodes
+pub no_count : (words : List (List ℕ)) (at : ℕ) {number : ℕ} → Misses (TellsNumber IsNodeCount) (at_word at words) number → IsWrong (branch IsNodeCount decimal sizes_form) (at_word at words) number
+no_count words at misses = wrong_choice (Misses-stronger (λ word choice. (choice.0, choice.2, choice.1)) misses)
+
 -- the word of a command is the first
 pub verb_there : (verb : Verb) (words : List (List ℕ)) → AsksFor verb words → Took (at_word 1 words) (at_word 2 words) (verb_word verb)
 verb_there verb [] asks = absurd asks
 verb_there verb (word ∷ words) asks = record { cut = ap (λ (first : List ℕ). first ∷ words) asks; counted = refl }
 
 -- what is wrong of the words after it is so of all
-pub verb_wrong : (names : List (List ℕ)) (verb : Verb) (words : List (List ℕ)) (number : ℕ) → AsksFor verb words → IsWrong (verb_form names verb) (at_word 2 words) number → IsFirstWrong names words number
-verb_wrong names verb words number asks wrong = wrong_at_start words refl (wrong_chosen verb tt verbs_apart (verb_there verb words asks) wrong)
+pub verb_wrong : (names : List (List ℕ)) (verb : Verb) (words : List (List ℕ)) (number : ℕ) → IsOffered names verb → AsksFor verb words → IsWrong (verb_form names verb) (at_word 2 words) number → IsFirstWrong names words number
+verb_wrong names verb words number offered asks wrong = wrong_at_start words refl (wrong_chosen verb offered (verbs_apart names) (verb_there verb words asks) wrong)
 
--- the first word is that of no command
-pub no_verb : (names words : List (List ℕ)) → ((verb : Verb) → AsksFor verb words → ⊥) → IsFirstWrong names words 1
+-- the first word is that of no command that there is
+pub no_verb : (names words : List (List ℕ)) → ((verb : Verb) → IsOffered names verb → AsksFor verb words → ⊥) → IsFirstWrong names words 1
 no_verb names words none = wrong_at_start {start = at_word 1 words} words refl (wrong_choice (record { none = never words none; at = refl }))
   where
-    never : (all : List (List ℕ)) → ((verb : Verb) → AsksFor verb all → ⊥) → IsFirst (IsChoice Each verb_word) all → ⊥
+    never : (all : List (List ℕ)) → ((verb : Verb) → IsOffered names verb → AsksFor verb all → ⊥) → IsFirst (IsChoice (IsOffered names) verb_word) all → ⊥
     never [] none first = first
-    never (word ∷ more) none first = none first.0 first.2
+    never (word ∷ more) none first = none first.0 first.1 first.2
+
+-- words ask for one command
+pub one_verb : (one other : Verb) (words : List (List ℕ)) → AsksFor one words → AsksFor other words → one ≡ other
+one_verb one other [] asks asks' = absurd asks
+one_verb one other (word ∷ words) asks asks' = verb_apart one other (sym asks ∙ asks')
+
+-- there are no tariffs to price under, or too many
+pub not_offered : (names words : List (List ℕ)) → AsksFor price words → (ArePriceable names → ⊥) → IsFirstWrong names words 1
+not_offered names words asks never = no_verb names words (λ verb offered other. never (subst (IsOffered names) (one_verb verb price words other asks) offered))
 
 -- a word that is there is one too many
 pub one_too_many : (words : List (List ℕ)) (at : ℕ) → 1 ≤ at → at ≤ length words → IsWrong finish (at_word at words) at
@@ -190,13 +251,13 @@ passes_with names None form after file words is named_file whole rest = pass_bra
 passes_with names (Some which) form after file words is named_file whole rest = pass_branch option tt starts_apart (pass_place (is_named names which is) whole)
 
 run_passes : (names : List (List ℕ)) (tariff : Option ℕ) (journal : Option (List ℕ)) (words : List (List ℕ)) → AreRunWords names words tariff journal → Passes (words_form names) words
-run_passes names None None words are = subst (Passes (words_form names)) (sym are.are) (pass_branch run tt verbs_apart pass_nothing)
+run_passes names None None words are = subst (Passes (words_form names)) (sym are.are) (pass_branch run tt (verbs_apart names) pass_nothing)
 run_passes names (Some which) None words are = subst (Passes (words_form names)) (sym are.are)
-    (pass_branch run tt verbs_apart (pass_maybe (pass_branch option tt starts_apart (pass_place (is_named names which are.is_tariff) pass_nothing))))
+    (pass_branch run tt (verbs_apart names) (pass_maybe (pass_branch option tt starts_apart (pass_place (is_named names which are.is_tariff) pass_nothing))))
 run_passes names None (Some name) words are = subst (Passes (words_form names)) (sym are.are)
-    (pass_branch run tt verbs_apart (pass_maybe (passes_with names None (maybe (named_form finish)) finish name [] tt are.is_journal (pass_maybe (pass_place are.is_journal pass_finish)) pass_finish)))
+    (pass_branch run tt (verbs_apart names) (pass_maybe (passes_with names None (maybe (named_form finish)) finish name [] tt are.is_journal (pass_maybe (pass_place are.is_journal pass_finish)) pass_finish)))
 run_passes names (Some which) (Some name) words are = subst (Passes (words_form names)) (sym are.are)
-    (pass_branch run tt verbs_apart (pass_maybe (passes_with names (Some which) (maybe (named_form finish)) finish name [] are.is_tariff are.is_journal (pass_maybe (pass_place are.is_journal pass_finish)) pass_finish)))
+    (pass_branch run tt (verbs_apart names) (pass_maybe (passes_with names (Some which) (maybe (named_form finish)) finish name [] are.is_tariff are.is_journal (pass_maybe (pass_place are.is_journal pass_finish)) pass_finish)))
 
 -- none of the words of a run is wrong
 pub run_right : (names words : List (List ℕ)) (tariff : Option ℕ) (journal : Option (List ℕ)) (number : ℕ) → AreRunWords names words tariff journal → IsFirstWrong names words number → ⊥
@@ -205,16 +266,33 @@ run_right names words tariff journal number are wrong = (run_passes names tariff
 -- nor of those of an audit
 pub audit_right : (names words : List (List ℕ)) (tariff : Option ℕ) (topology journal : List ℕ) (number : ℕ) → AreAuditWords names words tariff topology journal → IsFirstWrong names words number → ⊥
 audit_right names words tariff topology journal number are wrong =
-    (subst (Passes (words_form names)) (sym are.are) (pass_branch audit tt verbs_apart
+    (subst (Passes (words_form names)) (sym are.are) (pass_branch audit tt (verbs_apart names)
     (passes_with names tariff (named_form (named_form finish)) (named_form finish) topology (journal ∷ []) are.is_tariff are.is_topology (pass_place are.is_topology rest) rest))).none number wrong
   where
     rest : Passes (named_form finish) (journal ∷ [])
     rest = pass_place are.is_journal pass_finish
 
+-- nor of those that a network and a script are made of
+pub generate_right : (names words : List (List ℕ)) (seed nodes links hoses number : ℕ) → AreGenerateWords words seed nodes links hoses → IsFirstWrong names words number → ⊥
+generate_right names words seed nodes links hoses number are wrong =
+    (subst (Passes (words_form names)) (sym are.are) (pass_branch generate tt (verbs_apart names) (pass_place (seed, refl, are.is_seed) (pass_branch nodes are.nodes_within counts_apart
+    (pass_place (links, refl, are.links_within) (pass_place (hoses, refl, are.hoses_within) pass_finish)))))).none number wrong
+
+-- nor of those of a judgement
+pub check_right : (names words : List (List ℕ)) (tariff : Option ℕ) (topology : List ℕ) (number : ℕ) → AreCheckWords names words tariff topology → IsFirstWrong names words number → ⊥
+check_right names words tariff topology number are wrong =
+    (subst (Passes (words_form names)) (sym are.are) (pass_branch check tt (verbs_apart names)
+    (passes_with names tariff (named_form finish) finish topology [] are.is_tariff are.is_topology (pass_place are.is_topology pass_finish) pass_finish))).none number wrong
+
+-- nor of those of a sheet of prices
+pub price_right : (names words : List (List ℕ)) (topology : List ℕ) (number : ℕ) → ArePriceWords names words topology → IsFirstWrong names words number → ⊥
+price_right names words topology number are wrong =
+    (subst (Passes (words_form names)) (sym are.are) (pass_branch price are.tariffs (verbs_apart names) (pass_place are.is_topology pass_finish))).none number wrong
+
 -- nor of those of a server
 pub serve_right : (names words : List (List ℕ)) (tariff : Option ℕ) (topology journal : List ℕ) (port connections workers number : ℕ) → AreServeWords names words tariff topology journal port connections workers → IsFirstWrong names words number → ⊥
 serve_right names words tariff topology journal port connections workers number are wrong =
-    (subst (Passes (words_form names)) (sym are.are) (pass_branch serve tt verbs_apart (passes_with names tariff (named_form (named_form numbers_form)) (named_form numbers_form) topology (journal ∷ decimal port ∷ decimal connections ∷ decimal workers ∷ []) are.is_tariff are.is_topology (pass_place are.is_topology rest) rest))).none number wrong
+    (subst (Passes (words_form names)) (sym are.are) (pass_branch serve tt (verbs_apart names) (passes_with names tariff (named_form (named_form numbers_form)) (named_form numbers_form) topology (journal ∷ decimal port ∷ decimal connections ∷ decimal workers ∷ []) are.is_tariff are.is_topology (pass_place are.is_topology rest) rest))).none number wrong
   where
     rest : Passes (named_form numbers_form) (journal ∷ decimal port ∷ decimal connections ∷ decimal workers ∷ [])
     rest = pass_place are.is_journal (pass_place (port, refl, are.is_port) (pass_place (connections, refl, are.connections_within) (pass_place (workers, refl, are.workers_within) pass_finish)))
@@ -227,10 +305,14 @@ run_asks names words tariff journal are = subst (AsksFor run) (sym are.are) refl
 pub audit_asks : (names words : List (List ℕ)) (tariff : Option ℕ) (topology journal : List ℕ) → AreAuditWords names words tariff topology journal → AsksFor audit words
 audit_asks names words tariff topology journal are = subst (AsksFor audit) (sym are.are) refl
 
--- words ask for one command
-pub one_verb : (one other : Verb) (words : List (List ℕ)) → AsksFor one words → AsksFor other words → one ≡ other
-one_verb one other [] asks asks' = absurd asks
-one_verb one other (word ∷ words) asks asks' = verbs_apart.apart one other tt tt (sym asks ∙ asks')
+pub generate_asks : (words : List (List ℕ)) (seed nodes links hoses : ℕ) → AreGenerateWords words seed nodes links hoses → AsksFor generate words
+generate_asks words seed nodes links hoses are = subst (AsksFor generate) (sym are.are) refl
+
+pub check_asks : (names words : List (List ℕ)) (tariff : Option ℕ) (topology : List ℕ) → AreCheckWords names words tariff topology → AsksFor check words
+check_asks names words tariff topology are = subst (AsksFor check) (sym are.are) refl
+
+pub price_asks : (names words : List (List ℕ)) (topology : List ℕ) → ArePriceWords names words topology → AsksFor price words
+price_asks names words topology are = subst (AsksFor price) (sym are.are) refl
 
 -- ---- words tell one thing
 
@@ -297,6 +379,37 @@ one_audit names words tariff tariff' topology topology' journal journal' are are
     let same = one_tariff names tariff tariff' (topology ∷ journal ∷ []) (topology' ∷ journal' ∷ []) are.is_tariff are'.is_tariff (file_first topology (journal ∷ []) are.is_topology) (file_first topology' (journal' ∷ []) are'.is_topology)
     (ap (drop 1) (sym are.are ∙ are'.are)) in
     record { tariffs = same.tariffs; topologies = ap (λ (w : List (List ℕ)). get_or w 0 []) same.rests; journals = ap (λ (w : List (List ℕ)). get_or w 1 []) same.rests }
+
+-- words tell one network and one script
+pub record IsSameMaking (seed seed' nodes nodes' links links' hoses hoses' : ℕ) : Type 0 where
+  pub seeds : seed ≡ seed'
+  pub same_nodes : nodes ≡ nodes'
+  pub same_links : links ≡ links'
+  pub same_hoses : hoses ≡ hoses'
+
+pub one_making : (words : List (List ℕ)) (seed seed' nodes nodes' links links' hoses hoses' : ℕ) → AreGenerateWords words seed nodes links hoses → AreGenerateWords words seed' nodes' links' hoses' → IsSameMaking seed seed' nodes nodes' links links' hoses hoses'
+one_making words seed seed' nodes nodes' links links' hoses hoses' are are' =
+    let same = sym are.are ∙ are'.are in record {
+      seeds = decimal_injective seed seed' are.is_seed are'.is_seed (ap (λ (w : List (List ℕ)). get_or w 1 []) same);
+      same_nodes = decimal_injective nodes nodes' (omega (arith, are.nodes_within)) (omega (arith, are'.nodes_within)) (ap (λ (w : List (List ℕ)). get_or w 2 []) same);
+      same_links = decimal_injective links links' (omega (arith, are.links_within)) (omega (arith, are'.links_within)) (ap (λ (w : List (List ℕ)). get_or w 3 []) same);
+      same_hoses = decimal_injective hoses hoses' (omega (arith, are.hoses_within)) (omega (arith, are'.hoses_within)) (ap (λ (w : List (List ℕ)). get_or w 4 []) same);
+    }
+
+-- words tell one judgement
+pub record IsSameCheck (tariff tariff' : Option ℕ) (topology topology' : List ℕ) : Type 0 where
+  pub tariffs : tariff ≡ tariff'
+  pub topologies : topology ≡ topology'
+
+pub one_check : (names words : List (List ℕ)) (tariff tariff' : Option ℕ) (topology topology' : List ℕ) → AreCheckWords names words tariff topology → AreCheckWords names words tariff' topology' → IsSameCheck tariff tariff' topology topology'
+one_check names words tariff tariff' topology topology' are are' =
+    let same = one_tariff names tariff tariff' (topology ∷ []) (topology' ∷ []) are.is_tariff are'.is_tariff (file_first topology [] are.is_topology) (file_first topology' [] are'.is_topology)
+    (ap (drop 1) (sym are.are ∙ are'.are)) in
+    record { tariffs = same.tariffs; topologies = ap (λ (w : List (List ℕ)). get_or w 0 []) same.rests }
+
+-- words tell one sheet of prices
+pub one_priced : (names words : List (List ℕ)) (topology topology' : List ℕ) → ArePriceWords names words topology → ArePriceWords names words topology' → topology ≡ topology'
+one_priced names words topology topology' are are' = ap (λ (w : List (List ℕ)). get_or w 1 []) (sym are.are ∙ are'.are)
 
 -- words tell one server
 pub record IsSameService (tariff tariff' : Option ℕ) (topology topology' journal journal' : List ℕ) (connections connections' : ℕ) : Type 0 where

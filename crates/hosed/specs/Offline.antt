@@ -5,20 +5,26 @@ use Rattle.hose_io.specs.declared.sink.Sink.{Ghosts as SinkGhosts}
 use Rattle.hose_graph.specs.Network.{Network}
 use Rattle.hose_disk.specs.declared.cabinet.Cabinet.{Ghosts as CabinetGhosts}
 use Rattle.hose_disk.specs.declared.disk.Disk.{Ghosts as DiskGhosts}
+use Rattle.hose_price.specs.Sheet.{Sheet}
 use Rattle.hose_offline.specs.AuditOutcome.{AuditOutcome}
+use Rattle.hose_offline.specs.CheckOutcome.{CheckOutcome}
 use Rattle.hose_offline.specs.Ending.{IsOut}
 use Rattle.hose_offline.specs.Fault.{last_line}
+use Rattle.hose_offline.specs.GenOutcome.{GenOutcome}
+use Rattle.hose_offline.specs.PriceOutcome.{PriceOutcome}
 use Rattle.hose_offline.specs.RunOutcome.{RunOutcome}
 use Rattle.hose_offline.specs.declared.fault.Fault.TheVariants.{Words}
-use Rattle.hosed.specs.ProgramWords.{AreAuditWords, AreRunWords, AreWrongWords, IsFirstWrong}
+use Rattle.hosed.specs.ProgramWords.{AreAuditWords, AreCheckWords, AreGenerateWords, ArePriceWords, AreRunWords, AreWrongWords, IsFirstWrong}
 
 -- Words that are wrong end with the status 1 and take nothing of the input and of the cabinet; the
 -- last line tells the first of them that is not allowed. Other words do what their command says, at
--- the prices of the tariff that they choose.
+-- the prices of the tariff that they choose; sheets of prices are made of a network under all of
+-- them.
 pub record OfflineOutcome {I O C E : Type 0} (source : SourceGhosts I) (sink : SinkGhosts O)
     (cabinet : CabinetGhosts C E) (disk : DiskGhosts E) (names : List (List ℕ))
-    (prices : Option ℕ → Network → Network → Type 0) (words : List (List ℕ)) (input input' : I)
-    (output output' : O) (place place' : C) (status : ℕ) : Type 0 where
+    (prices : Option ℕ → Network → Network → Type 0) (makes : Network → Sheet → Type 0)
+    (words : List (List ℕ)) (input input' : I) (output output' : O) (place place' : C)
+    (status : ℕ) : Type 0 where
   pub words_at_1 : (status ≡ 1) ↔ AreWrongWords names words
   pub wrong_words : status ≡ 1 → (input' ≡ input) × (place' ≡ place)
       × ((word : ℕ) × IsFirstWrong names words word
@@ -32,3 +38,12 @@ pub record OfflineOutcome {I O C E : Type 0} (source : SourceGhosts I) (sink : S
       → AreAuditWords names words tariff topology journal
       → (input' ≡ input) × AuditOutcome (prices tariff) sink cabinet disk topology journal
       output output' place place' status
+  pub generated : (seed nodes links hoses : ℕ) → AreGenerateWords words seed nodes links hoses
+      → (input' ≡ input) × (place' ≡ place)
+      × GenOutcome seed nodes links hoses sink output output' status
+  pub check : (tariff : Option ℕ) (topology : List ℕ) → AreCheckWords names words tariff topology
+      → CheckOutcome (prices tariff) source sink cabinet topology input input' output output'
+      place place' status
+  pub price : (topology : List ℕ) → ArePriceWords names words topology
+      → PriceOutcome makes names source sink cabinet topology input input' output output'
+      place place' status

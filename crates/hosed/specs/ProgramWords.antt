@@ -2,13 +2,16 @@
 use Rattle.std.specs.Prelude.{option_map}
 use Rattle.std.specs.Prelude.{◌≡◌, ◌≢◌, ℕ, ◌-◌, ◌<◌, ◌≤◌, List, [], ◌∷◌, ◌++◌, codes, decimal, drop, get_or, length, Option, MatchOption, None, Some, suc, zero, ⊤}
 use Rattle.hose_words.specs.Cursor.{Position}
-use Rattle.hose_words.specs.Form.{Each, Form, IsWithin, TellsNumber, branch, finish, grammar_of, maybe, place}
+use Rattle.hose_words.specs.Form.{Fits64, Form, IsWithin, TellsNumber, branch, finish, grammar_of, maybe, number, place}
 use Rattle.hose_words.specs.Grammar.{IsFirst, IsFirstNotAllowed}
+use Rattle.hose_gen.specs.declared.limits.TheConstants.{LEAST_NODES, MOST_HOSES}
 use Rattle.hose_graph.specs.Network.{Network}
+use Rattle.hose_graph.specs.declared.limits.TheConstants.{MOST_LINKS, MOST_NODES}
 use Rattle.hose_offline.specs.TopologyTold.{own_costs}
 use Rattle.hose_pool.specs.declared.rows.TheConstants.{MOST_WORKERS}
+use Rattle.hose_price.specs.declared.sheet.TheConstants.{MOST_TARIFFS}
 use Rattle.hosed.specs.declared.words.Command.{Command}
-use Rattle.hosed.specs.declared.words.Command.TheVariants.{Audit, Run}
+use Rattle.hosed.specs.declared.words.Command.TheVariants.{Audit, Check, Generate, Price, Run}
 use Rattle.hosed.specs.declared.words.Service.{Service}
 use Rattle.hosed.specs.declared.words.TheConstants.{MOST_CONNECTIONS}
 
@@ -76,6 +79,44 @@ pub record AreAuditWords (names words : List (List ℕ)) (tariff : Option ℕ)
   pub is_topology : IsFileName topology
   pub is_journal : IsFileName journal
 
+-- a generated network may have so many nodes
+abbrev pub IsNodeCount : ℕ → Type 0
+IsNodeCount = IsWithin LEAST_NODES MOST_NODES
+
+-- a generated network of so many nodes may have so many links: enough to join them
+abbrev pub IsLinkCount : ℕ → ℕ → Type 0
+IsLinkCount nodes = IsWithin (nodes - 1) MOST_LINKS
+
+-- a generated script may ask for so many hoses
+abbrev pub IsHoseCount : ℕ → Type 0
+IsHoseCount = IsWithin 0 MOST_HOSES
+
+-- the words are `gen` and four numbers: a seed, and how many nodes, links and hoses are made of it
+pub record AreGenerateWords (words : List (List ℕ)) (seed nodes links hoses : ℕ) : Type 0 where
+  pub are : words
+      ≡ codes "gen" ∷ decimal seed ∷ decimal nodes ∷ decimal links ∷ decimal hoses ∷ []
+  pub is_seed : Fits64 seed
+  pub nodes_within : IsNodeCount nodes
+  pub links_within : IsLinkCount nodes links
+  pub hoses_within : IsHoseCount hoses
+
+-- the words are `check`, those of a tariff if one is chosen, and the name of a topology
+pub record AreCheckWords (names words : List (List ℕ)) (tariff : Option ℕ)
+    (topology : List ℕ) : Type 0 where
+  pub are : words ≡ codes "check" ∷ tariff_words names tariff ++ topology ∷ []
+  pub is_tariff : IsChosen names tariff
+  pub is_topology : IsFileName topology
+
+-- there are tariffs with these names to price under, and no more than there may be
+abbrev pub ArePriceable : List (List ℕ) → Type 0
+ArePriceable names = IsWithin 1 MOST_TARIFFS (length names)
+
+-- the words are `price` and the name of a topology, and there are tariffs to price under
+pub record ArePriceWords (names words : List (List ℕ)) (topology : List ℕ) : Type 0 where
+  pub are : words ≡ codes "price" ∷ topology ∷ []
+  pub tariffs : ArePriceable names
+  pub is_topology : IsFileName topology
+
 -- a number may be that of a port: 16 bits hold it, and it is not 0
 abbrev pub IsPort : ℕ → Type 0
 IsPort = IsWithin 1 65535
@@ -99,6 +140,10 @@ pub record AreWrongWords (names words : List (List ℕ)) : Type 0 where
       → ¬ AreRunWords names words tariff journal
   pub no_audit : (tariff : Option ℕ) (topology journal : List ℕ)
       → ¬ AreAuditWords names words tariff topology journal
+  pub no_generate : (seed nodes links hoses : ℕ) → ¬ AreGenerateWords words seed nodes links hoses
+  pub no_check : (tariff : Option ℕ) (topology : List ℕ)
+      → ¬ AreCheckWords names words tariff topology
+  pub no_price : (topology : List ℕ) → ¬ ArePriceWords names words topology
   pub no_serve : (tariff : Option ℕ) (topology journal : List ℕ) (port connections workers : ℕ)
       → ¬ AreServeWords names words tariff topology journal port connections workers
 
@@ -108,6 +153,10 @@ AreWordsOf names words (Run tariff journal) =
     AreRunWords names words tariff (option_map (λ name. name.now) journal)
 AreWordsOf names words (Audit tariff topology journal) =
     AreAuditWords names words tariff topology.now journal.now
+AreWordsOf names words (Generate seed nodes links hoses) =
+    AreGenerateWords words seed nodes links hoses
+AreWordsOf names words (Check tariff topology) = AreCheckWords names words tariff topology.now
+AreWordsOf names words (Price topology) = ArePriceWords names words topology.now
 
 -- the words are those of a server
 abbrev pub AreServiceWords : List (List ℕ) → List (List ℕ) → Service → Type 0
@@ -121,13 +170,28 @@ AreServiceWords names words service =
 pub data Verb : Type 0 where
   run : Verb
   audit : Verb
+  generate : Verb
+  check : Verb
+  price : Verb
   serve : Verb
 
 -- the word that a command begins with
 abbrev pub verb_word : Verb → List ℕ
 verb_word run = codes "run"
 verb_word audit = codes "audit"
+verb_word generate = codes "gen"
+verb_word check = codes "check"
+verb_word price = codes "price"
 verb_word serve = codes "serve"
+
+-- the command is one of a program that has tariffs with these names
+abbrev pub IsOffered : List (List ℕ) → Verb → Type 0
+IsOffered names run = ⊤
+IsOffered names audit = ⊤
+IsOffered names generate = ⊤
+IsOffered names check = ⊤
+IsOffered names price = ArePriceable names
+IsOffered names serve = ⊤
 
 -- the first word is that of the command, whatever follows it
 abbrev pub AsksFor : Verb → List (List ℕ) → Type 0
@@ -168,17 +232,26 @@ abbrev pub numbers_form : Form
 numbers_form = place (TellsNumber IsPort) (place (TellsNumber (IsWithin 1 MOST_CONNECTIONS))
     (place (TellsNumber (IsWithin 1 MOST_WORKERS)) finish))
 
--- what may stand after the word of a command: a tariff or none, and then a journal or none; the
--- names of a topology and of a journal; or these two, and the numbers of a server
+-- the numbers of links and of hoses, after that of nodes
+abbrev pub sizes_form : ℕ → Form
+sizes_form nodes =
+    place (TellsNumber (IsLinkCount nodes)) (place (TellsNumber IsHoseCount) finish)
+
+-- What may stand after the word of a command: a tariff or none, and then a journal or none; the
+-- names of a topology and of a journal; four numbers; the name of a topology, after a tariff or
+-- none, or alone; or those of a topology and of a journal, and the numbers of a server.
 abbrev pub verb_form : List (List ℕ) → Verb → Form
 verb_form names run = maybe (with_tariff names (maybe (named_form finish)) finish)
 verb_form names audit = with_tariff names (named_form (named_form finish)) (named_form finish)
+verb_form names generate = number (branch IsNodeCount decimal sizes_form)
+verb_form names check = with_tariff names (named_form finish) finish
+verb_form names price = named_form finish
 verb_form names serve =
     with_tariff names (named_form (named_form numbers_form)) (named_form numbers_form)
 
 -- what the words may be
 abbrev pub words_form : List (List ℕ) → Form
-words_form names = branch Each verb_word (verb_form names)
+words_form names = branch (IsOffered names) verb_word (verb_form names)
 
 -- the first of the words that is not allowed
 abbrev pub IsFirstWrong : List (List ℕ) → List (List ℕ) → ℕ → Type 0

@@ -3,6 +3,7 @@ ghost use Rattle.std.specs.Prelude.{◌≡◌, ◌≢◌, ◌⊎◌, ◌<◌, �
 ghost use Rattle.hose_io.specs.Frame.{Stays};
 ghost use Rattle.hose_disk.specs.Cabinet.{object_of};
 ghost use Rattle.hose_offline.specs.AuditOutcome.{AuditOutcome};
+ghost use Rattle.hose_offline.specs.CheckOutcome.{CheckOutcome};
 ghost use Rattle.hose_offline.specs.RunOutcome.{RunOutcome};
 ghost use Rattle.hosed.specs.ProgramWords.{costs_at};
 ghost use Rattle.hosed.specs.ServeOutcome.{ServeOutcome};
@@ -12,7 +13,7 @@ use crate::serving::serve;
 use crate::words::Service;
 use hose_disk::Cabinet;
 use hose_io::{Door, Sink, Source};
-use hose_offline::{audit, run};
+use hose_offline::{audit, check, run};
 use hose_pool::{Gate, MOST_WORKERS};
 use hose_tariff::{OwnCosts, Prices, Tariff};
 use std::alloc::Global;
@@ -70,6 +71,32 @@ pub fn audit_by<O: Sink, C: Cabinet>(
     match tariff {
         Some(place) => audit(alloc, &tariffs[place], topology, journal, output, cabinet),
         None => audit(alloc, &OwnCosts, topology, journal, output, cabinet),
+    }
+}
+
+/// A judgement of a certificate.
+pub fn check_by<I: Source, O: Sink, C: Cabinet>(
+    alloc: Global,
+    tariffs: &[Tariff],
+    tariff: Option<usize>,
+    topology: &str,
+    input: &mut I,
+    output: &mut O,
+    cabinet: &mut C,
+) -> u8
+    requires tariff { MatchOption tariff ⊤ (λ which. which < length tariffs.now) }
+    ensures outcome { CheckOutcome (costs_at ⟦<Tariff as Prices>⟧.prices tariffs.now tariff)
+        I.Source O.Sink C.Cabinet topology.now input.old input.new output.old output.new
+        cabinet.old cabinet.new result }
+    ensures not_words { result ≢ 1 }
+    ensures out { (C.frame cabinet.new).out ≡ (C.frame cabinet.old).out }
+    ensures input { Stays (I.frame input.old) (I.frame input.new) }
+    ensures output { Stays (O.frame output.old) (O.frame output.new) }
+    ensures cabinet { Stays (object_of (C.frame cabinet.old)) (object_of (C.frame cabinet.new)) }
+{
+    match tariff {
+        Some(place) => check(alloc, &tariffs[place], topology, input, output, cabinet),
+        None => check(alloc, &OwnCosts, topology, input, output, cabinet),
     }
 }
 

@@ -4,8 +4,10 @@
 //! a topology text and then lines `CUSTOMER COMMAND`, and writes one reply line for each; with
 //! `run JOURNAL` it keeps its book in a journal, which outlives it; `audit TOPOLOGY JOURNAL` writes
 //! what the book of a journal holds; `serve TOPOLOGY JOURNAL PORT CONNECTIONS WORKERS` serves
-//! customers at a port, each in a session, by the book of a journal that they share. With `--tariff`
-//! each plans by the costs that a tariff makes of the lengths of links:
+//! customers at a port, each in a session, by the book of a journal that they share. With
+//! `--tariff` each plans by the costs that a tariff makes of the lengths of links. Beside them
+//! `check TOPOLOGY` judges a certificate of least cost, `price TOPOLOGY` prices hoses under all
+//! tariffs, and `gen SEED NODES LINKS HOSES` runs a script that it makes of four numbers:
 //!
 //! ```
 //! let input = &mut StdSource::new(stdin);
@@ -24,6 +26,7 @@ ghost use Rattle.std.specs.Prelude.{◌≡◌, ◌⊎◌, None, map};
 ghost use Rattle.std.specs.String.{string_bytes};
 ghost use Rattle.hose_io.specs.Frame.{Stays};
 ghost use Rattle.hose_disk.specs.Cabinet.{object_of};
+ghost use Rattle.hose_offline.specs.PriceOutcome.{IsSheetBy};
 ghost use Rattle.hosed.specs.Hosed.{HosedOutcome};
 ghost use Rattle.hosed.specs.Offline.{OfflineOutcome};
 ghost use Rattle.hosed.specs.ProgramWords.{AsksToServe, costs_at};
@@ -33,10 +36,10 @@ mod chosen;
 mod serving;
 mod words;
 
-use chosen::{audit_by, run_by, serve_by};
+use chosen::{audit_by, check_by, run_by, serve_by};
 use hose_disk::Cabinet;
 use hose_io::{Door, Sink, Source};
-use hose_offline::{Fault, end};
+use hose_offline::{Fault, end, price, run_generated};
 use hose_pool::Gate;
 use hose_tariff::{Prices, Tariff};
 use std::alloc::Global;
@@ -47,10 +50,12 @@ use words::{Command, asks_to_serve, command_of, service_of};
 
 /// Does what the words say, and gives the exit status. The words are those after the program's
 /// name: `run`, and the name of a journal in the cabinet if the book is to be kept in one; `audit`,
-/// the name of a text in the cabinet with a topology, and that of a journal of it; or `serve`, the
-/// same names, a port, how many connections are to be served, and by how many workers. After the
-/// first of them `--tariff` may stand, and the name of one of the tariffs, of which the first with
-/// that name is meant. A text whose name ends in `.json` is JSON.
+/// the name of a text in the cabinet with a topology, and that of a journal of it; `serve`, the
+/// same names, a port, how many connections are to be served, and by how many workers; `check` or
+/// `price`, and the name of a text with a topology; or `gen`, and four numbers. After the first of
+/// them, but for `price` and `gen`, `--tariff` may stand, and the name of one of the tariffs, of
+/// which the first with that name is meant. `price` takes all tariffs, of which there have to be 1
+/// to 16. A text whose name ends in `.json` is JSON.
 ///
 /// The status is 0 where all was read to its end, and the journal closed. Else it tells the first
 /// fault, and the last line of the output tells it too: 1 `words K`, the number of the first word
@@ -60,7 +65,7 @@ use words::{Command, asks_to_serve, command_of, service_of};
 /// `journal damaged at P`, at this byte; 6 `cabinet`, a text that could not be read, or a journal
 /// that could not be opened or closed; 7 `no memory`; 8 `too long`, an input or a topology of more
 /// than 1 GiB, or JSON of more than 16 MiB; 9 `door`, a port that could not be opened, or a
-/// connection that could not be accepted.
+/// connection that could not be accepted; 10 `no K`, a certificate whose rule K fails.
 ///
 /// With `serve` it waits for customers, and for threads of its own: what it promises it keeps if it
 /// returns. It writes `ready` once the port is open, and what the book holds once all is closed.
@@ -86,6 +91,8 @@ pub fn hosed<
     ensures outcome { HosedOutcome I.Source O.Sink C.Cabinet C.Disk.Disk
         (map (λ tariff. tariff.name) tariffs.now)
         (λ tariff. costs_at ⟦<Tariff as Prices>⟧.prices tariffs.now tariff)
+        (IsSheetBy ⟦<Tariff as Prices>⟧.prices (λ tariff. tariff.base) (λ tariff. tariff.per)
+        tariffs.now)
         (map string_bytes words.now) input.old input.new output.old output.new
         cabinet.old cabinet.new
         (seen_of (L.frame door.old) (L.told door.old))
@@ -125,6 +132,8 @@ pub fn offline<I: Source, O: Sink, C: Cabinet>(
     ensures outcome { OfflineOutcome I.Source O.Sink C.Cabinet C.Disk.Disk
         (map (λ tariff. tariff.name) tariffs.now)
         (λ tariff. costs_at ⟦<Tariff as Prices>⟧.prices tariffs.now tariff)
+        (IsSheetBy ⟦<Tariff as Prices>⟧.prices (λ tariff. tariff.base) (λ tariff. tariff.per)
+        tariffs.now)
         (map string_bytes words.now) input.old input.new output.old output.new
         cabinet.old cabinet.new result }
     ensures back { (C.frame cabinet.new).out ≡ None }
@@ -143,6 +152,20 @@ pub fn offline<I: Source, O: Sink, C: Cabinet>(
                 journal,
             },
         ) => audit_by(alloc, tariffs, tariff, topology, journal, output, cabinet),
+        Ok(
+            Command::Generate {
+                seed,
+                nodes,
+                links,
+                hoses,
+            },
+        ) => run_generated(alloc, seed, nodes, links, hoses, output),
+        Ok(Command::Check { tariff, topology }) => {
+            check_by(alloc, tariffs, tariff, topology, input, output, cabinet)
+        }
+        Ok(Command::Price { topology }) => {
+            price(alloc, tariffs, topology, input, output, cabinet)
+        }
         Err(wrong) => end(Err(Fault::Words(wrong)), output),
     }
 }

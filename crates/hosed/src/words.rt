@@ -2,13 +2,16 @@
 ghost use Rattle.std.specs.Prelude.{◌≡◌, ◌↔◌, ◌+◌, ◌<◌, ◌≤◌, ℕ, [], IfErr, IfNone, IfOk, IfSome, IsTrue, OnOk, decimal, get_or, length, map};
 ghost use Rattle.std.specs.String.{string_bytes};
 ghost use Rattle.hose_words.specs.Cursor.{Misses, Took};
-ghost use Rattle.hose_words.specs.Form.{IsWithin, TellsNumber};
+ghost use Rattle.hose_words.specs.Form.{Fits64, IsWithin, TellsNumber};
 ghost use Rattle.hose_words.specs.Grammar.{IsFirst};
-ghost use Rattle.hosed.specs.ProgramWords.{AreServiceWords, AreWordsOf, AsksFor, AsksToServe, IsFileName, IsFirstNamed, IsFirstWrong, IsTariffName, at_word, tariff_option};
+ghost use Rattle.hosed.specs.ProgramWords.{ArePriceable, AreServiceWords, AreWordsOf, AsksFor, AsksToServe, IsFileName, IsFirstNamed, IsFirstWrong, IsTariffName, at_word, tariff_option};
 ghost use Rattle.hosed.specs.Reading.{Chooses};
-ghost use Rattle.hosed.specs.ProgramWords.Verb.{audit, run};
+ghost use Rattle.hosed.specs.ProgramWords.Verb.{audit, check, generate, price, run};
 
+use hose_gen::{LEAST_NODES, MOST_HOSES};
+use hose_graph::{MOST_LINKS, MOST_NODES};
 use hose_pool::MOST_WORKERS;
+use hose_price::MOST_TARIFFS;
 use hose_tariff::{Tariff, find};
 use hose_words::number;
 
@@ -28,6 +31,22 @@ pub enum Command<'w> {
         tariff: Option<usize>,
         topology: &'w str,
         journal: &'w str,
+    },
+    /// Runs a script that is made of four numbers.
+    Generate {
+        seed: u64,
+        nodes: u32,
+        links: u32,
+        hoses: u32,
+    },
+    /// Judges a certificate.
+    Check {
+        tariff: Option<usize>,
+        topology: &'w str,
+    },
+    /// Prices a sheet of hoses under all tariffs.
+    Price {
+        topology: &'w str,
     },
 }
 
@@ -67,6 +86,12 @@ pub fn command_of<'w>(words: &'w [String], tariffs: &[Tariff]) -> Result<Command
         run_of(words, tariffs)
     } else if begin_with(words, "audit") {
         audit_of(words, tariffs)
+    } else if begin_with(words, "gen") {
+        generate_of(words, tariffs)
+    } else if begin_with(words, "check") {
+        check_of(words, tariffs)
+    } else if begin_with(words, "price") {
+        price_of(words, tariffs)
     } else {
         Err(1)
     }
@@ -126,6 +151,68 @@ fn audit_of<'w>(words: &'w [String], tariffs: &[Tariff]) -> Result<Command<'w>, 
     })
 }
 
+// The four numbers that the words tell, and nothing else.
+fn generate_of<'w>(words: &'w [String], tariffs: &[Tariff]) -> Result<Command<'w>, u64>
+    requires { AsksFor generate (map string_bytes words.now) }
+    ensures ok { IfOk result (AreWordsOf (map (λ tariff. tariff.name) tariffs.now)
+        (map string_bytes words.now)) }
+    ensures wrong { IfErr result (IsFirstWrong (map (λ tariff. tariff.name) tariffs.now)
+        (map string_bytes words.now)) }
+{
+    // No tariff stands among them.
+    let _ = tariffs;
+    let seed = seed_at(words, 2)?;
+    let nodes = number_at(words, 3, LEAST_NODES, MOST_NODES)?;
+    let links = number_at(words, 4, nodes - 1, MOST_LINKS)?;
+    let hoses = number_at(words, 5, 0, MOST_HOSES)?;
+    none_at(words, 6)?;
+    Ok(Command::Generate {
+        seed,
+        nodes,
+        links,
+        hoses,
+    })
+}
+
+// The judgement that the words ask for: a tariff may follow, the name of a topology has to, and
+// nothing else.
+fn check_of<'w>(words: &'w [String], tariffs: &[Tariff]) -> Result<Command<'w>, u64>
+    requires { AsksFor check (map string_bytes words.now) }
+    ensures ok { IfOk result (AreWordsOf (map (λ tariff. tariff.name) tariffs.now)
+        (map string_bytes words.now)) }
+    ensures wrong { IfErr result (IsFirstWrong (map (λ tariff. tariff.name) tariffs.now)
+        (map string_bytes words.now)) }
+{
+    let (tariff, at) = tariff_at(words, tariffs)?;
+    let topology = name_at(words, at)?;
+    none_at(words, at + 1)?;
+    Ok(Command::Check { tariff, topology })
+}
+
+// The sheet of prices that the words ask for, where there are tariffs to price under: the name of a
+// topology has to follow, and nothing else.
+fn price_of<'w>(words: &'w [String], tariffs: &[Tariff]) -> Result<Command<'w>, u64>
+    requires { AsksFor price (map string_bytes words.now) }
+    ensures ok { IfOk result (AreWordsOf (map (λ tariff. tariff.name) tariffs.now)
+        (map string_bytes words.now)) }
+    ensures wrong { IfErr result (IsFirstWrong (map (λ tariff. tariff.name) tariffs.now)
+        (map string_bytes words.now)) }
+{
+    if !are_priceable(tariffs) {
+        return Err(1);
+    }
+    let topology = name_at(words, 2)?;
+    none_at(words, 3)?;
+    Ok(Command::Price { topology })
+}
+
+// Whether there are tariffs to price under, and no more than there may be.
+fn are_priceable(tariffs: &[Tariff]) -> bool
+    ensures { IsTrue result ↔ ArePriceable (map (λ tariff. tariff.name) tariffs.now) }
+{
+    (1..=MOST_TARIFFS).contains(&tariffs.len())
+}
+
 /// The server that the words ask for, or the first of them that is not allowed.
 pub fn service_of<'w>(words: &'w [String], tariffs: &[Tariff]) -> Result<Service<'w>, u64>
     requires { AsksToServe (map string_bytes words.now) }
@@ -137,9 +224,9 @@ pub fn service_of<'w>(words: &'w [String], tariffs: &[Tariff]) -> Result<Service
     let (tariff, at) = tariff_at(words, tariffs)?;
     let topology = name_at(words, at)?;
     let journal = name_at(words, at + 1)?;
-    let port = number_at(words, at + 2, u32::from(u16::MAX))?;
-    let connections = number_at(words, at + 3, MOST_CONNECTIONS)?;
-    let workers = number_at(words, at + 4, MOST_WORKERS)?;
+    let port = number_at(words, at + 2, 1, u32::from(u16::MAX))?;
+    let connections = number_at(words, at + 3, 1, MOST_CONNECTIONS)?;
+    let workers = number_at(words, at + 4, 1, MOST_WORKERS)?;
     none_at(words, at + 5)?;
     Ok(Service {
         tariff,
@@ -199,30 +286,58 @@ fn name_at(words: &[String], at: u64) -> Result<&str, u64>
     }
 }
 
-// The number that this word tells, counted from 1, which has to be from 1 to the most.
-fn number_at(words: &[String], at: u64, most: u32) -> Result<u32, u64>
+// The number that this word tells, counted from 1, which has to be from the least to the most.
+fn number_at(words: &[String], at: u64, least: u32, most: u32) -> Result<u32, u64>
     requires { 1 ≤ at }
     ensures ok { IfOk result (λ value. Took (at_word at (map string_bytes words.now))
         (at_word (at + 1) (map string_bytes words.now)) (decimal value)) }
-    ensures within { IfOk result (IsWithin 1 most) }
+    ensures within { IfOk result (IsWithin least most) }
     ensures wrong { IfErr result
-        (Misses (TellsNumber (IsWithin 1 most)) (at_word at (map string_bytes words.now))) }
+        (Misses (TellsNumber (IsWithin least most)) (at_word at (map string_bytes words.now))) }
 {
     match word_at(words, at) {
-        Some(word) => number_of(word, most).ok_or(at),
+        Some(word) => number_of(word, least, most).ok_or(at),
         None => Err(at),
     }
 }
 
-// The number from 1 to the most that a word tells, if it tells one.
-fn number_of(word: &str, most: u32) -> Option<u32>
-    ensures some { IfSome result (λ value. (word.now ≡ decimal value) × IsWithin 1 most value) }
-    ensures none { IfNone result (¬ TellsNumber (IsWithin 1 most) word.now) }
+// The number from the least to the most that a word tells, if it tells one.
+fn number_of(word: &str, least: u32, most: u32) -> Option<u32>
+    ensures some { IfSome result
+        (λ value. (word.now ≡ decimal value) × IsWithin least most value) }
+    ensures none { IfNone result (¬ TellsNumber (IsWithin least most) word.now) }
 {
     let Some(value) = number(word.as_bytes(), u64::from(most)) else {
         return None;
     };
-    if value == 0 { None } else { Some(value as u32) }
+    if value < u64::from(least) {
+        None
+    } else {
+        Some(value as u32)
+    }
+}
+
+// The seed that this word tells, counted from 1.
+fn seed_at(words: &[String], at: u64) -> Result<u64, u64>
+    requires { 1 ≤ at }
+    ensures ok { IfOk result (λ value. Took (at_word at (map string_bytes words.now))
+        (at_word (at + 1) (map string_bytes words.now)) (decimal value)) }
+    ensures small { IfOk result Fits64 }
+    ensures wrong { IfErr result
+        (Misses (TellsNumber Fits64) (at_word at (map string_bytes words.now))) }
+{
+    match word_at(words, at) {
+        Some(word) => seed_of(word).ok_or(at),
+        None => Err(at),
+    }
+}
+
+// The seed that a word tells, if it tells one.
+fn seed_of(word: &str) -> Option<u64>
+    ensures some { IfSome result (λ value. (word.now ≡ decimal value) × Fits64 value) }
+    ensures none { IfNone result (¬ TellsNumber Fits64 word.now) }
+{
+    number(word.as_bytes(), u64::MAX)
 }
 
 // Makes sure that there is no such word, counted from 1; else its number is told.

@@ -5,6 +5,7 @@ ghost use Rattle.hose_io.specs.Frame.{Stays};
 ghost use Rattle.hose_disk.specs.Cabinet.{object_of};
 ghost use Rattle.hose_offline.specs.Ending.{IsOut};
 ghost use Rattle.hose_offline.specs.Fault.{last_line};
+ghost use Rattle.hose_offline.specs.PriceOutcome.{IsSheetBy};
 ghost use Rattle.hosed.specs.Hosed.{HosedOutcome};
 ghost use Rattle.hosed.specs.ProgramWords.{AsksToServe, costs_at};
 ghost use Rattle.hosed.specs.ServingDoor.{seen_of};
@@ -62,6 +63,8 @@ pub fn program<
         → HosedOutcome I.Source O.Sink C.Cabinet C.Disk.Disk
         (map (λ tariff. tariff.name) tariffs.now)
         (λ tariff. costs_at ⟦<Tariff as Prices>⟧.prices tariffs.now tariff)
+        (IsSheetBy ⟦<Tariff as Prices>⟧.prices (λ tariff. tariff.base) (λ tariff. tariff.per)
+        tariffs.now)
         (map string_bytes words.now) input.old input.new output.old output.new
         cabinet.old cabinet.new
         (seen_of (L.frame door.old) (L.told door.old))

@@ -5,6 +5,9 @@ pub const HELP: &str = "\
 usage: hosed run [--tariff NAME] [JOURNAL] < FILE
        hosed audit [--tariff NAME] TOPOLOGY JOURNAL
        hosed serve [--tariff NAME] TOPOLOGY JOURNAL PORT CONNECTIONS WORKERS
+       hosed check [--tariff NAME] TOPOLOGY < CERTIFICATE
+       hosed price TOPOLOGY < SHEET
+       hosed gen SEED NODES LINKS HOSES
        hosed --help | --version
 
 hosed run reads a topology, in which lines that begin with # are passed over, and then a line for
@@ -62,6 +65,29 @@ connection is a session of one customer, with one line in reply to each:
 
 PORT is 1 to 65535, CONNECTIONS is 1 to 10000, WORKERS is 1 to 16.
 
+hosed check reads a topology from the file TOPOLOGY, as audit does, and a certificate, which says
+what a hose reserves and why nothing else costs less. It makes no plan, and writes
+
+    yes C                               the reservations carry the hose at the least cost, C
+    no K                                the certificate's lowest rule that fails, 1 to 6
+
+hosed price reads a topology from the file TOPOLOGY, as audit does, and a sheet, in which each line
+is a hose, CUSTOMER NAME:RATE .. . It writes what each costs at least on the whole network, as if
+nothing were reserved, by each tariff below; LOW and HIGH bound C by the tariff's rule alone:
+
+    price CUSTOMER NAME C LOW HIGH .. best NAME     the best is the first tariff of least C
+    price CUSTOMER none                             no tree joins the hose
+    bad W, long, memory                             as those of run
+
+hosed gen makes a network of NODES nodes and LINKS links, and HOSES admissions with a release after
+each fifth, all by the number SEED. It runs them as run does without a journal, and writes how many
+were admitted, refused and released, the last epoch, and what the admitted cost together:
+
+    gen SEED hoses H admitted A refused R released L epoch N cost C
+
+SEED is 0 to 18446744073709551615, NODES is 6 to 512, LINKS is NODES - 1 to 2048, HOSES is 0 to
+20000.
+
 A TOPOLOGY whose name ends in .json is JSON: an object with the members `nodes`, an array of names,
 and `links`, an array of objects with the members `a` and `b`, two names, `capacity`, `length` and,
 where it is not the length, `cost`.
@@ -94,12 +120,14 @@ status  comes                           last line
 6       no file TOPOLOGY, a journal
         that another program holds,
         or a file that failed           cabinet
-7       no memory to begin              no memory
+7       no memory to begin,
+        or in check or gen              no memory
 8       input or TOPOLOGY longer
         than 1 GiB, in JSON than
         16 MiB                          too long
 9       the port could not be opened,
         or accepting failed             door
+10      the certificate is not valid    no K
 ";
 
 /// What `--version` is answered with.
@@ -109,5 +137,6 @@ pub const VERSION: &str = "hosed 0.1.0\n";
 pub const USAGE: &str = "hosed takes `run`, which reads a topology and commands, and after it the \
     name of a journal if the book is to be kept; or `audit`, and after it the names of a topology \
     and of a journal; or `serve`, and after it these two names, a port, and how many connections \
-    and workers; `--tariff` and a name may stand after the first word; or `--help`, which tells \
-    their forms, or `--version`.";
+    and workers; or `check` or `price`, and after it the name of a topology; or `gen`, and after \
+    it a seed and how many nodes, links and hoses; `--tariff` and a name may stand after the first \
+    word, but for `price` and `gen`; or `--help`, which tells their forms, or `--version`.";

@@ -13,7 +13,7 @@ pub returns-in_err-journal-clause-wrong : goal.returns-in_err-journal-clause-wro
 returns-in_err-journal-clause-wrong g c =
     let words = map string_bytes c.args.words.now in
     let is : c.from_residual-in_err-journal.result ≡ Err c.in_err-journal.field-0.0 = search rules in
-    rw is (verb_wrong _ audit words _ c.requires (chosen_wrong _ (named_form finish) words c.in_ok-tariff.tariff c.in_ok-tariff.at _ c.in_ok-tariff.ensures.ok
+    rw is (verb_wrong _ audit words _ tt c.requires (chosen_wrong _ (named_form finish) words c.in_ok-tariff.tariff c.in_ok-tariff.at _ c.in_ok-tariff.ensures.ok
     (wrong_later c.in_ok-topology.ensures.ok c.in_ok-topology.ensures.named (wrong_place c.in_err-journal.ensures.wrong))))
 
 pub returns-in_err-none_at-clause-wrong : goal.returns-in_err-none_at-clause-wrong
@@ -22,5 +22,5 @@ returns-in_err-none_at-clause-wrong g c =
     let is : c.from_residual-in_err-none_at.result ≡ Err c.in_err-none_at.field-0.0 = search rules in
     let wrong = c.in_err-none_at.ensures.wrong in
     let more : c.in_ok-tariff.at + 2 ≤ length words = omega (arith, wrong.1, length-map c.args.words.now string_bytes) in
-    rw (is, wrong.0) (verb_wrong _ audit words _ c.requires (chosen_wrong _ (named_form finish) words c.in_ok-tariff.tariff c.in_ok-tariff.at _ c.in_ok-tariff.ensures.ok
+    rw (is, wrong.0) (verb_wrong _ audit words _ tt c.requires (chosen_wrong _ (named_form finish) words c.in_ok-tariff.tariff c.in_ok-tariff.at _ c.in_ok-tariff.ensures.ok
     (wrong_later c.in_ok-topology.ensures.ok c.in_ok-topology.ensures.named (wrong_later (took_to words (c.in_ok-tariff.at + 1 + 1) (c.in_ok-tariff.at + 2) (omega arith) c.in_ok-journal.ensures.ok) c.in_ok-journal.ensures.named (one_too_many words (c.in_ok-tariff.at + 2) (omega arith) more)))))

@@ -7,15 +7,16 @@ pub returns-in_default-clause-none : goal.returns-in_default-clause-none
 returns-in_default-clause-none c = λ tells.
     c.in_default.ensures.none tells.0 (omega (arith, tells.2, c.from.ensures)) (decimal_told c.as_bytes.result.now tells.0 (c.as_bytes.ensures.value ∙ tells.1) (omega (arith, tells.2, c.ranges.most.fits)))
 
-pub returns-then-value-eq0-clause-none : goal.returns-then-value-eq0-clause-none
-returns-then-value-eq0-clause-none c = λ tells.
-    let is = told_decimal c.as_bytes.result.now c.in-Some.value c.in-Some.ensures.value.0 (omega (arith, c.if-value-eq0.true)) in
-    let same : c.in-Some.value ≡ tells.0 = decimal_injective c.in-Some.value tells.0 (omega (arith, c.if-value-eq0.true)) (omega (arith, tells.2, c.ranges.most.fits)) (sym is ∙ (c.as_bytes.ensures.value ∙ tells.1)) in
-    omega (arith, same, tells.2, c.if-value-eq0.true)
+pub returns-then-value-from-clause-none : goal.returns-then-value-from-clause-none
+returns-then-value-from-clause-none c = λ tells.
+    let told = c.in-Some.ensures.value in
+    let is = told_decimal c.as_bytes.result.now c.in-Some.value told.0 (omega (arith, told.1, c.ranges.most.fits, c.from.ensures)) in
+    let same : c.in-Some.value ≡ tells.0 = decimal_injective c.in-Some.value tells.0 (omega (arith, told.1, c.ranges.most.fits, c.from.ensures)) (omega (arith, tells.2, c.ranges.most.fits)) (sym is ∙ (c.as_bytes.ensures.value ∙ tells.1)) in
+    omega (arith, same, tells.2, c.from-2.ensures)
 
-pub returns-else-value-eq0-clause-some : goal.returns-else-value-eq0-clause-some
-returns-else-value-eq0-clause-some c =
-    let few = c.in-Some.ensures.value.1 in (
-      sym c.as_bytes.ensures.value ∙ told_decimal c.as_bytes.result.now c.in-Some.value c.in-Some.ensures.value.0 (omega (arith, few, c.ranges.most.fits, c.from.ensures)),
-      (omega (arith, c.if-value-eq0.false), omega (arith, few, c.from.ensures)),
+pub returns-else-value-from-clause-some : goal.returns-else-value-from-clause-some
+returns-else-value-from-clause-some c =
+    let told = c.in-Some.ensures.value in (
+      sym c.as_bytes.ensures.value ∙ told_decimal c.as_bytes.result.now c.in-Some.value told.0 (omega (arith, told.1, c.ranges.most.fits, c.from.ensures)),
+      (omega (arith, c.from-2.ensures), omega (arith, told.1, c.from.ensures)),
     )

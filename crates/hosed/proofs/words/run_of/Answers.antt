@@ -16,6 +16,6 @@ returns-in_err-none_at-clause-wrong g c =
     let is : c.from_residual-in_err-none_at.result ≡ Err c.in_err-none_at.field-0.0 = search rules in
     let wrong = c.in_err-none_at.ensures.wrong in
     let more : c.in_ok-tariff.at + 1 ≤ length words = omega (arith, wrong.1, length-map c.args.words.now string_bytes) in
-    rw (is, wrong.0) (verb_wrong _ run words _ c.requires (run_wrong _ words c.in_ok-tariff.tariff at _ c.in_ok-tariff.ensures.ok
+    rw (is, wrong.0) (verb_wrong _ run words _ tt c.requires (run_wrong _ words c.in_ok-tariff.tariff at _ c.in_ok-tariff.ensures.ok
     (some_left words at (omega (arith, c.in_ok-tariff.ensures.at)) (omega (arith, wrong.1, length-map c.args.words.now string_bytes)))
     (wrong_later c.in_ok-journal.ensures.ok c.in_ok-journal.ensures.named (one_too_many words (c.in_ok-tariff.at + 1) (omega arith) more))))

@@ -1,5 +1,5 @@
 use Rattle.hose_io.proofs.Gathering.{IsAdded-next, IsPut-finished}
-use Rattle.hose_offline.proofs.fault.put_words.Goals as goal
+use Rattle.hose_offline.proofs.fault.put_numbered.Goals as goal
 
 pub returns : goal.returns
 returns g c =

@@ -1,0 +1,53 @@
+-- What `gen` leaves, by its status.
+use Rattle.std.proofs.Common.{◌≡◌, ◌≢◌, ◌∙◌, ◌⊎◌, ℕ, List, [], ◌++◌, take, length, Option, Result, Ok, Err, inl, inr, refl, sym, ap, subst, arith, append-nil}
+use Rattle.std.specs.Prelude.{⊤}
+use Rattle.hose_io.specs.Frame.{Frame, Rose}
+use Rattle.hose_io.specs.Stream.{Grows}
+use Rattle.hose_io.specs.Writing.{GrowsInPart}
+use Rattle.hose_io.specs.declared.sink.Sink.{Ghosts as SinkGhosts}
+use Rattle.hose_io.proofs.Streams.{Grows-append}
+use Rattle.hose_offline.specs.Ending.{IsLastLine, IsOut, status_of_done}
+use Rattle.hose_offline.specs.Fault.{last_line}
+use Rattle.hose_offline.specs.GenOutcome.{GenLeaves, GenOutcome, IsCutOff}
+use Rattle.hose_offline.specs.declared.fault.Fault.{Fault}
+use Rattle.hose_offline.specs.declared.fault.Fault.TheVariants.{Words, Topology, Read, Write, Other, Damaged, Cabinet, Memory, TooLong, Door}
+
+-- a part that is out, and nothing after it
+part_then_none : (old mid new : Option (List ℕ)) (text : List ℕ) → GrowsInPart old mid text → Grows mid new [] → GrowsInPart old new text
+part_then_none old mid new text part none = (
+  part.0,
+  part.1,
+  subst (Grows old new) (append-nil (take part.0 text)) (Grows-append old mid new (take part.0 text) [] part.2 none),
+)
+
+module _ (seed nodes links hoses : ℕ) {O : Type 0} (sink : SinkGhosts O) (output left output' : O) where
+  -- after a failed write nothing more is out
+  cut_off : IsCutOff seed nodes links hoses sink output left → IsOut sink left output' [] → IsCutOff seed nodes links hoses sink output output'
+  cut_off cut (inl none) = (
+    cut.0,
+    cut.1,
+    part_then_none (sink.content output) (sink.content left) (sink.content output') cut.0 cut.2 none.0,
+    subst (Rose (sink.frame output)) (sym none.1) cut.3,
+  )
+  cut_off cut (inr part) = absurd (omega (arith, part.1.1))
+
+  -- what `gen` left, and its last line
+  pub gen_outcome : (done : Result ⊤ Fault) → GenLeaves seed nodes links hoses sink output left done → IsLastLine sink left output' done
+      → GenOutcome seed nodes links hoses sink output output' (status_of_done done)
+  gen_outcome (Ok _) leaves last = inl (refl, subst (λ (o : O). GenLeaves seed nodes links hoses sink output o {T = ⊤} (Ok tt)) (sym last) leaves)
+  gen_outcome (Err (Words word)) leaves last = absurd leaves
+  gen_outcome (Err (Topology refusal)) leaves last = absurd leaves
+  gen_outcome (Err Read) leaves last = absurd leaves
+  gen_outcome (Err Write) leaves last = inr (inl (refl, cut_off leaves last))
+  gen_outcome (Err (Other kept given)) leaves last = absurd leaves
+  gen_outcome (Err (Damaged at)) leaves last = absurd leaves
+  gen_outcome (Err Cabinet) leaves last = absurd leaves
+  gen_outcome (Err Memory) leaves last = inr (inr (refl, subst (λ (o : O). IsOut sink o output' (last_line Memory)) leaves last))
+  gen_outcome (Err TooLong) leaves last = absurd leaves
+  gen_outcome (Err Door) leaves last = absurd leaves
+
+-- the status tells no wrong word
+pub gen_not_1 : (seed nodes links hoses : ℕ) {O : Type 0} (sink : SinkGhosts O) (output output' : O) (status : ℕ) → GenOutcome seed nodes links hoses sink output output' status → status ≢ 1
+gen_not_1 seed nodes links hoses sink output output' status (inl told) is = omega (arith, told.0, is)
+gen_not_1 seed nodes links hoses sink output output' status (inr (inl cut)) is = omega (arith, cut.0, is)
+gen_not_1 seed nodes links hoses sink output output' status (inr (inr starved)) is = omega (arith, starved.0, is)

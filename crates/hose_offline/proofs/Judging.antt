@@ -1,0 +1,102 @@
+-- A certificate: the text of a topology in a cabinet, and what an input has.
+use Rattle.std.specs.Prelude.{IfOk, OnOk}
+use Rattle.std.proofs.Common.{◌≡◌, ◌↔◌, ◌⊎◌, inl, inr, ℕ, ◌<◌, List, [], ◌++◌, length, length-append, Option, None, Some, Result, Ok, Err, refl, ap, subst, arith}
+use Rattle.std.proofs.lemmas.List.{nil_from_length}
+use Rattle.hose_words.specs.Lines.{Reader}
+use Rattle.hose_words.specs.Reading.{WhereTold}
+use Rattle.hose_words.specs.declared.lines.LineFault.{LineFault}
+use Rattle.hose_words.specs.declared.lines.LineFault.TheVariants as line
+use Rattle.hose_words.proofs.OnReading.{WhereTold-both, WhereTold-map}
+use Rattle.hose_cert.specs.Taking.{IsAllRead, KeepsFault, fault_in}
+use Rattle.hose_cert.specs.Verdict.{IsFound}
+use Rattle.hose_cert.specs.declared.fault.CertFault.{CertFault}
+use Rattle.hose_cert.specs.declared.fault.CertFault.TheVariants as certificate
+use Rattle.hose_io.specs.declared.source.Source.{Ghosts as SourceGhosts}
+use Rattle.hose_words.proofs.Coming.{Gives-nil}
+use Rattle.hose_words.specs.declared.limits.TheConstants.{INPUT_LIMIT}
+use Rattle.hose_graph.specs.Network.{Network}
+use Rattle.hose_cert.specs.declared.Verdict.{Verdict}
+use Rattle.hose_disk.specs.declared.cabinet.Cabinet.{Ghosts as CabinetGhosts}
+use Rattle.hose_offline.specs.Auditing.{ReadsTopology}
+use Rattle.hose_offline.specs.CheckOutcome.{IsVerdictOf, Judges, JudgesNamed, JudgedAs}
+use Rattle.hose_offline.specs.TopologyTold.{limit_of, notation_of}
+use Rattle.hose_offline.specs.declared.fault.Fault.{Fault}
+use Rattle.hose_offline.specs.declared.fault.Fault.TheVariants.{TooLong}
+
+-- ---- a reader that has taken nothing
+
+-- what is found of all that was to come is found of the input
+pub found_told : {S : Type 0} (source : SourceGhosts S) (old new : Reader S) (network : Network) (result : Result Verdict CertFault) → old.pending ≡ []
+    → WhereTold (source.content old.source) (source.content new.source) (λ before _. IfOk result (IsFound network (old.pending ++ before))) → OnOk result (IsAllRead source old new)
+    → IfOk result (λ verdict. WhereTold (source.content old.source) (source.content new.source) (λ text left. (left ≡ []) × IsFound network text verdict))
+found_told source old new network (Err why) pending found all = tt
+found_told source old new network (Ok verdict) pending found all =
+    WhereTold-map (source.content old.source) (source.content new.source) _ _ (WhereTold-both (source.content old.source) (source.content new.source) _ _ found all)
+    (λ was left both. (nil_from_length left (omega (arith, ap length both.1, length-append new.pending left)), subst (λ (front : List ℕ). IsFound network (front ++ was) verdict) pending both.0))
+
+-- no call of the source failed where none is told to have
+pub read_not : (old new : Option LineFault) (result : Result Verdict CertFault) → old ≡ None → KeepsFault old new (fault_in result) → (result ≡ Err certificate.Read → ⊥) → new ≡ Some line.Read → ⊥
+read_not old new (Ok verdict) none kept never read = cc (none, kept, read)
+read_not old new (Err certificate.Read) none kept never read = never refl
+read_not old new (Err certificate.TooLong) none kept never read = cc (kept, read)
+read_not old new (Err certificate.Memory) none kept never read = cc (none, kept, read)
+
+-- that it was too long is told as its fault
+pub long_told : {P : Type 0} (result : Result Verdict CertFault) → (fault_in result ≡ Some certificate.TooLong) ↔ P → (result ≡ Err certificate.TooLong) ↔ P
+long_told (Ok verdict) told = ((λ is. absurd (cc is)), λ long. absurd (cc (told.1 long)))
+long_told (Err certificate.Read) told = ((λ is. absurd (cc is)), λ long. absurd (cc (told.1 long)))
+long_told (Err certificate.TooLong) told = ((λ is. told.0 refl), λ long. refl)
+long_told (Err certificate.Memory) told = ((λ is. absurd (cc is)), λ long. absurd (cc (told.1 long)))
+
+-- ---- a topology and an input
+
+-- that a text or an input was too long is told
+abbrev IsTooLong : Result Verdict Fault → Type 0
+IsTooLong result = result ≡ Err TooLong
+
+module _ (prices : Network → Network → Type 0) {I C E : Type 0} (source : SourceGhosts I) (cabinet : CabinetGhosts C E) (topology : List ℕ) (input : I) (old new : C) where
+  -- no topology was read, and so nothing of the input
+  pub judged_none : (why : Fault) → ReadsTopology cabinet old new prices topology (Err why) → JudgesNamed prices source cabinet topology input input old new (Err why)
+  judged_none why reads = record {
+    left = reads.left;
+    text = reads.taken;
+    gives_text = reads.gives;
+    text_limit = reads.limit;
+    taken = [];
+    gives = Gives-nil (source.content input);
+    limit = omega arith;
+    too_long = ((λ is. inl (reads.too_long.0 (cc is))), λ long. back long);
+    verdict = inl (reads.text, refl);
+    only_texts = reads.only_texts;
+    not_there = λ told none. cc (reads.not_there told none);
+    absent = reads.absent;
+  }
+    where
+      back : (limit_of (notation_of topology) < length reads.taken) ⊎ (INPUT_LIMIT < 0) → IsTooLong (Err why)
+      back (inl long) = cc (reads.too_long.1 long)
+      back (inr long) = absurd (omega (arith, long))
+
+  -- one was read, and then the input was judged, or not
+  pub judged_then : (input' : I) (network : Network) (result : Result Verdict Fault) → ReadsTopology cabinet old new prices topology (Ok network) → Judges source input input' network result → JudgesNamed prices source cabinet topology input input' old new result
+  judged_then input' network result reads judges = record {
+    left = reads.left;
+    text = reads.taken;
+    gives_text = reads.gives;
+    text_limit = reads.limit;
+    taken = judges.taken;
+    gives = judges.gives;
+    limit = judges.limit;
+    too_long = ((λ is. inr (judges.too_long.0 is)), λ long. back long);
+    verdict = at result judges.judged;
+    only_texts = reads.only_texts;
+    not_there = λ told none. absurd (cc (reads.not_there told none));
+    absent = reads.absent;
+  }
+    where
+      back : (limit_of (notation_of topology) < length reads.taken) ⊎ (INPUT_LIMIT < length judges.taken) → IsTooLong result
+      back (inl long) = absurd (cc (reads.too_long.1 long))
+      back (inr long) = judges.too_long.1 long
+
+      at : (one : Result Verdict Fault) → JudgedAs source input input' network one → IsVerdictOf prices source cabinet topology input input' old new reads.left one
+      at (Ok verdict) is = (record { network = network; text = reads.text.2; is = is }, reads.text.1)
+      at (Err why) is = inr (record { network = network; text = reads.text.2; is = is }, reads.text.1)

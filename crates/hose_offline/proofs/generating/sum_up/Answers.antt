@@ -1,0 +1,24 @@
+use Rattle.std.proofs.Common.{◌≡◌, ◌∙◌, Err, refl, ap}
+use Rattle.std.proofs.lemmas.Result.{err_from_is_err_and}
+use Rattle.hose_offline.specs.Tally.{tally_line}
+use Rattle.hose_offline.specs.declared.fault.Fault.TheVariants.{Write}
+use Rattle.hose_offline.proofs.OrdersAnswered.{summary_made}
+use Rattle.hose_offline.proofs.generating.sum_up.Goals as goal
+
+pub returns-in_err-put-clause-leaves : goal.returns-in_err-put-clause-leaves
+returns-in_err-put-clause-leaves g c =
+    let made = c.in_ok-made.ensures.made in
+    let tally = c.in_ok-tally.tally in
+    let summary = summary_made c.args.seed c.args.nodes c.args.links c.args.hoses c.in_ok-made.made.top c.in_ok-made.made.script.items tally made.0 made.1 c.nodes-nodes.ensures.network c.in_ok-tally.ensures.tally in
+    let put = c.in_err-put.ensures in
+    let told = err_from_is_err_and c.from_residual-in_err-put.result c.from_residual-in_err-put.ensures.1 in
+    let is : c.from_residual-in_err-put.result ≡ Err Write = told.1 ∙ ap Err told.2 in
+    rw is (tally_line c.args.seed c.args.hoses tally, summary, put.err, put.met.failed refl)
+
+pub returns-clause-leaves : goal.returns-clause-leaves
+returns-clause-leaves g c =
+    let made = c.in_ok-made.ensures.made in
+    let tally = c.in_ok-tally.tally in
+    let summary = summary_made c.args.seed c.args.nodes c.args.links c.args.hoses c.in_ok-made.made.top c.in_ok-made.made.script.items tally made.0 made.1 c.nodes-nodes.ensures.network c.in_ok-tally.ensures.tally in
+    let put = c.in_ok-put.ensures in
+    (tally_line c.args.seed c.args.hoses tally, summary, put.ok, put.met.ok)

@@ -1,0 +1,131 @@
+-- What stands after `check`, by what ended it.
+use Rattle.std.specs.Prelude.{◌≡◌, ◌⊎◌, ◌↔◌, ℕ, ◌+◌, ◌<◌, ◌≤◌, List, [], ◌++◌, codes, decimal, length, Option, None, IsSome, IsTrue, Result, Ok, Err}
+use Rattle.hose_io.specs.Frame.{Rose}
+use Rattle.hose_io.specs.Stream.{Gives, Grows, Stream}
+use Rattle.hose_io.specs.Writing.{GrowsInPart}
+use Rattle.hose_io.specs.declared.source.Source.{Ghosts as SourceGhosts}
+use Rattle.hose_io.specs.declared.sink.Sink.{Ghosts as SinkGhosts}
+use Rattle.hose_words.specs.Reading.{WhereTold}
+use Rattle.hose_words.specs.declared.limits.TheConstants.{INPUT_LIMIT}
+use Rattle.hose_graph.specs.Network.{Network}
+use Rattle.hose_cert.specs.Verdict.{AreCheapestFound, IsFound}
+use Rattle.hose_cert.specs.declared.Verdict.{Verdict}
+use Rattle.hose_cert.specs.declared.Verdict.TheVariants.{Yes, No}
+use Rattle.hose_disk.specs.declared.cabinet.Cabinet.{Ghosts as CabinetGhosts}
+use Rattle.hose_proto.specs.ReplyText.{line_of}
+use Rattle.hose_offline.specs.Auditing.{IsTextFault}
+use Rattle.hose_offline.specs.CabinetText.{OnlyTextsRead, whole_text}
+use Rattle.hose_offline.specs.Ending.{IsOut}
+use Rattle.hose_offline.specs.Fault.{last_line, status_of}
+use Rattle.hose_offline.specs.OnDisk.{CabinetHeld}
+use Rattle.hose_offline.specs.Run.{HasRead}
+use Rattle.hose_offline.specs.TopologyTold.{limit_of, notation_of}
+use Rattle.hose_offline.specs.declared.fault.Fault.{Fault}
+use Rattle.hose_offline.specs.declared.fault.Fault.TheVariants.{Cabinet, Read, Memory, TooLong}
+
+-- ---- what is written
+
+-- the line of a valid certificate, and that of the lowest rule that fails
+abbrev pub yes_line : ℕ → List ℕ
+yes_line cost = line_of (codes "yes " ++ decimal cost)
+
+abbrev pub no_line : ℕ → List ℕ
+no_line rule = line_of (codes "no " ++ decimal rule)
+
+-- How a verdict ends: yes with the status 0, or 4 where the output failed; no with the status 10,
+-- also where it did.
+abbrev pub EndsVerdict : {O : Type 0} → SinkGhosts O → O → O → ℕ → Verdict → Type 0
+EndsVerdict sink output output' status (Yes hose without amounts cost) =
+    ((status ≡ 0) × Grows (sink.content output) (sink.content output') (yes_line cost)
+    × (sink.frame output' ≡ sink.frame output))
+    ⊎ ((status ≡ 4) × Rose (sink.frame output) (sink.frame output')
+    × GrowsInPart (sink.content output) (sink.content output') (yes_line cost))
+EndsVerdict sink output output' status (No rule) =
+    (status ≡ 10) × IsOut sink output output' (no_line rule)
+
+-- ---- the input
+
+module _ {I : Type 0} (source : SourceGhosts I) (input input' : I) (network : Network) where
+  -- The input was read to its end, and this is found of all that it had left. Where it is a valid
+  -- certificate, its amounts are a cheapest way to carry its hose over the links that it does not
+  -- leave out.
+  pub record IsJudged (verdict : Verdict) : Type 0 where
+    pub found : WhereTold (source.content input) (source.content input') (λ text left.
+        (left ≡ []) × IsFound network text verdict)
+    pub cheapest : AreCheapestFound network verdict
+    pub held : source.frame input' ≡ source.frame input
+
+  -- why it was not judged
+  abbrev pub IsNotJudged : Fault → Type 0
+  IsNotJudged Read = Rose (source.frame input) (source.frame input')
+  IsNotJudged TooLong = source.frame input' ≡ source.frame input
+  IsNotJudged Memory = source.frame input' ≡ source.frame input
+  IsNotJudged _ = ⊥
+
+  -- what judging it came to
+  abbrev pub JudgedAs : Result Verdict Fault → Type 0
+  JudgedAs (Ok verdict) = IsJudged verdict
+  JudgedAs (Err why) = IsNotJudged why
+
+  -- the same, and what was taken of it
+  pub record Judges (result : Result Verdict Fault) : Type 0 where
+    pub taken : List ℕ
+    pub gives : Gives (source.content input) (source.content input') taken
+    pub limit : length taken ≤ INPUT_LIMIT + 1
+    pub too_long : (result ≡ Err TooLong) ↔ (INPUT_LIMIT < length taken)
+    pub judged : JudgedAs result
+
+-- ---- the topology and the input
+
+module _ (prices : Network → Network → Type 0) {I C E : Type 0} (source : SourceGhosts I)
+    (cabinet : CabinetGhosts C E) (topology : List ℕ) (input input' : I) (place place' : C) where
+  -- The topology that was named was read, and the input judged by its network; or one of the two
+  -- was not, and why. Where the topology was not read, nothing was taken of the input. Of its text
+  -- this is left.
+  abbrev pub IsVerdictOf : Option Stream → Result Verdict Fault → Type 0
+  IsVerdictOf left (Ok verdict) =
+      HasRead (notation_of topology) prices (whole_text cabinet place topology) left
+      (λ network. IsJudged source input input' network verdict)
+      × CabinetHeld cabinet place place'
+  IsVerdictOf left (Err why) =
+      (IsTextFault cabinet place place' (notation_of topology)
+      (whole_text cabinet place topology) left why × (input' ≡ input))
+      ⊎ (HasRead (notation_of topology) prices (whole_text cabinet place topology) left
+      (λ network. IsNotJudged source input input' network why)
+      × CabinetHeld cabinet place place')
+
+  -- what was taken of the text and of the input, and what came of it
+  pub record JudgesNamed (result : Result Verdict Fault) : Type 0 where
+    pub left : Option Stream
+    pub text : List ℕ
+    pub gives_text : Gives (whole_text cabinet place topology) left text
+    pub text_limit : length text ≤ limit_of (notation_of topology) + 1
+    pub taken : List ℕ
+    pub gives : Gives (source.content input) (source.content input') taken
+    pub limit : length taken ≤ INPUT_LIMIT + 1
+    -- more than a limit was taken of one of the two exactly where that is told
+    pub too_long : (result ≡ Err TooLong)
+        ↔ ((limit_of (notation_of topology) < length text) ⊎ (INPUT_LIMIT < length taken))
+    pub verdict : IsVerdictOf left result
+    pub only_texts : OnlyTextsRead cabinet place place'
+    -- a text that is not there is a failure of the cabinet, and one that is there is not absent
+    pub not_there : IsTrue (cabinet.frame place).tells → cabinet.text place topology ≡ None
+        → result ≡ Err Cabinet
+    pub absent : IsTrue (cabinet.frame place).tells → IsSome (cabinet.text place topology)
+        → (cabinet.frame place').absent ≡ (cabinet.frame place).absent
+
+-- What judging came to, and how that is told: the verdict, or the last line of the fault.
+abbrev pub EndsChecked : {O : Type 0} → SinkGhosts O → O → O → ℕ → Result Verdict Fault → Type 0
+EndsChecked sink output output' status (Ok verdict) =
+    EndsVerdict sink output output' status verdict
+EndsChecked sink output output' status (Err why) =
+    (status ≡ status_of why) × IsOut sink output output' (last_line why)
+
+-- A topology was read and the input judged, or not, and that was told.
+pub record CheckOutcome (prices : Network → Network → Type 0) {I O C E : Type 0}
+    (source : SourceGhosts I) (sink : SinkGhosts O) (cabinet : CabinetGhosts C E)
+    (topology : List ℕ) (input input' : I) (output output' : O) (place place' : C)
+    (status : ℕ) : Type 0 where
+  pub result : Result Verdict Fault
+  pub judges : JudgesNamed prices source cabinet topology input input' place place' result
+  pub ends : EndsChecked sink output output' status result

@@ -1,0 +1,82 @@
+-- A line of a sheet of hoses that are to be priced, and what is answered to it.
+use Rattle.std.specs.Prelude.{◌≡◌, ℕ, ◌<◌, ◌≤◌, List, [], ◌∷◌, ◌++◌, codes, decimal, get_or, length, ⊤}
+use Rattle.std.specs.List.{flat_map}
+use Rattle.hose_words.specs.Form.{Form, grammar_of, place}
+use Rattle.hose_words.specs.Grammar.{IsFirstNotAllowed}
+use Rattle.hose_words.specs.Words.{words_of}
+use Rattle.hose_words.specs.declared.limits.TheConstants.{LINE_LIMIT}
+use Rattle.hose_graph.specs.Hose.{Endpoint}
+use Rattle.hose_graph.specs.Name.{IsName}
+use Rattle.hose_graph.specs.Network.{Network}
+use Rattle.hose_price.specs.Pricing.{HasNoPlan, IsLine}
+use Rattle.hose_price.specs.Sheet.{Sheet}
+use Rattle.hose_price.specs.declared.priced.Price.{Price}
+use Rattle.hose_proto.specs.Command.{AreEndsOf, ends_form}
+use Rattle.hose_proto.specs.ReplyText.{line_of}
+use Rattle.hose_offline.specs.declared.sheet_answer.SheetAnswer.{SheetAnswer}
+use Rattle.hose_offline.specs.declared.sheet_answer.SheetAnswer.TheVariants.{Priced, NoPlan, Bad, Long, Memory}
+
+-- ---- what a line asks
+
+-- The line's first word is the customer's name, and the words after it are the endpoints of a hose.
+pub record IsPricing (network : Network) (line customer : List ℕ) (hose : List Endpoint) :
+    Type 0 where
+  pub words : List (List ℕ)
+  pub spelled : words_of line ≡ customer ∷ words
+  pub is_name : IsName customer
+  pub ends : AreEndsOf network words hose
+
+-- a customer's name, and the endpoints of a hose
+abbrev pub sheet_form : Network → Form
+sheet_form network = place IsName (ends_form network)
+
+-- What is answered to a line of bytes on a network: the prices of the hose that it asks for, or
+-- that there is no plan of it; the first word that is not allowed, where it asks for none; that it
+-- is too long; or that there was no memory for it.
+abbrev pub AnswersSheet : Network → Sheet → List ℕ → SheetAnswer → Type 0
+AnswersSheet network sheet bytes (Priced customer line) = (hose : List Endpoint)
+    × (length bytes ≤ LINE_LIMIT) × IsPricing network bytes customer hose
+    × IsLine sheet hose line
+AnswersSheet network sheet bytes (NoPlan customer) = (hose : List Endpoint)
+    × (length bytes ≤ LINE_LIMIT) × IsPricing network bytes customer hose
+    × HasNoPlan sheet.network hose
+AnswersSheet network sheet bytes (Bad word) = (length bytes ≤ LINE_LIMIT)
+    × IsFirstNotAllowed (grammar_of (sheet_form network)) [] (words_of bytes) word
+    × ((customer : List ℕ) (hose : List Endpoint) → ¬ IsPricing network bytes customer hose)
+AnswersSheet network sheet bytes Long = LINE_LIMIT < length bytes
+AnswersSheet network sheet bytes Memory = length bytes ≤ LINE_LIMIT
+
+-- what is answered to a customer who asks for this hose
+abbrev pub PricesHose : Sheet → List ℕ → List Endpoint → SheetAnswer → Type 0
+PricesHose sheet customer hose (Priced other line) = (other ≡ customer) × IsLine sheet hose line
+PricesHose sheet customer hose (NoPlan other) =
+    (other ≡ customer) × HasNoPlan sheet.network hose
+PricesHose sheet customer hose (Bad word) = ⊥
+PricesHose sheet customer hose Long = ⊥
+PricesHose sheet customer hose Memory = ⊤
+
+-- ---- how that is written
+
+-- a tariff's name, what the hose costs under it, and the bounds of the cost
+abbrev pub price_words : List ℕ → Price → List ℕ
+price_words name price = codes " " ++ name ++ codes " " ++ decimal price.cost ++ codes " "
+    ++ decimal price.low ++ codes " " ++ decimal price.high
+
+-- the same of tariffs with these names, in order
+abbrev pub prices_words : List (List ℕ) → List Price → List ℕ
+prices_words [] prices = []
+prices_words names [] = []
+prices_words (name ∷ names) (price ∷ prices) = price_words name price ++ prices_words names prices
+
+-- the text of an answer, where tariffs have these names
+abbrev pub answer_text : List (List ℕ) → SheetAnswer → List ℕ
+answer_text names (Priced customer line) = codes "price " ++ customer
+    ++ prices_words names line.prices ++ codes " best " ++ get_or names line.best []
+answer_text names (NoPlan customer) = codes "price " ++ customer ++ codes " none"
+answer_text names (Bad word) = codes "bad " ++ decimal word
+answer_text names Long = codes "long"
+answer_text names Memory = codes "memory"
+
+-- the texts of answers, each with its line feed
+abbrev pub answers_text : List (List ℕ) → List SheetAnswer → List ℕ
+answers_text names answers = flat_map (λ answer. line_of (answer_text names answer)) answers

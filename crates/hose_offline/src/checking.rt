@@ -1,0 +1,116 @@
+// A check: the certificate of an input, judged by the topology of a text.
+ghost use Rattle.std.specs.Prelude.{◌≡◌, ◌≢◌, ◌↔◌, ◌+◌, ◌<◌, ◌≤◌, [], Err, IfOk, None};
+ghost use Rattle.hose_io.specs.Frame.{Rose, Stays};
+ghost use Rattle.hose_cert.specs.Verdict.{AreCheapestFound, IsFound};
+ghost use Rattle.hose_disk.specs.Cabinet.{object_of};
+ghost use Rattle.hose_words.specs.Reading.{ReadsOn, WhereTold};
+ghost use Rattle.hose_offline.specs.CheckOutcome.{CheckOutcome, EndsVerdict, Judges, JudgesNamed};
+
+use crate::auditing::read_topology;
+use crate::fault::{Fault, end, put_numbered};
+use hose_cert::{CertFault, Verdict, check_certificate};
+use hose_disk::Cabinet;
+use hose_graph::Topology;
+use hose_io::{Sink, Source};
+use hose_tariff::Prices;
+use hose_words::{INPUT_LIMIT, LineReader};
+use std::alloc::Global;
+
+// The status with which a certificate that is not valid is told.
+const NOT_VALID: u8 = 10;
+
+/// Reads the topology of a text, judges the certificate that the input has, and gives the exit
+/// status. The network has these costs.
+pub fn check<P: Prices, I: Source, O: Sink, C: Cabinet>(
+    alloc: Global,
+    costs: &P,
+    topology: &str,
+    input: &mut I,
+    output: &mut O,
+    cabinet: &mut C,
+) -> u8
+    ensures outcome { CheckOutcome (P.prices costs.now) I.Source O.Sink C.Cabinet topology.now
+        input.old input.new output.old output.new cabinet.old cabinet.new result }
+    ensures not_words { result ≢ 1 }
+    ensures out { (C.frame cabinet.new).out ≡ (C.frame cabinet.old).out }
+    ensures input { Stays (I.frame input.old) (I.frame input.new) }
+    ensures output { Stays (O.frame output.old) (O.frame output.new) }
+    ensures cabinet { Stays (object_of (C.frame cabinet.old)) (object_of (C.frame cabinet.new)) }
+{
+    match judge_named(alloc, costs, topology, input, cabinet) {
+        Ok(verdict) => tell_verdict(&verdict, output),
+        Err(why) => end(Err(why), output),
+    }
+}
+
+// The verdict on the certificate of the input, by the network that a text tells.
+fn judge_named<P: Prices, I: Source, C: Cabinet>(
+    alloc: Global,
+    costs: &P,
+    topology: &str,
+    input: &mut I,
+    cabinet: &mut C,
+) -> Result<Verdict, Fault>
+    ensures judges { JudgesNamed (P.prices costs.now) I.Source C.Cabinet topology.now
+        input.old input.new cabinet.old cabinet.new result }
+    ensures input { Stays (I.frame input.old) (I.frame input.new) }
+{
+    let top = read_topology(alloc, costs, topology, cabinet)?;
+    judge(alloc, &top, input)
+}
+
+// The verdict on the certificate of the input, by a network.
+fn judge<I: Source>(alloc: Global, top: &Topology, input: &mut I) -> Result<Verdict, Fault>
+    ensures judges { Judges I.Source input.old input.new top.now result }
+    ensures input { Stays (I.frame input.old) (I.frame input.new) }
+{
+    let mut lines = LineReader::new(input);
+    let verdict = judge_lines(alloc, top, &mut lines);
+    // What is known of the input again comes from here.
+    let _ = lines.into_source();
+    match verdict {
+        Ok(verdict) => Ok(verdict),
+        Err(fault) => Err(Fault::from(fault)),
+    }
+}
+
+// The verdict on the lines of a reader that has taken nothing.
+fn judge_lines<S: Source>(
+    alloc: Global,
+    top: &Topology,
+    lines: &mut LineReader<S>,
+) -> Result<Verdict, CertFault>
+    requires pending { lines.old.pending ≡ [] }
+    requires taken { lines.old.taken ≡ 0 }
+    requires fault { lines.old.fault ≡ None }
+    ensures found { IfOk result (λ verdict. WhereTold (S.content lines.old.source)
+        (S.content lines.new.source) (λ text left. (left ≡ []) × IsFound top.now text verdict)) }
+    ensures cheapest { IfOk result (AreCheapestFound top.now) }
+    ensures read { result ≡ Err CertFault.Read
+        → Rose (S.frame lines.old.source) (S.frame lines.new.source) }
+    ensures held { result ≢ Err CertFault.Read
+        → S.frame lines.new.source ≡ S.frame lines.old.source }
+    ensures too_long { (result ≡ Err CertFault.TooLong) ↔ (INPUT_LIMIT < lines.new.taken) }
+    ensures reads_on { ReadsOn S.Source lines.old lines.new }
+    ensures limit { lines.new.taken ≤ INPUT_LIMIT + 1 }
+{
+    check_certificate(alloc, lines, top)
+}
+
+// Writes what was found, and gives the exit status.
+fn tell_verdict<O: Sink>(verdict: &Verdict, output: &mut O) -> u8
+    ensures ends { EndsVerdict O.Sink output.old output.new result verdict.now }
+    ensures output { Stays (O.frame output.old) (O.frame output.new) }
+{
+    match verdict {
+        Verdict::Yes { cost, .. } => match put_numbered(output, b"yes ", *cost) {
+            Ok(()) => 0,
+            Err(_) => Fault::Write.status(),
+        },
+        Verdict::No { rule } => {
+            // The status stays where the line cannot be written.
+            let _ = put_numbered(output, b"no ", u64::from(*rule));
+            NOT_VALID
+        }
+    }
+}

@@ -1,0 +1,133 @@
+// A generated network and its script, answered in memory and summed up.
+ghost use Rattle.std.specs.Prelude.{◌≡◌, ◌≢◌, ◌↔◌, ◌+◌, ◌≤◌, [], IfErr, IfOk, IsTrue};
+ghost use Rattle.std.specs.List.{All};
+ghost use Rattle.hose_io.specs.Frame.{Stays};
+ghost use Rattle.hose_graph.specs.Naming.{AsksOf};
+ghost use Rattle.hose_graph.specs.declared.limits.TheConstants.{MOST_LINKS, MOST_NODES};
+ghost use Rattle.hose_law.specs.Quotes.{nothing_held};
+ghost use Rattle.hose_law.specs.Script.{IsForMemory};
+ghost use Rattle.hose_law.specs.Script.ReadLine.{Asks};
+ghost use Rattle.hose_core.specs.Stepping.{FitsHistory};
+ghost use Rattle.hose_gen.specs.Generated.{generated_network, generated_script};
+ghost use Rattle.hose_gen.specs.declared.limits.TheConstants.{LEAST_NODES, MOST_HOSES};
+ghost use Rattle.hose_offline.specs.GenOutcome.{GenLeaves, GenOutcome};
+ghost use Rattle.hose_offline.specs.Generating.{HaveBeenAnswered, IsTallyOf};
+ghost use Rattle.hose_offline.specs.Serving.{AnswersLine};
+
+use crate::fault::{Fault, end};
+use crate::tally::Tally;
+use hose_book::{Book, Books, Plain};
+use hose_core::Core;
+use hose_gen::{Generated, generate};
+use hose_graph::{Command, Name, Reply};
+use hose_io::Sink;
+use hose_paths::{RowMaker, RowTable, TableRows};
+use std::alloc::Global;
+
+/// Makes a network and a script of a seed, with so many nodes, links and hoses, answers the script
+/// by a book in memory, writes one line that sums up the replies, and gives the exit status.
+pub fn run_generated<O: Sink>(
+    alloc: Global,
+    seed: u64,
+    nodes: u32,
+    links: u32,
+    hoses: u32,
+    output: &mut O,
+) -> u8
+    requires enough_nodes { LEAST_NODES ≤ nodes }
+    requires few_nodes { nodes ≤ MOST_NODES }
+    requires enough_links { nodes ≤ links + 1 }
+    requires few_links { links ≤ MOST_LINKS }
+    requires few_hoses { hoses ≤ MOST_HOSES }
+    ensures outcome { GenOutcome seed nodes links hoses O.Sink output.old output.new result }
+    ensures not_words { result ≢ 1 }
+    ensures output { Stays (O.frame output.old) (O.frame output.new) }
+{
+    let done = sum_up(alloc, seed, nodes, links, hoses, output);
+    end(done, output)
+}
+
+// What that comes to, before its last line.
+fn sum_up<O: Sink>(
+    alloc: Global,
+    seed: u64,
+    nodes: u32,
+    links: u32,
+    hoses: u32,
+    output: &mut O,
+) -> Result<(), Fault>
+    requires enough_nodes { LEAST_NODES ≤ nodes }
+    requires few_nodes { nodes ≤ MOST_NODES }
+    requires enough_links { nodes ≤ links + 1 }
+    requires few_links { links ≤ MOST_LINKS }
+    requires few_hoses { hoses ≤ MOST_HOSES }
+    ensures leaves { GenLeaves seed nodes links hoses O.Sink output.old output.new result }
+    ensures output { Stays (O.frame output.old) (O.frame output.new) }
+{
+    let made = generate(alloc, seed, nodes, links, hoses)?;
+    // That this is a network is told by the call that counts its nodes.
+    let _nodes = made.top.nodes();
+    let tally = tally_in_memory(alloc, made)?;
+    tally.put(seed, hoses, output)?;
+    Ok(())
+}
+
+// The tally of a script that a book in memory answers. The rows of all nodes are made first.
+fn tally_in_memory(alloc: Global, made: Generated) -> Result<Tally, Fault>
+    requires { All (λ order. AsksOf made.top order.1) made.script.items }
+    ensures tally { IfOk result (IsTallyOf made.top made.script.items) }
+    ensures memory { IfErr result (λ why. why ≡ Fault.Memory) }
+{
+    let Generated { top, script } = made;
+    let book = Book::new(alloc, top)?;
+    let table = RowTable::of_all(alloc, book.topology())?;
+    let mut core = Core::new(alloc, Plain { book });
+    let mut tally = answer_orders(alloc, &mut core, script, &mut TableRows::new(&table))?;
+    tally.epoch = core.books().book().epoch();
+    Ok(tally)
+}
+
+// Answers orders one after another, up to a reply for want of memory.
+fn answer_orders<K: Books + Drop, R: RowMaker>(
+    alloc: Global,
+    core: &mut Core<K>,
+    orders: Vec<(Name, Command)>,
+    rows: &mut R,
+) -> Result<Tally, Fault>
+    requires { All (λ order. AsksOf (K.ledger core.old.books).network order.1) orders.items }
+    ensures answered { IfOk result (λ tally. FitsHistory K.Books core.old 0 [] nothing_held
+        → HaveBeenAnswered K.Books core.old core.new orders.items tally) }
+    ensures memory { IfErr result (λ why. why ≡ Fault.Memory) }
+{
+    let mut tally = Tally::new();
+    for order in orders {
+        let reply = answer_order(alloc, core, order, rows);
+        if is_for_memory(&reply) {
+            return Err(Fault::Memory);
+        }
+        tally.count(&reply);
+    }
+    Ok(tally)
+}
+
+// The reply to an order.
+fn answer_order<K: Books + Drop, R: RowMaker>(
+    alloc: Global,
+    core: &mut Core<K>,
+    order: (Name, Command),
+    rows: &mut R,
+) -> Reply
+    requires { AsksOf (K.ledger core.old.books).network order.1 }
+    ensures answers { AnswersLine K.Books core.old core.new (Asks order.0 order.1) result }
+    ensures network { (K.ledger core.new.books).network ≡ (K.ledger core.old.books).network }
+{
+    let customer = order.0;
+    core.step(alloc, &customer, order.1, rows)
+}
+
+// Whether the reply is for want of memory.
+fn is_for_memory(reply: &Reply) -> bool
+    ensures { IsTrue result ↔ IsForMemory reply.now }
+{
+    matches!(reply, Reply::Memory)
+}

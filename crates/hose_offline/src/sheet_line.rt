@@ -1,0 +1,32 @@
+// The lines of a sheet of hoses that are to be priced.
+ghost use Rattle.std.specs.Prelude.{◌≡◌, ℕ, List, [], Err, IfOk};
+ghost use Rattle.hose_words.specs.Form.{grammar_of};
+ghost use Rattle.hose_words.specs.Grammar.{IsFirstNotAllowed};
+ghost use Rattle.hose_words.specs.Words.{words_of};
+ghost use Rattle.hose_graph.specs.Hose.{Endpoint};
+ghost use Rattle.hose_offline.specs.SheetLine.{IsPricing, sheet_form};
+
+use hose_graph::{Hose, Name, Topology};
+use hose_proto::{ReadFault, read_hose, read_name};
+use hose_words::Cursor;
+use std::alloc::Global;
+
+/// The customer of a line, and the hose that is to be priced.
+pub fn read_sheet_line(
+    alloc: Global,
+    top: &Topology,
+    line: &[u8],
+) -> Result<(Name, Hose), ReadFault>
+    ensures ok { IfOk result (λ asked. IsPricing top.now line.now asked.0 asked.1) }
+    ensures bad { (word : ℕ) → result ≡ Err (ReadFault.Bad word)
+        → IsFirstNotAllowed (grammar_of (sheet_form top.now)) [] (words_of line.now) word }
+
+    // A line that asks for a hose to be priced is never refused.
+    ensures asked { (word : ℕ) → result ≡ Err (ReadFault.Bad word) → (customer : List ℕ)
+        (hose : List Endpoint) → IsPricing top.now line.now customer hose → ⊥ }
+{
+    let mut words = Cursor::new(line);
+    let customer = read_name(&mut words)?;
+    let hose = read_hose(alloc, top, &mut words)?;
+    Ok((customer, hose))
+}

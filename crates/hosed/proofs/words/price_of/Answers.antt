@@ -1,0 +1,24 @@
+use Rattle.std.proofs.Common.{◌≡◌, ◌≤◌, Err, arith, length, map, rules}
+use Rattle.std.proofs.lemmas.List.{length-map}
+use Rattle.std.specs.String.{string_bytes}
+use Rattle.hose_words.proofs.Forms.{wrong_later, wrong_place}
+use Rattle.hosed.specs.ProgramWords.Verb.{price}
+use Rattle.hosed.proofs.Commands.{not_offered, one_too_many, verb_wrong}
+use Rattle.hosed.proofs.words.price_of.Goals as goal
+
+pub returns-then-not-are_priceable-clause-wrong : goal.returns-then-not-are_priceable-clause-wrong
+returns-then-not-are_priceable-clause-wrong g c = not_offered _ (map string_bytes c.args.words.now) c.requires (search rules)
+
+pub returns-in_err-topology-clause-wrong : goal.returns-in_err-topology-clause-wrong
+returns-in_err-topology-clause-wrong g c =
+    let words = map string_bytes c.args.words.now in
+    let is : c.from_residual.result ≡ Err c.in_err-topology.field-0.0 = search rules in
+    rw is (verb_wrong _ price words _ (search rules) c.requires (wrong_place c.in_err-topology.ensures.wrong))
+
+pub returns-in_err-none_at-clause-wrong : goal.returns-in_err-none_at-clause-wrong
+returns-in_err-none_at-clause-wrong g c =
+    let words = map string_bytes c.args.words.now in
+    let is : c.from_residual-in_err-none_at.result ≡ Err c.in_err-none_at.field-0.0 = search rules in
+    let wrong = c.in_err-none_at.ensures.wrong in
+    let more : 3 ≤ length words = omega (arith, wrong.1, length-map c.args.words.now string_bytes) in
+    rw (is, wrong.0) (verb_wrong _ price words _ (search rules) c.requires (wrong_later c.in_ok-topology.ensures.ok c.in_ok-topology.ensures.named (one_too_many words 3 (omega arith) more)))
