@@ -28,6 +28,15 @@ use std::thread::Threads;
 const STAR: &str =
     "node a\nnode b\nnode c\nnode h\nlink a h 10 1\nlink b h 10 2\nlink c h 10 3\nend\n";
 
+/// Towns and the cables between them, by their lengths.
+const BACKBONE: &str = "node sea\nnode svl\nnode lax\nnode den\nnode kcy\nnode hou\n\
+    node ind\nnode chi\nnode atl\nnode was\nnode nyc\n\
+    link sea svl 10000 8\nlink sea den 10000 13\nlink svl lax 10000 4\n\
+    link svl den 10000 11\nlink lax hou 10000 17\nlink den kcy 10000 7\n\
+    link kcy hou 10000 9\nlink kcy ind 10000 6\nlink hou atl 10000 9\n\
+    link ind chi 10000 2\nlink ind atl 10000 6\nlink chi nyc 10000 9\n\
+    link atl was 10000 7\nlink nyc was 10000 3\nend\n";
+
 /// How often a thread looks at a flag before it gives up. Another thread has long raised the flag
 /// by then, where it does not wait for the one that looks.
 const MOST_LOOKS: u32 = 1_000_000_000;
@@ -44,6 +53,10 @@ pub type Book = Shared<MemDisk, AnyStore>;
 
 pub fn star(alloc: Global) -> Result<Topology, Fail> {
     network(alloc, STAR)
+}
+
+pub fn backbone(alloc: Global) -> Result<Topology, Fail> {
+    network(alloc, BACKBONE)
 }
 
 fn network(alloc: Global, text: &str) -> Result<Topology, Fail> {

@@ -2,11 +2,11 @@
 ghost use Rattle.std.specs.Prelude.{◌≤◌};
 ghost use Rattle.hose_pool.specs.declared.rows.TheConstants.{MOST_WORKERS};
 
-use crate::shared::{star, tells};
+use crate::shared::{backbone, star, tells};
 use hose_graph::{Link, MOST_NODES, Name, Row, Topology};
 use hose_links::LinkSet;
-use hose_paths::{PlainRows, RowMaker};
-use hose_pool::{PoolRows, all_rows};
+use hose_paths::{HeapRows, PlainRows, RowMaker, RowTable, TableRows};
+use hose_pool::{PoolRows, all_rows, table_of_all};
 use std::alloc::{AllocError, Global};
 use std::test::Fail;
 use std::thread::Threads;
@@ -39,6 +39,22 @@ fn row_without<R: RowMaker>(
     let mut links = LinkSet::new(alloc, top.links())?;
     links.fill_where(|link| Some(link) != out);
     Ok(rows.row(alloc, top, &links, root)?)
+}
+
+/// The rows of all nodes over the links below a number, by a maker.
+fn all_below<R: RowMaker>(
+    alloc: Global,
+    rows: &mut R,
+    top: &Topology,
+    end: u32,
+) -> Result<Vec<Row>, Fail> {
+    let mut links = LinkSet::new(alloc, top.links())?;
+    links.fill_where(|link| link < end);
+    let mut made = Vec::new(alloc);
+    for root in 0..top.nodes() {
+        made.push(rows.row(alloc, top, &links, root)?)?;
+    }
+    Ok(made)
 }
 
 /// As many nodes as can be on a ring, each with one more link across it.
@@ -158,4 +174,33 @@ fn rows_of_a_large_network_are_the_same(rt: HostRuntime) -> Result<(), Fail> {
         assert!(rt; are_same(&rows, &rows_of(&rt, rt.alloc(), &top, workers)?));
     }
     Ok(())
+}
+
+#[test]
+fn makers_of_rows_agree_on_a_backbone(rt: HostRuntime) -> Result<(), Fail> {
+    let alloc = rt.alloc();
+    let top = backbone(alloc)?;
+    let table = table_of_all(&rt, alloc, &top, 4)?;
+    for end in [top.links(), 10] {
+        let plain = all_below(alloc, &mut PlainRows::new(), &top, end)?;
+        let heap = all_below(alloc, &mut HeapRows::new(), &top, end)?;
+        let pool = all_below(alloc, &mut PoolRows::new(&rt, 4), &top, end)?;
+        let kept = all_below(alloc, &mut TableRows::new(&table), &top, end)?;
+        assert!(rt; are_same(&plain, &heap));
+        assert!(rt; are_same(&plain, &pool));
+        assert!(rt; are_same(&plain, &kept));
+    }
+    Ok(())
+}
+
+#[test]
+fn a_table_gives_the_rows_that_it_was_built_of(rt: HostRuntime) -> Result<(), Fail> {
+    let alloc = rt.alloc();
+    let top = star(alloc)?;
+    let mut links = LinkSet::new(alloc, top.links())?;
+    links.fill_where(|_| true);
+    let rows = all_rows(&rt, alloc, &top, &links, 1)?;
+    let table = RowTable::build(alloc, &top, &links, rows)?;
+    let row = row_without(alloc, &mut TableRows::new(&table), &top, None, 3)?;
+    tells(alloc, &row, WHOLE)
 }
