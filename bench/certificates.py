@@ -246,6 +246,12 @@ def another_row(chance, lines, made):
     return [*lines[:at], " ".join(head + row), *lines[at + 1:]]
 
 
+def number_of(line):
+    """The number after the first word of a line, which may have been changed into none."""
+    word = line.split(" ")[1]
+    return int(word) if word.isascii() and word.isdigit() else 0
+
+
 def left_out(chance, lines, made):
     """A link is left out, or is not any more."""
     outs = [at for at, line in enumerate(lines) if line.startswith("without ")]
@@ -257,7 +263,7 @@ def left_out(chance, lines, made):
     line = f"without {chance.randrange(len(made.network.links) + 2)}"
     before, after = lines[:last + 1], lines[last + 1:]
     if chance.random() < 0.7 and outs:  # as it should stand
-        lines = sorted([line, *(lines[at] for at in outs)], key=lambda out: int(out.split(" ")[1]))
+        lines = sorted([line, *(lines[at] for at in outs)], key=number_of)
         return before[:outs[0]] + lines + after
     return [*before, line, *after]
 

@@ -100,12 +100,25 @@ def with_failing_streams(program):
 # How a shell closes each standard stream.
 CLOSED = {0: "<&-", 1: ">&-", 2: "2>&-"}
 
+CERTIFICATE = (
+    b"cost 26\nhose a:3 b:4 c:5\nuse 0 3\nuse 1 4\nuse 2 5\npot 0 0 0 3 4 1\npot 1 0 3 0 5 2\n"
+    b"pot 2 0 4 5 0 3\npot 3 0 1 2 3 0\nend\n"
+)
+PRICES = b"price acme flat 26 12 26 hops 12 12 12 long 112 60 112 best hops\n"
+GENERATED = b"gen 1 hoses 0 admitted 0 refused 0 released 0 epoch 0 cost 0\n"
+
+# What each command is given on its input, where that is not a topology and a line.
+INPUTS = {"check": CERTIFICATE, "price": b"acme a:3 b:4 c:5\n"}
+
 # The status and the output of each command where a stream is closed that it uses, and where it is
-# another one. Nothing is read of the input of the last two.
+# another one. Nothing is read of the input of `audit`, `serve` and `gen`.
 WITHOUT = {
     "run": {0: (3, b"read\n"), 1: (4, b""), 2: (0, LOADED)},
     "audit": {0: (0, AUDIT), 1: (4, b""), 2: (0, AUDIT)},
     "serve": {0: (0, b"ready\n" + AUDIT), 1: (4, b""), 2: (0, b"ready\n" + AUDIT)},
+    "check": {0: (3, b"read\n"), 1: (4, b""), 2: (0, b"yes 26\n")},
+    "price": {0: (3, b"read\n"), 1: (4, b""), 2: (0, PRICES)},
+    "gen": {0: (0, GENERATED), 1: (4, b""), 2: (0, GENERATED)},
 }
 
 
@@ -165,8 +178,12 @@ def with_closed_streams(program):
                     "run": ["run", journal],
                     "audit": ["audit", "demo/star.txt", journal],
                     "serve": ["serve", "demo/star.txt", journal, str(port), "1", "1"],
+                    "check": ["check", "demo/star.txt"],
+                    "price": ["price", "demo/star.txt"],
+                    "gen": ["gen", "1", "6", "5", "0"],
                 }[command]
-                found = without(program, words, stream, text, port)
+                given = INPUTS.get(command, text)
+                found = without(program, words, stream, given, port)
                 right = found == (status, output, False) and content(journal) == kept
             yield f"{command} {CLOSED[stream]} on a journal", right, found
 
