@@ -2,8 +2,7 @@
 # Runs the scripts that measure, one after another, and writes the table of docs/FIGURES.md from
 # what they print: each figure with its reference of the same run. It wants an idle machine, and
 # says in the table where it was not. It takes about ten minutes once the programs are built; what
-# each script prints stays in LOGS. bench/gate.sh and bench/memory.sh are left out: they take an
-# hour and a quarter of one, and compile.
+# each script prints stays in LOGS. bench/gate.sh is left out: it takes an hour.
 # With names it runs these scripts alone, and prints the table in place of writing it. It ends with
 # status 1 where a script failed, whose row then says so.
 # usage: bench/all.sh [-l LOGS] [SCRIPT ..]     SCRIPT: as orders.sh; LOGS (out/figures)

@@ -1,6 +1,6 @@
-// Calls of the system that do less than they were asked for, for bench/files.py and
-// bench/bad_clients.py. The first three take effect for the file EDGE_FILE alone, which is named by
-// its real path.
+// Calls of the system that do less than they were asked for, for files.py, bad_clients.py and
+// memory.sh. The first three take effect for the file EDGE_FILE alone, which is named by its real
+// path.
 //
 //   EDGE_PIECE=N         a read or a write at a place moves at most N bytes
 //   EDGE_INTERRUPT=1     every other one of them is interrupted before it moves any
@@ -9,6 +9,7 @@
 //   EDGE_SECONDS=N       a timeout of ten minutes for reads of a socket or of one minute for writes
 //                        is N seconds; the program ends with status 99 where it asks for another
 //   EDGE_ACCEPT=E:COUNT  the first COUNT accepts fail with the error E, a number
+//   EDGE_MEMORY=N        the Nth call for memory after the program was loaded gets none
 //   EDGE_WRONG=BODY      the program does as if it were written wrongly, as WRONG of bench/files.py
 //                        has it: a call that it would leave out is answered and not made
 #define _GNU_SOURCE
@@ -140,4 +141,42 @@ int accept4(int fd, struct sockaddr *address, socklen_t *length, int flags) {
         return errno = error, -1;
     }
     return real(fd, address, length, flags);
+}
+
+// The allocator's own calls, so that a call for memory while these are looked up is no recursion.
+extern void *__libc_malloc(size_t);
+extern void *__libc_calloc(size_t, size_t);
+extern void *__libc_realloc(void *, size_t);
+extern void *__libc_memalign(size_t, size_t);
+
+static long refused;
+
+__attribute__((constructor)) static void read_refused(void) {
+    const char *number = getenv("EDGE_MEMORY");
+    if (number != NULL) refused = atol(number);
+}
+
+static int is_refused(void) {
+    static long calls;
+    if (refused == 0 || __atomic_add_fetch(&calls, 1, __ATOMIC_RELAXED) != refused) return 0;
+    errno = ENOMEM;
+    return 1;
+}
+
+void *malloc(size_t size) { return is_refused() ? NULL : __libc_malloc(size); }
+
+void *calloc(size_t count, size_t size) {
+    return is_refused() ? NULL : __libc_calloc(count, size);
+}
+
+void *realloc(void *old, size_t size) { return is_refused() ? NULL : __libc_realloc(old, size); }
+
+void *aligned_alloc(size_t align, size_t size) {
+    return is_refused() ? NULL : __libc_memalign(align, size);
+}
+
+int posix_memalign(void **place, size_t align, size_t size) {
+    if (is_refused()) return ENOMEM;
+    *place = __libc_memalign(align, size);
+    return *place == NULL ? ENOMEM : 0;
 }

@@ -2,38 +2,41 @@
 # What comes of want of memory: programs run once for each growth of memory, and in each run just
 # that one fails. The runs are an admission, a quote that is taken, a quote that goes stale, an
 # admission on a backbone of eleven cities, and each of a journal that is begun, gone on with and
-# another network's; and a server with one customer. Each has to end in one of three ways: with
-# status 7 and the line `no memory`; with a line `memory` in the place of the command that was
-# refused; or with the fault of an object that wanted it, as `cabinet` and status 6. All other lines
-# have to be those of the orders that were acknowledged, by the slow planner of compare_planner.py,
-# and these the entries of the journal, by the reader of forged.py. `rt try --fail-alloc N` compiles
-# the program for each number, which takes half a minute; all runs of a number are made at once. It
-# ends when no run of a few numbers in a row wanted the growth that failed.
-# usage: bench/memory.sh [FIRST [LAST]]     the numbers of growths, from 1 on
+# another network's; an audit, a generated script, a certificate and two prices; and a server with
+# one customer. Each has to end in one of three ways: with status 7 and the line `no memory`; with a
+# line `memory` in the place of the command that was refused; or with the fault of an object that
+# wanted it, as `cabinet` and status 6. All other lines have to be those of the orders that were
+# acknowledged, by the slow planner of compare_planner.py, and these the entries of the journal, by
+# the reader of forged.py. A library that gcc makes of
+# edge.c refuses the growth. A run has no more of them where twenty in a row were not wanted; how
+# many it had, and with which status it ended, is printed.
+# usage: bench/memory.sh [PROGRAM]
+# The PROGRAM (crates/hosed_main/out/hosed_main) is seen from the top of the repository. It is no
+# script: the growths of the shell would be refused.
 set -euo pipefail
 export LC_ALL=C
 cd "$(dirname "${BASH_SOURCE[0]}")/.."
 
-exec python3 - "${1:-1}" "${2:-1000}" <<'END'
+exec python3 - "${1:-crates/hosed_main/out/hosed_main}" <<'END'
+import os
 import pathlib
-import re
 import socket
 import subprocess
 import sys
 import tempfile
 import threading
 import time
+from collections import Counter
 
 sys.path.insert(0, "bench")
 from compare_planner import Link, Network
-from forged import canonical, journal_of, judged
+from forged import journal_of, judged
+from generated import Sizes, planned
 from hostile import Desk
 
-HOSED_MAIN = pathlib.Path("crates/hosed_main").resolve()
-FIRST, LAST = int(sys.argv[1]), int(sys.argv[2])
-ENOUGH = 3
+PROGRAM = os.path.abspath(sys.argv[1])
+ENOUGH = 20
 SECONDS = 30
-TRY = ["rt", "try", "--steps", "1", "--seconds", str(SECONDS), "--fail-alloc"]
 
 
 def network_of(text):
@@ -65,6 +68,16 @@ RUNS = {
     "new_journal": ("star", ADMIT, b""),
     "kept_journal": ("star", ADMIT, KEPT),
     "other_journal": ("detour", ["acme admit a:3 b:3"], KEPT),
+}
+# Words, the input, and the lines where no growth is refused. The audit is that of the kept journal.
+ASKED = {
+    "audit": (["audit", "demo/star.txt", "JOURNAL"], "", None),
+    "gen": (["gen", "7", "9", "27", "20"], "", [planned(Sizes(7, 9, 27, 20)).strip()]),
+    "check": (["check", "demo/star.txt"], pathlib.Path("demo/star_certificate.txt").read_text(),
+              ["yes 26"]),
+    "price": (["price", "demo/star.txt"], "acme a:3 b:4 c:5\nbeta a:8 b:8\n",
+              ["price acme flat 26 12 26 hops 12 12 12 long 112 60 112 best hops",
+               "price beta flat 24 16 24 hops 16 16 16 long 128 80 128 best hops"]),
 }
 SESSION = ["hello acme", "admit a:3 b:4 c:5", "show 1", "bye"]
 
@@ -119,37 +132,45 @@ def judge(name, status, output, journal):
     return status == 0 and "memory" not in replies
 
 
-def cases(folder):
-    """The inputs and arguments of all runs, in a folder for `rt try --cases`."""
-    for name, (which, lines, held) in RUNS.items():
-        (folder / name).write_text(TEXTS[which] + "".join(line + "\n" for line in lines))
-        words = ["run"]
-        if held is not None:
-            journal = folder.parent / f"{name}.journal"
-            journal.write_bytes(held)
-            words.append(str(journal))
-        (folder / f"{name}.args").write_text("".join(word + "\n" for word in words))
+def without(growth, library):
+    """What a program finds in its environment, so that this growth of its memory fails."""
+    return {**os.environ, "LD_PRELOAD": library, "EDGE_MEMORY": str(growth)}
 
 
-def runs_without(growth, work):
-    """The status and the output of each run in which this growth fails."""
-    folder = work / "cases"
-    folder.mkdir(exist_ok=True)
-    cases(folder)
-    words = [*TRY, str(growth), "--cases", str(folder)]
-    done = subprocess.run(words, cwd=HOSED_MAIN, stdin=subprocess.DEVNULL, capture_output=True,
-                          text=True)
-    outputs, name = dict.fromkeys(RUNS, ""), None
-    for line in done.stdout.splitlines():
-        if line.startswith("== ") and line[3:] in RUNS:
-            name = line[3:]
-        elif name is not None:
-            outputs[name] += line + "\n"
-    ended = re.findall(r"^case=(\S+) .*?\bstatus=(\d+)", done.stderr, re.M)
-    statuses = {name: int(status) for name, status in ended}
-    if set(statuses) != set(RUNS):
-        sys.exit(f"memory: growth {growth} did not end:\n{done.stdout}{done.stderr}")
-    return {name: (statuses[name], outputs[name]) for name in RUNS}
+def run_without(growth, name, library, work):
+    """Whether a run ended without want of memory, and its status."""
+    which, lines, held = RUNS[name]
+    journal, words = work / f"{name}.journal", [PROGRAM, "run"]
+    if held is not None:
+        journal.write_bytes(held)
+        words.append(str(journal))
+    done = subprocess.run(words, input=TEXTS[which] + "".join(line + "\n" for line in lines),
+                          capture_output=True, text=True, timeout=SECONDS,
+                          env=without(growth, library))
+    after = None if held is None else journal.read_bytes()
+    return judge(name, done.returncode, done.stdout, after), done.returncode
+
+
+def answer_without(growth, name, library, work):
+    """The same of a command that orders nothing."""
+    words, text, wanted = ASKED[name]
+    journal = work / "kept.journal"
+    journal.write_bytes(KEPT)
+    words = [PROGRAM, *(str(journal) if word == "JOURNAL" else word for word in words)]
+    done = subprocess.run(words, input=text, capture_output=True, text=True, timeout=SECONDS,
+                          env=without(growth, library))
+    status, output = done.returncode, done.stdout.splitlines()
+    if wanted is None:
+        wanted = desk_of(NETWORKS["star"], KEPT).audit()
+    ends = {0: [], 6: ["cabinet"], 7: ["no memory"]}
+    if status not in ends or journal.read_bytes() != KEPT:
+        raise Wrong(f"status {status} after {output}")
+    lines = output[:-1] if status else output
+    is_by_rule = output[len(lines):] == ends[status] and len(lines) <= len(wanted) and all(
+        line in (want, "memory") for line, want in zip(lines, wanted))
+    if not is_by_rule or not status and len(lines) != len(wanted):
+        raise Wrong(f"status {status} after {output}")
+    return status == 0 and lines == wanted, status
 
 
 def customer(port, ended, replies):
@@ -165,65 +186,74 @@ def customer(port, ended, replies):
             time.sleep(0.05)
 
 
-def server_without(growth, work):
-    """Whether a server with one customer ended without want of memory."""
+def server_without(growth, library, work):
+    """The same of a server with one customer."""
     with socket.socket() as probe:
         probe.bind(("127.0.0.1", 0))
         port = probe.getsockname()[1]
     topology, journal = work / "topology", work / "server.journal"
     topology.write_text(TEXTS["star"])
     journal.write_bytes(b"")
-    serve = ["serve", str(topology), str(journal), str(port), "1", "1"]
-    words = [*TRY, str(growth), "--", *serve]
+    words = [PROGRAM, "serve", str(topology), str(journal), str(port), "1", "1"]
     ended, pieces = threading.Event(), []
     peer = threading.Thread(target=customer, args=(port, ended, pieces))
     peer.start()
-    done = subprocess.run(words, cwd=HOSED_MAIN, stdin=subprocess.DEVNULL, capture_output=True,
-                          text=True)
-    ended.set()
-    peer.join()
-    found = re.search(r"^checked: ended status=(\d+)", done.stderr, re.M)
-    if not found:
-        sys.exit(f"memory: growth {growth} of a server did not end:\n{done.stdout}{done.stderr}")
-    status, output = int(found[1]), done.stdout.splitlines()
-    if status in (6, 7):
-        if output[-1:] != ["no memory" if status == 7 else "cabinet"]:
-            raise Wrong(f"status {status} after {output}")
-        return False
-    desk = Desk(NETWORKS["star"])
+    try:
+        done = subprocess.run(words, stdin=subprocess.DEVNULL, capture_output=True, text=True,
+                              timeout=SECONDS, env=without(growth, library))
+    finally:
+        ended.set()
+        peer.join()
+    status, output = done.returncode, done.stdout.splitlines()
     replies = b"".join(pieces).decode().splitlines()
+    desk = Desk(NETWORKS["star"])
     wanted = ["welcome at 0"]
     for line, reply in zip(SESSION[1:], replies[1:]):
         wanted.append("memory" if reply == "memory" else desk.later(line.encode(), "acme"))
-    if status != 0 or replies != wanted[:len(replies)] or output != ["ready", *desk.audit()]:
-        raise Wrong(f"a server: status {status}, {replies}, {output}")
-    return len(replies) == len(SESSION) and "memory" not in replies
+    if replies != wanted[:len(replies)]:
+        raise Wrong(f"status {status}, {replies}")
+    if status in (6, 7):
+        if output[-1:] != ["no memory" if status == 7 else "cabinet"]:
+            raise Wrong(f"status {status} after {output}")
+        return False, status
+    if status != 0 or output != ["ready", *desk.audit()]:
+        raise Wrong(f"status {status}, {replies}, {output}")
+    return len(replies) == len(SESSION) and "memory" not in replies, status
+
+
+def try_all(name, tried):
+    """Has each growth of a run fail, and tells how many there were and how it ended."""
+    ends, growth, whole = Counter(), 0, 0
+    while whole < ENOUGH:
+        growth += 1
+        try:
+            is_whole, status = tried(growth)
+        except (Wrong, subprocess.TimeoutExpired) as wrong:
+            sys.exit(f"memory: growth {growth} of {name}: {wrong}")
+        if is_whole:
+            whole += 1
+        else:
+            whole = 0
+            ends[status] += 1
+    if not ends:
+        sys.exit(f"memory: {name} has no growth: was the library loaded?")
+    told = ", ".join(f"{count} with status {status}" for status, count in sorted(ends.items()))
+    print(f"memory: {name}: {sum(ends.values())} growths refused, each alone: {told}", flush=True)
 
 
 def main():
-    whole = 0
-    for growth in range(FIRST, LAST + 1):
-        with tempfile.TemporaryDirectory() as work:
-            work = pathlib.Path(work)
-            told = {}
-            for name, (status, output) in runs_without(growth, work).items():
-                journal = work / f"{name}.journal"
-                held = journal.read_bytes() if journal.exists() else None
-                try:
-                    told[name] = judge(name, status, output, held)
-                except Wrong as wrong:
-                    sys.exit(f"memory: growth {growth} of {name}: {wrong}")
-            try:
-                told["server"] = server_without(growth, work)
-            except Wrong as wrong:
-                sys.exit(f"memory: growth {growth}: {wrong}")
-        wanting = sorted(name for name, is_whole in told.items() if not is_whole)
-        print(f"memory: growth {growth} is wanted by {', '.join(wanting) or 'none'}", flush=True)
-        whole = 0 if wanting else whole + 1
-        if whole == ENOUGH:
-            return
-    if LAST - FIRST > ENOUGH:
-        print(f"memory: there may be more growths than {LAST}")
+    with tempfile.TemporaryDirectory() as work:
+        if not os.access(PROGRAM, os.X_OK):
+            sys.exit(f"memory: there is no program {PROGRAM}; ./hosed builds it")
+        work = pathlib.Path(work)
+        library = str(work / "edge.so")
+        subprocess.run(["gcc", "-O1", "-shared", "-fPIC", "bench/edge.c", "-o", library, "-ldl"],
+                       check=True)
+        for name in RUNS:
+            try_all(name, lambda growth: run_without(growth, name, library, work))
+        for name in ASKED:
+            try_all(name, lambda growth: answer_without(growth, name, library, work))
+        try_all("server", lambda growth: server_without(growth, library, work))
 
 
 main()
