@@ -121,8 +121,10 @@ def judge(name, status, output, journal):
     rest, ends = replies[count:], {7: ["no memory"], 6: ["cabinet"], 0: [], 3: ["read"], 4: []}
     if status not in ends or rest != ends[status] or status == 0 and count != len(lines):
         raise Wrong(f"status {status} after {replies}")
+    if status == 7 and count != 0:
+        raise Wrong(f"status 7 after {replies}")
     if journal is not None:
-        if status == 7 or not replies[:count]:
+        if not replies[:count]:
             # The journal is as it was, or begun, or begun in part.
             is_as_before = journal == held or not held and judged(network, journal)[1] == 0
             if not is_as_before:
@@ -212,6 +214,10 @@ def server_without(growth, library, work):
         wanted.append("memory" if reply == "memory" else desk.later(line.encode(), "acme"))
     if replies != wanted[:len(replies)]:
         raise Wrong(f"status {status}, {replies}")
+    # What was acknowledged is in the journal, and what was not told yet may be, as the last entry.
+    told = judged(NETWORKS["star"], journal.read_bytes())
+    if told != (desk.audit(), 0) and (len(replies) > 1 or told[1] != 0):
+        raise Wrong(f"status {status}, {replies}, and the journal has {told}")
     if status in (6, 7):
         if output[-1:] != ["no memory" if status == 7 else "cabinet"]:
             raise Wrong(f"status {status} after {output}")
