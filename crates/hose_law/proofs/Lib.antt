@@ -29,6 +29,7 @@ pub mod Steps
 pub mod Sums
 mod TightTrees
 pub mod TightWays
+pub mod Tracked
 pub mod Transcripts
 pub mod Trees
 pub mod Unique

@@ -1,0 +1,170 @@
+-- Where no change names a link, its load stays; and what tracks a history tracks it with an entry more.
+use Rattle.std.proofs.Common.{◌≡◌, ◌∙◌, ℕ, ◌+◌, ◌-◌, Bool, List, [], ◌∷◌, ◌++◌, length, take, drop, not, filter, sum_by, Contains, refl, sym, ap, subst, inl, inr, arith, cond, eqb}
+use Rattle.std.specs.List.{flat_map}
+use Rattle.std.proofs.lemmas.Bool.{cases_eq}
+use Rattle.std.proofs.lemmas.Bool.Decides.{nat_tests}
+use Rattle.std.proofs.lemmas.List.{append-nil, append_assoc, length-take-le, take-append-drop}
+use Rattle.std.proofs.lemmas.List.Concat.{flat_map-cons}
+use Rattle.std.proofs.lemmas.List.Elements.{Contains-append_left, Contains-append_right}
+use Rattle.std.proofs.lemmas.List.Filters.{sum_by-filter_both}
+use Rattle.std.proofs.lemmas.List.Sums.{sum_by-cons, sum_by_push}
+use Rattle.std.proofs.Math.Seq.{take-append-add}
+use Rattle.hose_graph.proofs.Members.{contains_first, contains_rest, first_or_rest, none_in_empty}
+use Rattle.hose_graph.specs.Ascending.{firsts}
+use Rattle.hose_graph.specs.declared.entry.Entry.{Entry}
+use Rattle.hose_graph.specs.declared.entry.Entry.TheVariants.{Admit, Release}
+use Rattle.hose_graph.specs.declared.vpn.Vpn.{Vpn}
+use Rattle.hose_law.specs.Book.{Book, amount_on, load_of}
+use Rattle.hose_law.specs.History.{book_after, book_of, is_vpn, next_book, opening_book}
+use Rattle.hose_law.specs.Tracks.{Change, IsNamedSince, LoadsStay, Recent, Tracks, changes_from, changes_of, touched_links}
+use Rattle.hose_law.proofs.LiveIds.{next_epoch}
+
+abbrev Plan : Type 0
+Plan = List (ℕ × ℕ)
+
+-- a plan reserves nothing on what is no link of it
+nothing_on : (l : ℕ) (plan : Plan) → (Contains (firsts plan) l → ⊥) → amount_on l plan ≡ 0
+nothing_on l [] none = refl
+nothing_on l (pair ∷ plan) none =
+    let first = sum_by-cons (λ (p : ℕ × ℕ). cond (eqb p.0 l) p.1 0) pair plan in
+    let rest = nothing_on l plan (λ there. none (Contains-append_right (pair.0 ∷ []) (firsts plan) l there)) in
+    elim (cases_eq pair.0 l) [
+      | inl same ↦ absurd (none (0, omega arith, same))
+      | inr other ↦ grind (arith, nat_tests)
+    ]
+
+abbrev links_of : Vpn → List ℕ
+links_of vpn = firsts vpn.amounts
+
+abbrev amount_in : ℕ → Vpn → ℕ
+amount_in l vpn = amount_on l vpn.amounts
+
+-- nor do VPNs together
+nothing_in : (l : ℕ) (vpns : List Vpn) → (Contains (flat_map links_of vpns) l → ⊥) → sum_by (amount_in l) vpns ≡ 0
+nothing_in l [] none = refl
+nothing_in l (vpn ∷ vpns) none =
+    let apart = flat_map-cons links_of vpn vpns in
+    let all : List ℕ = flat_map links_of vpns in
+    let free : Contains (links_of vpn ++ all) l → ⊥ = λ there. none (subst (λ (links : List ℕ). Contains links l) (sym apart) there) in
+    let here = nothing_on l vpn.amounts (λ there. free (Contains-append_left (links_of vpn) all l there)) in
+    let rest = nothing_in l vpns (λ there. free (Contains-append_right (links_of vpn) all l there)) in
+    omega (arith, sum_by-cons (amount_in l) vpn vpns, here, rest)
+
+-- an entry leaves the load of a link that it does not touch
+pub untouched : (book : Book) (entry : Entry) (l : ℕ) → (Contains (touched_links book entry) l → ⊥) → load_of book l ≡ load_of (next_book book entry) l
+untouched book (Admit customer hose amounts) l none =
+    let vpn : Vpn = record { id = book.epoch + 1; customer = customer; hose = hose; amounts = amounts } in
+    omega (arith, sum_by_push (amount_in l) book.live vpn, nothing_on l amounts none)
+untouched book (Release customer id) l none =
+    let out : Vpn → Bool = is_vpn customer id in
+    let parts = sum_by-filter_both out (λ v. not (out v)) (λ _. refl) (amount_in l) book.live in
+    omega (arith, parts, nothing_in l (filter out book.live) none)
+
+-- a link that is touched is named by a change
+is_change : (epoch : ℕ) (links : List ℕ) (l : ℕ) → Contains links l → Contains (changes_of epoch links) (epoch, l)
+is_change epoch [] l there = absurd (none_in_empty l there)
+is_change epoch (first ∷ links) l there = elim (first_or_rest first l links there) [
+  | inl here ↦ contains_first (epoch, first) (epoch, l) (changes_of epoch links) (ap (λ (link : ℕ). (epoch, link)) here)
+  | inr later ↦ contains_rest (epoch, first) (epoch, l) (changes_of epoch links) (is_change epoch links l later)
+]
+
+-- and so do entries that do not touch it
+stays : (book : Book) (entries : List Entry) (l : ℕ) → (IsNamedSince (changes_from book entries) book.epoch l → ⊥) → load_of book l ≡ load_of (book_after book entries) l
+stays book [] l none = refl
+stays book (entry ∷ entries) l none =
+    let now = book.epoch + 1 in
+    let here = changes_of now (touched_links book entry) in
+    let more = changes_from (next_book book entry) entries in
+    let free : Contains (touched_links book entry) l → ⊥ =
+    λ there. none (now, omega arith, Contains-append_left here more (now, l) (is_change now (touched_links book entry) l there)) in
+    let rest : IsNamedSince more (next_book book entry).epoch l → ⊥ =
+    λ named. none (named.0, omega (arith, named.1, next_epoch book entry), Contains-append_right here more (named.0, l) named.2) in
+    untouched book entry l free ∙ stays (next_book book entry) entries l rest
+
+-- the changes of entries are those of the first ones, and then of the others
+changes_apart : (book : Book) (one other : List Entry) → changes_from book (one ++ other) ≡ changes_from book one ++ changes_from (book_after book one) other
+changes_apart book [] other = refl
+changes_apart book (entry ∷ one) other =
+    let first = changes_of (book.epoch + 1) (touched_links book entry) in
+    let next = next_book book entry in
+    ap (λ (changes : List Change). first ++ changes) (changes_apart next one other)
+    ∙ sym (append_assoc first (changes_from next one) (changes_from (book_after next one) other))
+
+book_apart : (book : Book) (one other : List Entry) → book_after book (one ++ other) ≡ book_after (book_after book one) other
+book_apart book [] other = refl
+book_apart book (entry ∷ one) other = book_apart (next_book book entry) one other
+
+epoch_apart : (book : Book) (entries : List Entry) → (book_after book entries).epoch ≡ book.epoch + length entries
+epoch_apart book [] = omega arith
+epoch_apart book (entry ∷ entries) = omega (arith, epoch_apart (next_book book entry) entries, next_epoch book entry)
+
+-- where a history is tracked, loads stay on each link that no later change names
+pub loads_stay : (epoch : ℕ) (history : List Entry) (recent : Recent) → Tracks epoch history recent → LoadsStay epoch history recent
+loads_stay epoch history recent tracks place l within above none =
+    let before = tracks.before in
+    let since = tracks.since in
+    let k = place - length before in
+    let split : place ≡ length before + k = omega (arith, above, tracks.floor) in
+    let first = book_of epoch before in
+    let book = book_after first (take k since) in
+    let later = drop k since in
+    let parts : take k since ++ later ≡ since = take-append-drop k since in
+    let here : take place history ≡ before ++ take k since =
+    ap (λ (n : ℕ). take n history) split ∙ ap (λ (h : List Entry). take (length before + k) h) tracks.whole ∙ take-append-add before since k in
+    let there : book_of epoch (take place history) ≡ book = ap (book_of epoch) here ∙ book_apart (opening_book epoch) before (take k since) in
+    let all : book_of epoch history ≡ book_after book later =
+    ap (book_of epoch) tracks.whole ∙ book_apart (opening_book epoch) before since
+    ∙ ap (book_after first) (sym parts) ∙ book_apart first (take k since) later in
+    let changes : changes_from first (take k since) ++ changes_from book later ≡ recent.changes =
+    sym (changes_apart first (take k since) later) ∙ ap (changes_from first) parts ∙ sym tracks.changes in
+    let bound : length (take place history) ≡ place = length-take-le place history within in
+    let at : book.epoch ≡ epoch + place =
+    ap (λ (b : Book). b.epoch) (sym there) ∙ epoch_apart (opening_book epoch) (take place history) ∙ ap (λ (n : ℕ). epoch + n) bound in
+    let free : IsNamedSince (changes_from book later) book.epoch l → ⊥ = λ named. none (
+      named.0,
+      omega (arith, named.1, at),
+      subst (λ (c : List Change). Contains c (named.0, l)) changes (Contains-append_right (changes_from first (take k since)) (changes_from book later) (named.0, l) named.2),
+    ) in
+    ap (λ (b : Book). load_of b l) there ∙ stays book later l free ∙ ap (λ (b : Book). load_of b l) (sym all)
+
+-- what tracks a history, with the changes of an entry more, tracks the history with it
+pub tracks_more : (epoch : ℕ) (history : List Entry) (recent : Recent) (entry : Entry) → Tracks epoch history recent
+    → Tracks epoch (history ++ entry ∷ []) (record {
+      floor = recent.floor;
+      changes = recent.changes ++ changes_of ((book_of epoch history).epoch + 1) (touched_links (book_of epoch history) entry);
+    })
+tracks_more epoch history recent entry tracks =
+    let first = book_of epoch tracks.before in
+    let here : book_of epoch history ≡ book_after first tracks.since = ap (book_of epoch) tracks.whole ∙ book_apart (opening_book epoch) tracks.before tracks.since in
+    let changes_at : Book → List Change = λ b. changes_of (b.epoch + 1) (touched_links b entry) in
+    let one : changes_from (book_after first tracks.since) (entry ∷ []) ≡ changes_at (book_after first tracks.since) = append-nil (changes_at (book_after first tracks.since)) in
+    record {
+      before = tracks.before;
+      since = tracks.since ++ entry ∷ [];
+      whole = ap (λ (h : List Entry). h ++ entry ∷ []) tracks.whole ∙ append_assoc tracks.before tracks.since (entry ∷ []);
+      floor = tracks.floor;
+      changes = ap (λ (c : List Change). c ++ changes_at (book_of epoch history)) tracks.changes
+          ∙ ap (λ (b : Book). changes_from first tracks.since ++ changes_at b) here
+          ∙ ap (λ (c : List Change). changes_from first tracks.since ++ c) (sym one)
+          ∙ sym (changes_apart first tracks.since (entry ∷ []));
+    }
+
+-- and so do the changes of the entry alone, above the epoch before it
+pub tracks_anew : (epoch : ℕ) (history : List Entry) (entry : Entry)
+    → Tracks epoch (history ++ entry ∷ []) (record {
+      floor = (book_of epoch history).epoch;
+      changes = changes_of ((book_of epoch history).epoch + 1) (touched_links (book_of epoch history) entry);
+    })
+tracks_anew epoch history entry =
+    let book = book_of epoch history in
+    record {
+      before = history;
+      since = entry ∷ [];
+      whole = refl;
+      floor = epoch_apart (opening_book epoch) history;
+      changes = sym (append-nil (changes_of (book.epoch + 1) (touched_links book entry)));
+    }
+
+-- no change tracks the empty history
+pub tracks_none : (epoch : ℕ) → Tracks epoch [] (record { floor = epoch; changes = [] })
+tracks_none epoch = record { before = []; since = []; whole = refl; floor = omega arith; changes = refl }
