@@ -1,6 +1,7 @@
 -- Grounds that hold at another room: there the hose has the same plan.
 use Rattle.std.proofs.Common.{◌≡◌, ◌∙◌, ℕ, ◌<◌, Bool, true, false, List, Option, None, Some, length, refl, sym, ap, subst, inl, inr, arith}
 use Rattle.std.specs.List.{All, Contains}
+use mathlib.Core.Bool.{beq}
 use Rattle.std.specs.Option.{IfSome}
 use Rattle.std.specs.Prelude.{◌↔◌, ◌&&◌, IsSomeAnd, IsTrue, nat_le, slice_index, slice_index_or}
 use Rattle.std.proofs.lemmas.Bool.{cases_lt, false≢true}
@@ -9,7 +10,7 @@ use Rattle.std.proofs.lemmas.List.Elements.{All-contains, All-contains_itself, A
 use Rattle.std.proofs.lemmas.List.FromFn.{fill_by_all, get_or-map-range_with_len, length-map-range_with_len}
 use Rattle.hose_graph.specs.Hose.{IsHose}
 use Rattle.hose_graph.specs.Network.{Network, IsNetwork}
-use Rattle.hose_law.specs.Book.{Book}
+use Rattle.hose_law.specs.Book.{Book, loads_of}
 use Rattle.hose_law.specs.CanonicalPlan.{IsCanonicalPlan}
 use Rattle.hose_law.specs.Decision.{AreGrounds, CanBeReserved, Fits, HasFirstFit, HaveEqualGrounds, IsPlanned}
 use Rattle.hose_law.specs.Room.{Room, free_rates, half_rate, room_of, safe_links}
@@ -18,7 +19,7 @@ use Rattle.hose_law.specs.Walk.{IsIn, all_links}
 use Rattle.hose_law.proofs.CanonicalPlans.{canonical_unique, planned_sound, same_planned}
 use Rattle.hose_tree.specs.Amounts.{AreOnLinks}
 use Rattle.hose_plan.specs.declared.decision.Grounds.{Grounds}
-use Rattle.hose_plan.specs.Planning.{AreGroundsOf, AreMade, room_beside}
+use Rattle.hose_plan.specs.Planning.{AreGroundsOf, AreMade, HoldBySafe, room_beside}
 use Rattle.hose_plan.specs.Rooting.{IsPlanOver}
 use Rattle.hose_plan.proofs.Deciding.{none_fits}
 
@@ -116,24 +117,23 @@ module _ (network : Network) (is : IsNetwork network) (loads : List ℕ) (earlie
   rests : (fits : Bool) → fits ≡ grounds.first_fits → AreGrounds network here hose fits grounds.safe → AreGroundsOf network here hose grounds
   rests fits same on = record { first = first_here; half = are.half; rests_on = subst (λ (b : Bool). AreGrounds network here hose b grounds.safe) same on }
 
-  -- whether the first plan fits is the same where the grounds are
-  pub same_fit : (fits : Bool) → IsTrue fits ↔ IsSomeAnd grounds.first (Fits here.free) → AreGroundsOf network here hose grounds → fits ≡ grounds.first_fits
-  same_fit fits tells still = at fits grounds.first_fits refl tells still.rests_on
-    where
-      at : (fits wanted : Bool) → wanted ≡ grounds.first_fits → IsTrue fits ↔ IsSomeAnd grounds.first (Fits here.free) → AreGrounds network here hose wanted grounds.safe → fits ≡ wanted
-      at true true _ tells on = refl
-      at false false _ tells on = refl
-      at true false _ tells on = absurd (on.0 (fit_here.0 (tells.0 refl)))
-      at false true _ tells on = absurd (false≢true (tells.1 (fit_here.1 on.0)))
+  rested : (fits : Bool) → fits ≡ grounds.first_fits → AreGroundsOf network here hose grounds → AreGrounds network here hose fits grounds.safe
+  rested fits same still = subst (λ (b : Bool). AreGrounds network here hose b grounds.safe) (sym same) still.rests_on
 
-  -- where it does not fit, as it did not, the grounds are the same just where the safe links are
-  pub safe_as_before : (fits safe : Bool) → IsTrue fits ↔ IsSomeAnd grounds.first (Fits here.free) → fits ≡ grounds.first_fits → grounds.first_fits ≡ false
-      → IsTrue safe ↔ (grounds.safe ≡ safe_links here hose) → IsTrue safe ↔ AreGroundsOf network here hose grounds
-  safe_as_before fits safe tells same unfit set =
-      let now : fits ≡ false = same ∙ unfit in (
-        λ holds. rests false (sym unfit) (λ has. false≢true (sym now ∙ tells.1 (fit_here.1 has)), set.0 holds),
-        λ still. set.1 (subst (λ (b : Bool). AreGrounds network here hose b grounds.safe) unfit still.rests_on).1,
+  -- The grounds hold just where the first plan fits as before and, where it does not fit, the safe links are the same.
+  pub hold_by_safe : (fits : Bool) → IsTrue fits ↔ IsSomeAnd grounds.first (Fits here.free)
+      → HoldBySafe network here hose grounds (beq fits grounds.first_fits) ↔ AreGroundsOf network here hose grounds
+  hold_by_safe fits tells = at fits grounds.first_fits refl tells are.rests_on
+    where
+      at : (fits wanted : Bool) → wanted ≡ grounds.first_fits → IsTrue fits ↔ IsSomeAnd grounds.first (Fits here.free) → AreGrounds network earlier hose wanted grounds.safe
+          → (IsTrue (beq fits wanted) × (wanted ≡ false → grounds.safe ≡ safe_links here hose)) ↔ AreGroundsOf network here hose grounds
+      at true true same tells on = (λ hold. rests true same (fit_here.0 (tells.0 refl), on.1), λ still. (refl, λ no. absurd (false≢true (sym no))))
+      at false false same tells on = (
+        λ hold. rests false same (λ has. false≢true (tells.1 (fit_here.1 has)), hold.1 refl),
+        λ still. (refl, λ _. (rested false same still).1),
       )
+      at true false same tells on = (λ hold. absurd (false≢true hold.0), λ still. absurd ((rested false same still).0 (fit_here.0 (tells.0 refl))))
+      at false true same tells on = (λ hold. absurd (false≢true hold.0), λ still. absurd (false≢true (tells.1 (fit_here.1 (rested true same still).0))))
 
 -- ---- grounds at two books
 
@@ -155,6 +155,19 @@ equal_grounds network earlier now hose grounds are = (
       let fits = subst (λ (b : Bool). AreGrounds network (room_of network now) hose b equal.safe) same.0 equal.there in
       record { first = are.first; half = are.half; rests_on = subst (AreGrounds network (room_of network now) hose grounds.first_fits) same.1 fits },
 )
+
+-- what tells of each room whether the grounds hold tells it of each book
+pub hold_at_books : (network : Network) (loads : List ℕ) (grounds : Grounds) (holds : Bool)
+    → ((hose : List (ℕ × ℕ)) (earlier : Room) → earlier.links ≡ all_links network → AreGroundsOf network earlier hose grounds
+    → IsTrue holds ↔ AreGroundsOf network (room_beside network loads) hose grounds)
+    → (hose : List (ℕ × ℕ)) (earlier now : Book) → loads ≡ loads_of network now → AreGroundsOf network (room_of network earlier) hose grounds
+    → IsTrue holds ↔ HaveEqualGrounds network earlier now hose
+hold_at_books network loads grounds holds rooms hose earlier now same are =
+    let tells = rooms hose (room_of network earlier) refl are in
+    let equal = equal_grounds network earlier now hose grounds are in (
+      λ yes. equal.0 (subst (λ (l : List ℕ). AreGroundsOf network (room_beside network l) hose grounds) same (tells.0 yes)),
+      λ both. tells.1 (subst (λ (l : List ℕ). AreGroundsOf network (room_beside network l) hose grounds) (sym same) (equal.1 both)),
+    )
 
 -- A plan of a hose at a book is its plan at each other at which its grounds are equal, and can be reserved there.
 pub planned_here : (network : Network) → IsNetwork network → (earlier now : Book) (hose plan : List (ℕ × ℕ)) → IsHose hose → HaveEqualGrounds network earlier now hose

@@ -1,4 +1,5 @@
 pub mod Deciding
 pub mod EqualGrounds
+pub mod NamedLinks
 pub mod Rooted
 pub mod Weights

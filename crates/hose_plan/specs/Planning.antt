@@ -1,5 +1,5 @@
 -- What is decided of a hose beside loads, as the planner answers it.
-use Rattle.std.specs.Prelude.{◌≡◌, ℕ, ◌<◌, Bool, List, All, length, if◌then◌else◌, ⊤}
+use Rattle.std.specs.Prelude.{◌≡◌, ℕ, ◌<◌, Bool, false, List, All, IsTrue, length, nat_le, slice_index, slice_index_or, if◌then◌else◌, ⊤}
 use Rattle.hose_plan.specs.declared.decision.Grounds.{Grounds}
 use Rattle.hose_plan.specs.declared.decision.Decision.{Decision}
 use Rattle.hose_plan.specs.declared.decision.Decision.TheVariants.{Plan, Refused}
@@ -9,7 +9,8 @@ use Rattle.hose_law.specs.CanonicalPlan.{IsRoot}
 use Rattle.hose_law.specs.Cheapest.{IsCheapest}
 use Rattle.hose_law.specs.Decision.{AreGrounds, CanBeReserved, IsPlannedOver, IsRefused}
 use Rattle.hose_law.specs.Plan.{plan_cost}
-use Rattle.hose_law.specs.Room.{Room, free_rates, half_rate}
+use Rattle.hose_law.specs.Room.{Room, free_rates, half_rate, safe_links}
+use Rattle.hose_law.specs.Tracks.{Change, IsNamedSince}
 use Rattle.hose_law.specs.Walk.{all_links}
 use Rattle.hose_plan.specs.Rooting.{IsPlanOver}
 
@@ -31,6 +32,32 @@ abbrev pub AreMade : Network → Grounds → Type 0
 AreMade network grounds =
     (hose : List Endpoint) × (room : Room) × (room.links ≡ all_links network)
     × AreGroundsOf network room hose grounds
+
+-- the loads are those of before, but on the links that a pair of a later epoch names
+abbrev pub AreLoadsSince : Network → List Change → ℕ → List ℕ → List ℕ → Type 0
+AreLoadsSince network changes seen before now =
+    (l : ℕ) → l < length network.links → (¬ IsNamedSince changes seen l)
+    → slice_index before l ≡ slice_index now l
+
+-- these are the grounds of some hose beside loads that were these, but on the links that a pair of
+-- a later epoch names
+pub record AreMadeSince (network : Network) (now : List ℕ) (grounds : Grounds)
+    (changes : List Change) (seen : ℕ) : Type 0 where
+  pub hose : List Endpoint
+  pub before : List ℕ
+  pub same : AreLoadsSince network changes seen before now
+  pub are : AreGroundsOf network (room_beside network before) hose grounds
+
+-- a link is in a set just where it has this much free beside loads
+abbrev pub IsSafeStill : Network → List ℕ → ℕ → List Bool → ℕ → Type 0
+IsSafeStill network loads half safe l =
+    slice_index_or safe l false ≡ nat_le half (slice_index (free_rates network loads) l)
+
+-- the first plan fits just where it did, and where it does not fit the safe links are the same
+abbrev pub HoldBySafe : Network → Room → List Endpoint → Grounds → Bool → Type 0
+HoldBySafe network room hose grounds fits_as_before =
+    IsTrue fits_as_before
+    × (grounds.first_fits ≡ false → grounds.safe ≡ safe_links room hose)
 
 -- the links over which grounds allow a plan: those of the first plan where it fits, else the safe
 -- ones

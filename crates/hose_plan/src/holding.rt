@@ -1,11 +1,11 @@
 // Whether the grounds of a decision still hold.
-ghost use Rattle.std.specs.Prelude.{◌≡◌, ◌↔◌, List, IfSome, IsSomeAnd, IsTrue, length};
+ghost use Rattle.std.specs.Prelude.{◌≡◌, ◌<◌, ◌↔◌, List, IfSome, IsSomeAnd, IsTrue, length};
 ghost use Rattle.hose_graph.specs.Hose.{Endpoint};
 ghost use Rattle.hose_law.specs.Book.{Book, loads_of};
 ghost use Rattle.hose_law.specs.Decision.{Fits, HaveEqualGrounds};
 ghost use Rattle.hose_law.specs.Room.{Room, free_rates, half_rate, room_of, safe_links};
 ghost use Rattle.hose_law.specs.Walk.{all_links};
-ghost use Rattle.hose_plan.specs.Planning.{AreGroundsOf, AreMade, room_beside};
+ghost use Rattle.hose_plan.specs.Planning.{AreGroundsOf, AreMade, HoldBySafe, IsSafeStill, room_beside};
 ghost use Rattle.hose_tree.specs.Amounts.{AreCarried, AreOnLinks};
 
 use crate::decision::Grounds;
@@ -39,15 +39,28 @@ fn are_grounds(top: &Topology, loads: &[u64], grounds: &Grounds) -> bool
         → (IsTrue result
         ↔ AreGroundsOf top.now (room_beside top.now loads.now) hose grounds.now) }
 {
-    // The call tells the proof what holds of each network: that a hose has one plan over its links.
-    let _nodes = top.nodes();
-    if first_fits(top, loads, &grounds.first) != grounds.first_fits {
+    if !fits_as_before(top, loads, grounds) {
         return false;
     }
     if grounds.first_fits {
         return true;
     }
     are_safe(top, loads, grounds.half, &grounds.safe)
+}
+
+// Whether the first plan fits just where it did. Then the grounds hold where it fits, and where it
+// does not just where the safe links are the same.
+pub(crate) fn fits_as_before(top: &Topology, loads: &[u64], grounds: &Grounds) -> bool
+    requires loads { AreCarried top.now loads.now }
+    requires made { AreMade top.now grounds.now }
+    ensures { (hose : List Endpoint) (earlier : Room) → earlier.links ≡ all_links top.now
+        → AreGroundsOf top.now earlier hose grounds.now
+        → (HoldBySafe top.now (room_beside top.now loads.now) hose grounds.now result
+        ↔ AreGroundsOf top.now (room_beside top.now loads.now) hose grounds.now) }
+{
+    // The call tells the proof what holds of each network: that a hose has one plan over its links.
+    let _nodes = top.nodes();
+    first_fits(top, loads, &grounds.first) == grounds.first_fits
 }
 
 // Whether there is a first plan, and it fits.
@@ -70,10 +83,25 @@ fn are_safe(top: &Topology, loads: &[u64], half: u64, safe: &LinkSet) -> bool
         → (IsTrue result ↔ (safe.now ≡ safe_links (room_beside top.now loads.now) hose)) }
 {
     for link in 0..top.links() {
-        let has_half = half <= free_rate(top, loads, link);
-        if has_half != safe.has(link) {
+        if !is_safe_as_before(top, loads, half, safe, link) {
             return false;
         }
     }
     true
+}
+
+// Whether a link of the topology is in the set just where it has this much free.
+pub(crate) fn is_safe_as_before(
+    top: &Topology,
+    loads: &[u64],
+    half: u64,
+    safe: &LinkSet,
+    link: u32,
+) -> bool
+    requires loads { AreCarried top.now loads.now }
+    requires places { length safe.now ≡ length top.now.links }
+    requires link { link < length top.now.links }
+    ensures { IsTrue result ↔ IsSafeStill top.now loads.now half safe.now link }
+{
+    safe.has(link) == (half <= free_rate(top, loads, link))
 }

@@ -14,7 +14,9 @@ mod decision;
 mod holding;
 mod root;
 mod safe;
+mod since;
 
 pub use canonical::plan;
 pub use decision::{Decision, Grounds, decide};
 pub use holding::grounds_hold;
+pub use since::grounds_hold_since;

@@ -1,0 +1,12 @@
+use Rattle.hose_plan.proofs.EqualGrounds.{safe_places}
+use Rattle.hose_plan.proofs.NamedLinks.{made_before, others_settled}
+use Rattle.hose_plan.proofs.since.are_grounds_since.Goals as goal
+
+pub fits_as_before-requires-clause-made : goal.fits_as_before-requires-clause-made
+fits_as_before-requires-clause-made c = made_before c.args.top.now c.args.loads.now c.args.changes.now c.args.seen c.args.grounds.now c.requires.made
+
+pub are_safe_since-requires-clause-places : goal.are_safe_since-requires-clause-places
+are_safe_since-requires-clause-places c = safe_places c.args.top.now c.args.grounds.now (made_before c.args.top.now c.args.loads.now c.args.changes.now c.args.seen c.args.grounds.now c.requires.made)
+
+pub are_safe_since-requires-clause-others : goal.are_safe_since-requires-clause-others
+are_safe_since-requires-clause-others c = others_settled c.args.top.now c.args.loads.now c.args.changes.now c.args.seen c.args.grounds.now c.requires.made c.if-grounds.false
