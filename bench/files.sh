@@ -24,7 +24,7 @@ os.chdir(PLACE)
 # The canonical text of the star, each link with its cost.
 CANONICAL = "".join(f"node {name}\n" for name in "abch") + "".join(
     f"link {name} h 10 {cost} {cost}\n" for name, cost in (("a", 1), ("b", 2), ("c", 3))) + "end\n"
-FRONT = b"HOSE\1" + hashlib.sha256(CANONICAL.encode()).digest()
+DIGEST = hashlib.sha256(CANONICAL.encode()).digest()
 # acme's a:1 b:1, with 1 on the links 0 and 1; and the release of VPN 1.
 ONES = b"\0\0\0\0\0\1" + b"\0\1\0\0\0\1"
 ADMISSION = b"\1\4acme" + b"\2" + ONES + b"\0\2" + ONES
@@ -41,8 +41,12 @@ right = []
 
 
 def journal(*spellings):
-    records = b"".join(b"\1" + len(one).to_bytes(4, "big") + one for one in spellings)
-    return b"\1" + FRONT + records + b"\0"
+    """A journal of version 2: each record has the chain value of the list with its entry."""
+    held, value = b"\1HOSE\2" + DIGEST, DIGEST
+    for one in spellings:
+        value = hashlib.sha256(value + one).digest()
+        held += b"\1" + len(one).to_bytes(4, "big") + value + one
+    return held + b"\0"
 
 
 def at_most(size):
@@ -82,13 +86,13 @@ write("short", b"fewer than 39")
 comes("a file of a few bytes", ["run", "short"], STAR, 0, "")
 holds("short", journal())
 
-# A journal of two admissions would have 115 bytes. What was written of the second stands after the
-# last gate, which is closed.
-comes("a file of 100 bytes at most", ["run", "full"], STAR + ADMIT + ADMIT, 0,
-      ADMITTED + "disk at 1\n", limit=100)
+# A journal of one admission has 109 bytes, and of two 179. What was written of the second stands
+# after the last gate, which is closed.
+comes("a file of 140 bytes at most", ["run", "full"], STAR + ADMIT + ADMIT, 0,
+      ADMITTED + "disk at 1\n", limit=140)
 comes("the same without a limit", ["run", "full"], STAR + "x link 0\n", 0,
       "link 0 a h capacity 10 cost 1 load 1 at 1\n")
-holds("full", journal(ADMISSION), rest=100 - 77)
+holds("full", journal(ADMISSION), rest=140 - 109)
 
 # A topology is read in pieces of 4,096 bytes, in two of which it stands here.
 write("topology", b"#" * 4_090 + b"\n" + STAR.encode())

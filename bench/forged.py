@@ -2,7 +2,8 @@
 """Audits forged journals, and compares what is told with an independent reader of journals.
 
 A journal of eight orders on a small network is made by the slow planner of compare_planner.py, and
-spelled here. It is audited as it stands, cut to each length, with each single bit turned, and with
+spelled here: in version 2, in version 1, and in version 1 with a seal after half of them. Each is
+audited as it stands, cut to each length, with each single bit turned, and with
 EDITS random edits by a rule with a SEED: bytes that are set, turned, added, left out or taken from
 elsewhere, numbers that are one more or less, records that are doubled, left out or exchanged, and
 other names. For each the reader here, which follows docs/GUIDE.md and shares no code with the
@@ -10,7 +11,7 @@ crates, says what must be told: the book, the place of the damage, or that the j
 network's. Prints how many of each there were, or the first that differs, with its bytes, and ends
 with status 1.
 
-usage: bench/forged.py [PROGRAM [EDITS [SEED]]]
+usage: bench/forged.py [PROGRAM [EDITS [SEED]]]     EDITS of each of the three
 The PROGRAM (./hosed) is seen from the top of the repository.
 """
 
@@ -28,7 +29,9 @@ from compare_planner import FORCED, WEIGHTS
 
 ORDERS = 8
 EMPTY = 39  # bytes of a journal without an entry
-MARK = b"HOSE\1"
+MARK = b"HOSE"
+PLAIN, CHAINED, SEAL = 1, 2, b"\5"
+VALUE = 32  # bytes of a chain value
 MOST_BODY = 3_471
 MOST = {"rate": 1_000_000, "amount": 32_000_000, "id": 4_000_000_000}
 NAME = frozenset(b"abcdefghijklmnopqrstuvwxyz0123456789-")
@@ -64,11 +67,17 @@ def spelled(entry):
     return b"\1" + spelled_name(customer) + counted + spelled_pairs(plan)
 
 
-def journal_of(network, entries):
-    bodies = [spelled(entry) for entry in entries]
-    digest = hashlib.sha256(canonical(network).encode()).digest()
-    records = b"".join(b"\1" + len(body).to_bytes(4, "big") + body for body in bodies)
-    return b"\1" + MARK + digest + records + b"\0"
+def journal_of(network, entries, version, sealed_after=None):
+    """A journal of this version, or one of version 1 with a seal after so many entries."""
+    value = hashlib.sha256(canonical(network).encode()).digest()
+    held, chained = b"\1" + MARK + bytes([version]) + value, version == CHAINED
+    for at, body in enumerate(map(spelled, entries)):
+        if at == sealed_after:
+            held += b"\1" + (1 + VALUE).to_bytes(4, "big") + SEAL + value
+            chained = True
+        value = hashlib.sha256(value + body).digest()
+        held += b"\1" + len(body).to_bytes(4, "big") + (value if chained else b"") + body
+    return held + b"\0"
 
 
 # ---- Reading.
@@ -213,19 +222,26 @@ def judged(network, held):
         return book.audit(), 0
     if held[0] != 1:
         return ["journal damaged at 0"], 5
-    if held[1:6] != MARK:
+    if held[1:5] != MARK or held[5] not in (PLAIN, CHAINED):
         return ["journal damaged at 1"], 5
     digest = hashlib.sha256(canonical(network).encode()).hexdigest()
     if held[6:38].hex() != digest:
         return [f"journal other {held[6:38].hex()} {digest}"], 5
-    gate = 38
+    gate, chained, value = 38, held[5] == CHAINED, held[6:38]
     while held[gate] == 1:
         size = int.from_bytes(held[gate + 1:gate + 5], "big")
-        after = gate + 5 + size
+        begin = gate + 5 + (VALUE if chained else 0)
+        after, body = begin + size, held[begin:begin + size]
         try:
             if size > MOST_BODY or after >= len(held):
                 raise Wrong
-            if not book.enters(entry_of(held[gate + 5:after])):
+            if not chained and body == SEAL + value:
+                chained, gate = True, after
+                continue
+            value = hashlib.sha256(value + body).digest()
+            if chained and held[gate + 5:begin] != value:
+                raise Wrong
+            if not book.enters(entry_of(body)):
                 raise Wrong
         except Wrong:
             return [f"journal damaged at {gate}"], 5
@@ -268,10 +284,12 @@ class Draws:
 
 
 def gates_of(held):
-    gate, gates = 38, []
+    gate, gates, chained = 38, [], held[5] == CHAINED
     while held[gate] == 1:
         gates.append(gate)
-        gate += 5 + int.from_bytes(held[gate + 1:gate + 5], "big")
+        begin = gate + 5 + (VALUE if chained else 0)
+        chained = chained or held[begin:begin + 1] == SEAL
+        gate = begin + int.from_bytes(held[gate + 1:gate + 5], "big")
     return gates + [gate]
 
 
@@ -350,11 +368,13 @@ def kind_of(lines, status):
 
 def compare(program, work, edits, seed):
     network, entries = orders(seed)
-    held = journal_of(network, entries)
+    journals = [journal_of(network, entries, CHAINED), journal_of(network, entries, PLAIN),
+                journal_of(network, entries, PLAIN, ORDERS // 2)]
     topology = os.path.join(work, "topology")
     with open(topology, "w", encoding="ascii") as file:
         file.write(canonical(network))
-    assert judged(network, held)[1] == 0, "the reader refuses the journal that is not forged"
+    right = [judged(network, held) for held in journals]
+    assert right[0][1] == 0 and right[1:] == right[:-1], "the reader refuses what is not forged"
 
     def differs(numbered):
         number, (name, changed) = numbered
@@ -366,23 +386,23 @@ def compare(program, work, edits, seed):
     kinds = Counter()
     with ThreadPoolExecutor(WORKERS) as pool:
         for name, changed, wanted, found in pool.map(
-            differs, enumerate(forged(held, edits, Draws(seed)))
+            differs, enumerate(one for held in journals for one in forged(held, edits, Draws(seed)))
         ):
             if wanted != found:
                 sys.exit(f"forged: {name}\n{changed.hex()}\nexpected: {wanted}\ntold:     {found}")
             kinds[kind_of(*found)] += 1
-    return held, kinds
+    return [len(held) for held in journals], kinds
 
 
 def main():
     program = os.path.abspath(sys.argv[1] if len(sys.argv) > 1 else "./hosed")
     edits, seed = (int(word) for word in (sys.argv[2:] + ["10000", "7"][len(sys.argv[2:]):]))
     with tempfile.TemporaryDirectory() as work:
-        held, kinds = compare(program, work, edits, seed)
+        sizes, kinds = compare(program, work, edits, seed)
     counts = ", ".join(f"{count} {kind}" for kind, count in sorted(kinds.items()))
     total = sum(kinds.values())
-    print(f"forged: {total} journals, {edits} by random edits, of one of {ORDERS} orders")
-    print(f"forged: {counts}; all as the reader says, of {len(held)} bytes before")
+    print(f"forged: {total} journals, {3 * edits} by random edits, of three of {ORDERS} orders")
+    print(f"forged: {counts}; all as the reader says, of {sizes} bytes before")
 
 
 if __name__ == "__main__":

@@ -86,9 +86,12 @@ def pairs(of):
 def image_of(entries):
     """What a journal of these entries begins with; its next gate is not open."""
     digest = hashlib.sha256(TOPOLOGY.encode()).digest()
-    spelled = [entry.spelling() for entry in entries]
-    records = [OPEN + len(body).to_bytes(4, "big") + body for body in spelled]
-    return OPEN + b"HOSE\1" + digest + b"".join(records)
+    image, value = OPEN + b"HOSE\2" + digest, digest
+    for entry in entries:
+        body = entry.spelling()
+        value = hashlib.sha256(value + body).digest()
+        image += OPEN + len(body).to_bytes(4, "big") + value + body
+    return image
 
 
 class Book:

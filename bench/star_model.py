@@ -1,19 +1,21 @@
 """A plain model of a server on a star, whose journal is on a disk that fails where it is told to.
 
 It follows docs/GUIDE.md: a disk that is a text of bytes, of which a failed call changes nothing; a
-journal whose entry counts once its gate is written and synced, and whose entry in doubt is revoked
-before the next one and at the end; replies, and what an audit tells. It knows no plans but those of
-a star, where each endpoint is at the end of a link, and shares no code with the crates.
+journal of version 2, whose entry counts once its gate is written and synced, and whose entry in
+doubt is revoked before the next one and at the end; replies, and what an audit tells. It knows no
+plans but those of a star, where each endpoint is at the end of a link, and shares no code with the
+crates.
 """
 
 from collections import Counter
+from hashlib import sha256
 
 STAR = ("node a", "node b", "node c", "node h", "link a h 10 1", "link b h 10 2", "link c h 10 3",
         "end")
 NAMES, COSTS = "abch", (1, 2, 3)
 # What `sha256sum` gives for the canonical text.
 DIGEST = "24fcb75877abb3e7844a793bdf784d862da4700e66d9e0ec6fbcf8c50249eda4"
-HEAD = bytes.fromhex("484f534501" + DIGEST + "00")  # what follows the first gate
+HEAD = bytes.fromhex("484f534502" + DIGEST + "00")  # what follows the first gate
 EMPTY = b"\1" + HEAD
 
 
@@ -113,15 +115,24 @@ def spelled(entry):
     return b"\1" + name + counted + spelled_pairs(links)
 
 
-def record(entry):
-    """What follows an entry's gate."""
+def chain(entries):
+    """The chain value of these entries."""
+    value = bytes.fromhex(DIGEST)
+    for entry in entries:
+        value = sha256(value + spelled(entry)).digest()
+    return value
+
+
+def record(entries, entry):
+    """What follows the gate of an entry that comes after these."""
     body = spelled(entry)
-    return len(body).to_bytes(4, "big") + body + b"\0"
+    return len(body).to_bytes(4, "big") + chain((*entries, entry)) + body + b"\0"
 
 
 def journal_of(entries):
     """The bytes of a journal that has these entries."""
-    return EMPTY[:-1] + b"".join(b"\1" + record(entry)[:-1] for entry in entries) + b"\0"
+    records = (b"\1" + record(entries[:at], entry)[:-1] for at, entry in enumerate(entries))
+    return EMPTY[:-1] + b"".join(records) + b"\0"
 
 
 # ---- The journal.
@@ -166,7 +177,7 @@ class Journal:
 
     def enter(self, entry):
         self.settle()
-        self.disk.put(self.gate() + 1, record(entry))
+        self.disk.put(self.gate() + 1, record(self.entries, entry))
         # The entry is in doubt as soon as its gate is written.
         self.doubted = self.entries + (entry,)
         self.note(1)

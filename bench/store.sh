@@ -29,9 +29,12 @@ def journal(ends):
     """The journal of so many admissions of acme, each with a rate of 1 at each end."""
     ones = b"".join(number.to_bytes(2, "big") + b"\0\0\0\1" for number in range(ends))
     spelling = b"\1\4acme" + bytes([ends]) + ones + ends.to_bytes(2, "big") + ones
-    record = b"\1" + len(spelling).to_bytes(4, "big") + spelling
-    digest = hashlib.sha256(star(ends).encode()).digest()
-    return b"\1HOSE\1" + digest + VPNS * record + b"\0"
+    value = hashlib.sha256(star(ends).encode()).digest()
+    records = [b"\1HOSE\2" + value]
+    for _ in range(VPNS):
+        value = hashlib.sha256(value + spelling).digest()
+        records.append(b"\1" + len(spelling).to_bytes(4, "big") + value + spelling)
+    return b"".join(records) + b"\0"
 
 
 def least_seconds(words, text):

@@ -1,161 +1,190 @@
 -- What the steps of a settlement and of an append make of the account that a journal stands for.
-use Rattle.std.proofs.Common.{◌≡◌, inl, inr, ⊎_elim, ℕ, ◌+◌, ◌<◌, ◌^◌, List, [], ◌∷◌, ◌++◌, length, Bool, true, false, Option, None, Some, is_some, IfSome, IsTrue, IsFalse, refl, sym, ◌∙◌, ap, subst, arith, length-append}
+use Rattle.std.proofs.Common.{◌≡◌, ◌⊎◌, inl, inr, ⊎_elim, ℕ, ◌+◌, ◌<◌, ◌≤◌, ◌^◌, List, [], ◌∷◌, ◌++◌, length, Bool, true, false, Option, None, Some, is_some, IfSome, IsTrue, IsFalse, refl, sym, ◌∙◌, ap, subst, arith, length-append}
+use Rattle.std.specs.Prelude.{vec_capacity}
 use Rattle.hose_graph.specs.declared.entry.Entry.{Entry}
 use Rattle.hose_graph.specs.declared.limits.TheConstants.{MOST_EPOCH}
-use Rattle.hose_codec.specs.Spelling.{IsEntry}
+use Rattle.hose_codec.specs.Spelling.{IsEntry, spelling}
 use Rattle.hose_disk.specs.declared.disk.Disk.{Ghosts}
 use Rattle.hose_journal.specs.declared.journal.Journal.{Journal}
-use Rattle.hose_journal.specs.declared.layout.TheConstants.{OPEN}
-use Rattle.hose_journal.specs.Entries.{record_of, entries_format, front_of, IsListOf, closed_record}
+use Rattle.hose_journal.specs.declared.layout.TheConstants.{BUFFER_BYTES, CLOSED, OPEN}
+use Rattle.hose_journal.specs.Chain.{chain}
+use Rattle.hose_journal.specs.Entries.{Item, closed_record, entered, entries_format, entries_in, entries_reader, entry_bytes, front_of, item_bytes, record_bytes, IsListOf}
 use Rattle.hose_journal.specs.Gates.{Starts, IsDoubtful}
-use Rattle.hose_journal.specs.Image.{AreItems, IsClosed}
+use Rattle.hose_journal.specs.Image.{IsClosed}
 use Rattle.hose_journal.specs.Journal.{Account, Stands, IsKept, IsListWith, IsAmid, with_doubt, with_entry}
 use Rattle.hose_journal.specs.Moments.{Images, LeavesOnly}
-use Rattle.hose_journal.proofs.Lists.{closed_is_list, doubtful_is_list, opened_is_closed, items_more, front_more, length-front, length-record}
+use Rattle.hose_journal.proofs.Items.{chained_entry, entries_push, length-front, length-item}
+use Rattle.hose_journal.proofs.Lists.{closed_is_list, doubtful_entry, front_more, items_more, opened_is_closed}
 use Rattle.hose_journal.proofs.Runs.{joined, weaker}
-
--- ---- images
-
-module _ (account : Account) (are : AreItems entries_format [] account.entries) where
-  pub amid_closed : (writing : Option Entry) (image : List ℕ) → IsClosed (front_of account.digest account.entries) image → IsAmid account writing image
-  amid_closed writing image closed = inl (closed_is_list entries_format account.digest image account.entries are closed)
-
-  pub amid_writing : (entry : Entry) (image : List ℕ) → IsEntry entry → IsDoubtful (front_of account.digest account.entries) (closed_record entry) image → IsAmid account (Some entry) image
-  amid_writing entry image is doubtful =
-      ⊎_elim (λ list. inl list) (λ more. inr (inr more)) (doubtful_is_list account.digest image account.entries entry are is doubtful)
-
-  pub amid_in_doubt : (entry : Entry) (writing : Option Entry) (image : List ℕ) → account.doubt ≡ Some entry → IsEntry entry → IsDoubtful (front_of account.digest account.entries) (closed_record entry) image → IsAmid account writing image
-  amid_in_doubt entry writing image same is doubtful =
-      ⊎_elim (λ list. inl list) (λ more. inr (inl (subst (λ (doubt : Option Entry). IsListWith account doubt image) (sym same) more)))
-      (doubtful_is_list account.digest image account.entries entry are is doubtful)
-
-amid_more : (account : Account) (entry : Entry) (image : List ℕ) → IsAmid account None image → IsAmid account (Some entry) image
-amid_more account entry image (inl list) = inl list
-amid_more account entry image (inr (inl doubt)) = inr (inl doubt)
-amid_more account entry image (inr (inr none)) = absurd none
 
 module _ {D : Type 0} (disk : Ghosts D) where
   -- ---- what the doubt says
 
-  doubt_by : (digest : List ℕ) (entries : List Entry) (doubt : Option Entry) (flag : Bool) (now : D) → is_some doubt ≡ flag → IsTrue flag → IfSome doubt IsEntry
-      → Images disk now (IsKept (record { digest = digest; entries = entries; doubt = doubt }))
-      → (entry : Entry) × (doubt ≡ Some entry) × IsEntry entry × Images disk now (IsDoubtful (front_of digest entries) (closed_record entry))
-  doubt_by digest entries None flag now some raised is images = absurd (let clash : false ≡ true = some ∙ raised in cc)
-  doubt_by digest entries (Some entry) flag now some raised is images = (entry, refl, is, images)
+  doubt_by : (version : ℕ) (items : List Item) (digest : List ℕ) (entries : List Entry) (doubt : Option Entry) (flag : Bool) (now : D) → is_some doubt ≡ flag → IsTrue flag → IfSome doubt IsEntry
+      → Images disk now (IsKept version items (record { digest = digest; entries = entries; doubt = doubt }))
+      → (entry : Entry) × (doubt ≡ Some entry) × IsEntry entry × Images disk now (IsDoubtful (front_of version digest items) (closed_record version digest items (entered entry)))
+  doubt_by version items digest entries None flag now some raised is images = absurd (let clash : false ≡ true = some ∙ raised in cc)
+  doubt_by version items digest entries (Some entry) flag now some raised is images = (entry, refl, is, images)
 
-  -- the entry in doubt
-  pub in_doubt : (journal : Journal D) (account : Account) → Stands disk journal account → IsTrue journal.doubt
-      → (entry : Entry) × (account.doubt ≡ Some entry) × IsEntry entry × Images disk journal.disk (IsDoubtful (front_of account.digest account.entries) (closed_record entry))
-  in_doubt journal account stands raised = doubt_by account.digest account.entries account.doubt journal.doubt journal.disk stands.doubt raised stands.doubt_is stands.images
+  sure_by : (doubt : Option Entry) (flag : Bool) → is_some doubt ≡ flag → IsFalse flag → doubt ≡ None
+  sure_by None flag some clear = refl
+  sure_by (Some entry) flag some clear = absurd (let clash : true ≡ false = some ∙ clear in cc)
 
-  sure_by : (digest : List ℕ) (entries : List Entry) (doubt : Option Entry) (flag : Bool) → is_some doubt ≡ flag → IsFalse flag → doubt ≡ None
-  sure_by digest entries None flag some clear = refl
-  sure_by digest entries (Some entry) flag some clear = absurd (let clash : true ≡ false = some ∙ clear in cc)
-
-  -- none is in doubt
   pub no_doubt : (journal : Journal D) (account : Account) → Stands disk journal account → IsFalse journal.doubt → Stands disk journal (with_doubt account None)
   no_doubt journal account stands clear =
-      let none = sure_by account.digest account.entries account.doubt journal.doubt stands.doubt clear in
+      let none = sure_by account.doubt journal.doubt stands.doubt clear in
       subst (λ (doubt : Option Entry). Stands disk journal (with_doubt account doubt)) none stands
 
-  -- each image stands for the entries, with that in doubt or without it
-  kept_by : (digest : List ℕ) (entries : List Entry) (doubt : Option Entry) (image : List ℕ) → AreItems entries_format [] entries → IfSome doubt IsEntry
-      → IsKept (record { digest = digest; entries = entries; doubt = doubt }) image → IsAmid (record { digest = digest; entries = entries; doubt = doubt }) None image
-  kept_by digest entries None image are is kept = amid_closed (record { digest = digest; entries = entries; doubt = None }) are None image kept
-  kept_by digest entries (Some entry) image are is kept = amid_in_doubt (record { digest = digest; entries = entries; doubt = Some entry }) are entry None image refl is kept
+  module _ (journal : Journal D) (account : Account) (stands : Stands disk journal account) where
+    abbrev pub here : List ℕ
+    here = front_of stands.version account.digest stands.items
 
-  pub stands_amid : (journal : Journal D) (account : Account) → Stands disk journal account → Images disk journal.disk (IsAmid account None)
-  stands_amid journal account stands image is = kept_by account.digest account.entries account.doubt image stands.are stands.doubt_is (stands.images image is)
+    abbrev pub closed_here : Item → List ℕ
+    closed_here item = closed_record stands.version account.digest stands.items item
 
-  -- ---- what the steps leave
+    pub in_doubt : IsTrue journal.doubt → (entry : Entry) × (account.doubt ≡ Some entry) × IsEntry entry × Images disk journal.disk (IsDoubtful here (closed_here (entered entry)))
+    in_doubt raised = doubt_by stands.version stands.items account.digest account.entries account.doubt journal.doubt journal.disk stands.doubt raised stands.doubt_is stands.images
 
-  pub stands_closed : (journal : Journal D) (account : Account) (now : D) (flag : Bool) → Stands disk journal account → false ≡ flag → Images disk now (IsClosed (front_of account.digest account.entries))
-      → Stands disk (record { disk = now; gate = journal.gate; doubt = flag }) (with_doubt account None)
-  stands_closed journal account now flag stands clear images = record {
-    size = stands.size;
-    are = stands.are;
-    doubt_is = tt;
-    place = stands.place;
-    small = stands.small;
-    doubt = clear;
-    images = images;
-  }
+    -- where none is in doubt
+    pub closed_now : account.doubt ≡ None → Images disk journal.disk (IsClosed here)
+    closed_now none image is = subst (λ (doubt : Option Entry). IsKept stands.version stands.items (with_doubt account doubt) image) none (stands.images image is)
 
-  pub stands_doubtful : (journal : Journal D) (account : Account) (now : D) (entry : Entry) → Stands disk journal account → IsEntry entry → Images disk now (IsDoubtful (front_of account.digest account.entries) (closed_record entry))
-      → Stands disk (record { disk = now; gate = journal.gate; doubt = true }) (with_doubt account (Some entry))
-  stands_doubtful journal account now entry stands is images = record {
-    size = stands.size;
-    are = stands.are;
-    doubt_is = is;
-    place = stands.place;
-    small = stands.small;
-    doubt = refl;
-    images = images;
-  }
+    pub gate_low : length account.entries < MOST_EPOCH + 1 → journal.gate < 2 ^ 60
+    gate_low few = omega (arith, stands.place, few, ap length stands.entries, length-front stands.version account.digest stands.size stands.items stands.are)
 
-  -- the record in doubt stays, whatever its gate is
-  pub stands_kept : (journal : Journal D) (account : Account) (now : D) (entry : Entry) → Stands disk journal account → account.doubt ≡ Some entry → Images disk now (IsDoubtful (front_of account.digest account.entries) (closed_record entry))
-      → Stands disk (record { disk = now; gate = journal.gate; doubt = journal.doubt }) account
-  stands_kept journal account now entry stands same images = record {
-    size = stands.size;
-    are = stands.are;
-    doubt_is = stands.doubt_is;
-    place = stands.place;
-    small = stands.small;
-    doubt = stands.doubt;
-    images = λ image is_image. subst (λ (doubt : Option Entry). IsKept (with_doubt account doubt) image) (sym same) (images image is_image);
-  }
+    pub closed_length : (entry : Entry) → IsEntry entry → length (closed_here (entered entry)) < 2 ^ 60
+    closed_length entry is =
+        omega (arith, length-append (item_bytes stands.version account.digest stands.items (entered entry)) (CLOSED ∷ []), length-item stands.version account.digest stands.size stands.items entry is)
 
-  -- the gate is far below the end of a disk
-  pub gate_low : (journal : Journal D) (account : Account) → Stands disk journal account → length account.entries < MOST_EPOCH → journal.gate < 2 ^ 60
-  gate_low journal account stands few = omega (arith, stands.place, few, length-front account.digest account.entries stands.size stands.are)
+    -- ---- images
 
-  pub length-closed_record : (entry : Entry) → IsEntry entry → length (closed_record entry) < 2 ^ 60
-  length-closed_record entry is = omega (arith, length-append (record_of entry) (0 ∷ []), length-record entry is)
+    pub list_closed : (image : List ℕ) → IsClosed here image → IsListOf account.digest account.entries image
+    list_closed image closed =
+        subst (λ (l : List Entry). IsListOf account.digest l image) stands.entries
+        (closed_is_list entries_reader stands.version account.digest image stands.items stands.is_version stands.are closed)
 
-  pub stands_added : (journal : Journal D) (account : Account) (now : D) (entry : Entry) → Stands disk journal account → IsEntry entry → length account.entries < MOST_EPOCH
-      → Images disk now (Starts (front_of account.digest account.entries ++ OPEN ∷ closed_record entry))
-      → Stands disk (record { disk = now; gate = journal.gate + length (closed_record entry); doubt = false }) (with_entry account entry)
-  stands_added journal account now entry stands is few images = record {
-    size = stands.size;
-    are = items_more entries_format [] account.entries entry stands.are is;
-    doubt_is = tt;
-    place =
-        omega (
-          arith,
-          stands.place,
-          ap length (front_more entries_format account.digest account.entries entry),
-          length-append (front_of account.digest account.entries) (OPEN ∷ record_of entry),
-          length-append (record_of entry) (0 ∷ []),
-        );
-    small = omega (arith, gate_low journal account stands few, length-closed_record entry is);
-    doubt = refl;
-    images = λ image is_image. opened_is_closed account.digest image account.entries entry (images image is_image);
-  }
+    list_doubtful : (entry : Entry) (image : List ℕ) → IsEntry entry → IsDoubtful here (closed_here (entered entry)) image → IsListOf account.digest account.entries image ⊎ IsListOf account.digest (account.entries ++ entry ∷ []) image
+    list_doubtful entry image is doubtful =
+        subst (λ (l : List Entry). IsListOf account.digest l image ⊎ IsListOf account.digest (l ++ entry ∷ []) image) stands.entries
+        (doubtful_entry stands.version account.digest image stands.items stands.is_version stands.are entry is doubtful)
 
-  -- each image after the append is the list with the entry
-  pub opened_lists : (account : Account) (are : AreItems entries_format [] account.entries) (now : D) (entry : Entry) → IsEntry entry → Images disk now (Starts (front_of account.digest account.entries ++ OPEN ∷ closed_record entry))
-      → Images disk now (IsListOf account.digest (account.entries ++ entry ∷ []))
-  opened_lists account are now entry is images image is_image =
-      closed_is_list entries_format account.digest image (account.entries ++ entry ∷ []) (items_more entries_format [] account.entries entry are is) (opened_is_closed account.digest image account.entries entry (images image is_image))
+    pub amid_closed : (writing : Option Entry) (image : List ℕ) → IsClosed here image → IsAmid account writing image
+    amid_closed writing image closed = inl (list_closed image closed)
 
-  -- ---- the moments of an append
+    pub amid_writing : (entry : Entry) (image : List ℕ) → IsEntry entry → IsDoubtful here (closed_here (entered entry)) image → IsAmid account (Some entry) image
+    amid_writing entry image is doubtful = ⊎_elim (λ list. inl list) (λ more. inr (inr more)) (list_doubtful entry image is doubtful)
 
-  module _ (account : Account) (are : AreItems entries_format [] account.entries) where
-    pub revoked : (old now : D) (entry : Entry) → account.doubt ≡ Some entry → IsEntry entry → LeavesOnly disk old now (IsDoubtful (front_of account.digest account.entries) (closed_record entry)) → LeavesOnly disk old now (IsAmid account None)
-    revoked old now entry same is run = weaker disk old now _ (IsAmid account None) (λ image. amid_in_doubt account are entry None image same is) run
+    pub amid_in_doubt : (entry : Entry) (writing : Option Entry) (image : List ℕ) → account.doubt ≡ Some entry → IsEntry entry → IsDoubtful here (closed_here (entered entry)) image → IsAmid account writing image
+    amid_in_doubt entry writing image same is doubtful =
+        ⊎_elim (λ list. inl list) (λ more. inr (inl (subst (λ (doubt : Option Entry). IsListWith account doubt image) (sym same) more))) (list_doubtful entry image is doubtful)
 
-    pub settled_then : (old now : D) (entry : Entry) → LeavesOnly disk old now (IsAmid account None) → LeavesOnly disk old now (IsAmid account (Some entry))
-    settled_then old now entry run = weaker disk old now _ (IsAmid account (Some entry)) (amid_more account entry) run
+    -- each image stands for the entries, with that in doubt or without it
+    kept_amid : (doubt : Option Entry) (image : List ℕ) → account.doubt ≡ doubt → IfSome doubt IsEntry → IsKept stands.version stands.items (with_doubt account doubt) image → IsAmid account None image
+    kept_amid None image same is kept = amid_closed None image kept
+    kept_amid (Some entry) image same is kept = amid_in_doubt entry None image same is kept
 
-    pub staged_then : (old mid now : D) (entry : Entry) → LeavesOnly disk old mid (IsAmid account None) → LeavesOnly disk mid now (IsClosed (front_of account.digest account.entries)) → LeavesOnly disk old now (IsAmid account (Some entry))
-    staged_then old mid now entry first second =
-        joined disk old mid now (IsAmid account (Some entry)) (settled_then old mid entry first)
-        (weaker disk mid now _ (IsAmid account (Some entry)) (amid_closed account are (Some entry)) second)
+    pub stands_amid : Images disk journal.disk (IsAmid account None)
+    stands_amid image is = kept_amid account.doubt image refl stands.doubt_is (stands.images image is)
 
-    pub opened_then : (old mid now : D) (entry : Entry) (bytes : List ℕ) → IsEntry entry → bytes ≡ closed_record entry → LeavesOnly disk old mid (IsAmid account (Some entry))
-        → LeavesOnly disk mid now (IsDoubtful (front_of account.digest account.entries) bytes) → LeavesOnly disk old now (IsAmid account (Some entry))
-    opened_then old mid now entry bytes is same first second =
-        joined disk old mid now (IsAmid account (Some entry)) first
-        (weaker disk mid now _ (IsAmid account (Some entry))
-        (λ image doubtful. amid_writing account are entry image is (subst (λ (l : List ℕ). IsDoubtful (front_of account.digest account.entries) l image) same doubtful)) second)
+    -- where none is in doubt, each stands for the entries
+    pub sure_lists : account.doubt ≡ None → Images disk journal.disk (IsListOf account.digest account.entries)
+    sure_lists none image is = list_closed image (closed_now none image is)
+
+    -- ---- what the steps leave
+
+    -- the journal with another doubt, and nothing else changed
+    pub stands_on : (new : Journal D) (doubt : Option Entry) → new.gate ≡ journal.gate → is_some doubt ≡ new.doubt → new.sealed ≡ journal.sealed → new.chain ≡ journal.chain → BUFFER_BYTES ≤ vec_capacity new.buffer
+        → IfSome doubt IsEntry → Images disk new.disk (IsKept stands.version stands.items (with_doubt account doubt)) → Stands disk new (with_doubt account doubt)
+    stands_on new doubt gate flag as_sealed as_chain room is images = record {
+      version = stands.version;
+      items = stands.items;
+      is_version = stands.is_version;
+      entries = stands.entries;
+      size = stands.size;
+      are = stands.are;
+      doubt_is = is;
+      place = stands.place ∙ sym gate;
+      small = omega (arith, stands.small, gate);
+      doubt = flag;
+      sealed = stands.sealed ∙ sym as_sealed;
+      chain = as_chain ∙ stands.chain;
+      room = room;
+      images = images;
+    }
+
+    -- the record in doubt stays, whatever its gate is
+    pub stands_kept : (new : Journal D) (entry : Entry) → account.doubt ≡ Some entry → new.gate ≡ journal.gate → new.doubt ≡ journal.doubt → new.sealed ≡ journal.sealed → new.chain ≡ journal.chain → BUFFER_BYTES ≤ vec_capacity new.buffer
+        → Images disk new.disk (IsDoubtful here (closed_here (entered entry))) → Stands disk new account
+    stands_kept new entry same gate flag as_sealed as_chain room images =
+        stands_on new account.doubt gate (stands.doubt ∙ sym flag) as_sealed as_chain room stands.doubt_is
+        (λ image is. subst (λ (doubt : Option Entry). IsKept stands.version stands.items (with_doubt account doubt) image) (sym same) (images image is))
+
+    -- the record of an entry is by what the journal knows
+    closed_is : (entry : Entry) → closed_here (entered entry) ≡ entry_bytes journal.sealed account.digest account.entries entry ++ CLOSED ∷ []
+    closed_is entry =
+        ap (λ (b : Bool). entry_bytes b account.digest (entries_in stands.items) entry ++ CLOSED ∷ []) stands.sealed
+        ∙ ap (λ (l : List Entry). entry_bytes journal.sealed account.digest l entry ++ CLOSED ∷ []) stands.entries
+
+    -- bytes that were put together are that record
+    pub written : (flag : Bool) (body value out : List ℕ) (entry : Entry) → out ≡ record_bytes flag value body ++ CLOSED ∷ [] → flag ≡ journal.sealed → body ≡ spelling entry
+        → value ≡ chain account.digest (account.entries ++ entry ∷ []) → out ≡ closed_here (entered entry)
+    written flag body value out entry is is_flag is_body is_value =
+        is
+        ∙ ap (λ (b : Bool). record_bytes b value body ++ CLOSED ∷ []) is_flag
+        ∙ ap (λ (l : List ℕ). record_bytes journal.sealed value l ++ CLOSED ∷ []) is_body
+        ∙ ap (λ (l : List ℕ). record_bytes journal.sealed l (spelling entry) ++ CLOSED ∷ []) is_value
+        ∙ sym (closed_is entry)
+
+    pub stands_added : (new : Journal D) (entry : Entry) → IsEntry entry → length account.entries < MOST_EPOCH → new.gate ≡ journal.gate + length (closed_here (entered entry)) → false ≡ new.doubt → new.sealed ≡ journal.sealed
+        → new.chain ≡ chain account.digest (account.entries ++ entry ∷ []) → BUFFER_BYTES ≤ vec_capacity new.buffer
+        → Images disk new.disk (Starts (here ++ OPEN ∷ closed_here (entered entry))) → Stands disk new (with_entry account entry)
+    stands_added new entry is few gate flag as_sealed is_chain room images =
+        let format = entries_format stands.version account.digest in
+        let bytes = item_bytes stands.version account.digest stands.items (entered entry) in
+        record {
+          version = stands.version;
+          items = stands.items ++ entered entry ∷ [];
+          is_version = stands.is_version;
+          entries = entries_push stands.items entry ∙ ap (λ (l : List Entry). l ++ entry ∷ []) stands.entries;
+          size = stands.size;
+          are = items_more format [] stands.items (entered entry) stands.are is;
+          doubt_is = tt;
+          place = omega (arith, stands.place, gate, ap length (front_more format stands.version account.digest stands.items (entered entry)), length-append here (OPEN ∷ bytes), length-append bytes (CLOSED ∷ []));
+          small = omega (arith, gate, gate_low (omega (arith, few)), closed_length entry is);
+          doubt = flag;
+          sealed = chained_entry stands.version stands.items entry ∙ stands.sealed ∙ sym as_sealed;
+          chain = is_chain;
+          room = room;
+          images = λ image is_image. opened_is_closed format stands.version account.digest image stands.items (entered entry) (images image is_image);
+        }
+
+    pub opened_lists : (now : D) (entry : Entry) → IsEntry entry → Images disk now (Starts (here ++ OPEN ∷ closed_here (entered entry))) → Images disk now (IsListOf account.digest (account.entries ++ entry ∷ []))
+    opened_lists now entry is images image is_image =
+        let format = entries_format stands.version account.digest in
+        subst (λ (l : List Entry). IsListOf account.digest l image) (entries_push stands.items entry ∙ ap (λ (l : List Entry). l ++ entry ∷ []) stands.entries)
+        (closed_is_list entries_reader stands.version account.digest image (stands.items ++ entered entry ∷ []) stands.is_version (items_more format [] stands.items (entered entry) stands.are is)
+        (opened_is_closed format stands.version account.digest image stands.items (entered entry) (images image is_image)))
+
+    -- ---- the moments
+
+    pub revoked : (old now : D) (entry : Entry) → account.doubt ≡ Some entry → IsEntry entry → LeavesOnly disk old now (IsDoubtful here (closed_here (entered entry))) → LeavesOnly disk old now (IsAmid account None)
+    revoked old now entry same is run = weaker disk old now _ (IsAmid account None) (λ image. amid_in_doubt entry None image same is) run
+
+  amid_more : (account : Account) (entry : Entry) (image : List ℕ) → IsAmid account None image → IsAmid account (Some entry) image
+  amid_more account entry image (inl list) = inl list
+  amid_more account entry image (inr (inl doubt)) = inr (inl doubt)
+  amid_more account entry image (inr (inr none)) = absurd none
+
+  -- an image amid the writing of an entry after the doubt was cleared
+  amid_cleared : (account : Account) (entry : Entry) (image : List ℕ) → IsAmid (with_doubt account None) (Some entry) image → IsAmid account (Some entry) image
+  amid_cleared account entry image (inl list) = inl list
+  amid_cleared account entry image (inr (inl none)) = absurd none
+  amid_cleared account entry image (inr (inr more)) = inr (inr more)
+
+  pub settled_then : (account : Account) (old now : D) (entry : Entry) → LeavesOnly disk old now (IsAmid account None) → LeavesOnly disk old now (IsAmid account (Some entry))
+  settled_then account old now entry run = weaker disk old now _ (IsAmid account (Some entry)) (amid_more account entry) run
+
+  pub cleared_then : (account : Account) (old mid now : D) (entry : Entry) (P : List ℕ → Type 0) → ((image : List ℕ) → P image → IsAmid (with_doubt account None) (Some entry) image)
+      → LeavesOnly disk old mid (IsAmid account (Some entry)) → LeavesOnly disk mid now P → LeavesOnly disk old now (IsAmid account (Some entry))
+  cleared_then account old mid now entry P to first second =
+      joined disk old mid now (IsAmid account (Some entry)) first (weaker disk mid now P (IsAmid account (Some entry)) (λ image is. amid_cleared account entry image (to image is)) second)

@@ -1,14 +1,15 @@
 -- What the steps of a beginning leave.
-use Rattle.std.proofs.Common.{◌≡◌, ◌≢◌, inl, inr, ℕ, List, [], length, get_or, refl, sym, ◌∙◌, ap, subst, arith}
-use Rattle.std.proofs.lemmas.Bool.{cases_lt}
-use Rattle.std.proofs.lemmas.List.{take_all, length-take}
+use Rattle.std.proofs.Common.{◌≡◌, ◌≢◌, inl, inr, ℕ, ◌+◌, ◌≤◌, List, [], ◌∷◌, ◌++◌, length, get_or, take, drop, refl, sym, ◌∙◌, ap, subst, arith, length-append, append-nil}
+use Rattle.std.proofs.lemmas.Bool.{cases_eq, cases_lt}
+use Rattle.std.proofs.lemmas.List.{take_all, drop_all, length-take}
 use Rattle.hose_disk.specs.Disk.{Torn, IsCut, IsTaken, StepsTo, NoneNew, Elapses}
+use Rattle.hose_disk.specs.Images.{overwritten}
 use Rattle.hose_disk.specs.declared.disk.Disk.{Ghosts}
-use Rattle.hose_journal.specs.declared.layout.TheConstants.{OPEN, EMPTY_BYTES}
+use Rattle.hose_journal.specs.declared.layout.TheConstants.{OPEN, CLOSED, MARK, CHAINED, DIGEST_BYTES, EMPTY_BYTES, HEAD_BYTES}
 use Rattle.hose_journal.specs.Entries.{IsListOf}
-use Rattle.hose_journal.specs.Image.{IsUnbegun}
-use Rattle.hose_journal.specs.Moments.{Images, IsTornFrom, LeavesOnly}
-use Rattle.hose_journal.proofs.Runs.{started, goes_on, joined}
+use Rattle.hose_journal.specs.Image.{IsUnbegun, head}
+use Rattle.hose_journal.specs.Moments.{Images, IsTornFrom, Lands, LeavesOnly}
+use Rattle.hose_journal.proofs.Runs.{started, goes_on, joined, weaker}
 
 pub unbegun_list : (digest image : List ℕ) → IsUnbegun image → IsListOf digest [] image
 unbegun_list digest image unbegun = inl (unbegun, refl)
@@ -26,6 +27,69 @@ cut_unbegun len was image cut (inr (long, shut)) = elim (cases_lt (length image)
 -- so does a write of one byte on nothing
 pub first_unbegun : (was image : List ℕ) → was ≡ [] → Torn 0 1 was image → IsUnbegun image
 first_unbegun was image same torn = inl (omega (arith, ap length same, torn.no_longer))
+
+-- a write after the first gate, of a head at most
+head_unbegun : (count : ℕ) (was image : List ℕ) → count ≤ HEAD_BYTES → was ≡ CLOSED ∷ [] → Torn 1 count was image → IsUnbegun image
+head_unbegun count was [] few same torn = inl (omega arith)
+head_unbegun count was (gate ∷ image) few same torn = elim (cases_lt (length (gate ∷ image)) EMPTY_BYTES) [
+  | inl short ↦ inl short
+  | inr long ↦
+      let first : gate ≡ CLOSED = ap (λ (l : List ℕ). get_or l 0 0) (torn.front ∙ ap (λ (l : List ℕ). take 1 l) same) in
+      inr (omega (arith, long, torn.no_longer, few, ap length same), λ opened. omega (arith, first, opened))
+]
+
+-- a whole head, after a gate that is open or not
+begun_list : (digest image tail : List ℕ) (gate : ℕ) → length digest ≡ DIGEST_BYTES → tail ≡ (MARK ++ CHAINED ∷ digest) ++ CLOSED ∷ [] → image ≡ gate ∷ tail → IsListOf digest [] image
+begun_list digest image tail gate size tail_is same = elim (cases_eq gate OPEN) [
+  | inl opened ↦ inr (record {
+    version = CHAINED;
+    is_version = inr refl;
+    items = [];
+    view = refl;
+    are = tt;
+    closed = record {
+      gate = CLOSED;
+      rest = [];
+      shut = omega arith;
+      is =
+          same
+          ∙ ap (λ (g : ℕ). g ∷ tail) opened
+          ∙ ap (λ (l : List ℕ). OPEN ∷ l) tail_is
+          ∙ ap (λ (l : List ℕ). l ++ CLOSED ∷ []) (sym (append-nil (head CHAINED digest)));
+    };
+  })
+  | inr shut ↦
+      inl (
+        inr (
+          omega (arith, size, ap length same, ap length tail_is, length-append (MARK ++ CHAINED ∷ digest) (CLOSED ∷ []), length-append MARK (CHAINED ∷ digest)),
+          λ opened. shut (sym (ap (λ (l : List ℕ). get_or l 0 0) same) ∙ opened),
+        ),
+        refl,
+      )
+]
+
+-- the first gate of a head may be written in part
+gate_torn : (tail was image : List ℕ) → was ≡ CLOSED ∷ tail → Torn 0 1 was image → (gate : ℕ) × (image ≡ gate ∷ tail)
+gate_torn tail was [] same torn = absurd (omega (arith, torn.no_shorter, ap length same))
+gate_torn tail was (gate ∷ image) same torn = (gate, ap (λ (l : List ℕ). gate ∷ l) (torn.after ∙ ap (λ (l : List ℕ). drop 1 l) same))
+
+head_landed : (tail was image : List ℕ) → was ≡ CLOSED ∷ [] → image ≡ overwritten 1 tail was → image ≡ CLOSED ∷ tail
+head_landed tail was image same is =
+    is ∙ ap (λ (l : List ℕ). overwritten 1 tail l) same
+    ∙ ap (λ (l : List ℕ). (CLOSED ∷ tail) ++ l) (drop_all (1 + length tail) (CLOSED ∷ []) (omega arith)) ∙ append-nil (CLOSED ∷ tail)
+
+-- a head that is written after its closed gate, and then the gate
+pub head_moments : {D : Type 0} (disk : Ghosts D) (old mid new : D) (digest tail : List ℕ) → length digest ≡ DIGEST_BYTES → tail ≡ (MARK ++ CHAINED ∷ digest) ++ CLOSED ∷ [] → Images disk old (λ image. image ≡ CLOSED ∷ [])
+    → LeavesOnly disk old mid (IsTornFrom disk old 1 (length tail)) → Lands disk old mid 1 tail → LeavesOnly disk mid new (IsTornFrom disk mid 0 1) → LeavesOnly disk old new (IsListOf digest [])
+head_moments disk old mid new digest tail size tail_is closed first lands second =
+    let few : length tail ≤ HEAD_BYTES = omega (arith, size, ap length tail_is, length-append (MARK ++ CHAINED ∷ digest) (CLOSED ∷ []), length-append MARK (CHAINED ∷ digest)) in
+    joined disk old mid new (IsListOf digest [])
+    (weaker disk old mid (IsTornFrom disk old 1 (length tail)) (IsListOf digest []) (λ image (was, is_image, torn). unbegun_list digest image (head_unbegun (length tail) was image few (closed was is_image) torn)) first)
+    (weaker disk mid new (IsTornFrom disk mid 0 1) (IsListOf digest [])
+    (λ image (was, is_image, torn).
+    let from = lands was is_image in
+    let gate = gate_torn tail was image (head_landed tail from.0 was (closed from.0 from.1) from.2) torn in
+    begun_list digest image tail gate.0 size tail_is gate.1) second)
 
 module _ {D : Type 0} (disk : Ghosts D) (old new : D) where
   pub cut_empties : ((image : List ℕ) → disk.may_leave new image → (was : List ℕ) × disk.may_leave old was × IsTaken 0 was image) → Images disk new (λ image. image ≡ [])

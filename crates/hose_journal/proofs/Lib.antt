@@ -1,8 +1,12 @@
 pub mod Accounts
 pub mod Beginnings
+pub mod Chains
 pub mod Gates
+pub mod Items
 pub mod Lists
+pub mod Narrow
 pub mod OneList
+pub mod OneMeaning
 pub mod Openings
 pub mod Parts
 pub mod Pieces

@@ -1,16 +1,16 @@
 -- What is found at the front of a disk, and what an opening makes of it.
-use Rattle.std.proofs.Common.{◌≡◌, ◌≢◌, inl, inr, ℕ, ◌-◌, ◌≤◌, ◌<◌, List, [], ◌∷◌, ◌++◌, length, get_or, take, drop, Option, None, Some, is_some, true, false, IfSome, refl, sym, ◌∙◌, ap, subst, arith, length-append, length-drop, append_assoc, append-nil, take-append-drop}
+use Rattle.std.proofs.Common.{◌≡◌, ◌≢◌, inl, inr, ⊎_elim, ℕ, zero, suc, ◌-◌, ◌≤◌, ◌<◌, List, [], ◌∷◌, ◌++◌, length, get_or, take, drop, Bool, Option, None, Some, is_some, true, false, IfSome, refl, sym, ◌∙◌, ap, subst, arith, length-append, length-drop, append_assoc, append-nil, take-append-drop}
 use Rattle.std.specs.Prelude.{Err}
 use Rattle.std.proofs.lemmas.Bool.{cases_lt}
-use Rattle.std.proofs.lemmas.List.{take_all, length-take, take-append-le}
+use Rattle.std.proofs.lemmas.List.{take_all, drop_more, length-take, take-append-le}
 use Rattle.hose_disk.specs.Disk.{NoneNew, Elapses}
 use Rattle.hose_disk.specs.declared.disk.Disk.{Ghosts}
 use Rattle.hose_journal.specs.declared.fault.JournalFault.{JournalFault}
 use Rattle.hose_journal.specs.declared.fault.JournalFault.TheVariants.{Disk, Other, Damaged, Memory}
-use Rattle.hose_journal.specs.declared.layout.TheConstants.{OPEN, MARK, DIGEST_BYTES, EMPTY_BYTES, HEAD_BYTES, PIECE_BYTES}
+use Rattle.hose_journal.specs.declared.layout.TheConstants.{OPEN, MARK, CHAINED, DIGEST_BYTES, EMPTY_BYTES, HEAD_BYTES, PIECE_BYTES}
 use Rattle.hose_journal.specs.declared.piece.Piece.{Piece}
-use Rattle.hose_journal.specs.Entries.{front_of, IsListOf}
-use Rattle.hose_journal.specs.Image.{IsUnbegun, IsHeadless, IsUnmarked, IsOther, IsClosed, head}
+use Rattle.hose_journal.specs.Entries.{entries_reader, front_of, IsListOf}
+use Rattle.hose_journal.specs.Image.{IsUnbegun, IsVersion, IsHeadless, IsUnmarked, IsOther, IsClosed, head}
 use Rattle.hose_journal.specs.Moments.{Images, LeavesOnly, ReadsItsImages}
 use Rattle.hose_journal.specs.Opening.{HasHead, IsFront, IsHeadOf, IsOpened, IsRefused, KeepsList}
 use Rattle.hose_journal.specs.Reading.{IsOpen, IsReadUpTo, OnlyRead}
@@ -23,16 +23,21 @@ use Rattle.hose_journal.proofs.Runs.{started, goes_on, joined, weaker, now_too}
 pub begun_long : (front : List ℕ) → ¬ IsUnbegun front → EMPTY_BYTES ≤ length front
 begun_long front begun = elim (cases_lt (length front) EMPTY_BYTES) [ inl short ↦ absurd (begun (inl short)) | inr long ↦ omega arith ]
 
--- a head with this digest
-pub head_of : (front kept : List ℕ) → EMPTY_BYTES ≤ length front → get_or front 0 0 ≡ OPEN → take 5 (drop 1 front) ≡ MARK → kept ≡ take DIGEST_BYTES (drop 6 front) → IsHeadOf kept front
-head_of [] kept long first mark is = absurd (omega arith)
-head_of (gate ∷ front) kept long first mark is = record {
-  rest = drop 32 (drop 5 front);
-  some = omega (arith, long, length-drop 32 (drop 5 front), length-drop 5 front);
-  is =
-      (λ i. first i ∷ front)
-      ∙ ap (λ (l : List ℕ). OPEN ∷ l) (sym (take-append-drop 5 front) ∙ ap (λ (l : List ℕ). l ++ drop 5 front) mark ∙ ap (λ (l : List ℕ). MARK ++ l) (sym (take-append-drop 32 (drop 5 front)) ∙ ap (λ (l : List ℕ). l ++ drop 32 (drop 5 front)) (sym is)));
-}
+-- a head with this version and digest
+pub head_of : (front kept : List ℕ) (version : ℕ) → EMPTY_BYTES ≤ length front → get_or front 0 0 ≡ OPEN → take 4 (drop 1 front) ≡ MARK → version ≡ get_or front 5 0 → kept ≡ take DIGEST_BYTES (drop 6 front)
+    → (rest : List ℕ) × (1 ≤ length rest) × (front ≡ head version kept ++ rest)
+head_of [] kept version long first mark at is = absurd (omega arith)
+head_of (gate ∷ front) kept version long first mark at is =
+    let tail = drop 4 front in
+    let after = drop 5 front in
+    let begins : tail ≡ version ∷ after = drop_more front 4 0 (omega (arith, long)) ∙ ap (λ (n : ℕ). n ∷ after) (sym at) in
+    let digest : after ≡ kept ++ drop 32 after = sym (take-append-drop 32 after) ∙ ap (λ (l : List ℕ). l ++ drop 32 after) (sym is) in
+    let rest : front ≡ MARK ++ version ∷ (kept ++ drop 32 after) =
+    sym (take-append-drop 4 front) ∙ ap (λ (l : List ℕ). l ++ tail) mark ∙ ap (λ (l : List ℕ). MARK ++ l) (begins ∙ ap (λ (l : List ℕ). version ∷ l) digest) in (
+      drop 32 after,
+      omega (arith, long, length-drop 32 after, length-drop 5 front),
+      (λ i. first i ∷ front) ∙ ap (λ (l : List ℕ). OPEN ∷ l) rest,
+    )
 
 -- ---- from the front to the whole
 
@@ -56,23 +61,31 @@ headless_more held after is = record {
   shut = subst (λ (first : ℕ). first ≢ OPEN) (sym (first_same held after (omega (arith, is.long)))) is.shut;
 }
 
+nth_same : (held after : List ℕ) (at : ℕ) → at < length held → get_or (held ++ after) at 0 ≡ get_or held at 0
+nth_same [] after at within = absurd (omega (arith, within))
+nth_same (first ∷ held) after zero within = refl
+nth_same (first ∷ held) after (suc at) within = nth_same held after at (omega (arith, within))
+
 unmarked_more : (held after : List ℕ) → IsUnmarked held → IsUnmarked (held ++ after)
 unmarked_more [] after is = absurd (omega (arith, is.long))
 unmarked_more (first ∷ held) after is = record {
   long = omega (arith, is.long, length-append (first ∷ held) after);
   begun = is.begun;
   differs =
-      let le : 5 ≤ length held = omega (arith, is.long) in
-      let same : take 5 (held ++ after) ≡ take 5 held = rw take-append-le refl in
-      subst (λ (l : List ℕ). l ≢ MARK) (sym same) is.differs;
+      let le : 4 ≤ length held = omega (arith, is.long) in
+      let same : take 4 (held ++ after) ≡ take 4 held = rw take-append-le refl in
+      ⊎_elim (λ mark. inl (subst (λ (l : List ℕ). l ≢ MARK) (sym same) mark))
+      (λ none. inr (subst (λ (n : ℕ). ¬ IsVersion n) (sym (nth_same held after 4 (omega (arith, is.long)))) none)) is.differs;
 }
 
 other_more : (digest kept held after : List ℕ) → IsOther digest kept held → IsOther digest kept (held ++ after)
 other_more digest kept held after is = record {
+  version = is.version;
+  is_version = is.is_version;
   rest = is.rest ++ after;
   some = omega (arith, is.some, length-append is.rest after);
   size = is.size;
-  is = ap (λ (l : List ℕ). l ++ after) is.is ∙ append_assoc (head kept) is.rest after;
+  is = ap (λ (l : List ℕ). l ++ after) is.is ∙ append_assoc (head is.version kept) is.rest after;
   differs = is.differs;
 }
 
@@ -119,15 +132,19 @@ module _ {D : Type 0} (disk : Ghosts D) where
 
   -- ---- a journal that was begun
 
-  up_to : (digest : List ℕ) (end : ℕ) (bytes after rest : List ℕ) → length bytes ≡ end → bytes ≡ (head digest ++ rest) ++ after → IsReadUpTo digest [] end bytes
-  up_to digest end bytes after rest long is = record {
+  up_to : (version : ℕ) (digest : List ℕ) (end : ℕ) (bytes after rest : List ℕ) → length bytes ≡ end → bytes ≡ (head version digest ++ rest) ++ after → IsReadUpTo version digest [] end bytes
+  up_to version digest end bytes after rest long is = record {
     long = long;
     rest = rest ++ after;
-    is = is ∙ append_assoc (head digest) rest after ∙ ap (λ (l : List ℕ). l ++ (rest ++ after)) (sym (append-nil (head digest)));
+    is = is ∙ append_assoc (head version digest) rest after ∙ ap (λ (l : List ℕ). l ++ (rest ++ after)) (sym (append-nil (head version digest)));
   }
 
-  pub open_begun : (now : D) (piece : Piece) (end : ℕ) (digest : List ℕ) → length digest ≡ DIGEST_BYTES → ReadsItsImages disk now → IsFront disk now piece end → IsHeadOf digest (held piece) → IsOpen disk now piece end digest
-  open_begun now piece end digest size reads front is_head = record {
+  pub open_begun : (now : D) (piece : Piece) (end : ℕ) (chained : Bool) (digest : List ℕ) → length digest ≡ DIGEST_BYTES → ReadsItsImages disk now → IsFront disk now piece end → IsHeadOf digest (held piece) chained
+      → IsOpen disk now piece (record { end = end; chained = chained }) digest
+  open_begun now piece end chained digest size reads front is_head = record {
+    version = is_head.version;
+    is_version = is_head.is_version;
+    chained = is_head.chained_is;
     size = size;
     within =
         omega (
@@ -135,8 +152,8 @@ module _ {D : Type 0} (disk : Ghosts D) where
           size,
           is_head.some,
           ap length is_head.is,
-          length-append (head digest) is_head.rest,
-          length-append MARK digest,
+          length-append (head is_head.version digest) is_head.rest,
+          length-append MARK (is_head.version ∷ digest),
           length-drop (0 - piece.from) (take piece.len piece.bytes.items),
           length-take piece.len piece.bytes.items,
           front.is_piece.within,
@@ -145,44 +162,47 @@ module _ {D : Type 0} (disk : Ghosts D) where
     is_piece = front.is_piece;
     only = reads;
     told =
-        both (disk.content now) _ _ (IsReadUpTo digest [] end)
-        (λ bytes long is. up_to digest end bytes (drop PIECE_BYTES bytes) is_head.rest long (front_more (held piece) bytes is ∙ ap (λ (l : List ℕ). l ++ drop PIECE_BYTES bytes) is_head.is))
+        both (disk.content now) _ _ (IsReadUpTo is_head.version digest [] end)
+        (λ bytes long is. up_to is_head.version digest end bytes (drop PIECE_BYTES bytes) is_head.rest long (front_more (held piece) bytes is ∙ ap (λ (l : List ℕ). l ++ drop PIECE_BYTES bytes) is_head.is))
         front.told (front_told now piece end front);
   }
 
   -- ---- a journal that begins
 
-  closed_up_to : (digest : List ℕ) (end : ℕ) (bytes : List ℕ) → length bytes ≡ end → IsClosed (front_of digest []) bytes → IsReadUpTo digest [] end bytes
+  closed_up_to : (digest : List ℕ) (end : ℕ) (bytes : List ℕ) → length bytes ≡ end → IsClosed (front_of CHAINED digest []) bytes → IsReadUpTo CHAINED digest [] end bytes
   closed_up_to digest end bytes long closed = record { long = long; rest = closed.gate ∷ closed.rest; is = closed.is }
 
-  pub begun_told : (now : D) (digest : List ℕ) → IfSome (disk.content now) (disk.may_leave now) → Images disk now (IsClosed (front_of digest [])) → IfSome (disk.content now) (IsClosed (front_of digest []))
+  pub begun_told : (now : D) (digest : List ℕ) → IfSome (disk.content now) (disk.may_leave now) → Images disk now (IsClosed (front_of CHAINED digest [])) → IfSome (disk.content now) (IsClosed (front_of CHAINED digest []))
   begun_told now digest is_image closed = each (disk.content now) _ _ closed is_image
 
-  pub open_new : (begun now : D) (piece : Piece) (end : ℕ) (digest : List ℕ) → length digest ≡ DIGEST_BYTES → HEAD_BYTES < end → ReadsItsImages disk begun → OnlyRead disk begun now → IsFront disk now piece end → IfSome (disk.content begun) (IsClosed (front_of digest []))
-      → IsOpen disk now piece end digest
+  pub open_new : (begun now : D) (piece : Piece) (end : ℕ) (digest : List ℕ) → length digest ≡ DIGEST_BYTES → HEAD_BYTES < end → ReadsItsImages disk begun → OnlyRead disk begun now → IsFront disk now piece end → IfSome (disk.content begun) (IsClosed (front_of CHAINED digest []))
+      → IsOpen disk now piece (record { end = end; chained = true }) digest
   open_new begun now piece end digest size within reads only front closed = record {
+    version = CHAINED;
+    is_version = inr refl;
+    chained = refl;
     size = size;
     within = within;
     small = front.small;
     is_piece = front.is_piece;
     only = reads_kept begun now only reads;
-    told = both (disk.content now) _ _ (IsReadUpTo digest [] end) (λ bytes long is. closed_up_to digest end bytes long is) front.told (along _ _ _ only.same closed);
+    told = both (disk.content now) _ _ (IsReadUpTo CHAINED digest [] end) (λ bytes long is. closed_up_to digest end bytes long is) front.told (along _ _ _ only.same closed);
   }
 
-  pub list_new : (old loaded begun now : D) (digest : List ℕ) → disk.content loaded ≡ disk.content old → OnlyRead disk begun now → IfSome (disk.content loaded) IsUnbegun → IfSome (disk.content begun) (IsClosed (front_of digest []))
+  pub list_new : (old loaded begun now : D) (digest : List ℕ) → disk.content loaded ≡ disk.content old → OnlyRead disk begun now → IfSome (disk.content loaded) IsUnbegun → IfSome (disk.content begun) (IsClosed (front_of CHAINED digest []))
       → KeepsList (disk.content old) (disk.content now) digest
   list_new old loaded begun now digest same only unbegun closed =
-      inr (along _ _ _ (sym same) unbegun, along _ _ _ only.same (each (disk.content begun) _ _ (λ bytes is. closed_is_list _ digest bytes [] tt is) closed))
+      inr (along _ _ _ (sym same) unbegun, along _ _ _ only.same (each (disk.content begun) _ _ (λ bytes is. closed_is_list entries_reader CHAINED digest bytes [] (inr refl) tt is) closed))
 
   -- a journal that was begun is not that short
-  short_by : (a b : Option (List ℕ)) (digest : List ℕ) (end : ℕ) (P : List ℕ → Type 0) → length digest ≡ DIGEST_BYTES → end ≤ HEAD_BYTES → is_some b ≡ is_some a → IfSome b (λ bytes. length bytes ≡ end) → IfSome b (IsClosed (front_of digest [])) → IfSome a P
+  short_by : (a b : Option (List ℕ)) (digest : List ℕ) (end : ℕ) (P : List ℕ → Type 0) → length digest ≡ DIGEST_BYTES → end ≤ HEAD_BYTES → is_some b ≡ is_some a → IfSome b (λ bytes. length bytes ≡ end) → IfSome b (IsClosed (front_of CHAINED digest [])) → IfSome a P
   short_by None b digest end P size short tells long closed = tt
   short_by (Some was) None digest end P size short tells long closed = absurd (let clash : false ≡ true = tells in cc)
   short_by (Some was) (Some bytes) digest end P size short tells long closed =
-      absurd (omega (arith, size, short, long, ap length closed.is, length-append (head digest ++ []) (closed.gate ∷ closed.rest), length-append (head digest) [], length-append MARK digest))
+      absurd (omega (arith, size, short, long, ap length closed.is, length-append (head CHAINED digest ++ []) (closed.gate ∷ closed.rest), length-append (head CHAINED digest) [], length-append MARK (CHAINED ∷ digest)))
 
   pub short_new : (old loaded begun now : D) (piece : Piece) (end : ℕ) (digest : List ℕ) (P : List ℕ → Type 0) → length digest ≡ DIGEST_BYTES → end ≤ HEAD_BYTES → disk.content loaded ≡ disk.content old → is_some (disk.content begun) ≡ is_some (disk.content loaded)
-      → OnlyRead disk begun now → IsFront disk now piece end → IfSome (disk.content begun) (IsClosed (front_of digest [])) → IfSome (disk.content old) P
+      → OnlyRead disk begun now → IsFront disk now piece end → IfSome (disk.content begun) (IsClosed (front_of CHAINED digest [])) → IfSome (disk.content old) P
   short_new old loaded begun now piece end digest P size short same tells only front closed =
       short_by (disk.content old) (disk.content now) digest end P size short (ap is_some only.same ∙ tells ∙ ap is_some same) front.told (along _ _ _ only.same closed)
 

@@ -1,78 +1,113 @@
--- The records of entries, in the first version of the format.
-use Rattle.std.specs.Prelude.{◌≡◌, ◌≢◌, ◌⊎◌, ℕ, ◌+◌, ◌≤◌, List, [], ◌∷◌, ◌++◌, length, Option, Some, None, Result, Ok, Err}
+-- The records of entries and of a seal, in both versions of the format.
+use Rattle.std.specs.Prelude.{◌≡◌, ℕ, ◌==◌, ◌||◌, Bool, true, false, List, [], ◌∷◌, ◌++◌, length, ⊤}
+use Rattle.std.specs.List.{list_any}
 use Rattle.byteorder.specs.Endian.{big_bytes}
 use Rattle.hose_graph.specs.declared.entry.Entry.{Entry}
 use Rattle.hose_codec.specs.Spelling.{spelling, IsEntry}
-use Rattle.hose_codec.specs.declared.limits.TheConstants.{MOST_SPELLING}
-use Rattle.hose_codec.specs.declared.fault.CodecFault.{CodecFault}
-use Rattle.hose_codec.specs.declared.fault.CodecFault.TheVariants.{Bad, Memory}
-use Rattle.hose_journal.specs.declared.layout.TheConstants.{OPEN, CLOSED, LENGTH_BYTES}
-use Rattle.hose_journal.specs.Image.{Format, Meaning, listed, StandsFor, BeginsNoRecord, front}
+use Rattle.hose_journal.specs.declared.layout.TheConstants.{CHAINED, CLOSED, LENGTH_BYTES, SEAL, SEAL_BYTES}
+use Rattle.hose_journal.specs.Chain.{chain}
+use Rattle.hose_journal.specs.Image.{Format, Reader, Meaning, StandsFor, front, listed}
 
--- the record of an entry: the length of its spelling, and its spelling
-abbrev pub record_of : Entry → List ℕ
-record_of entry = big_bytes LENGTH_BYTES (length (spelling entry)) ++ spelling entry
+-- ---- what stands in a journal
 
--- a record of an entry says nothing of those before it
-abbrev pub entries_format : Format Entry
-entries_format = record {
-  bytes = λ before entry. record_of entry;
-  MayBe = λ before entry. IsEntry entry;
+-- an entry, or a seal: from a seal on, records have chain values
+pub data Item : Type 0 where
+  entered : Entry → Item
+  sealed : Item
+
+abbrev pub is_seal : Item → Bool
+is_seal (entered entry) = false
+is_seal sealed = true
+
+-- the entries among items
+abbrev pub entries_in : List Item → List Entry
+entries_in [] = []
+entries_in (entered entry ∷ items) = entry ∷ entries_in items
+entries_in (sealed ∷ items) = entries_in items
+
+-- whether a record after these items has a chain value: by a seal among them, or by the version
+abbrev pub is_chained : ℕ → List Item → Bool
+is_chained version items = list_any is_seal items || (version == CHAINED)
+
+-- ---- records
+
+-- what a record has of the chain value: all of it, or nothing
+abbrev pub value_in : Bool → List ℕ → List ℕ
+value_in false value = []
+value_in true value = value
+
+-- the record of a body: its length, the chain value where there is one, and the body
+abbrev pub record_bytes : Bool → List ℕ → List ℕ → List ℕ
+record_bytes chained value body =
+    big_bytes LENGTH_BYTES (length body) ++ (value_in chained value ++ body)
+
+-- The record of an entry after these entries, with or without a chain value. Its body is the
+-- entry's spelling, and its value that of the list with the entry.
+abbrev pub entry_bytes : Bool → List ℕ → List Entry → Entry → List ℕ
+entry_bytes chained digest entries entry =
+    record_bytes chained (chain digest (entries ++ entry ∷ [])) (spelling entry)
+
+-- the record of a seal, by the chain value of the entries before it
+abbrev pub seal_bytes : List ℕ → List ℕ
+seal_bytes value = big_bytes LENGTH_BYTES SEAL_BYTES ++ SEAL ∷ value
+
+abbrev pub item_bytes : ℕ → List ℕ → List Item → Item → List ℕ
+item_bytes version digest before (entered entry) =
+    entry_bytes (is_chained version before) digest (entries_in before) entry
+item_bytes version digest before sealed = seal_bytes (chain digest (entries_in before))
+
+-- an entry with a spelling, or a seal where records have no chain values yet
+abbrev pub MayFollow : ℕ → List Item → Item → Type 0
+MayFollow version before (entered entry) = IsEntry entry
+MayFollow version before sealed = is_chained version before ≡ false
+
+abbrev pub entries_format : ℕ → List ℕ → Format Item
+entries_format version digest = record {
+  bytes = item_bytes version digest;
+  MayBe = MayFollow version;
 }
 
--- what stands before the gate after these entries
-abbrev pub front_of : List ℕ → List Entry → List ℕ
-front_of digest entries = front entries_format digest entries
+-- what stands before the gate after these items
+abbrev pub front_of : ℕ → List ℕ → List Item → List ℕ
+front_of version digest items = front (entries_format version digest) version digest items
+
+-- a record with a closed gate after it
+abbrev pub closed_record : ℕ → List ℕ → List Item → Item → List ℕ
+closed_record version digest before item = item_bytes version digest before item ++ CLOSED ∷ []
+
+-- ---- lists of entries
+
+abbrev pub entries_reader : Reader Item Entry
+entries_reader = record { format = entries_format; view = entries_in }
 
 -- what an image stands for
 abbrev pub Means : List ℕ → List ℕ → Meaning Entry → Type 0
-Means digest image meaning = StandsFor entries_format digest image meaning
+Means digest image meaning = StandsFor entries_reader digest image meaning
 
 -- the image stands for this list of entries
 abbrev pub IsListOf : List ℕ → List Entry → List ℕ → Type 0
 IsListOf digest entries image = Means digest image (listed entries)
 
--- a record with a closed gate after it
-abbrev pub closed_record : Entry → List ℕ
-closed_record entry = record_of entry ++ CLOSED ∷ []
+-- ---- fewer entries
 
--- ---- what stands at a gate
+-- an item that is taken: a seal, or an entry that may follow the entries before it
+abbrev pub IsTaken : (List Entry → Entry → Type 0) → List Item → Item → Type 0
+IsTaken Takes before (entered entry) = Takes (entries_in before) entry
+IsTaken Takes before sealed = ⊤
 
--- a record with this body begins these bytes, and a gate follows it
-pub record HasBody (bytes body : List ℕ) : Type 0 where
-  pub gate : ℕ
-  pub rest : List ℕ
-  pub short : length body ≤ MOST_SPELLING
-  pub is : bytes ≡ big_bytes LENGTH_BYTES (length body) ++ (body ++ gate ∷ rest)
+-- The same records, of which fewer are taken: for a book, the entries that are sound after those
+-- before them.
+abbrev pub narrow_reader : (List Entry → Entry → Type 0) → Reader Item Entry
+narrow_reader Takes = record {
+  format = λ version digest. record {
+    bytes = item_bytes version digest;
+    MayBe = λ before item. MayFollow version before item × IsTaken Takes before item;
+  };
+  view = entries_in;
+}
 
--- the record of no entry begins these bytes, with a gate after it
-abbrev pub HasNoBody : List ℕ → Type 0
-HasNoBody bytes = BeginsNoRecord entries_format [] bytes
-
--- an open gate, the record of an entry, and the next gate this far on
-pub record IsRecord (bytes : List ℕ) (entry : Entry) (distance : ℕ) : Type 0 where
-  pub gate : ℕ
-  pub rest : List ℕ
-  pub is_entry : IsEntry entry
-  pub far : distance ≡ length (record_of entry) + 1
-  pub is : bytes ≡ OPEN ∷ (record_of entry ++ gate ∷ rest)
-
--- a gate that is not open
-pub record IsShut (bytes : List ℕ) : Type 0 where
-  pub gate : ℕ
-  pub rest : List ℕ
-  pub shut : gate ≢ OPEN
-  pub is : bytes ≡ gate ∷ rest
-
--- an open gate with the record of no entry
-pub record IsBad (bytes : List ℕ) : Type 0 where
-  pub rest : List ℕ
-  pub is : bytes ≡ OPEN ∷ rest
-  pub none : BeginsNoRecord entries_format [] rest
-
--- What is read of these bytes. Memory is wanted only for an entry whose record begins them.
-abbrev pub IsPart : List ℕ → Result (Option (Entry × ℕ)) CodecFault → Type 0
-IsPart bytes (Ok (Some part)) = IsRecord bytes part.0 part.1
-IsPart bytes (Ok None) = IsShut bytes
-IsPart bytes (Err Bad) = (bytes ≡ []) ⊎ IsBad bytes
-IsPart bytes (Err Memory) = (entry : Entry) × (distance : ℕ) × IsRecord bytes entry distance
+-- each of these entries is taken after those before it
+abbrev pub AreTaken : (List Entry → Entry → Type 0) → List Entry → List Entry → Type 0
+AreTaken Takes before [] = ⊤
+AreTaken Takes before (entry ∷ entries) =
+    Takes before entry × AreTaken Takes (before ++ entry ∷ []) entries

@@ -1,9 +1,13 @@
--- What an image of a disk stands for: a list of items, the journal of another topology, or damage
--- at a place. The format of the records is a parameter.
+-- What an image of a disk stands for: a list, the journal of another topology, or damage at a
+-- place. The format of the records is a parameter, and so is the list that they say.
 use Rattle.std.specs.Prelude.{◌≡◌, ◌≢◌, ◌⊎◌, ℕ, ◌<◌, ◌≤◌, List, [], ◌∷◌, ◌++◌, length, take, drop, slice_index, ⊤}
-use Rattle.hose_journal.specs.declared.layout.TheConstants.{OPEN, CLOSED, MARK, DIGEST_BYTES, EMPTY_BYTES}
+use Rattle.hose_journal.specs.declared.layout.TheConstants.{OPEN, CLOSED, MARK, VERSION_AT, PLAIN, CHAINED, DIGEST_BYTES, EMPTY_BYTES}
 
 -- ---- the layout
+
+-- the versions that there are
+abbrev pub IsVersion : ℕ → Type 0
+IsVersion version = (version ≡ PLAIN) ⊎ (version ≡ CHAINED)
 
 -- A format of records: the bytes of an item's record, from after its gate up to the next gate, and
 -- which items there may be. Both may depend on the items before it.
@@ -23,17 +27,17 @@ AreItems format before [] = ⊤
 AreItems format before (item ∷ items) =
     format.MayBe before item × AreItems format (before ++ item ∷ []) items
 
--- the head: an open gate, the mark and the digest of the topology
-abbrev pub head : List ℕ → List ℕ
-head digest = OPEN ∷ (MARK ++ digest)
+-- the head: an open gate, the mark, the version and the digest of the topology
+abbrev pub head : ℕ → List ℕ → List ℕ
+head version digest = OPEN ∷ (MARK ++ version ∷ digest)
 
 -- what stands before the gate that follows these items
-abbrev pub front : {X : Type 0} → Format X → List ℕ → List X → List ℕ
-front format digest items = head digest ++ records format [] items
+abbrev pub front : {X : Type 0} → Format X → ℕ → List ℕ → List X → List ℕ
+front format version digest items = head version digest ++ records format [] items
 
 -- the journal of these items
-abbrev pub journal_of : {X : Type 0} → Format X → List ℕ → List X → List ℕ
-journal_of format digest items = front format digest items ++ CLOSED ∷ []
+abbrev pub journal_of : {X : Type 0} → Format X → ℕ → List ℕ → List X → List ℕ
+journal_of format version digest items = front format version digest items ++ CLOSED ∷ []
 
 -- ---- reading an image
 
@@ -54,18 +58,21 @@ pub record IsHeadless (image : List ℕ) : Type 0 where
   pub long : EMPTY_BYTES < length image
   pub shut : slice_index image 0 ≢ OPEN
 
--- Its first gate is open, and another mark follows.
+-- Its first gate is open, and another mark follows, or no version that there is.
 pub record IsUnmarked (image : List ℕ) : Type 0 where
   pub long : EMPTY_BYTES ≤ length image
   pub begun : slice_index image 0 ≡ OPEN
-  pub differs : take (length MARK) (drop 1 image) ≢ MARK
+  pub differs : (take (length MARK) (drop 1 image) ≢ MARK)
+      ⊎ (¬ IsVersion (slice_index image VERSION_AT))
 
 -- a head with another digest
 pub record IsOther (digest kept image : List ℕ) : Type 0 where
+  pub version : ℕ
+  pub is_version : IsVersion version
   pub rest : List ℕ
   pub some : 1 ≤ length rest
   pub size : length kept ≡ DIGEST_BYTES
-  pub is : image ≡ head kept ++ rest
+  pub is : image ≡ head version kept ++ rest
   pub differs : kept ≢ digest
 
 -- A gate that is not open follows this. What stands after it means nothing.
@@ -80,27 +87,40 @@ abbrev pub BeginsNoRecord : {X : Type 0} → Format X → List X → List ℕ �
 BeginsNoRecord {X} format before bytes = (item : X) (gate : ℕ) (rest : List ℕ) →
     format.MayBe before item → bytes ≢ format.bytes before item ++ gate ∷ rest
 
--- an open gate at this place after these items, which begins no whole record
-pub record IsBroken {X : Type 0} (format : Format X) (digest : List ℕ) (place : ℕ)
-    (items : List X) (image : List ℕ) : Type 0 where
-  pub rest : List ℕ
-  pub are : AreItems format [] items
-  pub here : place ≡ length (front format digest items)
-  pub is : image ≡ front format digest items ++ OPEN ∷ rest
-  pub none : BeginsNoRecord format items rest
+-- The records of a head, by its version and digest, and the list that items say to those who call.
+pub record Reader (X Y : Type 0) : Type 1 where
+  pub format : ℕ → List ℕ → Format X
+  pub view : List X → List Y
 
--- These items, each after an open gate, and then a gate that is not open.
-pub record IsListed {X : Type 0} (format : Format X) (digest : List ℕ) (items : List X)
+-- After items that say this list, an open gate at this place, which begins no whole record.
+pub record IsBroken {X Y : Type 0} (reader : Reader X Y) (digest : List ℕ) (place : ℕ)
+    (list : List Y) (image : List ℕ) : Type 0 where
+  pub version : ℕ
+  pub is_version : IsVersion version
+  pub items : List X
+  pub view : reader.view items ≡ list
+  pub rest : List ℕ
+  pub are : AreItems (reader.format version digest) [] items
+  pub here : place ≡ length (front (reader.format version digest) version digest items)
+  pub is : image ≡ front (reader.format version digest) version digest items ++ OPEN ∷ rest
+  pub none : BeginsNoRecord (reader.format version digest) items rest
+
+-- Items that say this list, each after an open gate, and then a gate that is not open.
+pub record IsListed {X Y : Type 0} (reader : Reader X Y) (digest : List ℕ) (list : List Y)
     (image : List ℕ) : Type 0 where
-  pub are : AreItems format [] items
-  pub closed : IsClosed (front format digest items) image
+  pub version : ℕ
+  pub is_version : IsVersion version
+  pub items : List X
+  pub view : reader.view items ≡ list
+  pub are : AreItems (reader.format version digest) [] items
+  pub closed : IsClosed (front (reader.format version digest) version digest items) image
 
 -- What an image stands for under the digest of a topology.
-abbrev pub StandsFor : {X : Type 0} → Format X → List ℕ → List ℕ → Meaning X → Type 0
-StandsFor format digest image (listed items) =
-    (IsUnbegun image × (items ≡ [])) ⊎ IsListed format digest items image
-StandsFor format digest image (other kept) = IsOther digest kept image
-StandsFor {X} format digest image (damaged place) =
+abbrev pub StandsFor : {X Y : Type 0} → Reader X Y → List ℕ → List ℕ → Meaning Y → Type 0
+StandsFor reader digest image (listed list) =
+    (IsUnbegun image × (list ≡ [])) ⊎ IsListed reader digest list image
+StandsFor reader digest image (other kept) = IsOther digest kept image
+StandsFor {X} {Y} reader digest image (damaged place) =
     (IsHeadless image × (place ≡ 0))
     ⊎ ((IsUnmarked image × (place ≡ 1))
-    ⊎ ((items : List X) × IsBroken format digest place items image))
+    ⊎ ((list : List Y) × IsBroken reader digest place list image))

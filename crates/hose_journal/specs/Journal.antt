@@ -1,13 +1,14 @@
 -- What a journal stands for while entries are added to it.
-use Rattle.std.specs.Prelude.{◌≡◌, ◌⊎◌, ℕ, ◌+◌, ◌<◌, ◌^◌, List, [], ◌∷◌, ◌++◌, length, Option, Some, None, IfSome, is_some, MatchOption}
+use Rattle.std.specs.Prelude.{◌≡◌, ◌⊎◌, ℕ, ◌+◌, ◌<◌, ◌≤◌, ◌^◌, List, [], ◌∷◌, ◌++◌, length, Option, Some, None, IfSome, is_some, MatchOption, vec_capacity}
 use Rattle.hose_graph.specs.declared.entry.Entry.{Entry}
-use Rattle.hose_codec.specs.Spelling.{IsEntry}
+use Rattle.hose_codec.specs.Spelling.{IsEntry, spelling}
 use Rattle.hose_disk.specs.declared.disk.Disk.{Ghosts}
-use Rattle.hose_journal.specs.Entries.{entries_format, front_of, IsListOf, closed_record}
+use Rattle.hose_journal.specs.Chain.{chain}
+use Rattle.hose_journal.specs.Entries.{Item, entered, entries_format, entries_in, front_of, is_chained, IsListOf, closed_record}
 use Rattle.hose_journal.specs.Gates.{IsDoubtful}
-use Rattle.hose_journal.specs.Image.{AreItems, IsClosed}
+use Rattle.hose_journal.specs.Image.{AreItems, IsClosed, IsVersion}
 use Rattle.hose_journal.specs.Moments.{Images}
-use Rattle.hose_journal.specs.declared.layout.TheConstants.{DIGEST_BYTES}
+use Rattle.hose_journal.specs.declared.layout.TheConstants.{BUFFER_BYTES, DIGEST_BYTES}
 use Rattle.hose_journal.specs.declared.journal.Journal.{Journal}
 use Rattle.hose_journal.specs.declared.prepared.Ready.{Ready}
 
@@ -27,23 +28,32 @@ abbrev pub with_entry : Account → Entry → Account
 with_entry account entry =
     record account { entries = account.entries ++ entry ∷ []; doubt = None }
 
--- an image that a stop may leave, byte by byte: a closed gate after the entries, or any gate and
+-- an image that a stop may leave, byte by byte: a closed gate after the items, or any gate and
 -- after it the record in doubt
-abbrev pub IsKept : Account → List ℕ → Type 0
-IsKept account image = MatchOption account.doubt
-    (IsClosed (front_of account.digest account.entries) image)
-    (λ entry. IsDoubtful (front_of account.digest account.entries) (closed_record entry) image)
+abbrev pub IsKept : ℕ → List Item → Account → List ℕ → Type 0
+IsKept version items account image = MatchOption account.doubt
+    (IsClosed (front_of version account.digest items) image)
+    (λ entry. IsDoubtful (front_of version account.digest items)
+    (closed_record version account.digest items (entered entry)) image)
 
--- the journal stands for the entries of the account, with that in doubt or without it
+-- The journal stands for the entries of the account, with that in doubt or without it. It is sealed
+-- where the next record has a chain value.
 pub record Stands {D : Type 0} (disk : Ghosts D) (journal : Journal D) (account : Account) :
     Type 0 where
+  pub version : ℕ
+  pub items : List Item
+  pub is_version : IsVersion version
+  pub entries : entries_in items ≡ account.entries
   pub size : length account.digest ≡ DIGEST_BYTES
-  pub are : AreItems entries_format [] account.entries
+  pub are : AreItems (entries_format version account.digest) [] items
   pub doubt_is : IfSome account.doubt IsEntry
-  pub place : length (front_of account.digest account.entries) ≡ journal.gate
+  pub place : length (front_of version account.digest items) ≡ journal.gate
   pub small : journal.gate + 1 < 2 ^ 62
   pub doubt : is_some account.doubt ≡ journal.doubt
-  pub images : Images disk journal.disk (IsKept account)
+  pub sealed : is_chained version items ≡ journal.sealed
+  pub chain : journal.chain ≡ chain account.digest account.entries
+  pub room : BUFFER_BYTES ≤ vec_capacity journal.buffer
+  pub images : Images disk journal.disk (IsKept version items account)
 
 -- the image stands for the entries and one more
 abbrev pub IsListWith : Account → Option Entry → List ℕ → Type 0
@@ -57,7 +67,7 @@ abbrev pub IsAmid : Account → Option Entry → List ℕ → Type 0
 IsAmid account writing image = IsListOf account.digest account.entries image
     ⊎ (IsListWith account account.doubt image ⊎ IsListWith account writing image)
 
--- the bytes that a record puts out are those of this entry
+-- the bytes that are ready are the spelling of this entry
 pub record IsReady (entry : Entry) (ready : Ready) : Type 0 where
   pub is_entry : IsEntry entry
-  pub bytes : ready.bytes.items ≡ closed_record entry
+  pub bytes : ready.bytes.items ≡ spelling entry

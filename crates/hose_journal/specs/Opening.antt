@@ -1,10 +1,10 @@
 -- What the opening of a journal finds, and what it leaves.
-use Rattle.std.specs.Prelude.{◌≡◌, ◌⊎◌, ℕ, ◌<◌, ◌≤◌, ◌^◌, List, [], ◌++◌, length, Option, Result, Ok, Err, IfSome}
+use Rattle.std.specs.Prelude.{◌≡◌, ◌⊎◌, ℕ, ◌<◌, ◌≤◌, ◌^◌, Bool, List, [], ◌++◌, length, Option, Result, Ok, Err, IfSome}
 use Rattle.hose_io.specs.Frame.{Stays}
 use Rattle.hose_disk.specs.Disk.{object_frame}
 use Rattle.hose_disk.specs.declared.disk.Disk.{Ghosts}
-use Rattle.hose_journal.specs.Entries.{IsListOf, Means}
-use Rattle.hose_journal.specs.Image.{IsUnbegun, IsHeadless, IsUnmarked, IsOther, head, other}
+use Rattle.hose_journal.specs.Entries.{IsListOf, Means, is_chained}
+use Rattle.hose_journal.specs.Image.{IsUnbegun, IsVersion, IsHeadless, IsUnmarked, IsOther, head, other}
 use Rattle.hose_journal.specs.Moments.{TellsAsBefore}
 use Rattle.hose_journal.specs.Reading.{IsPiece, HasFailed}
 use Rattle.hose_journal.specs.declared.fault.JournalFault.{JournalFault}
@@ -30,19 +30,23 @@ pub record IsFront {D : Type 0} (disk : Ghosts D) (now : D) (piece : Piece) (end
   pub is_piece : IsPiece (disk.content now) end piece
   pub told : IfSome (disk.content now) (λ bytes. length bytes ≡ end)
 
--- a head of this digest, with a gate after it
-pub record IsHeadOf (digest front : List ℕ) : Type 0 where
+-- a head of this digest, with a gate after it, and whether records have chain values
+pub record IsHeadOf (digest front : List ℕ) (chained : Bool) : Type 0 where
+  pub version : ℕ
+  pub is_version : IsVersion version
+  pub chained_is : is_chained version [] ≡ chained
   pub rest : List ℕ
   pub some : 1 ≤ length rest
-  pub is : front ≡ head digest ++ rest
+  pub is : front ≡ head version digest ++ rest
 
--- No head stands at the front: its first gate is not open, or another mark follows.
+-- No head stands at the front: its first gate is not open, or another mark follows or no version
+-- that there is.
 abbrev pub HasNoHead : List ℕ → ℕ → Type 0
 HasNoHead front at = (IsHeadless front × (at ≡ 0)) ⊎ (IsUnmarked front × (at ≡ 1))
 
 -- what is found at the front of a journal that was begun
-abbrev pub HasHead : List ℕ → List ℕ → Result Unit JournalFault → Type 0
-HasHead front digest (Ok unit) = IsHeadOf digest front
+abbrev pub HasHead : List ℕ → List ℕ → Result Bool JournalFault → Type 0
+HasHead front digest (Ok chained) = IsHeadOf digest front chained
 HasHead front digest (Err (Damaged at)) = HasNoHead front at
 HasHead front digest (Err (Other kept given)) = IsOther digest kept front × (given ≡ digest)
 HasHead front digest (Err Disk) = ⊥

@@ -3,9 +3,10 @@ ghost use Rattle.std.specs.Prelude.{◌≡◌, ◌∷◌, ◌++◌, [], OnOk};
 ghost use Rattle.hose_disk.specs.Disk.{IsCalled};
 ghost use Rattle.hose_journal.specs.Entries.{IsListOf, front_of};
 ghost use Rattle.hose_journal.specs.Image.{IsClosed, IsUnbegun};
+ghost use Rattle.hose_journal.specs.declared.layout.TheConstants.{CHAINED};
 ghost use Rattle.hose_journal.specs.Moments.{Images, LeavesOnly, ReadsItsImages, TellsAsBefore};
 
-use crate::layout::{CLOSED, DIGEST_BYTES, HEAD_BYTES, MARK, OPEN};
+use crate::layout::{CHAINED, CLOSED, DIGEST_BYTES, HEAD_BYTES, MARK, OPEN, VERSION_AT};
 use crate::putting::put;
 use hose_disk::{Disk, Failed};
 
@@ -13,7 +14,8 @@ use hose_disk::{Disk, Failed};
 pub fn begin<D: Disk>(disk: &mut D, digest: &[u8; DIGEST_BYTES]) -> Result<(), Failed>
     requires { Images D.Disk disk.old IsUnbegun }
     ensures any_moment { LeavesOnly D.Disk disk.old disk.new (IsListOf digest.now []) }
-    ensures begun { OnOk result (Images D.Disk disk.new (IsClosed (front_of digest.now []))) }
+    ensures begun { OnOk result
+        (Images D.Disk disk.new (IsClosed (front_of CHAINED digest.now []))) }
     ensures durable { OnOk result (ReadsItsImages D.Disk disk.new) }
     ensures tells { TellsAsBefore D.Disk disk.old disk.new }
     ensures call { IsCalled (D.frame disk.old) (D.frame disk.new) result }
@@ -41,7 +43,8 @@ fn clear<D: Disk>(disk: &mut D) -> Result<(), Failed>
 fn write_head<D: Disk>(disk: &mut D, digest: &[u8; DIGEST_BYTES]) -> Result<(), Failed>
     requires { Images D.Disk disk.old (λ image. image ≡ CLOSED ∷ []) }
     ensures any_moment { LeavesOnly D.Disk disk.old disk.new (IsListOf digest.now []) }
-    ensures begun { OnOk result (Images D.Disk disk.new (IsClosed (front_of digest.now []))) }
+    ensures begun { OnOk result
+        (Images D.Disk disk.new (IsClosed (front_of CHAINED digest.now []))) }
     ensures durable { OnOk result (ReadsItsImages D.Disk disk.new) }
     ensures tells { TellsAsBefore D.Disk disk.old disk.new }
     ensures call { IsCalled (D.frame disk.old) (D.frame disk.new) result }
@@ -54,10 +57,11 @@ fn write_head<D: Disk>(disk: &mut D, digest: &[u8; DIGEST_BYTES]) -> Result<(), 
 
 // The bytes of a journal without an entry, after its first gate.
 fn head_bytes(digest: &[u8; DIGEST_BYTES]) -> [u8; HEAD_BYTES]
-    ensures { result ≡ MARK ++ digest.now ++ CLOSED ∷ [] }
+    ensures { result ≡ (MARK ++ CHAINED ∷ digest.now) ++ CLOSED ∷ [] }
 {
     let mut bytes = [CLOSED; HEAD_BYTES];
     bytes[..MARK.len()].copy_from_slice(&MARK);
-    bytes[MARK.len()..HEAD_BYTES - 1].copy_from_slice(digest);
+    bytes[VERSION_AT - 1] = CHAINED;
+    bytes[VERSION_AT..HEAD_BYTES - 1].copy_from_slice(digest);
     bytes
 }

@@ -2,12 +2,15 @@
 ghost use Rattle.std.specs.Prelude.{◌≡◌, ◌⊎◌, ◌<◌, ◌+◌, ◌∷◌, [], Option, Some, None, false, length, IsFalse, IsTrue, IsOk, OnErr, OnOk};
 ghost use Rattle.hose_graph.specs.declared.entry.Entry.{Entry};
 ghost use Rattle.hose_disk.specs.Disk.{IsCalled};
+ghost use Rattle.hose_journal.specs.Chain.{chain};
 ghost use Rattle.hose_journal.specs.Entries.{IsListOf};
 ghost use Rattle.hose_journal.specs.Journal.{Account, IsAmid, IsReady, Stands, with_doubt, with_entry};
 ghost use Rattle.hose_journal.specs.Moments.{Images, Lands, LeavesOnly, TellsAsBefore};
 ghost use Rattle.hose_journal.specs.declared.layout.TheConstants.{CLOSED};
 
-use crate::layout::{CLOSED, OPEN};
+use crate::chaining::chain_after;
+use crate::filling::fill_record;
+use crate::layout::{CLOSED, DIGEST_BYTES, OPEN};
 use crate::prepared::Ready;
 use crate::steps::{set_gate, stage};
 use hose_disk::{Disk, Failed};
@@ -22,17 +25,36 @@ pub struct Journal<D: Disk> {
     disk: D,
     gate: u64,
     doubt: bool,
+    sealed: bool,
+    chain: [u8; DIGEST_BYTES],
+    buffer: Vec<u8>,
 }
 
 impl<D: Disk> Journal<D> {
     // The journal with its last gate at this place, and no entry in doubt.
-    pub(crate) fn at(disk: D, gate: u64) -> Journal<D>
-        ensures { result ≡ record { disk = disk; gate = gate; doubt = false } }
+    pub(crate) fn at(
+        disk: D,
+        gate: u64,
+        sealed: bool,
+        chain: [u8; DIGEST_BYTES],
+        buffer: Vec<u8>,
+    ) -> Journal<D>
+        ensures { result ≡ record {
+          disk = disk;
+          gate = gate;
+          doubt = false;
+          sealed = sealed;
+          chain = chain;
+          buffer = buffer;
+        } }
     {
         Journal {
             disk,
             gate,
             doubt: false,
+            sealed,
+            chain,
+            buffer,
         }
     }
 
@@ -41,6 +63,22 @@ impl<D: Disk> Journal<D> {
         ensures { result ≡ self.now.doubt }
     {
         self.doubt
+    }
+
+    /// Whether the records that follow have chain values.
+    pub fn sealed(&self) -> bool
+        ensures { result ≡ self.now.sealed }
+    {
+        self.sealed
+    }
+
+    /// The chain value of the entries.
+    pub fn chain(&self) -> [u8; DIGEST_BYTES]
+        ensures is { result ≡ self.now.chain }
+        ensures chain { (account : Account) → Stands D.Disk self.now account →
+            result ≡ chain account.digest account.entries }
+    {
+        self.chain
     }
 
     /// Revokes the entry in doubt. Without one it makes no call on the disk.
@@ -58,6 +96,7 @@ impl<D: Disk> Journal<D> {
             Stands D.Disk self.new account) }
 
         ensures unsure { OnErr result (IsTrue self.old.doubt) }
+        ensures kept { self.new ≡ record self.old { disk = self.new.disk; doubt = self.new.doubt } }
         ensures none { IsFalse self.old.doubt → self.new ≡ self.old }
         ensures tells { TellsAsBefore D.Disk self.old.disk self.new.disk }
         ensures call { IsTrue self.old.doubt →
@@ -70,7 +109,8 @@ impl<D: Disk> Journal<D> {
         Ok(())
     }
 
-    /// Adds an entry, after the one in doubt was revoked.
+    /// Adds an entry, after the one in doubt was revoked. Its record is of the version that the
+    /// journal has, and has a chain value where the journal is sealed.
     pub fn append(&mut self, ready: &Ready) -> Result<(), Failed>
         requires { (account : Account) × (entry : Entry) × Stands D.Disk self.old account
             × IsReady entry ready.now × (length account.entries < MOST_EPOCH) }
@@ -102,11 +142,14 @@ impl<D: Disk> Journal<D> {
         ensures call { IsCalled (D.frame self.old.disk) (D.frame self.new.disk) result }
     {
         self.settle()?;
-        stage(&mut self.disk, self.gate, &ready.bytes)?;
+        let value = chain_after(&self.chain, &ready.bytes);
+        fill_record(&mut self.buffer, self.sealed, &value, &ready.bytes);
+        stage(&mut self.disk, self.gate, &self.buffer)?;
         self.doubt = true;
         set_gate(&mut self.disk, self.gate, OPEN)?;
         self.doubt = false;
-        self.gate += ready.bytes.len() as u64;
+        self.gate += self.buffer.len() as u64;
+        self.chain = value;
         Ok(())
     }
 

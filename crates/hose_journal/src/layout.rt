@@ -1,5 +1,6 @@
 // The layout: a head, and records between gates. A gate is open where it has one value and closed
-// where it has any other.
+// where it has any other. In the first version a record is a length and a body; in the second one a
+// chain value stands between them.
 
 use hose_codec::MOST_SPELLING;
 
@@ -9,11 +10,26 @@ pub const OPEN: u8 = 1;
 /// The value that closes a gate.
 pub const CLOSED: u8 = 0;
 
-/// The letters of the format and its version, after the first gate.
-pub const MARK: [u8; 5] = [72, 79, 83, 69, 1];
+/// The letters of the format, after the first gate.
+pub const MARK: [u8; 4] = [72, 79, 83, 69];
 
-/// The number of bytes of a topology's digest, after the mark.
+/// The place of the version, after the mark.
+pub const VERSION_AT: usize = 5;
+
+/// The version whose records have no chain values, unless a seal stands before them.
+pub const PLAIN: u8 = 1;
+
+/// The version whose records have chain values.
+pub const CHAINED: u8 = 2;
+
+/// The number of bytes of a topology's digest, after the version, and of a chain value.
 pub const DIGEST_BYTES: usize = 32;
+
+/// The first byte of a seal's body. No entry's spelling begins with it.
+pub const SEAL: u8 = 5;
+
+/// The number of bytes of a seal's body: that byte, and a chain value.
+pub const SEAL_BYTES: usize = 1 + DIGEST_BYTES;
 
 /// The number of bytes of the head with the first record's gate: a journal without an entry.
 pub const EMPTY_BYTES: usize = 39;
@@ -24,11 +40,14 @@ pub const HEAD_BYTES: usize = EMPTY_BYTES - 1;
 /// The number of bytes of a record's length.
 pub const LENGTH_BYTES: usize = 4;
 
-/// The greatest number of bytes of a record with the gate before it.
-pub const MOST_RECORD: usize = 1 + LENGTH_BYTES + MOST_SPELLING;
+/// The number of bytes of a seal's record with the gate before it.
+pub const SEAL_RECORD: usize = 1 + LENGTH_BYTES + SEAL_BYTES;
+
+/// The greatest number of bytes of a record with the gate after it.
+pub const BUFFER_BYTES: usize = LENGTH_BYTES + DIGEST_BYTES + MOST_SPELLING + 1;
 
 /// The greatest number of bytes of a record with the gates before and after it.
-pub const MOST_PART: usize = MOST_RECORD + 1;
+pub const MOST_PART: usize = 1 + BUFFER_BYTES;
 
 /// The number of bytes that a reading asks the disk for at once.
 pub const PIECE_BYTES: usize = 65_536;

@@ -5,6 +5,11 @@
 //! A record is readable only after an open gate, and its gate is opened by a write of its own, once
 //! the record is on the disk. So an append makes four calls on the disk, and takes no memory.
 //!
+//! There are two versions. In the second one each record has the chain value of the list with its
+//! entry, so that a byte that decayed is found, and two journals are compared by one value. A
+//! journal of the first version may have a seal, which is no entry and from which on records are of
+//! the second one. A journal is added to in the version that it has.
+//!
 //! ```
 //! let mut reading = open(alloc, disk, digest).map_err(|refused| refused.0)?;
 //! while let Some(entry) = reading.next()? {
@@ -16,7 +21,10 @@
 #![tactic(auto)]
 
 mod beginning;
+mod chaining;
+mod comparing;
 mod fault;
+mod filling;
 mod journal;
 mod laws;
 mod layout;
@@ -31,7 +39,7 @@ mod steps;
 
 pub use fault::JournalFault;
 pub use journal::Journal;
-pub use laws::law_one_list;
+pub use laws::{law_chain, law_one_list};
 pub use opening::open;
 pub use prepared::Ready;
 pub use reading::Reading;

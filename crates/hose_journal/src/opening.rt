@@ -6,12 +6,24 @@ ghost use Rattle.hose_journal.specs.Opening.{HasHead, IsFront, IsOpened, IsRefus
 ghost use Rattle.hose_journal.specs.Reading.{HasFailed, IsOpen, OnlyRead, Reads};
 
 use crate::beginning::begin;
+use crate::comparing::is_same;
 use crate::fault::JournalFault;
-use crate::layout::{DIGEST_BYTES, EMPTY_BYTES, HEAD_BYTES, MARK, OPEN, PIECE_BYTES};
+use crate::layout::{
+    BUFFER_BYTES, CHAINED, DIGEST_BYTES, EMPTY_BYTES, HEAD_BYTES, MARK, OPEN, PIECE_BYTES, PLAIN,
+    VERSION_AT,
+};
 use crate::piece::Piece;
 use crate::reading::Reading;
 use hose_disk::{Disk, Failed};
 use std::alloc::Global;
+
+/// A journal that was begun: the disk's length, and whether its records have chain values from the
+/// first one on.
+#[derive(Clone, Copy)]
+pub struct Begun {
+    pub end: u64,
+    pub chained: bool,
+}
 
 /// Opens the journal on a disk, for the topology of this digest. Where none was begun, it begins
 /// one. Where it is refused the disk comes back.
@@ -39,21 +51,24 @@ pub fn open<D: Disk>(
     let Ok(mut piece) = Piece::new(alloc) else {
         return Err((JournalFault::Memory, disk));
     };
+    let Ok(buffer) = Vec::with_capacity(alloc, BUFFER_BYTES) else {
+        return Err((JournalFault::Memory, disk));
+    };
     match prepare(&mut disk, &mut piece, &digest) {
-        Ok(end) => Ok(Reading::first(alloc, disk, piece, end)),
+        Ok(begun) => Ok(Reading::first(alloc, disk, piece, begun, digest, buffer)),
         Err(fault) => Err((fault, disk)),
     }
 }
 
-// Begins a journal or checks its head, and tells the disk's length.
+// Begins a journal or checks its head, and tells what was begun.
 fn prepare<D: Disk>(
     disk: &mut D,
     piece: &mut Piece,
     digest: &[u8; DIGEST_BYTES],
-) -> Result<u64, JournalFault>
+) -> Result<Begun, JournalFault>
     requires { length piece.old.bytes.items ≡ PIECE_BYTES }
     ensures any_moment { LeavesOnly D.Disk disk.old disk.new (IsOpened D.Disk disk.old digest.now) }
-    ensures open { IfOk result (λ end. IsOpen D.Disk disk.new piece.new end digest.now) }
+    ensures open { IfOk result (λ begun. IsOpen D.Disk disk.new piece.new begun digest.now) }
     ensures list { OnOk result
         (KeepsList (D.content disk.old) (D.content disk.new) digest.now) }
     ensures count { OnOk result (KeepsCount D.Disk disk.old disk.new) }
@@ -64,7 +79,7 @@ fn prepare<D: Disk>(
     let end = load_front(disk, piece)?;
     if !is_unbegun(piece.rest(0)) {
         return match check_head(piece.rest(0), digest) {
-            Ok(()) => Ok(end),
+            Ok(chained) => Ok(Begun { end, chained }),
             Err(fault) => Err(fault),
         };
     }
@@ -73,7 +88,7 @@ fn prepare<D: Disk>(
     if end <= HEAD_BYTES as u64 {
         return Err(JournalFault::Damaged { at: 0 });
     }
-    Ok(end)
+    Ok(Begun { end, chained: true })
 }
 
 // Reads the first piece, and tells the disk's length.
@@ -96,8 +111,8 @@ fn is_unbegun(front: &[u8]) -> bool
     front.len() < EMPTY_BYTES || front.len() == EMPTY_BYTES && front[0] != OPEN
 }
 
-// Whether the head is that of a journal of this topology.
-fn check_head(front: &[u8], digest: &[u8; DIGEST_BYTES]) -> Result<(), JournalFault>
+// Whether the records of a journal of this topology have chain values, by its head.
+fn check_head(front: &[u8], digest: &[u8; DIGEST_BYTES]) -> Result<bool, JournalFault>
     requires { ¬ IsUnbegun front.now }
     ensures { HasHead front.now digest.now result }
 {
@@ -107,20 +122,17 @@ fn check_head(front: &[u8], digest: &[u8; DIGEST_BYTES]) -> Result<(), JournalFa
     if !is_same(&front[1..1 + MARK.len()], &MARK) {
         return Err(JournalFault::Damaged { at: 1 });
     }
+    let version = front[VERSION_AT];
+    if version != PLAIN && version != CHAINED {
+        return Err(JournalFault::Damaged { at: 1 });
+    }
     let mut kept = [0; DIGEST_BYTES];
-    kept.copy_from_slice(&front[1 + MARK.len()..HEAD_BYTES]);
+    kept.copy_from_slice(&front[1 + VERSION_AT..HEAD_BYTES]);
     if !is_same(&kept, digest) {
         return Err(JournalFault::Other {
             kept,
             given: *digest,
         });
     }
-    Ok(())
-}
-
-// Whether these are the same bytes.
-fn is_same(one: &[u8], other: &[u8]) -> bool
-    ensures { IsTrue result ↔ (one.now ≡ other.now) }
-{
-    one == other
+    Ok(version == CHAINED)
 }

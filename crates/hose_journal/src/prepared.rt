@@ -1,6 +1,6 @@
-// An entry as it goes out to the disk.
+// An entry that is ready for the disk.
 
-/// An entry as it goes out to the disk: its record, and the closed gate after it.
+/// An entry that is ready for the disk: its spelling.
 #[derive(Drop)]
 pub struct Ready {
     pub bytes: Vec<u8>,

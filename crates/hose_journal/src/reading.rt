@@ -1,14 +1,18 @@
 // A journal whose entries are read, one after another.
-ghost use Rattle.std.specs.Prelude.{◌≡◌, [], List, ℕ, None, Some, IfSome, IsErr, IsFalse, IsTrue, OnOk};
+ghost use Rattle.std.specs.Prelude.{◌≡◌, ◌≤◌, [], List, ℕ, None, Some, IfSome, IsErr, IsFalse, IsTrue, OnOk, true, vec_capacity};
 ghost use Rattle.hose_graph.specs.declared.entry.Entry.{Entry};
+ghost use Rattle.hose_journal.specs.AtGate.{BeginsSeal};
+ghost use Rattle.hose_journal.specs.Chain.{chain};
 ghost use Rattle.hose_journal.specs.Journal.{Stands};
 ghost use Rattle.hose_journal.specs.Moments.{KeepsCount};
-ghost use Rattle.hose_journal.specs.Reading.{AtGate, HasFailed, HasRead, IsOpen, KeepsFault, OnlyRead, Reaches, Reads};
+ghost use Rattle.hose_journal.specs.Reading.{AtGate, HasFailed, HasRead, IsAtNoSeal, IsOpen, KeepsFault, OnlyRead, Reaches, Reads, held_from};
+ghost use Rattle.hose_journal.specs.declared.layout.TheConstants.{BUFFER_BYTES, HEAD_BYTES};
 
 use crate::fault::JournalFault;
 use crate::journal::Journal;
-use crate::layout::HEAD_BYTES;
-use crate::part::part;
+use crate::layout::{DIGEST_BYTES, HEAD_BYTES, SEAL_RECORD};
+use crate::opening::Begun;
+use crate::part::{Found, begins_seal, part};
 use crate::piece::Piece;
 use hose_codec::CodecFault;
 use hose_disk::{Disk, Failed};
@@ -25,14 +29,25 @@ pub struct Reading<D: Disk> {
     gate: u64,
     last: u64,
     closed: bool,
+    sealed: bool,
+    chain: [u8; DIGEST_BYTES],
+    buffer: Vec<u8>,
     fault: Option<JournalFault>,
 }
 
 impl<D: Disk> Reading<D> {
-    // The reading at the gate after the head, of a disk of this length.
-    pub(crate) fn first(alloc: Global, disk: D, piece: Piece, end: u64) -> Reading<D>
-        ensures opened { (digest : List ℕ) → IsOpen D.Disk disk piece end digest →
-            Reads D.Disk result digest [] }
+    // The reading at the gate after the head of a journal that was begun. The buffer is for the
+    // records of the journal that it becomes.
+    pub(crate) fn first(
+        alloc: Global,
+        disk: D,
+        piece: Piece,
+        begun: Begun,
+        digest: [u8; DIGEST_BYTES],
+        buffer: Vec<u8>,
+    ) -> Reading<D>
+        requires { BUFFER_BYTES ≤ vec_capacity buffer }
+        ensures opened { IsOpen D.Disk disk piece begun digest → Reads D.Disk result digest [] }
         ensures disk { result.disk ≡ disk }
         ensures fault { result.fault ≡ None }
         ensures last { result.last ≡ HEAD_BYTES }
@@ -41,10 +56,13 @@ impl<D: Disk> Reading<D> {
             alloc,
             disk,
             piece,
-            end,
+            end: begun.end,
             gate: HEAD_BYTES as u64,
             last: HEAD_BYTES as u64,
             closed: false,
+            sealed: begun.chained,
+            chain: digest,
+            buffer,
             fault: None,
         }
     }
@@ -85,6 +103,15 @@ impl<D: Disk> Reading<D> {
         self.last
     }
 
+    /// The chain value of the entries that it has given.
+    pub fn chain(&self) -> [u8; DIGEST_BYTES]
+        ensures is { result ≡ self.now.chain }
+        ensures chain { (digest : List ℕ) → (entries : List Entry) →
+            Reads D.Disk self.now digest entries → result ≡ chain digest entries }
+    {
+        self.chain
+    }
+
     /// The journal after its last entry.
     pub fn finish(self) -> Journal<D>
         requires { (digest : List ℕ) × (entries : List Entry)
@@ -95,7 +122,7 @@ impl<D: Disk> Reading<D> {
             (record { digest = digest; entries = entries; doubt = None }) }
         ensures disk { result.disk ≡ self.disk }
     {
-        Journal::at(self.disk, self.gate)
+        Journal::at(self.disk, self.gate, self.sealed, self.chain, self.buffer)
     }
 
     /// Ends the reading, and hands back the disk.
@@ -120,11 +147,17 @@ impl<D: Disk> Reading<D> {
             self.last = self.gate;
             return Ok(None);
         }
-        self.fill()?;
+        self.approach()?;
         match self.here() {
-            Ok(Some((entry, distance))) => {
+            Ok(Some(found)) => {
+                let Found {
+                    entry,
+                    value,
+                    distance,
+                } = found;
                 self.last = self.gate;
                 self.gate += distance as u64;
+                self.chain = value;
                 Ok(Some(entry))
             }
             Ok(None) => {
@@ -141,14 +174,75 @@ impl<D: Disk> Reading<D> {
     }
 
     // What stands at the gate, in the piece that was read.
-    fn here(&self) -> Result<Option<(Entry, usize)>, CodecFault>
+    fn here(&self) -> Result<Option<Found>, CodecFault>
         requires { (digest : List ℕ) × (entries : List Entry) × Reads D.Disk self.now digest entries
-            × Reaches self.now.piece self.now.gate }
+            × Reaches self.now.piece self.now.gate × IsAtNoSeal self.now }
         ensures { (digest : List ℕ) → (entries : List Entry) →
             Reads D.Disk self.now digest entries → Reaches self.now.piece self.now.gate →
-            AtGate D.Disk self.now digest entries result }
+            IsAtNoSeal self.now → AtGate D.Disk self.now digest entries result }
     {
-        part(self.alloc, self.piece.rest(self.gate))
+        part(
+            self.alloc,
+            self.piece.rest(self.gate),
+            self.sealed,
+            &self.chain,
+        )
+    }
+
+    // Goes to the gate of the next entry, past a seal, and reads as far as a record may reach.
+    fn approach(&mut self) -> Result<(), Failed>
+        requires reads { (digest : List ℕ) × (entries : List Entry)
+            × Reads D.Disk self.old digest entries }
+        requires going { IsFalse self.old.closed }
+        ensures approached { OnOk result ((digest : List ℕ) → (entries : List Entry) →
+            Reads D.Disk self.old digest entries → Reads D.Disk self.new digest entries) }
+        ensures reaches { OnOk result (Reaches self.new.piece self.new.gate) }
+        ensures past { OnOk result (IsAtNoSeal self.new) }
+        ensures kept { self.new ≡ record self.old {
+          disk = self.new.disk;
+          piece = self.new.piece;
+          gate = self.new.gate;
+          sealed = self.new.sealed;
+        } }
+        ensures only { OnlyRead D.Disk self.old.disk self.new.disk }
+        ensures count { OnOk result (KeepsCount D.Disk self.old.disk self.new.disk) }
+        ensures failed { IsErr result → HasFailed D.Disk self.old.disk self.new.disk }
+    {
+        self.fill()?;
+        if self.is_at_seal() {
+            self.pass_seal();
+            return self.fill();
+        }
+        Ok(())
+    }
+
+    // Whether a seal stands at the gate, where one may.
+    fn is_at_seal(&self) -> bool
+        requires { (digest : List ℕ) × (entries : List Entry) × Reads D.Disk self.now digest entries
+            × Reaches self.now.piece self.now.gate }
+        ensures seal { IsTrue result → IsFalse self.now.sealed
+            × BeginsSeal self.now.chain (held_from self.now.piece self.now.gate) }
+        ensures none { IsFalse result → IsAtNoSeal self.now }
+    {
+        if self.sealed {
+            return false;
+        }
+        begins_seal(self.piece.rest(self.gate), &self.chain)
+    }
+
+    // Goes past the seal at the gate.
+    fn pass_seal(&mut self)
+        requires { (digest : List ℕ) × (entries : List Entry)
+            × Reads D.Disk self.old digest entries }
+        ensures passed { (digest : List ℕ) → (entries : List Entry) →
+            Reads D.Disk self.old digest entries → Reaches self.old.piece self.old.gate →
+            IsFalse self.old.closed → IsFalse self.old.sealed →
+            BeginsSeal self.old.chain (held_from self.old.piece self.old.gate) →
+            Reads D.Disk self.new digest entries }
+        ensures kept { self.new ≡ record self.old { gate = self.new.gate; sealed = true } }
+    {
+        self.gate += SEAL_RECORD as u64;
+        self.sealed = true;
     }
 
     // Reads the next piece where this one does not reach as far as a record may.

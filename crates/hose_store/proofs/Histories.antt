@@ -1,5 +1,5 @@
 -- Histories as lists of a journal, and the images that stand for them.
-use Rattle.std.proofs.Common.{◌≡◌, inl, inr, ℕ, ◌+◌, ◌<◌, List, [], ◌∷◌, ◌++◌, length, Option, Some, None, refl, sym, ap, subst, arith}
+use Rattle.std.proofs.Common.{◌≡◌, inl, inr, ℕ, ◌+◌, ◌<◌, List, [], ◌∷◌, ◌++◌, length, Option, Some, None, sym, ap, subst, arith, append-nil, append_assoc}
 use Rattle.sha2.specs.Sha256.{sha256}
 use Rattle.hose_graph.specs.Network.{Network}
 use Rattle.hose_graph.specs.declared.entry.Entry.{Entry}
@@ -9,11 +9,10 @@ use Rattle.hose_law.specs.History.{book_of, book_after, opening_book, next_book,
 use Rattle.hose_law.proofs.LiveIds.{next_epoch}
 use Rattle.hose_law.proofs.Scripts.{book_after_push, sound_push}
 use Rattle.hose_topo.specs.Canonical.{canonical_text}
-use Rattle.hose_journal.specs.declared.layout.TheConstants.{OPEN}
-use Rattle.hose_journal.specs.Entries.{record_of, entries_format, front_of, IsListOf}
-use Rattle.hose_journal.specs.Image.{AreItems, records, head, front, IsClosed}
+use Rattle.hose_journal.specs.Entries.{AreTaken, IsListOf}
 use Rattle.hose_journal.specs.Journal.{IsListWith, IsAmid as IsListAmid}
-use Rattle.hose_store.specs.Recovery.{digest_of, sound_format, IsHistoryOf}
+use Rattle.hose_journal.proofs.Narrow.{narrowed, widened}
+use Rattle.hose_store.specs.Recovery.{digest_of, IsHistoryOf, IsSoundAfter}
 use Rattle.hose_store.specs.Store.{account_of, IsAmid, IsHistoryWith}
 
 -- the digest of a network
@@ -45,52 +44,38 @@ few_entries network book history entry same sound =
 pub sound_with : (network : Network) (history : List Entry) (entry : Entry) → IsSound network 0 history → IsSoundAt network (book_of 0 history) entry → IsSound network 0 (history ++ entry ∷ [])
 sound_with network history entry sound at = sound_push network (opening_book 0) history entry sound at
 
--- ---- records
+-- ---- entries that are sound one after another
 
-records_same : (network : Network) (before other items : List Entry) → records (sound_format network) before items ≡ records entries_format other items
-records_same network before other [] = refl
-records_same network before other (item ∷ items) = ap (λ (l : List ℕ). OPEN ∷ (record_of item ++ l)) (records_same network (before ++ item ∷ []) (other ++ item ∷ []) items)
-
--- what stands before a gate is the same in both formats
-pub front_same : (network : Network) (digest : List ℕ) (items : List Entry) → front (sound_format network) digest items ≡ front_of digest items
-front_same network digest items = ap (λ (l : List ℕ). head digest ++ l) (records_same network [] [] items)
-
-items_sound : (network : Network) (before other items : List Entry) → AreItems entries_format other items → IsSoundFrom network (book_of 0 before) items → AreItems (sound_format network) before items
-items_sound network before other [] are sound = tt
-items_sound network before other (item ∷ items) are sound =
+pub taken_sound : (network : Network) (before items : List Entry) → IsSoundFrom network (book_of 0 before) items → AreTaken (IsSoundAfter network) before items
+taken_sound network before [] sound = tt
+taken_sound network before (item ∷ items) sound =
     let next = subst (λ (book : Book). IsSoundFrom network book items) (sym (book_after_push (opening_book 0) before item)) sound.1 in
-    ((are.0, sound.0), items_sound network (before ++ item ∷ []) (other ++ item ∷ []) items are.1 next)
+    (sound.0, taken_sound network (before ++ item ∷ []) items next)
 
-sound_from_items : (network : Network) (before items : List Entry) → AreItems (sound_format network) before items → IsSoundFrom network (book_of 0 before) items
-sound_from_items network before [] are = tt
-sound_from_items network before (item ∷ items) are =
-    let next = sound_from_items network (before ++ item ∷ []) items are.1 in
-    (are.0.1, subst (λ (book : Book). IsSoundFrom network book items) (book_after_push (opening_book 0) before item) next)
+sound_taken : (network : Network) (before items : List Entry) → AreTaken (IsSoundAfter network) before items → IsSoundFrom network (book_of 0 before) items
+sound_taken network before [] taken = tt
+sound_taken network before (item ∷ items) taken =
+    let next = sound_taken network (before ++ item ∷ []) items taken.1 in
+    (taken.0, subst (λ (book : Book). IsSoundFrom network book items) (book_after_push (opening_book 0) before item) next)
 
--- entries that are sound one after another are a sound history
-pub sound_items : (network : Network) (items : List Entry) → AreItems (sound_format network) [] items → IsSound network 0 items
-sound_items network items are = sound_from_items network [] items are
+-- they are a sound history
+pub sound_items : (network : Network) (items : List Entry) → AreTaken (IsSoundAfter network) [] items → IsSound network 0 items
+sound_items network items taken = sound_taken network [] items taken
+
+-- and one more
+pub taken_more : (network : Network) (before items : List Entry) (item : Entry) → AreTaken (IsSoundAfter network) before items → IsSoundAt network (book_of 0 (before ++ items)) item → AreTaken (IsSoundAfter network) before (items ++ item ∷ [])
+taken_more network before [] item taken at = (subst (λ (l : List Entry). IsSoundAt network (book_of 0 l) item) (append-nil before) at, tt)
+taken_more network before (first ∷ items) item taken at =
+    (taken.0, taken_more network (before ++ first ∷ []) items item taken.1 (subst (λ (l : List Entry). IsSoundAt network (book_of 0 l) item) (sym (append_assoc before (first ∷ []) items)) at))
 
 -- ---- images
 
 -- an image that stands for a list stands for the history, where that is sound
 pub history_of_list : (network : Network) (history : List Entry) (image : List ℕ) → IsSound network 0 history → IsListOf (digest_of network) history image → IsHistoryOf network history image
-history_of_list network history image sound (inl unbegun) = inl unbegun
-history_of_list network history image sound (inr is) = inr (record {
-  are = items_sound network [] [] history is.are sound;
-  closed = subst (λ (l : List ℕ). IsClosed l image) (sym (front_same network (digest_of network) history)) is.closed;
-})
-
-entries_from_items : (network : Network) (before other items : List Entry) → AreItems (sound_format network) before items → AreItems entries_format other items
-entries_from_items network before other [] are = tt
-entries_from_items network before other (item ∷ items) are = (are.0.0, entries_from_items network (before ++ item ∷ []) (other ++ item ∷ []) items are.1)
+history_of_list network history image sound list = narrowed (IsSoundAfter network) (digest_of network) history image (taken_sound network [] history sound) list
 
 pub list_of_history : (network : Network) (history : List Entry) (image : List ℕ) → IsHistoryOf network history image → IsListOf (digest_of network) history image
-list_of_history network history image (inl unbegun) = inl unbegun
-list_of_history network history image (inr is) = inr (record {
-  are = entries_from_items network [] [] history is.are;
-  closed = subst (λ (l : List ℕ). IsClosed l image) (front_same network (digest_of network) history) is.closed;
-})
+list_of_history network history image is = widened (IsSoundAfter network) (digest_of network) history image is
 
 history_with : (network : Network) (history : List Entry) (doubt one : Option Entry) (image : List ℕ) → IsSound network 0 history → IsSoundWith network (book_of 0 history) one → IsListWith (account_of network history doubt) one image → IsHistoryWith network history one image
 history_with network history doubt None image sound at none = none

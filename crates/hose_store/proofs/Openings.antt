@@ -1,9 +1,9 @@
 -- What an opening makes of the images of a disk, and of what it holds.
-use Rattle.std.proofs.Common.{◌≡◌, inl, inr, ⊎_elim, ℕ, ◌≤◌, List, [], length, get_or, take, drop, false, Option, None, Some, IfSome, IsTrue, is_some, refl, sym, ap, ◌∙◌, subst, arith, length-append}
+use Rattle.std.proofs.Common.{◌≡◌, inl, inr, ⊎_elim, ℕ, ◌≤◌, List, [], length, get_or, false, Option, None, Some, IfSome, IsTrue, is_some, refl, sym, ap, ◌∙◌, subst, arith, length-append}
 use Rattle.hose_io.proofs.Frames.{Rose-later}
 use Rattle.hose_graph.specs.Network.{Network}
 use Rattle.hose_graph.specs.declared.entry.Entry.{Entry}
-use Rattle.hose_law.specs.History.{opening_book}
+use Rattle.hose_law.specs.History.{opening_book, IsSound}
 use Rattle.hose_book.specs.Ledger.{Ledger}
 use Rattle.hose_disk.specs.Disk.{object_frame}
 use Rattle.hose_disk.specs.declared.disk.Disk.{Ghosts}
@@ -12,23 +12,25 @@ use Rattle.hose_journal.specs.declared.fault.JournalFault.{JournalFault}
 use Rattle.hose_journal.specs.declared.fault.JournalFault.TheVariants as journal
 use Rattle.hose_journal.specs.declared.journal.Journal.{Journal}
 use Rattle.hose_journal.specs.declared.reading.Reading.{Reading}
-use Rattle.hose_journal.specs.Entries.{entries_format, front_of, IsListOf}
-use Rattle.hose_journal.specs.Image.{AreItems, IsClosed, IsOther, IsUnbegun, head, damaged}
+use Rattle.hose_journal.specs.Entries.{IsListOf}
+use Rattle.hose_journal.specs.Image.{IsOther, IsUnbegun, head, damaged, listed}
 use Rattle.hose_journal.specs.Journal.{Stands}
 use Rattle.hose_journal.specs.Moments.{LeavesOnly}
 use Rattle.hose_journal.specs.Opening.{HasNoHead, IsOpened, KeepsDisk, KeepsList, IsRefused as IsRefusedThere}
 use Rattle.hose_journal.specs.Reading.{OnlyRead, Reads}
 use Rattle.hose_journal.proofs.OneList.{one_list}
+use Rattle.hose_journal.proofs.Readings.{read_list}
 use Rattle.hose_journal.proofs.Runs.{started, joined, weaker, now_too}
 use Rattle.hose_store.specs.declared.fault.StoreFault.{StoreFault}
 use Rattle.hose_store.specs.declared.fault.StoreFault.TheVariants as store
 use Rattle.hose_store.specs.Faults.{store_fault}
 use Rattle.hose_store.specs.Opening.{IsAtOpening, IsOpenedOn, IsRecovering, IsRefused, IsStopped, IsUnchanged}
-use Rattle.hose_store.specs.Recovery.{digest_of, sound_format, IsHistoryOf, IsRecoveredAs}
+use Rattle.hose_store.specs.Recovery.{digest_of, IsHistoryOf, IsRecoveredAs}
 use Rattle.hose_store.specs.Store.{HasHistory}
 use Rattle.hose_store.proofs.Commits.{has_history}
-use Rattle.hose_store.proofs.Histories.{amid_none, front_same, history_of_list, sound_items}
-use Rattle.hose_store.proofs.Readings.{not_empty, told_each}
+use Rattle.hose_store.proofs.Histories.{amid_none, history_of_list, sound_items}
+use Rattle.hose_store.proofs.Readings.{told_each}
+use Rattle.hose_store.proofs.OneMeaning.{recovered_once}
 
 -- ---- what was begun
 
@@ -39,16 +41,14 @@ head_begun bytes at (inr (unmarked, one_at)) (inl short) = omega (arith, unmarke
 head_begun bytes at (inr (unmarked, one_at)) (inr (long, shut)) = shut unmarked.begun
 
 pub other_begun : (digest kept bytes : List ℕ) → IsOther digest kept bytes → ¬ IsUnbegun bytes
-other_begun digest kept bytes is (inl short) = omega (arith, short, is.some, is.size, ap length is.is, length-append (head kept) is.rest)
+other_begun digest kept bytes is (inl short) = omega (arith, short, is.some, is.size, ap length is.is, length-append (head is.version kept) is.rest)
 other_begun digest kept bytes is (inr (long, shut)) = shut (ap (λ (l : List ℕ). get_or l 0 0) is.is)
 
 -- what is damaged is no journal without an entry
 pub damaged_not_empty : (top : Network) (bytes : List ℕ) (at : ℕ) → length (digest_of top) ≡ DIGEST_BYTES → IsRecoveredAs top bytes (damaged at) → ¬ IsListOf (digest_of top) [] bytes
-damaged_not_empty top bytes at size (inl (headless, zero_at)) (inl (unbegun, none)) = head_begun bytes 0 (inl (headless, refl)) unbegun
-damaged_not_empty top bytes at size (inl (headless, zero_at)) (inr list) = headless.shut (ap (λ (l : List ℕ). get_or l 0 0) list.closed.is)
-damaged_not_empty top bytes at size (inr (inl (unmarked, one_at))) (inl (unbegun, none)) = head_begun bytes 1 (inr (unmarked, refl)) unbegun
-damaged_not_empty top bytes at size (inr (inl (unmarked, one_at))) (inr list) = unmarked.differs (ap (λ (l : List ℕ). take 5 (drop 1 l)) list.closed.is)
-damaged_not_empty top bytes at size (inr (inr (items, broken))) list = not_empty (sound_format top) (digest_of top) bytes broken.rest items size broken.is list
+damaged_not_empty top bytes at size is list =
+    let same : damaged at ≡ listed [] = recovered_once top bytes (damaged at) (listed []) size is (history_of_list top [] bytes tt list) in
+    absurd cc
 
 none_of : (content : Option (List ℕ)) → is_some content ≡ false → content ≡ None
 none_of None untold = refl
@@ -65,18 +65,15 @@ kept_from (Some was) None digest P tells keeps not p = absurd cc
 kept_from (Some was) (Some now) digest P tells (inl same) not p = subst (λ (content : Option (List ℕ)). IfSome content P) same p
 kept_from (Some was) (Some now) digest P tells (inr (unbegun, list)) not p = absurd (not now p list)
 
-closed_history : (network : Network) (history : List Entry) (bytes : List ℕ) → AreItems (sound_format network) [] history → IsClosed (front_of (digest_of network) history) bytes → IsHistoryOf network history bytes
-closed_history network history bytes sound closed = inr (record { are = sound; closed = subst (λ (l : List ℕ). IsClosed l bytes) (sym (front_same network (digest_of network) history)) closed })
-
 -- the history that was read is that of the disk before its opening
 history_from : (network : Network) (history : List Entry) (was now : Option (List ℕ)) → length (digest_of network) ≡ DIGEST_BYTES → is_some now ≡ is_some was → KeepsList was now (digest_of network)
-    → AreItems (sound_format network) [] history → AreItems entries_format [] history → IfSome now (IsClosed (front_of (digest_of network) history)) → IfSome was (IsHistoryOf network history)
-history_from network history None now size tells keeps sound are closed = tt
-history_from network history (Some was) None size tells keeps sound are closed = absurd cc
-history_from network history (Some was) (Some now) size tells (inl same) sound are closed =
-    subst (λ (content : Option (List ℕ)). IfSome content (IsHistoryOf network history)) same (closed_history network history now sound closed)
-history_from network history (Some was) (Some now) size tells (inr (unbegun, list)) sound are closed =
-    inl (unbegun, one_list (digest_of network) now history [] size (inr (record { are = are; closed = closed })) list)
+    → IsSound network 0 history → IfSome now (IsListOf (digest_of network) history) → IfSome was (IsHistoryOf network history)
+history_from network history None now size tells keeps sound list = tt
+history_from network history (Some was) None size tells keeps sound list = absurd cc
+history_from network history (Some was) (Some now) size tells (inl same) sound list =
+    subst (λ (content : Option (List ℕ)). IfSome content (IsHistoryOf network history)) same (history_of_list network history now sound list)
+history_from network history (Some was) (Some now) size tells (inr (unbegun, empty)) sound list =
+    inl (unbegun, one_list (digest_of network) now history [] size list empty)
 
 module _ {D : Type 0} (disk : Ghosts D) where
   -- ---- moments
@@ -175,12 +172,12 @@ module _ {D : Type 0} (disk : Ghosts D) where
       let network = ledger.network in
       let reads = recovering.reads in
       let has = has_recovered ledger reading journal recovering stands in
-      let told = subst (λ (content : Option (List ℕ)). IfSome content (IsClosed (front_of (digest_of network) recovering.entries))) same (reads.closed closed) in
+      let told = subst (λ (content : Option (List ℕ)). IfSome content (IsListOf (digest_of network) recovering.entries)) same (read_list disk reading (digest_of network) recovering.entries reads closed) in
       record {
         history = recovering.entries;
         network = refl;
         has = has;
-        read = history_from network recovering.entries (disk.content old) (disk.content mid) reads.size tells list recovering.sound reads.are told;
+        read = history_from network recovering.entries (disk.content old) (disk.content mid) reads.size tells list (sound_items network recovering.entries recovering.sound) told;
         images = λ image is. amid_none network recovering.entries image (has.images image is);
       }
 

@@ -5,12 +5,12 @@ use Rattle.hose_graph.specs.declared.entry.Entry.{Entry}
 use Rattle.hose_law.specs.History.{book_of}
 use Rattle.hose_book.specs.Ledger.{Ledger}
 use Rattle.hose_disk.specs.declared.disk.Disk.{Ghosts}
-use Rattle.hose_journal.specs.Entries.{IsListOf}
-use Rattle.hose_journal.specs.Image.{AreItems, other, damaged}
+use Rattle.hose_journal.specs.Entries.{AreTaken, IsListOf}
+use Rattle.hose_journal.specs.Image.{other, damaged}
 use Rattle.hose_journal.specs.Moments.{Images, LeavesOnly}
 use Rattle.hose_journal.specs.Reading.{HasFailed, Reads}
 use Rattle.hose_journal.specs.declared.reading.Reading.{Reading}
-use Rattle.hose_store.specs.Recovery.{digest_of, sound_format, IsHistoryOf, IsRecoveredAs}
+use Rattle.hose_store.specs.Recovery.{digest_of, IsHistoryOf, IsRecoveredAs, IsSoundAfter}
 use Rattle.hose_store.specs.Store.{Kept, HasHistory}
 use Rattle.hose_store.specs.declared.fault.StoreFault.{StoreFault}
 use Rattle.hose_store.specs.declared.fault.StoreFault.TheVariants.{Disk, Other, Damaged, Memory}
@@ -54,7 +54,7 @@ pub record IsRecovering {D : Type 0} (disk : Ghosts D) (ledger : Ledger) (readin
     Type 0 where
   pub entries : List Entry
   pub reads : Reads disk reading (digest_of ledger.network) entries
-  pub sound : AreItems (sound_format ledger.network) [] entries
+  pub sound : AreTaken (IsSoundAfter ledger.network) [] entries
   pub book : ledger.book ≡ book_of 0 entries
   pub fault : reading.fault ≡ None
 

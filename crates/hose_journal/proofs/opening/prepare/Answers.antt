@@ -19,7 +19,8 @@ returns-in-Ok-clause-open g c =
     let size : length c.args.digest.now ≡ DIGEST_BYTES = search rules in
     let synced_reads = only_content disk old synced (g.met.D.Disk.counts_now synced) (g.met.D.Disk.untold synced) c.sync.ensures.same c.in_ok-sync.ensures.durable in
     let reads = reads_kept disk synced loaded c.load_front.ensures.only synced_reads in
-    open_begun disk loaded piece c.in_ok-end.end c.args.digest.now size reads front (subst (IsHeadOf c.args.digest.now) c.rest-then-not-is_unbegun.ensures c.in-Ok.ensures)
+    open_begun disk loaded piece c.in_ok-end.end c.in-Ok.chained c.args.digest.now size reads front
+    (subst (λ (held : List ℕ). IsHeadOf c.args.digest.now held c.in-Ok.chained) c.rest-then-not-is_unbegun.ensures c.in-Ok.ensures)
 
 pub returns-in-Err-clause-refused : goal.returns-in-Err-clause-refused
 returns-in-Err-clause-refused g c =

@@ -1,5 +1,7 @@
 use Rattle.std.proofs.Common.{rules}
 use Rattle.std.proofs.lemmas.Result.{err_from_is_err_and}
+use Rattle.hose_journal.proofs.Readings.{found_none}
+use Rattle.hose_store.specs.Recovery.{digest_of}
 use Rattle.hose_store.proofs.Readings.{next_recovering, stopped_by, stopped_unsound}
 use Rattle.hose_store.proofs.recovery.recover_next.Goals as goal
 
@@ -22,3 +24,8 @@ returns-clause-recovering g c =
     let has = rw c.in-Some.is at read in
     next_recovering g.D.Disk c.args.book.now c.enter.new.book c.args.reading.now c.next.new.self c.requires c.in-Some.entry has (c.in_ok-entry.ensures.fault c.requires.fault)
     (c.enter.ensures.sound (search rules)) c.enter.ensures.network (c.enter.ensures.entered (search rules))
+
+pub returns-in_default-clause-closed : goal.returns-in_default-clause-closed
+returns-in_default-clause-closed g c = λ same.
+    let read = c.in_ok-entry.ensures.read c.requires.fault _ _ c.requires.reads in
+    (found_none g.D.Disk c.args.reading.now c.next.new.self (digest_of c.args.book.now.network) c.requires.entries c.in_ok-entry.field-0 c.in_default.is read).1

@@ -1,8 +1,8 @@
-use Rattle.std.proofs.Common.{false, rules, refl, arith}
-use Rattle.hose_journal.specs.Entries.{front_of, closed_record}
+use Rattle.std.proofs.Common.{◌≢◌, rules, refl, arith, None}
 use Rattle.hose_journal.specs.Gates.{IsDoubtful}
-use Rattle.hose_journal.specs.declared.layout.TheConstants.{CLOSED}
-use Rattle.hose_journal.proofs.Accounts.{in_doubt, revoked, stands_closed, stands_kept}
+use Rattle.hose_journal.specs.Entries.{entered}
+use Rattle.hose_journal.specs.declared.layout.TheConstants.{CLOSED, OPEN}
+use Rattle.hose_journal.proofs.Accounts.{closed_here, here, in_doubt, revoked, stands_on, stands_kept}
 use Rattle.hose_journal.proofs.Gates.{shut_gate}
 use Rattle.hose_journal.proofs.Runs.{now_too, on_err_of}
 use Rattle.hose_journal.proofs.journal.Journal.settle.Goals as goal
@@ -12,32 +12,35 @@ set_gate-requires-clause-staged g c =
     let account = c.requires.0 in
     let stands = c.requires.1 in
     let doubt = in_doubt g.D.Disk c.args.self.now account stands (search rules) in
-    (front_of account.digest account.entries, closed_record doubt.0, stands.place, doubt.3)
+    (here g.D.Disk c.args.self.now account stands, closed_here g.D.Disk c.args.self.now account stands (entered doubt.0), stands.place, doubt.3)
 
 pub returns-in_err-set_gate-clause-any_moment : goal.returns-in_err-set_gate-clause-any_moment
 returns-in_err-set_gate-clause-any_moment g c = λ account stands.
     let doubt = in_doubt g.D.Disk c.args.self.now account stands (search rules) in
-    let run = c.set_gate.ensures.any_moment (front_of account.digest account.entries) (closed_record doubt.0) stands.place doubt.3 in
-    revoked g.D.Disk account stands.are c.args.self.now.disk c.set_gate.new.disk doubt.0 doubt.1 doubt.2 run
+    let run = c.set_gate.ensures.any_moment (here g.D.Disk c.args.self.now account stands) (closed_here g.D.Disk c.args.self.now account stands (entered doubt.0)) stands.place doubt.3 in
+    revoked g.D.Disk c.args.self.now account stands c.args.self.now.disk c.set_gate.new.disk doubt.0 doubt.1 doubt.2 run
 
 pub returns-in_ok-set_gate-clause-any_moment : goal.returns-in_ok-set_gate-clause-any_moment
 returns-in_ok-set_gate-clause-any_moment g c = λ account stands.
     let doubt = in_doubt g.D.Disk c.args.self.now account stands (search rules) in
-    let run = c.set_gate.ensures.any_moment (front_of account.digest account.entries) (closed_record doubt.0) stands.place doubt.3 in
-    revoked g.D.Disk account stands.are c.args.self.now.disk c.set_gate.new.disk doubt.0 doubt.1 doubt.2 run
+    let run = c.set_gate.ensures.any_moment (here g.D.Disk c.args.self.now account stands) (closed_here g.D.Disk c.args.self.now account stands (entered doubt.0)) stands.place doubt.3 in
+    revoked g.D.Disk c.args.self.now account stands c.args.self.now.disk c.set_gate.new.disk doubt.0 doubt.1 doubt.2 run
 
 pub returns-in_err-set_gate-clause-failed : goal.returns-in_err-set_gate-clause-failed
 returns-in_err-set_gate-clause-failed g c = on_err_of c.from_residual.result _ (λ account stands.
     let doubt = in_doubt g.D.Disk c.args.self.now account stands (search rules) in
-    let before = front_of account.digest account.entries in
-    let run = c.set_gate.ensures.any_moment before (closed_record doubt.0) stands.place doubt.3 in
-    stands_kept g.D.Disk c.args.self.now account c.set_gate.new.disk doubt.0 stands doubt.1
-    (now_too g.D.Disk c.args.self.now.disk c.set_gate.new.disk (IsDoubtful before (closed_record doubt.0)) (g.met.D.Disk.counts_now c.set_gate.new.disk) run))
+    let before = here g.D.Disk c.args.self.now account stands in
+    let bytes = closed_here g.D.Disk c.args.self.now account stands (entered doubt.0) in
+    let run = c.set_gate.ensures.any_moment before bytes stands.place doubt.3 in
+    stands_kept g.D.Disk c.args.self.now account stands _ doubt.0 doubt.1 refl refl refl refl stands.room
+    (now_too g.D.Disk c.args.self.now.disk c.set_gate.new.disk (IsDoubtful before bytes) (g.met.D.Disk.counts_now c.set_gate.new.disk) run))
 
 pub returns-in_ok-set_gate-clause-settled : goal.returns-in_ok-set_gate-clause-settled
 returns-in_ok-set_gate-clause-settled g c = λ account stands.
     let doubt = in_doubt g.D.Disk c.args.self.now account stands (search rules) in
-    let before = front_of account.digest account.entries in
-    let set = c.in_ok-set_gate.ensures.set before (closed_record doubt.0) stands.place doubt.3 in
-    stands_closed g.D.Disk c.args.self.now account c.set_gate.new.disk false stands refl
-    (λ image is_image. shut_gate before (closed_record doubt.0) image CLOSED (omega arith) (set image is_image))
+    let before = here g.D.Disk c.args.self.now account stands in
+    let bytes = closed_here g.D.Disk c.args.self.now account stands (entered doubt.0) in
+    let set = c.in_ok-set_gate.ensures.set before bytes stands.place doubt.3 in
+    let shut : CLOSED ≢ OPEN = omega arith in
+    stands_on g.D.Disk c.args.self.now account stands _ None refl refl refl refl stands.room tt
+    (λ image is_image. shut_gate before bytes image CLOSED shut (set image is_image))
