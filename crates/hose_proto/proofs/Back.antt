@@ -56,10 +56,10 @@ module _ {X : Type 0} (passes : X → Bool) (front : List X) (x : X) (rest : Lis
 
 -- ---- the items of words
 
-abbrev is_colon : ℕ → Bool
+abbrev pub is_colon : ℕ → Bool
 is_colon byte = eqb byte 58
 
-no_colon_passes : (bytes : List ℕ) → (¬ Contains bytes 58) → All (λ byte. is_colon byte ≡ false) bytes
+pub no_colon_passes : (bytes : List ℕ) → (¬ Contains bytes 58) → All (λ byte. is_colon byte ≡ false) bytes
 no_colon_passes bytes none = λ k d below. ne_eqb (get_or bytes k d) 58 (λ same. none (k, below, get_or_default bytes k 58 d below ∙ same))
 
 abbrev pub number_spelled : List ℕ → ℕ

@@ -2,6 +2,7 @@ pub mod Adding
 pub mod Back
 pub mod Colons
 pub mod Costs
+pub mod EndWords
 pub mod EndsUntil
 pub mod Faults
 pub mod Hoses

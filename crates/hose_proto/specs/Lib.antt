@@ -1,4 +1,5 @@
 pub mod Command
+pub mod EndWords
 pub mod Places
 pub mod Reading
 pub mod Replies

@@ -8,7 +8,8 @@ ghost use Rattle.hose_graph.specs.Network.{IsNetwork, IsLinkOf};
 ghost use Rattle.hose_proto.specs.Places.{end_word};
 ghost use Rattle.hose_proto.specs.Reading.{IsEndOf};
 
-use hose_graph::{Endpoint, MOST_RATE, Name, Topology};
+use crate::end_words::name_and_rate;
+use hose_graph::{Endpoint, Name, Topology};
 use hose_words::{Cursor, WrongWord, number};
 
 /// The name that the next word is.
@@ -62,18 +63,17 @@ pub(crate) fn link_number(top: &Topology, word: &[u8]) -> Option<u32>
     }
 }
 
-// The endpoint that a word spells.
-pub(crate) fn endpoint(top: &Topology, word: &[u8]) -> Option<Endpoint>
+/// The endpoint that a word spells.
+pub fn endpoint(top: &Topology, word: &[u8]) -> Option<Endpoint>
     requires { IsNetwork top.now }
     ensures spelled { IfSome result (λ end. word.now ≡ end_word top.now end) }
     ensures is_end { IfSome result (IsEndOf top.now) }
     ensures none { IfNone result ((end : Endpoint)
         → word.now ≡ end_word top.now end → IsEndOf top.now end → ⊥) }
 {
-    let (name, rate) = parts(word)?;
-    let node = top.find(&Name::read(name)?)?;
-    let rate = number(rate, MOST_RATE)?;
-    (rate > 0).then_some((node, rate))
+    let (name, rate) = name_and_rate(word)?;
+    let node = top.find(&name)?;
+    Some((node, rate))
 }
 
 // What stands before a word's first colon, and what stands after it.
