@@ -1,10 +1,17 @@
+mod Added
 mod Certified
 mod Changing
 mod Checked
 mod Drafting
+mod Ended
+mod Flags
+mod InOrder
 mod Judged
 mod KindWords
+mod LineTexts
 mod LinesRead
+mod Numbered
 mod Once
 mod Spelling
+mod Valid
 mod Weighed

@@ -1,3 +1,4 @@
+pub mod Adding
 pub mod CertLine
 pub mod Certificate
 pub mod Draft
@@ -9,3 +10,4 @@ pub mod Rules
 pub mod Statement
 pub mod Taking
 pub mod Verdict
+pub mod Written

@@ -1,8 +1,10 @@
-// Why a certificate was not judged.
+// Why a certificate was not judged, or not written.
 ghost use Rattle.std.specs.Prelude.{◌≡◌};
 ghost use Rattle.hose_cert.specs.Fault.{of_line};
 ghost use Rattle.hose_cert.specs.declared.fault.CertFault.TheVariants.{Memory};
+ghost use Rattle.hose_cert.specs.declared.fault.ProveFault.TheVariants as prove;
 
+use hose_io::Failed;
 use hose_words::LineFault;
 use std::alloc::{AllocError, AllocFailed};
 
@@ -41,5 +43,30 @@ impl From<LineFault> for CertFault {
             LineFault::Read => CertFault::Read,
             LineFault::TooLong => CertFault::TooLong,
         }
+    }
+}
+
+/// Why a certificate was not written.
+#[derive(Clone, Copy, Debug, PartialEq, Eq)]
+pub enum ProveFault {
+    /// A call of the sink failed.
+    Write,
+    /// There was too little memory.
+    Memory,
+}
+
+impl From<AllocError> for ProveFault {
+    ghost from_gives = { λ _ fault. fault ≡ prove.Memory };
+
+    fn from(_error: AllocError) -> ProveFault {
+        ProveFault::Memory
+    }
+}
+
+impl From<Failed> for ProveFault {
+    ghost from_gives = { λ _ fault. fault ≡ prove.Write };
+
+    fn from(_failed: Failed) -> ProveFault {
+        ProveFault::Write
     }
 }

@@ -1,7 +1,11 @@
-//! Certificates of least cost, and a checker of its own: it answers without planning, and what it
-//! says yes to is cheapest, whoever wrote it.
+//! Certificates of least cost, written of the planner's plans, and a checker of its own: it answers
+//! without planning, and what it says yes to is cheapest, whoever wrote it.
 //!
 //! ```
+//! if !put_certificate(alloc, &mut sink, &topology, &hose, &mut HeapRows::new())? {
+//!     println!("none");
+//! }
+//!
 //! match check_certificate(alloc, &mut lines, &topology)? {
 //!     Verdict::Yes { cost, .. } => println!("yes {cost}"),
 //!     Verdict::No { rule } => println!("no {rule}"),
@@ -31,12 +35,15 @@
 #![tactic(auto)]
 
 ghost use Rattle.std.specs.Prelude.{◌≡◌, ◌++◌, ℕ, List, IfOk, OnOk};
+ghost use Rattle.hose_io.specs.Frame.{Stays};
 ghost use Rattle.hose_words.specs.Reading.{WhereTold};
+ghost use Rattle.hose_law.specs.Plan.{AreNodes};
 ghost use Rattle.hose_cert.specs.CertLine.{CertLine};
 ghost use Rattle.hose_cert.specs.Certificate.{IsCertText};
 ghost use Rattle.hose_cert.specs.Taking.{IsAllRead, ReadsUpTo, fault_in};
 ghost use Rattle.hose_cert.specs.Rules.{Claim};
 ghost use Rattle.hose_cert.specs.Verdict.{AreCheapestFound, IsFound, IsValid, IsYesOf};
+ghost use Rattle.hose_cert.specs.Written.{Writes};
 
 mod draft;
 mod fault;
@@ -46,16 +53,20 @@ mod parsing;
 mod reading;
 mod rows;
 mod statement;
+mod writing;
 
-pub use fault::CertFault;
+pub use fault::{CertFault, ProveFault};
 use hose_graph::{Amounts, Hose, Topology};
-use hose_io::Source;
+use hose_io::{Sink, Source};
 use hose_links::LinkSet;
+use hose_paths::{RowMaker, all_links};
+use hose_plan::plan;
 use hose_words::LineReader;
 use judging::judge;
 pub use limits::{LINE_NUMBERS, MOST_NUMBER};
 use reading::{read_text, refuse};
 use std::alloc::Global;
+use writing::put_plan;
 
 /// What is found of a text.
 #[derive(Drop)]
@@ -111,4 +122,33 @@ pub fn check_certificate<S: Source>(
         Some(body) => Ok(judge(top, body)),
         None => refuse(lines),
     }
+}
+
+/// Writes the certificate of the plan of a hose over all links of a network, and says whether there
+/// is one: the plan's cost, the hose, what the plan reserves, no link that is left out, and for
+/// each node as a root the distances of all nodes, with the plan's cost where there is no walk. A
+/// line feed ends each line.
+///
+/// One row is kept at a time. The text goes out in pieces of up to 4,096 bytes; where memory is
+/// wanting, the lines that were made before are out, whole.
+pub fn put_certificate<S: Sink, R: RowMaker>(
+    alloc: Global,
+    sink: &mut S,
+    top: &Topology,
+    hose: &Hose,
+    rows: &mut R,
+) -> Result<bool, ProveFault>
+    requires nodes { AreNodes top.now hose.now }
+
+    // The whole certificate is out, and it is valid; or there is no plan; or the sink failed, and a
+    // part is out; or memory was wanting, and whole lines are out.
+    ensures writes { Writes S.Sink top.now hose.now sink.old sink.new result }
+
+    ensures stays { Stays (S.frame sink.old) (S.frame sink.new) }
+{
+    let links = all_links(alloc, top)?;
+    let Some(amounts) = plan(alloc, top, &links, hose, rows)? else {
+        return Ok(false);
+    };
+    put_plan(alloc, sink, top, hose, &links, &amounts, rows)
 }

@@ -17,8 +17,8 @@ use std::alloc::{AllocError, Global};
 
 impl PriceSheet {
     /// What the hose costs under each tariff, on the whole network and without regard to loads;
-    /// none where there is no plan of it. Each cost is that of the hose's first plan by the tariff's
-    /// costs, which no amounts that carry the hose on any tree undercut.
+    /// none where there is no plan of it. Each cost is that of the hose's first plan by the
+    /// tariff's costs, which no amounts that carry the hose on any tree undercut.
     pub fn line<R: RowMaker>(
         &self,
         alloc: Global,

@@ -9,8 +9,8 @@ use hose_paths::{HeapRows, RowMaker, RowTable, row_of};
 use std::alloc::{AllocError, Global};
 
 impl PriceSheet {
-    /// The rows of all nodes over all links, by each of the costs that a line needs: where links are
-    /// counted, by the lengths, and by each tariff, in this order.
+    /// The rows of all nodes over all links, by each of the costs that a line needs: where links
+    /// are counted, by the lengths, and by each tariff, in this order.
     pub fn row_tables(&self, alloc: Global) -> Result<Vec<RowTable>, AllocError>
         ensures { IfOk result (λ tables. AreTablesOf self.now tables.items) }
     {
