@@ -3,6 +3,10 @@
 # links. And the seconds of a million takes of an empty number where all 16 quotes are held; as many
 # questions about a link are the reference of the same run. All is a processor's time, the least of
 # nine runs that are made by turns. Takes cost so little that what those runs differ by hides it.
+# Then what it takes to compare the grounds of a quote whose first plan does not fit with the book
+# after 0, 10 and 1,000 other entries, on such networks of 512 to 2,048 links: by the changes since,
+# as a take does; by all links, as each take did before the book kept changes; and to copy these
+# changes. A program of bench/figures calls the planner itself, as takes do under the lock.
 # usage: bench/takes.sh [PROGRAM [SEED]]
 . "$(dirname "$0")/setup.sh"
 
@@ -101,4 +105,82 @@ number = counts["no quote"]
 print(f"takes of an empty number: {empty - held:.2f} s for {number}; {told}")
 ratio = (empty - held) / (questions - held)
 print(f"reference: {questions - held:.2f} s for as many questions about a link, ratio {ratio:.2f}")
+END
+
+figures=$(bench/figures/build.sh takes)
+python3 - "$figures" "$work" "${2:-1}" <<'END'
+import resource
+import subprocess
+import sys
+
+figures, work, seed = sys.argv[1:]
+NODES, LINKS, RUNS = 512, (512, 1024, 2048), 5
+state = int(seed)
+
+
+def draw(bound):
+    global state
+    state = (state * 6364136223846793005 + 1442695040888963407) % 2**64
+    return state // 2**33 % bound
+
+
+def link_line(number):
+    """Between the first two nodes is a short link without room for the quote, and a way round it;
+    between the next two a short one, along which all go."""
+    ends = ((0, 1, 10, 1), (2, 3, 1000000, 1), (0, 2, 1000000, 7), (1, 2, 1000000, 7))
+    if number < len(ends):
+        a, b, capacity, length = ends[number]
+    elif number < NODES:
+        a, b, capacity, length = number, draw(number), 1000000, 2 + draw(99)
+    else:
+        a, b, capacity, length = draw(NODES), draw(NODES - 1), 1000000, 2 + draw(99)
+        if b >= a:
+            b += 1
+    return f"link n{a} n{b} {capacity} {length}"
+
+
+def seconds(links, what, kind, entries, count):
+    """A processor's seconds, and how many changes there are."""
+    before = resource.getrusage(resource.RUSAGE_CHILDREN)
+    with open(f"{work}/network{links}") as network:
+        done = subprocess.run([figures, what, kind, str(entries), str(count)], stdin=network,
+                              stdout=subprocess.PIPE, check=True, text=True)
+    used = resource.getrusage(resource.RUSAGE_CHILDREN)
+    changes, held = (int(part.split()[0]) for part in done.stdout.split(", "))
+    assert held == count, done.stdout
+    return used.ru_utime + used.ru_stime - before.ru_utime - before.ru_stime, changes
+
+
+def nanoseconds(links, kind, entries):
+    """Of one comparison by changes, one by all links, and one copy of the changes."""
+    _, changes = seconds(links, "since", kind, entries, 0)
+    counts = {
+        "since": 400000000 // (changes + 20),
+        "all": 400000000 // links,
+        "copies": 400000000 // (changes + 20),
+    }
+    least = {}
+    for _ in range(RUNS):
+        for what, count in counts.items():
+            for often in (0, count):
+                taken, _ = seconds(links, what, kind, entries, often)
+                least[what, often] = min(taken, least.get((what, often), taken))
+    return changes, *((least[what, count] - least[what, 0]) / count * 1e9
+                      for what, count in counts.items())
+
+
+for links in LINKS:
+    lines = [f"node n{node}" for node in range(NODES)]
+    lines += [link_line(number) for number in range(links)]
+    with open(f"{work}/network{links}", "w") as network:
+        network.write("\n".join(lines + ["end", ""]))
+places = [(2048, "far", 0), (2048, "near", 10), (2048, "far", 10), (2048, "near", 1000),
+          (2048, "far", 1000), (1024, "near", 10), (512, "near", 10)]
+where = {"near": "on one link each", "far": "of three nodes at random"}
+for links, kind, entries in places:
+    changes, since, by_all, copied = nanoseconds(links, kind, entries)
+    after = f"{entries:,} entries {where[kind]}, {changes:,} changes" if entries else "no entry"
+    print(f"comparing by changes on {links:,} links after {after}: {since:.0f} ns")
+    told = f"by all links, as before, {by_all:.0f} ns; a copy of the changes {copied:.0f} ns"
+    print(f"reference: {told}, ratio {by_all / since:.1f}")
 END

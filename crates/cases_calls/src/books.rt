@@ -28,12 +28,15 @@ pub fn stepped(alloc: Global, top: Topology, line: &str) -> Result<String, Troub
 }
 
 // What comes of a step: an entry that is judged, and entered where it is sound; one that is
-// committed then; the epoch, as how many VPNs are live, and the loads; the audit.
+// committed then; the epoch, as how many VPNs are live, and the loads; what changed of late; the
+// audit.
 fn step_told(alloc: Global, plain: &mut Plain, step: &str) -> Result<String, Trouble> {
     let (word, rest) = first(step);
     match word {
         "audit" => audited(alloc, &plain.book),
         "fill" => fill(alloc, &mut plain.book, rest),
+        "turns" => turns(alloc, &mut plain.book, rest),
+        "recent" => Ok(recent(alloc, &plain.book, number(rest)?)?),
         "stands" => Ok(standing(alloc, &plain.book)?),
         "commit" => {
             let entry = entry_of(alloc, plain.book.topology(), rest)?;
@@ -98,6 +101,37 @@ fn fill(alloc: Global, book: &mut Book, words: &str) -> Result<String, Trouble> 
         }
     }
     Ok(debugged(alloc, &sound)?)
+}
+
+// Enters an admission and its release, so often in turn, and tells how many entries were sound.
+fn turns(alloc: Global, book: &mut Book, words: &str) -> Result<String, Trouble> {
+    let (times, words) = first(words);
+    let entry = entry_of(alloc, book.topology(), words)?;
+    let mut sound = 0u64;
+    for _ in 0..number(times)? {
+        if book.check(&entry).is_ok() {
+            book.apply(entry.copy(alloc)?);
+            sound = sound.saturating_add(1);
+        }
+        let release = Entry::Release {
+            customer: name("acme")?,
+            id: book.epoch(),
+        };
+        if book.check(&release).is_ok() {
+            book.apply(release);
+            sound = sound.saturating_add(1);
+        }
+    }
+    Ok(debugged(alloc, &sound)?)
+}
+
+// The floor, how many changes there are, the first four of them and the last, and how many are told
+// as those since an epoch.
+fn recent(alloc: Global, book: &Book, seen: u64) -> Result<String, AllocError> {
+    let (floor, changes, since) = (book.floor(), book.changes(), book.changes_since(seen).len());
+    let (count, last) = (changes.len(), changes.last());
+    let first = &changes[..count.min(4)];
+    format!(in alloc; "floor {floor}, {count} changes {first:?} to {last:?}, {since} since {seen}")
 }
 
 fn audited(alloc: Global, book: &Book) -> Result<String, Trouble> {

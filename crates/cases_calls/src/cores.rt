@@ -1,7 +1,8 @@
 // Books with the quotes of their customers: what commands are answered, and what is held.
 ghost use Rattle.std.specs.Prelude.{◌≡◌, ◌≤◌, IfOk};
 ghost use Rattle.hose_graph.specs.declared.limits.TheConstants.{MOST_EPOCH};
-ghost use Rattle.hose_core.specs.Holding.{IsMade};
+ghost use Rattle.hose_core.specs.Holding.{IsMadeAt, WasMadeBefore};
+ghost use Rattle.hose_core.specs.Stepping.{IsSameOrNext};
 
 use crate::networks::{debugged, first, hose, name, number};
 use crate::trouble::Trouble;
@@ -48,7 +49,8 @@ pub fn admitted(alloc: Global, top: Topology, line: &str) -> Result<String, Trou
 }
 
 fn admit(alloc: Global, books: &mut Plain, line: &str) -> Result<String, Trouble>
-    ensures { books.new.book.network ≡ books.old.book.network }
+    ensures network { books.new.book.network ≡ books.old.book.network }
+    ensures ledger { IsSameOrNext books.old.book books.new.book }
 {
     let hose = hose(alloc, books.book().topology(), line)?;
     let reply = admit_now(alloc, books, &name("acme")?, hose, &mut PlainRows::new());
@@ -70,7 +72,7 @@ pub fn taken(alloc: Global, top: Topology, line: &str) -> Result<String, Trouble
 
 // What is planned of a hose at a book.
 fn planned(alloc: Global, book: &Book, line: &str) -> Result<Quote, Trouble>
-    ensures { IfOk result (IsMade book.now.network) }
+    ensures { IfOk result (IsMadeAt book.now.network book.now.book) }
 {
     let (top, loads, epoch) = (book.topology(), book.loads(), book.epoch());
     let hose = hose(alloc, top, line)?;
@@ -81,7 +83,7 @@ fn planned(alloc: Global, book: &Book, line: &str) -> Result<Quote, Trouble>
 }
 
 fn take(alloc: Global, books: &mut Plain, quote: &Quote) -> Result<String, Trouble>
-    requires { IsMade books.old.book.network quote.now }
+    requires { WasMadeBefore books.old.book quote.now }
 {
     let claim = claim_take(alloc, &name("acme")?, quote)?;
     Ok(debugged(alloc, &take_now(books, quote, claim))?)

@@ -31,6 +31,10 @@ const BRANCHES: &str = "node a\nnode b\nnode c\nnode d\nnode e\nnode f\nnode g\n
 // Two nodes with a wide link.
 const PAIR: &str = "node a\nnode b\nlink a b 1000000000 1\nend\n";
 
+// Five nodes in a line of wide links.
+const LINE: &str = "node a\nnode b\nnode c\nnode d\nnode e\nlink a b 1000000000 1\n\
+    link b c 1000000000 1\nlink c d 1000000000 1\nlink d e 1000000000 1\nend\n";
+
 /// The text of the network with this name: a star where no other one has it.
 pub fn text_of(name: &str) -> &'static str {
     match name {
@@ -38,6 +42,7 @@ pub fn text_of(name: &str) -> &'static str {
         "detour" => DETOUR,
         "branches" => BRANCHES,
         "pair" => PAIR,
+        "line" => LINE,
         _ => STAR,
     }
 }

@@ -4,3 +4,4 @@ pub mod Loads
 pub mod Moving
 pub mod Releasing
 pub mod Reserved
+pub mod Tracking

@@ -1,17 +1,20 @@
 -- What comes of an entry that is sound: it is entered, or what keeps the book elsewhere failed.
-use Rattle.std.specs.Prelude.{◌≡◌, List, [], ◌∷◌, ◌++◌}
+use Rattle.std.specs.Prelude.{◌≡◌, List, [], ◌∷◌, ◌++◌, ⊤}
 use Rattle.hose_io.specs.Frame.{Frame, Rose, Stays}
 use Rattle.hose_graph.specs.declared.entry.Entry.{Entry}
-use Rattle.hose_law.specs.History.{next_book}
-use Rattle.hose_book.specs.Ledger.{Ledger}
+use Rattle.hose_book.specs.Ledger.{Ledger, TracksOn, next_ledger}
 use Rattle.hose_book.specs.declared.committed.Committed.{Committed}
 use Rattle.hose_book.specs.declared.committed.Committed.TheVariants.{Done, Disk}
 
--- the book is the next one, or as before; the network stays
+-- the ledger is the next one, or as before
 abbrev pub Commits : Ledger → Entry → Committed → Ledger → Type 0
-Commits old entry Done new =
-    new ≡ record { network = old.network; book = next_book old.book entry }
+Commits old entry Done new = new ≡ next_ledger old entry
 Commits old entry Disk new = new ≡ old
+
+-- what tracks a history before a commit tracks it with the entry after it, once it is entered
+abbrev pub KeepsTracks : Ledger → Entry → Committed → Ledger → Type 0
+KeepsTracks old entry Done new = TracksOn old entry new
+KeepsTracks old entry Disk new = ⊤
 
 -- a failure raised the count, and a success left it
 abbrev pub IsMet : Frame → Committed → Frame → Type 0

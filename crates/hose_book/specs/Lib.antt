@@ -1,3 +1,4 @@
+pub mod Changes
 pub mod Commit
 pub mod GoingOn
 pub mod Ledger

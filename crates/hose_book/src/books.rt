@@ -3,7 +3,7 @@ ghost use Rattle.std.specs.Prelude.{◌≡◌, IfOk, ⊤};
 ghost use Rattle.hose_io.specs.Frame.{Frame};
 ghost use Rattle.hose_graph.specs.declared.entry.Entry.{Entry};
 ghost use Rattle.hose_law.specs.History.{IsSoundAt};
-ghost use Rattle.hose_book.specs.Commit.{Commits, IsMet, unfailing};
+ghost use Rattle.hose_book.specs.Commit.{Commits, IsMet, KeepsTracks, unfailing};
 ghost use Rattle.hose_book.specs.Ledger.{Ledger};
 ghost use Rattle.hose_graph.specs.Ranges.{IsInRanges};
 ghost use Rattle.hose_book.specs.declared.committed.Committed.{Committed};
@@ -45,6 +45,7 @@ pub trait Books {
         requires sound { IsSoundAt (ledger self.old).network (ledger self.old).book entry }
         requires ready { fits ready entry }
         ensures commits { Commits (ledger self.old) entry result (ledger self.new) }
+        ensures tracks { KeepsTracks (ledger self.old) entry result (ledger self.new) }
         ensures met { IsMet (frame self.old) result (frame self.new) }
         ensures went { went self.old entry result self.new };
 }

@@ -3,18 +3,21 @@ ghost use Rattle.std.specs.Prelude.{◌≡◌, ◌+◌, ◌<◌, ◌≤◌, ◌^
 ghost use Rattle.hose_graph.specs.Amounts.{link_of};
 ghost use Rattle.hose_graph.specs.Hose.{IsHose};
 ghost use Rattle.hose_law.specs.Book.{IsLiveVpn, amount_on};
-ghost use Rattle.hose_law.specs.History.{IsSoundAt, last_epoch, next_book};
+ghost use Rattle.hose_law.specs.History.{IsSoundAt, last_epoch};
+ghost use Rattle.hose_book.specs.Ledger.{TracksOn, next_ledger};
 
 use crate::Book;
 use hose_graph::{Amounts, Entry, Hose, Name, ReservedLink, Vpn};
 
 impl Book {
     /// Enters an entry for which `check` answers Ok: the epoch is one more, an admitted VPN is the
-    /// last of the live, and a released one is not live any more. It takes no memory.
+    /// last of the live, a released one is not live any more, and the links of either are changes
+    /// of the new epoch. It takes no memory.
     pub fn apply(&mut self, entry: Entry)
         requires { IsSoundAt self.old.network self.old.book entry }
-        ensures network { self.new.network ≡ self.old.network }
-        ensures book { self.new.book ≡ next_book self.old.book entry }
+        ensures ledger { self.new ≡ next_ledger self.old entry }
+        // What tracked a history tracks it with the entry.
+        ensures tracks { TracksOn self.old entry self.new }
     {
         match entry {
             Entry::Admit {
@@ -28,12 +31,12 @@ impl Book {
 
     fn admit(&mut self, customer: Name, hose: Hose, amounts: Amounts)
         requires { IsSoundAt self.old.network self.old.book (Entry.Admit customer hose amounts) }
-        ensures network { self.new.network ≡ self.old.network }
-        ensures book { self.new.book ≡ next_book self.old.book (Entry.Admit customer hose amounts) }
+        ensures { self.new ≡ next_ledger self.old (Entry.Admit customer hose amounts) }
     {
         // That this is a hose is told by the call that gives its endpoints.
         let _ends = hose.ends();
         add_amounts(&mut self.loads, amounts.pairs());
+        self.recent.add(self.epoch, amounts.pairs());
         self.epoch += 1;
         self.live.push(Vpn {
             id: self.epoch,
@@ -45,8 +48,7 @@ impl Book {
 
     fn release(&mut self, customer: &Name, id: u64)
         requires { IsSoundAt self.old.network self.old.book (Entry.Release customer.now id) }
-        ensures network { self.new.network ≡ self.old.network }
-        ensures book { self.new.book ≡ next_book self.old.book (Entry.Release customer.now id) }
+        ensures { self.new ≡ next_ledger self.old (Entry.Release customer.now id) }
     {
         // It is there, as the entry is sound.
         if let Some(place) = self.place_of(customer, id) {
@@ -59,11 +61,11 @@ impl Book {
         requires there { IsSomeAnd (slice_get self.old.book.live place)
             (IsLiveVpn self.old.book customer.now id) }
         requires epoch { self.old.book.epoch < last_epoch }
-        ensures network { self.new.network ≡ self.old.network }
-        ensures book { self.new.book ≡ next_book self.old.book (Entry.Release customer.now id) }
+        ensures { self.new ≡ next_ledger self.old (Entry.Release customer.now id) }
     {
         let vpn = &self.live.as_slice()[place];
         subtract_amounts(&mut self.loads, vpn.amounts.pairs());
+        self.recent.add(self.epoch, vpn.amounts.pairs());
         self.live.remove(place);
         self.epoch += 1;
     }

@@ -10,16 +10,21 @@
 //! }
 //! ```
 //!
+//! A book keeps which links recent entries touched, so that whoever looked at its loads before can
+//! look at what changed since.
+//!
 //! `Books` is a book that takes entries, kept in memory alone (`Plain`) or elsewhere besides.
 #![tactic(auto)]
 
-ghost use Rattle.std.specs.Prelude.{◌≡◌, ◌≤◌, All, IfOk};
-ghost use Rattle.hose_book.specs.Ledger.{IsKept};
+ghost use Rattle.std.specs.Prelude.{◌≡◌, ◌<◌, ◌≤◌, ℕ, [], All, Contains, IfOk, length};
+ghost use Rattle.hose_book.specs.Changes.{AreInOrder, AreUpTo};
+ghost use Rattle.hose_book.specs.Ledger.{IsKept, opening_ledger};
+ghost use Rattle.hose_book.specs.declared.recent.TheConstants.{MOST_CHANGES};
 ghost use Rattle.hose_graph.specs.Network.{IsNetwork};
 ghost use Rattle.hose_graph.specs.declared.limits.TheConstants.{MOST_EPOCH};
 ghost use Rattle.hose_law.specs.Book.{loads_of};
-ghost use Rattle.hose_law.specs.History.{opening_book};
 ghost use Rattle.hose_law.specs.Live.{Rise};
+ghost use Rattle.hose_law.specs.Tracks.{Tracks};
 ghost use Rattle.hose_tree.specs.Amounts.{AreCarried};
 
 mod books;
@@ -28,12 +33,15 @@ mod checking;
 mod committed;
 mod finding;
 mod live_vpns;
+mod recent;
 
 use crate::live_vpns::LiveVpns;
+use crate::recent::RecentChanges;
 pub use books::{Books, Plain};
 pub use checking::BookRefusal;
 pub use committed::Committed;
 use hose_graph::{MOST_EPOCH, Topology, Vpn};
+pub use recent::MOST_CHANGES;
 use std::alloc::{AllocError, Global};
 use std::marker::Model;
 
@@ -41,18 +49,20 @@ use std::marker::Model;
 /// on each link. No link is ever oversold. At most 256 VPNs that were released keep their memory,
 /// until a later release.
 ///
-/// A contract sees it as the network and its book.
+/// A contract sees it as the network, its book, and the changes that it keeps.
 #[derive(Drop)]
 pub struct Book {
     topology: Topology,
     epoch: u64,
     loads: Vec<u64>,
     live: LiveVpns,
+    recent: RecentChanges,
 }
 
 impl Model for Book {
     ghost use Rattle.std.specs.Prelude.{◌≤◌, All};
     ghost use Rattle.hose_graph.specs.Network.{IsNetwork};
+    ghost use Rattle.hose_book.specs.Changes.{AreUpTo};
     ghost use Rattle.hose_book.specs.Ledger.{Ledger, AreKeptLoads, IsKept};
     ghost use Rattle.hose_law.specs.History.{last_epoch};
     ghost use Rattle.hose_law.specs.Live.{HasRisingIds};
@@ -60,21 +70,27 @@ impl Model for Book {
     ghost Value = { Ledger };
 
     ghost view = { λ b.
-        record { network = b.topology; book = record { epoch = b.epoch; live = b.live } } };
+        record {
+          network = b.topology;
+          book = record { epoch = b.epoch; live = b.live };
+          recent = b.recent;
+        } };
 
     ghost invariant = { λ b. IsNetwork b.topology
         × AreKeptLoads b.topology (record { epoch = b.epoch; live = b.live }) b.loads.items
         × (b.epoch ≤ last_epoch)
         × HasRisingIds 0 (record { epoch = b.epoch; live = b.live })
-        × All (IsKept b.topology) b.live };
+        × All (IsKept b.topology) b.live
+        × (b.recent.floor ≤ b.epoch)
+        × AreUpTo b.epoch b.recent.changes };
 }
 
 impl Book {
-    /// The book of a network at epoch 0, with nothing live. It has room for 20,000 VPNs, so that
-    /// nothing after it takes memory.
+    /// The book of a network at epoch 0, with nothing live. It has room for 20,000 VPNs and 65,536
+    /// changes, so that nothing after it takes memory.
     pub fn new(alloc: Global, topology: Topology) -> Result<Book, AllocError>
-        ensures { IfOk result
-            (λ book. book ≡ record { network = topology; book = opening_book 0 }) }
+        ensures value { IfOk result (λ book. book ≡ opening_ledger topology 0) }
+        ensures tracks { IfOk result (λ book. Tracks 0 [] book.recent) }
     {
         Book::at(alloc, topology, 0)
     }
@@ -82,16 +98,18 @@ impl Book {
     /// The same at an epoch of at most 4,000,000,000.
     pub fn at(alloc: Global, topology: Topology, epoch: u64) -> Result<Book, AllocError>
         requires { epoch ≤ MOST_EPOCH }
-        ensures { IfOk result
-            (λ book. book ≡ record { network = topology; book = opening_book epoch }) }
+        ensures value { IfOk result (λ book. book ≡ opening_ledger topology epoch) }
+        ensures tracks { IfOk result (λ book. Tracks epoch [] book.recent) }
     {
         let loads = Vec::from_elem(alloc, 0, topology.links() as usize)?;
         let live = LiveVpns::new(alloc)?;
+        let recent = RecentChanges::new(alloc, epoch)?;
         Ok(Book {
             topology,
             epoch,
             loads,
             live,
+            recent,
         })
     }
 
@@ -127,5 +145,32 @@ impl Book {
         ensures kept { All (IsKept self.now.network) result.now }
     {
         self.live.as_slice()
+    }
+
+    /// The changes that it keeps, each the epoch after an entry and a link that the entry touched:
+    /// those of each epoch above the floor, by epochs and then by links, 65,536 at most.
+    pub fn changes(&self) -> &[(u64, u32)]
+        ensures value { result.now ≡ self.now.recent.changes }
+        ensures few { length result.now ≤ MOST_CHANGES }
+        ensures order { AreInOrder result.now }
+        ensures bound { AreUpTo self.now.book.epoch result.now }
+    {
+        self.recent.as_slice()
+    }
+
+    /// The epoch above which all changes are kept.
+    pub fn floor(&self) -> u64
+        ensures value { result ≡ self.now.recent.floor }
+        ensures bound { result ≤ self.now.book.epoch }
+    {
+        self.recent.floor()
+    }
+
+    /// The last of the changes, with all that are of a later epoch than this.
+    pub fn changes_since(&self, seen: u64) -> &[(u64, u32)]
+        ensures { (epoch link : ℕ) → seen < epoch → Contains self.now.recent.changes (epoch, link)
+            → Contains result.now (epoch, link) }
+    {
+        self.recent.since(seen)
     }
 }

@@ -12,7 +12,8 @@ use Rattle.hose_law.specs.Answer.{with_entry}
 use Rattle.hose_law.specs.History.{book_of}
 use Rattle.hose_law.specs.Quotes.{Held, HeldQuote, Holdings, at_number, free_number, none_held, with_held, with_number}
 use Rattle.hose_law.proofs.Numbers.{at_none_held, at_with_other, at_with_same, length_with, same_free}
-use Rattle.hose_core.specs.Holding.{AreHeld, AreKept, Fits, HoldsNow, IsMade, IsMadeAt, IsQuoteOf, Quoted, quotes_in}
+use Rattle.hose_book.specs.Ledger.{Ledger}
+use Rattle.hose_core.specs.Holding.{AreHeld, AreKept, Fits, HoldsNow, IsMadeAt, IsQuoteOf, Quoted, WasMadeBefore, quotes_in}
 use Rattle.hose_core.specs.declared.quotes.Quote.{Quote}
 
 -- ---- a longer history
@@ -94,29 +95,29 @@ module _ (network : Network) (epoch : ℕ) (history : List Entry) (held : Held) 
 
 -- ---- what is kept
 
-module _ (network : Network) where
+module _ (ledger : Ledger) where
   -- no quote is kept
-  pub kept_none : AreKept network none_held
+  pub kept_none : AreKept ledger none_held
   kept_none = record { numbers = refl; made = λ number quote there. absurd (cc (there, at_none_held {X = Quote} number)) }
 
-  -- with one that was made, or none, at a number
-  pub kept_with : (quotes : List (Option Quote)) (number : ℕ) (quote : Option Quote) → 1 ≤ number → number ≤ MOST_QUOTES → IfSome quote (IsMade network) → AreKept network quotes → AreKept network (with_number quotes number quote)
+  -- with one that was made before, or none, at a number
+  pub kept_with : (quotes : List (Option Quote)) (number : ℕ) (quote : Option Quote) → 1 ≤ number → number ≤ MOST_QUOTES → IfSome quote (WasMadeBefore ledger) → AreKept ledger quotes → AreKept ledger (with_number quotes number quote)
   kept_with quotes number quote some most made kept = record { numbers = length_with quotes number quote ∙ kept.numbers; made = λ other found there. at other found (cases_eq other number) there }
     where
-      one_made : (given : Option Quote) (found : Quote) → given ≡ Some found → IfSome given (IsMade network) → IsMade network found
-      one_made given found is made_so = subst (λ (o : Option Quote). IfSome o (IsMade network)) is made_so
+      one_made : (given : Option Quote) (found : Quote) → given ≡ Some found → IfSome given (WasMadeBefore ledger) → WasMadeBefore ledger found
+      one_made given found is made_so = subst (λ (o : Option Quote). IfSome o (WasMadeBefore ledger)) is made_so
 
-      at : (other : ℕ) (found : Quote) → (other ≡ number) ⊎ (other ≢ number) → at_number (with_number quotes number quote) other ≡ Some found → IsMade network found
+      at : (other : ℕ) (found : Quote) → (other ≡ number) ⊎ (other ≢ number) → at_number (with_number quotes number quote) other ≡ Some found → WasMadeBefore ledger found
       at other found (inl same) there =
           one_made quote found (sym (at_with_same quotes number quote some (omega (arith, most, kept.numbers))) ∙ ap (at_number (with_number quotes number quote)) (sym same) ∙ there) made
       at other found (inr differs) there = kept.made other found (sym (at_with_other quotes number other quote differs) ∙ there)
 
   -- what each customer has is kept where one customer's is
-  pub kept_now : (old new : Quoted) (customer : List ℕ) (quotes : List (Option Quote)) → HoldsNow old customer quotes new → AreKept network quotes → ((name : List ℕ) → AreKept network (quotes_in old name))
-      → (name : List ℕ) → AreKept network (quotes_in new name)
-  kept_now old new customer quotes holds one others name = subst (AreKept network) (sym (holds name)) (at (bytes_eq customer name))
+  pub kept_now : (old new : Quoted) (customer : List ℕ) (quotes : List (Option Quote)) → HoldsNow old customer quotes new → AreKept ledger quotes → ((name : List ℕ) → AreKept ledger (quotes_in old name))
+      → (name : List ℕ) → AreKept ledger (quotes_in new name)
+  kept_now old new customer quotes holds one others name = subst (AreKept ledger) (sym (holds name)) (at (bytes_eq customer name))
     where
-      at : (here : Bool) → AreKept network (if here then quotes else quotes_in old name)
+      at : (here : Bool) → AreKept ledger (if here then quotes else quotes_in old name)
       at true = one
       at false = others name
 

@@ -1,5 +1,6 @@
 mod Customers
 mod Decided
+pub mod Earlier
 mod HeldQuotes
 mod Leading
 mod Memory

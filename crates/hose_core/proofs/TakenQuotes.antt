@@ -8,13 +8,13 @@ use Rattle.hose_graph.specs.declared.entry.Entry.TheVariants.{Admit}
 use Rattle.hose_graph.specs.declared.reply.Reply.{Reply}
 use Rattle.hose_graph.specs.declared.reply.Reply.TheVariants as reply
 use Rattle.hose_law.specs.Answer.{IsAnswer, IsPlannedAnswer, IsTakeAnswer, IsTakingAnswer}
-use Rattle.hose_law.specs.Book.{Book}
+use Rattle.hose_law.specs.Book.{Book, loads_of}
 use Rattle.hose_law.specs.Decision.{HaveEqualGrounds, IsPlannedOver}
 use Rattle.hose_law.specs.History.{book_of}
 use Rattle.hose_law.specs.Quotes.{Held, HeldQuote, at_number, with_number}
 use Rattle.hose_law.specs.Room.{room_of}
 use Rattle.hose_law.proofs.CanonicalPlans.{planned_sound, same_decisions}
-use Rattle.hose_plan.specs.Planning.{allowed_links}
+use Rattle.hose_plan.specs.Planning.{AreGroundsOf, allowed_links}
 use Rattle.hose_book.specs.declared.books.Books.{Ghosts}
 use Rattle.hose_book.specs.Ledger.{Ledger}
 use Rattle.hose_core.specs.Claiming.{IsClaimOf, IsPlannedEntry}
@@ -84,6 +84,15 @@ module _ {K R : Type 0} (books : Ghosts K R) (old new : K) (epoch number : ℕ) 
     goes = same;
     told = inl (refl, ap (λ (k : K). (books.ledger k).book) same);
   })
+
+-- what is known of grounds beside the loads of a book is known of them at the book
+pub holds_beside : (top network : Network) (loads : List ℕ) (book : Book) (quote : Quote) (result : Bool) → top ≡ network → loads ≡ loads_of network book
+    → ((hose : List (ℕ × ℕ)) (earlier now : Book) → loads ≡ loads_of top now → AreGroundsOf top (room_of top earlier) hose quote.grounds → IsTrue result ↔ HaveEqualGrounds top earlier now hose)
+    → (earlier : Book) → IsMadeAt network earlier quote → IsTrue result ↔ HaveEqualGrounds network earlier book quote.hose
+holds_beside top network loads book quote result is_top is_loads holds earlier made =
+    subst
+    (λ (n : Network). (hose : List (ℕ × ℕ)) (earlier now : Book) → loads ≡ loads_of n now → AreGroundsOf n (room_of n earlier) hose quote.grounds → IsTrue result ↔ HaveEqualGrounds n earlier now hose)
+    is_top holds quote.hose earlier book is_loads made.decision.2
 
 -- what is known of grounds at a book is known of it as it is called
 pub holds_there : (here ledger : Ledger) → here ≡ ledger → (quote : Quote) (result : Bool)

@@ -10,11 +10,13 @@ use Rattle.hose_graph.specs.declared.limits.TheConstants.{MOST_QUOTES}
 use Rattle.hose_graph.specs.Hose.{IsHose}
 use Rattle.hose_graph.specs.Network.{Network}
 use Rattle.hose_graph.specs.Ranges.{AreInRanges}
-use Rattle.hose_law.specs.Book.{Book}
+use Rattle.hose_law.specs.Book.{Book, load_of, loads_of}
 use Rattle.hose_law.specs.History.{book_of}
 use Rattle.hose_law.specs.Quotes.{Held, HeldQuote, at_number, none_held}
 use Rattle.hose_law.specs.Room.{room_of}
-use Rattle.hose_plan.specs.Planning.{IsDecision}
+use Rattle.hose_law.specs.Tracks.{IsNamedSince}
+use Rattle.hose_book.specs.Ledger.{Ledger}
+use Rattle.hose_plan.specs.Planning.{AreMadeSince, IsDecision}
 use Rattle.hose_plan.specs.declared.decision.Decision.TheVariants.{Plan}
 use Rattle.hose_core.specs.declared.quotes.Quote.{Quote}
 
@@ -32,11 +34,30 @@ pub record IsMadeAt (network : Network) (book : Book) (quote : Quote) : Type 0 w
 abbrev pub IsMade : Network → Quote → Type 0
 IsMade network quote = (book : Book) × IsMadeAt network book quote
 
--- there are as many numbers as quotes can have, and what is held under them are decisions
-pub record AreKept (network : Network) (quotes : List (Option Quote)) : Type 0 where
+-- where a ledger has all changes since the quote, the quote's grounds are those of a hose beside
+-- loads that are as they were, but on the links that such a change names
+abbrev pub HasGroundsSince : Ledger → Quote → Type 0
+HasGroundsSince ledger quote = ledger.recent.floor ≤ quote.seen
+    → AreMadeSince ledger.network (loads_of ledger.network ledger.book) quote.grounds
+    ledger.recent.changes quote.seen
+
+-- The quote was made at a book that a ledger came from. Where no entry came since, each load is as
+-- it was; and where the ledger has all changes since, so is that of each link which none names.
+pub record WasMadeBefore (ledger : Ledger) (quote : Quote) : Type 0 where
+  pub book : Book
+  pub made : IsMadeAt ledger.network book quote
+  pub seen : quote.seen ≤ ledger.book.epoch
+  pub fresh : quote.seen ≡ ledger.book.epoch
+      → (link : ℕ) → load_of book link ≡ load_of ledger.book link
+  pub since : ledger.recent.floor ≤ quote.seen → (link : ℕ)
+      → ¬ IsNamedSince ledger.recent.changes quote.seen link
+      → load_of book link ≡ load_of ledger.book link
+
+-- there are as many numbers as quotes can have, and what is held under them was made before
+pub record AreKept (ledger : Ledger) (quotes : List (Option Quote)) : Type 0 where
   pub numbers : length quotes ≡ MOST_QUOTES
   pub made : (number : ℕ) (quote : Quote) → at_number quotes number ≡ Some quote
-      → IsMade network quote
+      → WasMadeBefore ledger quote
 
 -- the quote is the one that is held: of its hose, and made at its place of a history
 pub record IsQuoteOf (network : Network) (epoch : ℕ) (history : List Entry) (held : HeldQuote)

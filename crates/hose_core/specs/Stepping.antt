@@ -15,6 +15,7 @@ use Rattle.hose_law.specs.History.{IsDecidedAt, IsSoundWith, book_of, next_book}
 use Rattle.hose_law.specs.Quotes.{Held, Holdings, with_held}
 use Rattle.hose_law.specs.Room.{room_of}
 use Rattle.hose_book.specs.Commit.{history_after}
+use Rattle.hose_book.specs.Ledger.{HasBookOf, Ledger, next_ledger}
 use Rattle.hose_book.specs.declared.books.Books.{Ghosts}
 use Rattle.hose_book.specs.declared.committed.Committed.{Committed}
 use Rattle.hose_book.specs.declared.committed.Committed.TheVariants.{Done, Disk}
@@ -30,6 +31,10 @@ committed_of _ = Done
 abbrev pub Goes : {K R : Type 0} → Ghosts K R → K → Reply → Option Entry → K → Type 0
 Goes books old answer None new = new ≡ old
 Goes books old answer (Some entry) new = books.went old entry (committed_of answer) new
+
+-- the ledger is as before, or the next one after an entry
+abbrev pub IsSameOrNext : Ledger → Ledger → Type 0
+IsSameOrNext old new = (new ≡ old) ⊎ ((entry : Entry) × (new ≡ next_ledger old entry))
 
 -- the history after the commit of an entry, if there is one
 abbrev pub history_with : List Entry → Option Entry → Committed → List Entry
@@ -93,12 +98,12 @@ pub record HasStepped {K R : Type 0} (books : Ghosts K R) (old new : K) (epoch :
       entry next after
   pub sound : IsSoundWith (books.ledger old).network (book_of epoch history) entry
   pub goes : Goes books old answer entry new
-  pub book : (books.ledger new).book ≡ book_of epoch next
+  pub book : HasBookOf epoch next (books.ledger new)
 
 -- the core's book is that of a history, and its quotes are those that are held there
 pub record FitsHistory {K R : Type 0} (books : Ghosts K R) (state : State K) (epoch : ℕ)
     (history : List Entry) (holdings : Holdings) : Type 0 where
-  pub book : (books.ledger state.books).book ≡ book_of epoch history
+  pub book : HasBookOf epoch history (books.ledger state.books)
   pub held : (customer : List ℕ) → AreHeld (books.ledger state.books).network epoch history
       (holdings customer) (quotes_of state customer)
 

@@ -6,12 +6,12 @@ ghost use Rattle.hose_graph.specs.Ranges.{AreInRanges};
 ghost use Rattle.hose_graph.specs.declared.command.Command.{Command};
 ghost use Rattle.hose_graph.specs.declared.entry.Entry.{Entry};
 ghost use Rattle.hose_law.specs.Decision.{CanBeReserved, IsPlanned};
-ghost use Rattle.hose_law.specs.History.{book_of};
 ghost use Rattle.hose_law.specs.Plan.{AreNodes, plan_cost};
 ghost use Rattle.hose_law.specs.Quotes.{Held};
 ghost use Rattle.hose_law.specs.Room.{room_of};
 ghost use Rattle.hose_book.specs.Commit.{IsMet};
-ghost use Rattle.hose_core.specs.Stepping.{AdmitsCheapest, HasStepped, committed_of};
+ghost use Rattle.hose_book.specs.Ledger.{HasBookOf};
+ghost use Rattle.hose_core.specs.Stepping.{AdmitsCheapest, HasStepped, IsSameOrNext, committed_of};
 
 use crate::deciding::decide_now;
 use crate::entering::enter_planned;
@@ -32,12 +32,13 @@ pub fn admit_now<K: Books, R: RowMaker>(
 ) -> Reply
     requires { AreNodes (K.ledger books.old).network hose }
     ensures step { (epoch : ℕ) (history : List Entry) (held : Held)
-        → (K.ledger books.old).book ≡ book_of epoch history
+        → HasBookOf epoch history (K.ledger books.old)
         → HasStepped K.Books books.old books.new epoch history customer.now held
         (Command.Admit hose) result }
     ensures cheapest { AdmitsCheapest (K.ledger books.old).network (K.ledger books.old).book
         hose result }
     ensures network { (K.ledger books.new).network ≡ (K.ledger books.old).network }
+    ensures ledger { IsSameOrNext (K.ledger books.old) (K.ledger books.new) }
     ensures met { IsMet (K.frame books.old) (committed_of result) (K.frame books.new) }
     ensures names { NamesPlaces (K.ledger books.old).network result }
 {
@@ -70,12 +71,13 @@ fn admit_planned<K: Books>(
     requires ranges { AreInRanges amounts }
     requires cost { cost ≡ plan_cost (K.ledger books.old).network amounts }
     ensures step { (epoch : ℕ) (history : List Entry) (held : Held)
-        → (K.ledger books.old).book ≡ book_of epoch history
+        → HasBookOf epoch history (K.ledger books.old)
         → HasStepped K.Books books.old books.new epoch history customer.now held
         (Command.Admit hose) result }
     ensures cheapest { AdmitsCheapest (K.ledger books.old).network (K.ledger books.old).book
         hose result }
     ensures network { (K.ledger books.new).network ≡ (K.ledger books.old).network }
+    ensures ledger { IsSameOrNext (K.ledger books.old) (K.ledger books.new) }
     ensures met { IsMet (K.frame books.old) (committed_of result) (K.frame books.new) }
     ensures names { NamesPlaces (K.ledger books.old).network result }
 {

@@ -6,7 +6,7 @@ ghost use Rattle.hose_law.specs.Answer.{IsPlannedAnswer};
 ghost use Rattle.hose_law.specs.Plan.{plan_cost};
 ghost use Rattle.hose_book.specs.Commit.{IsMet};
 ghost use Rattle.hose_core.specs.Claiming.{IsPlannedEntry};
-ghost use Rattle.hose_core.specs.Stepping.{AnswersBy, TellsPlan, committed_of};
+ghost use Rattle.hose_core.specs.Stepping.{AnswersBy, IsSameOrNext, TellsPlan, committed_of};
 
 use hose_book::{Books, Committed};
 use hose_graph::{Amounts, Entry, MOST_EPOCH, MOST_LIVE, Reply};
@@ -31,6 +31,7 @@ pub fn enter_planned<K: Books>(
         result }
     ensures told { TellsPlan told cost result }
     ensures network { (K.ledger books.new).network ≡ (K.ledger books.old).network }
+    ensures ledger { IsSameOrNext (K.ledger books.old) (K.ledger books.new) }
     ensures met { IsMet (K.frame books.old) (committed_of result) (K.frame books.new) }
     ensures names { NamesPlaces (K.ledger books.old).network result }
     ensures memory { result ≢ Reply.Memory }

@@ -3,11 +3,11 @@ ghost use Rattle.std.specs.Prelude.{◌≡◌, ◌≢◌, ℕ, List};
 ghost use Rattle.hose_graph.specs.Naming.{NamesPlaces};
 ghost use Rattle.hose_graph.specs.declared.command.Command.{Command};
 ghost use Rattle.hose_graph.specs.declared.entry.Entry.{Entry};
-ghost use Rattle.hose_law.specs.History.{book_of};
 ghost use Rattle.hose_law.specs.Quotes.{Held};
 ghost use Rattle.hose_book.specs.Commit.{IsMet};
+ghost use Rattle.hose_book.specs.Ledger.{HasBookOf};
 ghost use Rattle.hose_core.specs.Claiming.{IsReleaseClaim};
-ghost use Rattle.hose_core.specs.Stepping.{HasStepped, committed_of};
+ghost use Rattle.hose_core.specs.Stepping.{HasStepped, IsSameOrNext, committed_of};
 
 use crate::claim::Claim;
 use hose_book::{Books, Committed};
@@ -18,10 +18,11 @@ pub fn release_now<K: Books>(books: &mut K, claim: Claim<K>) -> Reply
     requires claim { (customer : List ℕ) × (id : ℕ) × IsReleaseClaim K.Books claim customer id }
     ensures step { (customer : List ℕ) (id epoch : ℕ) (history : List Entry) (held : Held)
         → IsReleaseClaim K.Books claim customer id
-        → (K.ledger books.old).book ≡ book_of epoch history
+        → HasBookOf epoch history (K.ledger books.old)
         → HasStepped K.Books books.old books.new epoch history customer held
         (Command.Release id) result }
     ensures network { (K.ledger books.new).network ≡ (K.ledger books.old).network }
+    ensures ledger { IsSameOrNext (K.ledger books.old) (K.ledger books.new) }
     ensures met { IsMet (K.frame books.old) (committed_of result) (K.frame books.new) }
     ensures names { NamesPlaces (K.ledger books.old).network result }
     ensures memory { result ≢ Reply.Memory }

@@ -5,10 +5,10 @@ ghost use Rattle.hose_graph.specs.Network.{IsLinkOf};
 ghost use Rattle.hose_graph.specs.declared.command.Command.{Command};
 ghost use Rattle.hose_graph.specs.declared.entry.Entry.{Entry};
 ghost use Rattle.hose_graph.specs.declared.limits.TheConstants.{MOST_EPOCH, MOST_QUOTES};
-ghost use Rattle.hose_law.specs.History.{book_of};
 ghost use Rattle.hose_law.specs.Plan.{AreNodes};
 ghost use Rattle.hose_law.specs.Quotes.{free_number, nothing_held};
 ghost use Rattle.hose_book.specs.Commit.{IsMet};
+ghost use Rattle.hose_book.specs.Ledger.{HasBookOf};
 ghost use Rattle.hose_book.specs.declared.committed.Committed.{Committed};
 ghost use Rattle.hose_core.specs.Holding.{IsMadeAt, quotes_of};
 ghost use Rattle.hose_core.specs.Stepping.{FitsHistory, Steps, committed_of};
@@ -44,9 +44,9 @@ impl<K: Books + Drop> Model for Core<K> {
 
     ghost view = { λ core. record { books = core.books; sessions = core.sessions } };
 
-    // What is held was decided on this network.
+    // What is held was decided on this network, at a book that this one came from.
     ghost invariant = { λ core. (customer : List ℕ)
-        → AreKept (K.ledger core.books).network (quotes_in core.sessions customer) };
+        → AreKept (K.ledger core.books) (quotes_in core.sessions customer) };
 }
 
 impl<K: Books + Drop> Core<K> {
@@ -54,7 +54,7 @@ impl<K: Books + Drop> Core<K> {
     pub fn new(alloc: Global, books: K) -> Core<K>
         ensures books { result.books ≡ books }
         ensures fits { (epoch : ℕ) (history : List Entry)
-            → (K.ledger books).book ≡ book_of epoch history
+            → HasBookOf epoch history (K.ledger books)
             → FitsHistory K.Books result epoch history nothing_held }
     {
         Core {

@@ -6,28 +6,31 @@ ghost use Rattle.hose_graph.specs.declared.command.Command.{Command};
 ghost use Rattle.hose_graph.specs.declared.entry.Entry.{Entry};
 ghost use Rattle.hose_law.specs.Book.{Book};
 ghost use Rattle.hose_law.specs.Decision.{HaveEqualGrounds};
-ghost use Rattle.hose_law.specs.History.{book_of};
 ghost use Rattle.hose_law.specs.Quotes.{Held, HeldQuote, at_number};
 ghost use Rattle.hose_book.specs.Commit.{IsMet};
+ghost use Rattle.hose_book.specs.Ledger.{HasBookOf};
 ghost use Rattle.hose_core.specs.Claiming.{IsClaimOf};
-ghost use Rattle.hose_core.specs.Holding.{IsMade, IsMadeAt, IsQuoteOf};
-ghost use Rattle.hose_core.specs.Stepping.{AdmitsCheapest, HasStepped, Takes, TellsPlan, committed_of};
+ghost use Rattle.hose_core.specs.Holding.{HasGroundsSince, IsMade, IsMadeAt, IsQuoteOf};
+ghost use Rattle.hose_core.specs.Stepping.{AdmitsCheapest, HasStepped, IsSameOrNext, Takes, TellsPlan, committed_of};
 
 use crate::claim::Claim;
 use crate::entering::enter_planned;
 use crate::quotes::Quote;
 use hose_book::Books;
 use hose_graph::Reply;
-use hose_plan::grounds_hold;
+use hose_plan::{grounds_hold, grounds_hold_since};
 
 /// Admits what was quoted, where the grounds of the quote are as they were: `Admitted`, `Stale`,
-/// `Spent`, `Full` or `Disk`. It takes no memory, and plans nothing.
+/// `Spent`, `Full` or `Disk`. It takes no memory, and plans nothing. Where the book has all changes
+/// since the quote, the links that they name are all that is compared beside the first plan; so the
+/// loads of the others have to be those that the quote was made beside.
 pub fn take_now<K: Books>(books: &mut K, quote: &Quote, claim: Claim<K>) -> Reply
     requires made { IsMade (K.ledger books.old).network quote.now }
+    requires since { HasGroundsSince (K.ledger books.old) quote.now }
     requires claim { (customer : List ℕ) × IsClaimOf K.Books claim customer quote.now }
     ensures step { (customer : List ℕ) (epoch number : ℕ) (history : List Entry) (held : Held)
         (one : HeldQuote) → IsClaimOf K.Books claim customer quote.now
-        → (K.ledger books.old).book ≡ book_of epoch history
+        → HasBookOf epoch history (K.ledger books.old)
         → at_number held number ≡ Some one
         → IsQuoteOf (K.ledger books.old).network epoch history one quote.now
         → HasStepped K.Books books.old books.new epoch history customer held
@@ -41,6 +44,7 @@ pub fn take_now<K: Books>(books: &mut K, quote: &Quote, claim: Claim<K>) -> Repl
         quote.now.hose result }
     ensures told { TellsPlan quote.now.amounts quote.now.cost result }
     ensures network { (K.ledger books.new).network ≡ (K.ledger books.old).network }
+    ensures ledger { IsSameOrNext (K.ledger books.old) (K.ledger books.new) }
     ensures met { IsMet (K.frame books.old) (committed_of result) (K.frame books.new) }
     ensures names { NamesPlaces (K.ledger books.old).network result }
     ensures memory { result ≢ Reply.Memory }
@@ -60,11 +64,17 @@ pub fn take_now<K: Books>(books: &mut K, quote: &Quote, claim: Claim<K>) -> Repl
 
 // Whether the grounds of a quote hold at a book.
 fn still_holds(book: &hose_book::Book, quote: &Quote) -> bool
-    requires { IsMade book.now.network quote.now }
+    requires made { IsMade book.now.network quote.now }
+    requires since { HasGroundsSince book.now quote.now }
     ensures holds { (earlier : Book) → IsMadeAt book.now.network earlier quote.now
         → (IsTrue result
         ↔ HaveEqualGrounds book.now.network earlier book.now.book quote.now.hose) }
     ensures network { IsNetwork book.now.network }
 {
-    grounds_hold(book.topology(), book.loads(), &quote.grounds)
+    let (top, loads, seen) = (book.topology(), book.loads(), quote.seen);
+    if seen >= book.floor() {
+        let changes = book.changes_since(seen);
+        return grounds_hold_since(top, loads, &quote.grounds, changes, seen);
+    }
+    grounds_hold(top, loads, &quote.grounds)
 }

@@ -6,8 +6,8 @@ ghost use Rattle.hose_graph.specs.declared.command.Command.{Command};
 ghost use Rattle.hose_graph.specs.declared.entry.Entry.{Entry};
 ghost use Rattle.hose_law.specs.Answer.{IsLinkAnswer, IsShowAnswer};
 ghost use Rattle.hose_law.specs.Book.{HasVpn};
-ghost use Rattle.hose_law.specs.History.{book_of};
 ghost use Rattle.hose_law.specs.Quotes.{Held};
+ghost use Rattle.hose_book.specs.Ledger.{HasBookOf};
 ghost use Rattle.hose_book.specs.declared.committed.Committed.{Committed};
 ghost use Rattle.hose_core.specs.Stepping.{HasStepped, committed_of};
 ghost use Rattle.hose_core.specs.Telling.{IsShown};
@@ -20,7 +20,7 @@ use std::alloc::Global;
 /// Tells a customer what the VPN of a number is: `Shown`, `NoVpn` or `Memory`.
 pub fn show_now<K: Books>(alloc: Global, books: &K, customer: &Name, id: u64) -> Reply
     ensures step { (epoch : ℕ) (history : List Entry) (held : Held)
-        → (K.ledger books.now).book ≡ book_of epoch history
+        → HasBookOf epoch history (K.ledger books.now)
         → HasStepped K.Books books.now books.now epoch history customer.now held
         (Command.Show id) result }
     ensures met { committed_of result ≡ Committed.Done }
@@ -33,7 +33,7 @@ pub fn show_now<K: Books>(alloc: Global, books: &K, customer: &Name, id: u64) ->
 pub fn link_now<K: Books>(books: &K, link: u32) -> Reply
     requires { IsLinkOf (K.ledger books.now).network link }
     ensures step { (customer : List ℕ) (epoch : ℕ) (history : List Entry) (held : Held)
-        → (K.ledger books.now).book ≡ book_of epoch history
+        → HasBookOf epoch history (K.ledger books.now)
         → HasStepped K.Books books.now books.now epoch history customer held
         (Command.Link link) result }
     ensures met { committed_of result ≡ Committed.Done }

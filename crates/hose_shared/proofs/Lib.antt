@@ -1,3 +1,4 @@
 mod Entries
 mod Passes
+mod Recently
 mod Turned

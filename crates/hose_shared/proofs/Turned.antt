@@ -11,15 +11,17 @@ use Rattle.hose_law.specs.Answer.{IsStepOf, with_entry}
 use Rattle.hose_law.specs.Book.{Book}
 use Rattle.hose_law.specs.History.{IsDecidedAt, book_of}
 use Rattle.hose_law.specs.Quotes.{Held}
+use Rattle.hose_law.specs.Tracks.{Tracks}
 use Rattle.hose_law.proofs.Cheapest.{canonical_cheapest}
 use Rattle.hose_book.specs.Commit.{IsMet}
 use Rattle.hose_book.specs.GoingOn.{GoesOn, entry_more}
+use Rattle.hose_book.specs.Ledger.{Ledger}
 use Rattle.hose_book.specs.declared.committed.Committed.{Committed}
 use Rattle.hose_book.specs.declared.committed.Committed.TheVariants.{Done, Disk}
 use Rattle.hose_core.specs.Stepping.{Goes, HasStepped, committed_of, history_with}
 use Rattle.hose_disk.specs.Disk.{object_frame}
 use Rattle.hose_disk.specs.declared.disk.Disk.{Ghosts}
-use Rattle.hose_store.specs.Commit.{store_books}
+use Rattle.hose_store.specs.Commit.{Went, store_books}
 use Rattle.hose_store.specs.Store.{Kept as KeptStore}
 use Rattle.hose_turn.specs.declared.view.Origin.{Origin}
 use Rattle.hose_turn.specs.Faults.{rise}
@@ -94,6 +96,18 @@ module _ {D : Type 0} (disk : Ghosts D) (Begins : List Entry → KeptStore D →
   goes_on (Some entry) went decided =
       entry_more entry (committed_of answer) stood.goes_on (subst (λ (n : Network). IsDecidedAt n (book_of 0 history) entry) stood.network decided) went
 
+  tracks_by : (entry : Entry) (result : Committed) → Went disk old entry result new → Tracks 0 (with_entry history (joined_of (Some entry) result)) new.ledger.recent
+  tracks_by entry Done went = went.tracks 0 history stood.book stood.tracks
+  tracks_by entry Disk went = subst (λ (l : Ledger). Tracks 0 history l.recent) (sym went.commits) stood.tracks
+
+  tracks_still : (result : Committed) → Tracks 0 (with_entry history (joined_of None result)) old.ledger.recent
+  tracks_still Done = stood.tracks
+  tracks_still Disk = stood.tracks
+
+  tracks_on : (entry : Option Entry) → Goes (store_books disk) old answer entry new → Tracks 0 (with_entry history (joined_of entry (committed_of answer))) new.ledger.recent
+  tracks_on None same = subst (λ (s : KeptStore D). Tracks 0 (with_entry history (joined_of None (committed_of answer))) s.ledger.recent) (sym same) (tracks_still (committed_of answer))
+  tracks_on (Some entry) went = tracks_by entry (committed_of answer) went
+
   -- the store stands for the history with the entry that joined it
   pub stands_after : StandsShared disk Begins origin (with_entry history joined) new
   stands_after = record {
@@ -104,6 +118,7 @@ module _ {D : Type 0} (disk : Ghosts D) (Begins : List Entry → KeptStore D →
     epoch = stood.epoch;
     network = network ∙ stood.network;
     book = stepped.book ∙ ap (book_of 0) leads;
+    tracks = tracks_on stepped.entry stepped.goes;
   }
 
   -- nothing joined where the store is as it was

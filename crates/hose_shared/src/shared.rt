@@ -3,7 +3,8 @@ ghost use Rattle.std.specs.Prelude.{◌≡◌, ◌⊎◌, ◌+◌, ◌-◌, ◌+
 ghost use mathlib.Core.List.{IsPrefix};
 ghost use Rattle.hose_graph.specs.Network.{IsNetwork};
 ghost use Rattle.hose_graph.specs.declared.entry.Entry.{Entry};
-ghost use Rattle.hose_law.specs.History.{book_of};
+ghost use Rattle.hose_law.specs.Tracks.{Tracks};
+ghost use Rattle.hose_book.specs.Ledger.{HasBookOf};
 ghost use Rattle.hose_turn.specs.Faults.{end_of_count};
 ghost use Rattle.hose_turn.specs.Known.{first_known, HasOwnPlaces};
 ghost use Rattle.hose_turn.specs.Places.{AreApart};
@@ -46,7 +47,7 @@ impl<D: Disk, B: Begun<D>> Shared<D, B> {
     /// stands. Where memory is wanting the store is dropped, and nothing was done to its disk.
     pub fn new(alloc: Global, store: Store<D>) -> Result<(Shared<D, B>, Pass), AllocError>
         requires { (since : List Entry) × B.begins since store
-            × (store.ledger.book ≡ book_of 0 since) }
+            × HasBookOf 0 since store.ledger × Tracks 0 since store.ledger.recent }
         ensures first { IfOk result (λ made. made.1 ≡ first_known made.0.turn made.1.origin) }
         ensures stands { IfOk result (λ made. StandsShared D.Disk B.begins made.1.origin
             made.1.origin.since store) }

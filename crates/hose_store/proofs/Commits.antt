@@ -1,12 +1,12 @@
 -- What the steps of a commit, and of closing, make of a store's history.
 use Rattle.std.proofs.Common.{◌≡◌, ◌⊎◌, inl, inr, ◌<◌, List, [], ◌∷◌, ◌++◌, length, Option, Some, None, false, true, refl, sym, ap, ◌∙◌, subst}
-use Rattle.hose_graph.specs.Network.{Network}
 use Rattle.hose_graph.specs.declared.entry.Entry.{Entry}
 use Rattle.hose_graph.specs.declared.limits.TheConstants.{MOST_EPOCH}
 use Rattle.hose_law.specs.Book.{Book}
 use Rattle.hose_law.specs.History.{book_of, opening_book, next_book, IsSound, IsSoundAt, IsSoundWith}
 use Rattle.hose_law.proofs.Scripts.{book_after_push}
-use Rattle.hose_book.specs.Ledger.{Ledger}
+use Rattle.hose_law.specs.Tracks.{Tracks}
+use Rattle.hose_book.specs.Ledger.{TracksOn, next_ledger}
 use Rattle.hose_book.specs.declared.committed.Committed.{Committed}
 use Rattle.hose_book.specs.declared.committed.Committed.TheVariants.{Done, Disk}
 use Rattle.hose_disk.specs.declared.disk.Disk.{Ghosts}
@@ -22,16 +22,13 @@ use Rattle.hose_store.specs.Recovery.{IsHistoryOf}
 use Rattle.hose_store.specs.Store.{Kept, HasHistory, IsAmid, account_of}
 use Rattle.hose_store.proofs.Histories.{few_entries, sound_with, history_of_list, history_amid}
 
--- a ledger is its network and its book
-pub ledger_is : (ledger : Ledger) (network : Network) (book : Book) → ledger.network ≡ network → ledger.book ≡ book → ledger ≡ record { network = network; book = book }
-ledger_is ledger network book is_network is_book = λ i. record { network = is_network i; book = is_book i }
-
 module _ {D : Type 0} (disk : Ghosts D) where
   -- a journal under another book's history
-  pub has_history : (store : Kept D) (history : List Entry) (doubt : Option Entry) → store.ledger.book ≡ book_of 0 history → IsSound store.ledger.network 0 history
+  pub has_history : (store : Kept D) (history : List Entry) (doubt : Option Entry) → store.ledger.book ≡ book_of 0 history → Tracks 0 history store.ledger.recent → IsSound store.ledger.network 0 history
       → IsSoundWith store.ledger.network (book_of 0 history) doubt → Stands disk store.journal (account_of store.ledger.network history doubt) → HasHistory disk store history doubt
-  has_history store history doubt book sound at stands = record {
+  has_history store history doubt book tracks sound at stands = record {
     book = book;
+    tracks = tracks;
     sound = sound;
     sound_doubt = at;
     journal = stands;
@@ -40,17 +37,17 @@ module _ {D : Type 0} (disk : Ghosts D) where
 
   -- the entry was added
   has_pushed : (old : Kept D) (journal : Journal D) (history : List Entry) (doubt : Option Entry) (entry : Entry) → HasHistory disk old history doubt → IsSoundAt old.ledger.network old.ledger.book entry
-      → Stands disk journal (account_of old.ledger.network (history ++ entry ∷ []) None)
-      → HasHistory disk (record { ledger = record { network = old.ledger.network; book = next_book old.ledger.book entry }; journal = journal }) (history ++ entry ∷ []) None
-  has_pushed old journal history doubt entry has at stands =
+      → TracksOn old.ledger entry (next_ledger old.ledger entry) → Stands disk journal (account_of old.ledger.network (history ++ entry ∷ []) None)
+      → HasHistory disk (record { ledger = next_ledger old.ledger entry; journal = journal }) (history ++ entry ∷ []) None
+  has_pushed old journal history doubt entry has at tracks stands =
       let sound_at = subst (λ (book : Book). IsSoundAt old.ledger.network book entry) has.book at in
       let book = ap (λ (b : Book). next_book b entry) has.book ∙ sym (book_after_push (opening_book 0) history entry) in
-      has_history (record { ledger = record { network = old.ledger.network; book = next_book old.ledger.book entry }; journal = journal }) (history ++ entry ∷ []) None book (sound_with old.ledger.network history entry has.sound sound_at) tt stands
+      has_history (record { ledger = next_ledger old.ledger entry; journal = journal }) (history ++ entry ∷ []) None book (tracks 0 history has.book has.tracks) (sound_with old.ledger.network history entry has.sound sound_at) tt stands
 
   -- the history stays, whatever is in doubt
   has_still : (old : Kept D) (journal : Journal D) (history : List Entry) (doubt now : Option Entry) → HasHistory disk old history doubt → IsSoundWith old.ledger.network (book_of 0 history) now
       → Stands disk journal (account_of old.ledger.network history now) → HasHistory disk (record { ledger = old.ledger; journal = journal }) history now
-  has_still old journal history doubt now has at stands = has_history (record { ledger = old.ledger; journal = journal }) history now has.book has.sound at stands
+  has_still old journal history doubt now has at stands = has_history (record { ledger = old.ledger; journal = journal }) history now has.book has.tracks has.sound at stands
 
   -- ---- a commit
 
@@ -65,12 +62,13 @@ module _ {D : Type 0} (disk : Ghosts D) where
         (λ image is. history_amid network history doubt (Some entry) image has.sound has.sound_doubt sound_at is)
         (moments (account_of network history doubt) entry has.journal is_ready (few_entries network old.ledger.book history entry has.book at))
 
-    pub went_done : ((account : Account) (one : Entry) → Stands disk old.journal account → IsReady one ready → length account.entries < MOST_EPOCH → Stands disk journal (with_entry account one))
-        → (disk.frame journal.disk).has_failed ≡ false → Went disk old entry Done (record { ledger = record { network = old.ledger.network; book = next_book old.ledger.book entry }; journal = journal })
-    went_done added told = record {
+    pub went_done : TracksOn old.ledger entry (next_ledger old.ledger entry) → ((account : Account) (one : Entry) → Stands disk old.journal account → IsReady one ready → length account.entries < MOST_EPOCH → Stands disk journal (with_entry account one))
+        → (disk.frame journal.disk).has_failed ≡ false → Went disk old entry Done (record { ledger = next_ledger old.ledger entry; journal = journal })
+    went_done tracks added told = record {
       commits = refl;
+      tracks = tracks;
       any_moment = amid;
-      left = λ history doubt has. has_pushed old journal history doubt entry has at
+      left = λ history doubt has. has_pushed old journal history doubt entry has at tracks
           (added (account_of old.ledger.network history doubt) entry has.journal is_ready (few_entries old.ledger.network old.ledger.book history entry has.book at));
       tells = tells;
       opened = opened;
@@ -89,6 +87,7 @@ module _ {D : Type 0} (disk : Ghosts D) where
         → (disk.frame journal.disk).has_failed ≡ true → Went disk old entry Disk (record { ledger = old.ledger; journal = journal })
     went_failed failed told = record {
       commits = refl;
+      tracks = tt;
       any_moment = amid;
       left = λ history doubt has. still history doubt has
           (failed (account_of old.ledger.network history doubt) entry has.journal is_ready (few_entries old.ledger.network old.ledger.book history entry has.book at));

@@ -3,8 +3,9 @@ use Rattle.std.proofs.Common.{◌≡◌, inl, inr, ⊎_elim, ℕ, ◌≤◌, Lis
 use Rattle.hose_io.proofs.Frames.{Rose-later}
 use Rattle.hose_graph.specs.Network.{Network}
 use Rattle.hose_graph.specs.declared.entry.Entry.{Entry}
-use Rattle.hose_law.specs.History.{opening_book, IsSound}
-use Rattle.hose_book.specs.Ledger.{Ledger}
+use Rattle.hose_law.specs.History.{IsSound}
+use Rattle.hose_law.specs.Tracks.{Tracks}
+use Rattle.hose_book.specs.Ledger.{Ledger, opening_ledger}
 use Rattle.hose_disk.specs.Disk.{object_frame}
 use Rattle.hose_disk.specs.declared.disk.Disk.{Ghosts}
 use Rattle.hose_journal.specs.declared.layout.TheConstants.{DIGEST_BYTES}
@@ -147,12 +148,13 @@ module _ {D : Type 0} (disk : Ghosts D) where
   -- ---- the store that is opened
 
   -- before the first entry
-  pub first_recovering : (ledger : Ledger) (top : Network) (reading : Reading D) → ledger ≡ record { network = top; book = opening_book 0 } → Reads disk reading (digest_of top) [] → reading.fault ≡ None → IsRecovering disk ledger reading
-  first_recovering ledger top reading is reads fault = record {
+  pub first_recovering : (ledger : Ledger) (top : Network) (reading : Reading D) → ledger ≡ opening_ledger top 0 → Tracks 0 [] ledger.recent → Reads disk reading (digest_of top) [] → reading.fault ≡ None → IsRecovering disk ledger reading
+  first_recovering ledger top reading is tracks reads fault = record {
     entries = [];
     reads = subst (λ (network : Network). Reads disk reading (digest_of network) []) (sym (ap (λ (l : Ledger). l.network) is)) reads;
     sound = tt;
     book = ap (λ (l : Ledger). l.book) is;
+    tracks = tracks;
     fault = fault;
   }
 
@@ -161,7 +163,7 @@ module _ {D : Type 0} (disk : Ghosts D) where
       → ((digest : List ℕ) (entries : List Entry) → Reads disk reading digest entries → Stands disk journal (record { digest = digest; entries = entries; doubt = None }))
       → HasHistory disk (record { ledger = ledger; journal = journal }) recovering.entries None
   has_recovered ledger reading journal recovering stands =
-      has_history disk (record { ledger = ledger; journal = journal }) recovering.entries None recovering.book (sound_items ledger.network recovering.entries recovering.sound) tt
+      has_history disk (record { ledger = ledger; journal = journal }) recovering.entries None recovering.book recovering.tracks (sound_items ledger.network recovering.entries recovering.sound) tt
       (stands (digest_of ledger.network) recovering.entries recovering.reads)
 
   pub opened_on : (old mid : D) (ledger : Ledger) (reading : Reading D) (journal : Journal D) (recovering : IsRecovering disk ledger reading) → is_some (disk.content mid) ≡ is_some (disk.content old)

@@ -7,7 +7,7 @@ use Rattle.hose_graph.specs.declared.entry.Entry.{Entry}
 use Rattle.hose_law.specs.Book.{Book}
 use Rattle.hose_law.specs.History.{opening_book, next_book, IsSoundAt}
 use Rattle.hose_law.proofs.Scripts.{book_after_push}
-use Rattle.hose_book.specs.Ledger.{Ledger}
+use Rattle.hose_book.specs.Ledger.{Ledger, TracksOn}
 use Rattle.hose_disk.specs.Disk.{object_frame}
 use Rattle.hose_disk.specs.declared.disk.Disk.{Ghosts}
 use Rattle.hose_journal.specs.declared.layout.TheConstants.{DIGEST_BYTES}
@@ -54,8 +54,8 @@ module _ {D : Type 0} (disk : Ghosts D) where
   -- ---- the next entry
 
   pub next_recovering : (old : Ledger) (new : Ledger) (before after : Reading D) (recovering : IsRecovering disk old before) (entry : Entry) → HasRead disk before after (digest_of old.network) recovering.entries (Ok (Some entry))
-      → after.fault ≡ None → IsSoundAt old.network old.book entry → new.network ≡ old.network → new.book ≡ next_book old.book entry → IsRecovering disk new after
-  next_recovering old new before after recovering entry has fault at is_network is_book =
+      → after.fault ≡ None → IsSoundAt old.network old.book entry → new.network ≡ old.network → new.book ≡ next_book old.book entry → TracksOn old entry new → IsRecovering disk new after
+  next_recovering old new before after recovering entry has fault at is_network is_book tracks =
       let entries = recovering.entries in
       let sound_at = subst (λ (book : Book). IsSoundAt old.network book entry) recovering.book at in
       record {
@@ -64,6 +64,7 @@ module _ {D : Type 0} (disk : Ghosts D) where
         sound = subst (λ (network : Network). AreTaken (IsSoundAfter network) [] (entries ++ entry ∷ [])) (sym is_network)
             (taken_more old.network [] entries entry recovering.sound sound_at);
         book = is_book ∙ ap (λ (book : Book). next_book book entry) recovering.book ∙ sym (book_after_push (opening_book 0) entries entry);
+        tracks = tracks 0 entries recovering.book recovering.tracks;
         fault = fault;
       }
 
@@ -73,6 +74,7 @@ module _ {D : Type 0} (disk : Ghosts D) where
     reads = has.0;
     sound = recovering.sound;
     book = recovering.book;
+    tracks = recovering.tracks;
     fault = fault;
   }
 

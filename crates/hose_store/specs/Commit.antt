@@ -2,7 +2,7 @@
 use Rattle.std.specs.Prelude.{◌≡◌, ◌⊎◌, Bool, false, true, List, [], ◌∷◌, ◌++◌, Option, Some, None, Result, OnOk}
 use Rattle.hose_io.specs.declared.Failed.{Failed}
 use Rattle.hose_graph.specs.declared.entry.Entry.{Entry}
-use Rattle.hose_book.specs.Commit.{Commits}
+use Rattle.hose_book.specs.Commit.{Commits, KeepsTracks}
 use Rattle.hose_book.specs.declared.committed.Committed.{Committed}
 use Rattle.hose_book.specs.declared.committed.Committed.TheVariants.{Done, Disk}
 use Rattle.hose_book.specs.declared.books.Books.{Ghosts as BooksGhosts}
@@ -32,6 +32,7 @@ is_disk Disk = true
 pub record Went {D : Type 0} (disk : Ghosts D) (old : Kept D) (entry : Entry) (result : Committed)
     (new : Kept D) : Type 0 where
   pub commits : Commits old.ledger entry result new.ledger
+  pub tracks : KeepsTracks old.ledger entry result new.ledger
   pub any_moment : (history : List Entry) (doubt : Option Entry) → HasHistory disk old history doubt
       → LeavesOnly disk old.journal.disk new.journal.disk
       (IsAmid old.ledger.network history doubt (Some entry))

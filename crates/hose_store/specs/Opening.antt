@@ -2,8 +2,8 @@
 use Rattle.std.specs.Prelude.{◌≡◌, ◌⊎◌, ℕ, List, [], Option, None, IfSome}
 use Rattle.hose_graph.specs.Network.{Network}
 use Rattle.hose_graph.specs.declared.entry.Entry.{Entry}
-use Rattle.hose_law.specs.History.{book_of}
-use Rattle.hose_book.specs.Ledger.{Ledger}
+use Rattle.hose_law.specs.Tracks.{Tracks}
+use Rattle.hose_book.specs.Ledger.{HasBookOf, Ledger}
 use Rattle.hose_disk.specs.declared.disk.Disk.{Ghosts}
 use Rattle.hose_journal.specs.Entries.{AreTaken, IsListOf}
 use Rattle.hose_journal.specs.Image.{other, damaged}
@@ -49,13 +49,14 @@ IsRefused disk old new top Memory = IsUnchanged disk old new
 
 -- ---- reading the entries
 
--- the reading has given entries that are sound, and the book is that of them
+-- the reading has given entries that are sound, and the book is that of them and tracks them
 pub record IsRecovering {D : Type 0} (disk : Ghosts D) (ledger : Ledger) (reading : Reading D) :
     Type 0 where
   pub entries : List Entry
   pub reads : Reads disk reading (digest_of ledger.network) entries
   pub sound : AreTaken (IsSoundAfter ledger.network) [] entries
-  pub book : ledger.book ≡ book_of 0 entries
+  pub book : HasBookOf 0 entries ledger
+  pub tracks : Tracks 0 entries ledger.recent
   pub fault : reading.fault ≡ None
 
 -- The disk holds something else than a journal without an entry.

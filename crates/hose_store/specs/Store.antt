@@ -1,9 +1,10 @@
 -- A store, as contracts see it, and the history that it stands for.
-use Rattle.std.specs.Prelude.{◌≡◌, ◌⊎◌, ℕ, List, [], ◌∷◌, ◌++◌, Option, Some, None}
+use Rattle.std.specs.Prelude.{◌⊎◌, ℕ, List, [], ◌∷◌, ◌++◌, Option, Some, None}
 use Rattle.hose_graph.specs.Network.{Network}
 use Rattle.hose_graph.specs.declared.entry.Entry.{Entry}
 use Rattle.hose_law.specs.History.{book_of, IsSound, IsSoundWith}
-use Rattle.hose_book.specs.Ledger.{Ledger}
+use Rattle.hose_law.specs.Tracks.{Tracks}
+use Rattle.hose_book.specs.Ledger.{HasBookOf, Ledger}
 use Rattle.hose_disk.specs.declared.disk.Disk.{Ghosts}
 use Rattle.hose_journal.specs.Journal.{Account, Stands}
 use Rattle.hose_journal.specs.Moments.{Images}
@@ -32,11 +33,12 @@ abbrev pub IsAmid : Network → List Entry → Option Entry → Option Entry →
 IsAmid network history doubt writing image = IsHistoryOf network history image
     ⊎ (IsHistoryWith network history doubt image ⊎ IsHistoryWith network history writing image)
 
--- The book is that of this history, which is sound, and so is the entry in doubt. What a stop may
--- leave now stands for the history, with the one in doubt or without it.
+-- The book is that of this history, which it tracks and which is sound, and so is the entry in
+-- doubt. What a stop may leave now stands for the history, with the one in doubt or without it.
 pub record HasHistory {D : Type 0} (disk : Ghosts D) (store : Kept D) (history : List Entry)
     (doubt : Option Entry) : Type 0 where
-  pub book : store.ledger.book ≡ book_of 0 history
+  pub book : HasBookOf 0 history store.ledger
+  pub tracks : Tracks 0 history store.ledger.recent
   pub sound : IsSound store.ledger.network 0 history
   pub sound_doubt : IsSoundWith store.ledger.network (book_of 0 history) doubt
   pub journal : Stands disk store.journal (account_of store.ledger.network history doubt)

@@ -1,6 +1,7 @@
 // Reading a journal's entries into a book.
 ghost use Rattle.std.specs.Prelude.{◌≡◌, ◌+◌, ◌≤◌, Ok, false, true, IfErr, IsFalse, IsOk, IsTrue, OnOk};
 ghost use Rattle.hose_law.specs.History.{IsSoundAt, last_epoch, next_book};
+ghost use Rattle.hose_book.specs.Ledger.{TracksOn};
 ghost use Rattle.hose_journal.specs.Moments.{KeepsCount};
 ghost use Rattle.hose_journal.specs.Reading.{OnlyRead};
 ghost use Rattle.hose_store.specs.Opening.{IsRecovering, IsStopped};
@@ -53,6 +54,7 @@ fn recover_next<D: Disk>(book: &mut Book, reading: &mut Reading<D>) -> Result<bo
 fn enter(book: &mut Book, entry: Entry) -> bool
     ensures sound { IsTrue result → IsSoundAt book.old.network book.old.book entry }
     ensures entered { IsTrue result → book.new.book ≡ next_book book.old.book entry }
+    ensures tracks { IsTrue result → TracksOn book.old entry book.new }
     ensures unsound { IsFalse result → ¬ IsSoundAt book.old.network book.old.book entry }
     ensures network { book.new.network ≡ book.old.network }
 {

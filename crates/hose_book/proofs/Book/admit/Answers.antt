@@ -1,4 +1,4 @@
-use Rattle.std.proofs.Common.{◌≡◌, ℕ, ◌+◌, ◌<◌, List, ◌++◌, length, get_or, take, drop, All, sym, ap, subst, arith}
+use Rattle.std.proofs.Common.{◌≡◌, ℕ, ◌+◌, ◌<◌, ◌≤◌, List, ◌++◌, length, get_or, take, drop, All, sym, ap, subst, arith}
 use Rattle.std.proofs.lemmas.List.{take_at}
 use Rattle.std.proofs.lemmas.List.Elements.{All-push}
 use Rattle.hose_graph.specs.declared.vpn.Vpn.{Vpn}
@@ -8,7 +8,11 @@ use Rattle.hose_law.specs.History.{IsSoundAt, next_book}
 use Rattle.hose_law.proofs.Sold.{NoneOversold, entry_keeps}
 use Rattle.hose_law.proofs.LiveIds.{rising_next}
 use Rattle.hose_law.specs.Live.{HasRisingIds}
+use Rattle.hose_graph.specs.Ascending.{firsts}
+use Rattle.hose_law.specs.Tracks.{Recent}
+use Rattle.hose_book.specs.Changes.{AreUpTo}
 use Rattle.hose_book.specs.Ledger.{Ledger, AreKeptLoads, IsKept}
+use Rattle.hose_book.proofs.Tracking.{floor_next, with_up_to}
 use Rattle.hose_law.proofs.Bounds.{reserved_links, reserved_few, reserved_most, reserved_nodes}
 use Rattle.hose_book.proofs.Loads.{capacity_small, load_more}
 use Rattle.hose_book.proofs.Book.admit.Goals as goal
@@ -86,4 +90,14 @@ invariant_of-self c =
       omega (arith, sound.0),
       subst (HasRisingIds 0) next_is (rising_next 0 book entry c.self.invariant.3),
       subst (All (IsKept network)) (sym c.push.ensures) (All-push (IsKept network) book.live vpn c.self.invariant.4 is_kept),
+      subst (λ (r : Recent). r.floor ≤ book.epoch + 1) (sym c.add.ensures) (floor_next c.self.inside.recent book.epoch (firsts c.pairs-2.result.now) c.self.invariant.5),
+      subst (λ (r : Recent). AreUpTo (book.epoch + 1) r.changes) (sym c.add.ensures) (with_up_to c.self.inside.recent book.epoch (firsts c.pairs-2.result.now) c.self.invariant.6),
     )
+
+pub add-requires-clause-few : goal.add-requires-clause-few
+add-requires-clause-few c =
+    let network = c.self.inside.topology in
+    let entry = Admit c.args.customer c.args.hose c.args.amounts in
+    let sound : IsSoundAt network (record { epoch = c.self.inside.epoch; live = c.self.inside.live }) entry =
+    subst (λ (s : Ledger). IsSoundAt s.network s.book entry) (sym c.self.view_is) c.requires in
+    omega (arith, reserved_few network c.self.invariant.0 _ c.args.hose c.args.amounts sound.2.on_tree, ap length c.pairs-2.ensures.value)

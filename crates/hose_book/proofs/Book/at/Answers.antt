@@ -1,8 +1,10 @@
-use Rattle.std.proofs.Common.{◌≡◌, ℕ, List, All, length, get_or, replicate, sym, ap, subst, arith}
+use Rattle.std.proofs.Common.{◌≡◌, ◌≤◌, ℕ, List, All, length, get_or, replicate, sym, ap, subst, arith}
 use Rattle.std.proofs.lemmas.List.{length-replicate, get_or-replicate}
 use Rattle.std.proofs.lemmas.List.Elements.{All-nil}
 use Rattle.hose_graph.specs.declared.vpn.Vpn.{Vpn}
 use Rattle.hose_law.specs.Live.{HasRisingIds}
+use Rattle.hose_law.specs.Tracks.{Change, Recent}
+use Rattle.hose_book.specs.Changes.{AreUpTo}
 use Rattle.hose_book.proofs.Ids.{none_rise}
 use Rattle.hose_book.specs.Ledger.{IsKept}
 use Rattle.hose_law.specs.Book.{load_of}
@@ -22,4 +24,6 @@ invariant_of-result c =
       omega arith,
       subst (λ (live : List Vpn). HasRisingIds 0 (record { epoch = c.args.epoch; live = live })) (sym c.in_ok-live.ensures) (none_rise c.args.epoch),
       subst (All (IsKept c.args.topology)) (sym c.in_ok-live.ensures) (All-nil (IsKept c.args.topology)),
+      omega (arith, ap (λ (r : Recent). r.floor) c.in_ok-recent.ensures),
+      subst (λ (r : Recent). AreUpTo c.args.epoch r.changes) (sym c.in_ok-recent.ensures) (All-nil (λ (change : Change). change.0 ≤ c.args.epoch)),
     )

@@ -7,7 +7,11 @@ use Rattle.hose_law.specs.History.{last_epoch, next_book}
 use Rattle.hose_law.specs.Live.{HasRisingIds}
 use Rattle.hose_law.proofs.LiveIds.{rising_next}
 use Rattle.hose_law.proofs.Sold.{NoneOversold, entry_keeps}
-use Rattle.hose_book.specs.Ledger.{Ledger, AreKeptLoads, IsKept}
+use Rattle.hose_graph.specs.Ascending.{firsts}
+use Rattle.hose_law.specs.Tracks.{Recent}
+use Rattle.hose_book.specs.Changes.{AreUpTo, with_changes}
+use Rattle.hose_book.specs.Ledger.{Ledger, AreKeptLoads, IsKept, next_ledger}
+use Rattle.hose_book.proofs.Tracking.{floor_next, with_up_to}
 use Rattle.hose_book.proofs.Releasing.{Taken, kept_left, taken_in, within}
 use Rattle.hose_book.proofs.Book.remove.Goals as goal
 
@@ -18,7 +22,7 @@ subtract_amounts-requires-clause-links c = λ k d inside.
     let id = c.args.id in
     let vpn = c.index-as_slice-place.result in
     let book : Book = record { epoch = c.self.inside.epoch; live = c.self.inside.live } in
-    let out : Taken book customer id c.args.place vpn = taken_in c.args.self.now network book customer id c.args.place vpn c.self.view_is c.self.invariant.3.rise c.requires.there (c.index-as_slice-place.is ∙ ap (λ (live : List Vpn). get_or live c.args.place c.index-as_slice-place.result) c.as_slice.ensures.value) in
+    let out : Taken book customer id c.args.place vpn = taken_in c.args.self.now.book book customer id c.args.place vpn (ap (λ (s : Ledger). s.book) c.self.view_is) c.self.invariant.3.rise c.requires.there (c.index-as_slice-place.is ∙ ap (λ (live : List Vpn). get_or live c.args.place c.index-as_slice-place.result) c.as_slice.ensures.value) in
     let kept : IsKept network vpn = subst (IsKept network) (sym (c.index-as_slice-place.is ∙ ap (λ (live : List Vpn). get_or live c.args.place c.index-as_slice-place.result) c.as_slice.ensures.value)) (c.self.invariant.4 c.args.place vpn out.inside) in
     omega (
       arith,
@@ -35,7 +39,7 @@ subtract_amounts-requires-clause-held c = λ l inside.
     let id = c.args.id in
     let vpn = c.index-as_slice-place.result in
     let book : Book = record { epoch = c.self.inside.epoch; live = c.self.inside.live } in
-    let out : Taken book customer id c.args.place vpn = taken_in c.args.self.now network book customer id c.args.place vpn c.self.view_is c.self.invariant.3.rise c.requires.there (c.index-as_slice-place.is ∙ ap (λ (live : List Vpn). get_or live c.args.place c.index-as_slice-place.result) c.as_slice.ensures.value) in
+    let out : Taken book customer id c.args.place vpn = taken_in c.args.self.now.book book customer id c.args.place vpn (ap (λ (s : Ledger). s.book) c.self.view_is) c.self.invariant.3.rise c.requires.there (c.index-as_slice-place.is ∙ ap (λ (live : List Vpn). get_or live c.args.place c.index-as_slice-place.result) c.as_slice.ensures.value) in
     let loads_is = c.deref_mut.ensures.value in
     omega (
       arith,
@@ -52,7 +56,7 @@ invariant_of-self c =
     let id = c.args.id in
     let entry = Release customer id in
     let book : Book = record { epoch = c.self.inside.epoch; live = c.self.inside.live } in
-    let out : Taken book customer id c.args.place c.index-as_slice-place.result = taken_in c.args.self.now c.self.inside.topology book customer id c.args.place c.index-as_slice-place.result c.self.view_is c.self.invariant.3.rise c.requires.there (c.index-as_slice-place.is ∙ ap (λ (live : List Vpn). get_or live c.args.place c.index-as_slice-place.result) c.as_slice.ensures.value) in
+    let out : Taken book customer id c.args.place c.index-as_slice-place.result = taken_in c.args.self.now.book book customer id c.args.place c.index-as_slice-place.result (ap (λ (s : Ledger). s.book) c.self.view_is) c.self.invariant.3.rise c.requires.there (c.index-as_slice-place.is ∙ ap (λ (live : List Vpn). get_or live c.args.place c.index-as_slice-place.result) c.as_slice.ensures.value) in
     let next : Book = record { epoch = book.epoch + 1; live = c.remove.new.self } in
     let next_is : next_book book entry ≡ next = out.released ∙ ap (λ (live : List Vpn). record { epoch = book.epoch + 1; live = live }) (sym c.remove.ensures) in
     let old = c.self.invariant.1 in
@@ -79,17 +83,21 @@ invariant_of-self c =
       epoch,
       subst (HasRisingIds 0) next_is (rising_next 0 book entry c.self.invariant.3),
       subst (λ (b : Book). All (IsKept network) b.live) next_is (kept_left network book customer id c.self.invariant.4),
+      subst (λ (r : Recent). r.floor ≤ book.epoch + 1) (sym c.add.ensures) (floor_next c.self.inside.recent book.epoch (firsts c.pairs-2.result.now) c.self.invariant.5),
+      subst (λ (r : Recent). AreUpTo (book.epoch + 1) r.changes) (sym c.add.ensures) (with_up_to c.self.inside.recent book.epoch (firsts c.pairs-2.result.now) c.self.invariant.6),
     )
 
-pub returns-clause-book : goal.returns-clause-book
-returns-clause-book c =
+pub returns : goal.returns
+returns c =
     let customer = c.args.customer.now in
     let id = c.args.id in
     let book : Book = record { epoch = c.self.inside.epoch; live = c.self.inside.live } in
-    let out : Taken book customer id c.args.place c.index-as_slice-place.result = taken_in c.args.self.now c.self.inside.topology book customer id c.args.place c.index-as_slice-place.result c.self.view_is c.self.invariant.3.rise c.requires.there (c.index-as_slice-place.is ∙ ap (λ (live : List Vpn). get_or live c.args.place c.index-as_slice-place.result) c.as_slice.ensures.value) in
-    ap (λ (live : List Vpn). record { epoch = book.epoch + 1; live = live }) c.remove.ensures
-    ∙ sym out.released
-    ∙ ap (λ (s : Ledger). next_book s.book (Release customer id)) c.self.view_is
+    let out : Taken book customer id c.args.place c.index-as_slice-place.result = taken_in c.args.self.now.book book customer id c.args.place c.index-as_slice-place.result (ap (λ (s : Ledger). s.book) c.self.view_is) c.self.invariant.3.rise c.requires.there (c.index-as_slice-place.is ∙ ap (λ (live : List Vpn). get_or live c.args.place c.index-as_slice-place.result) c.as_slice.ensures.value) in
+    let next : next_book book (Release customer id) ≡ record { epoch = book.epoch + 1; live = c.remove.new.self } =
+    out.released ∙ ap (λ (live : List Vpn). record { epoch = book.epoch + 1; live = live }) (sym c.remove.ensures) in
+    let recent = c.add.ensures ∙ ap (λ (pairs : List (ℕ × ℕ)). with_changes c.self.inside.recent book.epoch (firsts pairs)) c.pairs-2.ensures.value ∙ ap (with_changes c.self.inside.recent book.epoch) (sym out.touched) in
+    (λ i. record { network = c.self.inside.topology; book = sym next i; recent = recent i })
+    ∙ ap (λ (s : Ledger). next_ledger s (Release customer id)) c.self.view_is
 
 pub remove-requires : goal.remove-requires
 remove-requires c =

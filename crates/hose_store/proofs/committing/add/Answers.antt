@@ -1,10 +1,9 @@
 use Rattle.std.proofs.Common.{subst, sym}
-use Rattle.hose_law.specs.History.{next_book}
-use Rattle.hose_book.specs.Ledger.{Ledger}
+use Rattle.hose_book.specs.Ledger.{Ledger, TracksOn}
 use Rattle.hose_book.specs.declared.committed.Committed.TheVariants.{Done}
 use Rattle.hose_store.specs.Commit.{Went}
 use Rattle.hose_store.specs.Store.{Kept, account_of}
-use Rattle.hose_store.proofs.Commits.{ledger_is, went_done, went_failed}
+use Rattle.hose_store.proofs.Commits.{went_done, went_failed}
 use Rattle.hose_store.proofs.Histories.{few_entries}
 use Rattle.hose_store.proofs.committing.add.Goals as goal
 
@@ -24,8 +23,9 @@ returns-in-Err-clause-went g c =
 pub returns-in-Ok-clause-went : goal.returns-in-Ok-clause-went
 returns-in-Ok-clause-went g c =
     let old : Kept g.row.D.Denot = record { ledger = c.args.book.now; journal = c.args.journal.now } in
-    let book = next_book c.args.book.now.book c.args.entry in
-    let same = ledger_is c.apply.new.self c.args.book.now.network book c.apply.ensures.network c.apply.ensures.book in
-    let went = went_done g.D.Disk old c.append.new.self c.args.entry c.args.ready.now c.requires.ready c.requires.sound
-    c.append.ensures.any_moment c.append.ensures.tells c.append.ensures.call.opened c.in-Ok.ensures.added c.in-Ok.ensures.call.told in
-    subst (λ (ledger : Ledger). Went g.D.Disk old c.args.entry Done (record { ledger = ledger; journal = c.append.new.self })) (sym same) went
+    let book = c.args.book.now in
+    let entry = c.args.entry in
+    let tracks = subst (TracksOn book entry) c.apply.ensures.ledger c.apply.ensures.tracks in
+    let went = went_done g.D.Disk old c.append.new.self entry c.args.ready.now c.requires.ready c.requires.sound
+    c.append.ensures.any_moment c.append.ensures.tells c.append.ensures.call.opened tracks c.in-Ok.ensures.added c.in-Ok.ensures.call.told in
+    subst (λ (ledger : Ledger). Went g.D.Disk old entry Done (record { ledger = ledger; journal = c.append.new.self })) (sym c.apply.ensures.ledger) went

@@ -23,7 +23,7 @@ returns-clause-recovering g c =
     let read = c.in_ok-entry.ensures.read c.requires.fault _ _ c.requires.reads in
     let has = rw c.in-Some.is at read in
     next_recovering g.D.Disk c.args.book.now c.enter.new.book c.args.reading.now c.next.new.self c.requires c.in-Some.entry has (c.in_ok-entry.ensures.fault c.requires.fault)
-    (c.enter.ensures.sound (search rules)) c.enter.ensures.network (c.enter.ensures.entered (search rules))
+    (c.enter.ensures.sound (search rules)) c.enter.ensures.network (c.enter.ensures.entered (search rules)) (c.enter.ensures.tracks (search rules))
 
 pub returns-in_default-clause-closed : goal.returns-in_default-clause-closed
 returns-in_default-clause-closed g c = λ same.

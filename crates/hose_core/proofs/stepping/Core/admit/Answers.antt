@@ -1,8 +1,12 @@
 use Rattle.std.proofs.Common.{refl}
 use Rattle.hose_graph.specs.declared.command.Command.TheVariants.{Admit}
 use Rattle.hose_core.specs.Holding.{State}
+use Rattle.hose_core.proofs.Earlier.{kept_on}
 use Rattle.hose_core.proofs.SteppedOn.{keeps_on, of_fields}
 use Rattle.hose_core.proofs.stepping.Core.admit.Goals as goal
+
+pub invariant_of-self : goal.invariant_of-self
+invariant_of-self g c = λ customer. kept_on (g.K.Books.ledger c.self.inside.books) _ c.admit_now.ensures.ledger _ (c.self.invariant customer)
 
 pub returns-clause-step : goal.returns-clause-step
 returns-clause-step g c = λ epoch history holdings.

@@ -5,6 +5,7 @@ use Rattle.hose_law.specs.Quotes.{free_number, with_number}
 use Rattle.hose_law.proofs.Numbers.{free_is_empty}
 use Rattle.hose_core.specs.Holding.{IsMadeAt, Quoted, State, quotes_in}
 use Rattle.hose_core.specs.Stepping.{StepsOn}
+use Rattle.hose_core.proofs.Earlier.{made_now}
 use Rattle.hose_core.proofs.HeldQuotes.{kept_now, kept_with}
 use Rattle.hose_core.proofs.SteppedOn.{quote_memory_on, quoted_on, of_fields}
 use Rattle.hose_core.proofs.stepping.Core.hold.Goals as goal
@@ -37,8 +38,8 @@ invariant_of-self-2 g c =
     let customer = c.args.customer.now in
     let quotes = quotes_in was customer in
     let made = subst (λ (s : State _). let l = g.K.Books.ledger s.books in IsMadeAt l.network l.book c.args.quote) (sym c.self.view_is) c.requires.made in
-    let one = kept_with ledger.network quotes c.args.number (Some c.args.quote) c.requires.range.0 c.requires.range.1 (ledger.book, made) (c.self.invariant customer) in
-    kept_now ledger.network was c.put.new.self customer (with_number quotes c.args.number (Some c.args.quote)) c.in-Ok-put.ensures.ok one c.self.invariant
+    let one = kept_with ledger quotes c.args.number (Some c.args.quote) c.requires.range.0 c.requires.range.1 (made_now ledger c.args.quote made) (c.self.invariant customer) in
+    kept_now ledger was c.put.new.self customer (with_number quotes c.args.number (Some c.args.quote)) c.in-Ok-put.ensures.ok one c.self.invariant
 
 pub returns-clause-step : goal.returns-clause-step
 returns-clause-step g c = λ epoch history holdings.

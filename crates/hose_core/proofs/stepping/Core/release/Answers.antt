@@ -1,11 +1,15 @@
 use Rattle.std.proofs.Common.{refl}
 use Rattle.hose_graph.specs.declared.command.Command.TheVariants.{Release}
 use Rattle.hose_core.specs.Holding.{State}
+use Rattle.hose_core.proofs.Earlier.{kept_on}
 use Rattle.hose_core.proofs.SteppedOn.{keeps_on, memory_on, of_fields}
 use Rattle.hose_core.proofs.stepping.Core.release.Goals as goal
 
 pub returns-in_default-clause-step : goal.returns-in_default-clause-step
 returns-in_default-clause-step g c = λ epoch history holdings fits. memory_on g.K.Books c.args.self.now epoch history holdings c.args.customer.now fits (Release c.args.id) tt
+
+pub invariant_of-self : goal.invariant_of-self
+invariant_of-self g c = λ customer. kept_on (g.K.Books.ledger c.self.inside.books) _ c.release_now.ensures.ledger _ (c.self.invariant customer)
 
 pub returns-clause-step : goal.returns-clause-step
 returns-clause-step g c = λ epoch history holdings.

@@ -1,11 +1,11 @@
-use Rattle.std.proofs.Common.{◌≤◌, ◌∙◌, ℕ, List, None, ap, sym, subst, arith}
-use Rattle.hose_graph.specs.Network.{Network}
+use Rattle.std.proofs.Common.{◌≤◌, ◌∙◌, None, ap, sym, arith}
 use Rattle.hose_book.specs.Ledger.{Ledger}
 use Rattle.hose_graph.specs.declared.command.Command.TheVariants.{Take}
 use Rattle.hose_graph.specs.declared.limits.TheConstants.{MOST_QUOTES}
 use Rattle.hose_law.specs.Quotes.{at_number, with_number}
 use Rattle.hose_law.proofs.Numbers.{some_at}
-use Rattle.hose_core.specs.Holding.{AreKept, State, quotes_in}
+use Rattle.hose_core.specs.Holding.{State, quotes_in}
+use Rattle.hose_core.proofs.Earlier.{grounds_since, kept_on}
 use Rattle.hose_core.proofs.HeldQuotes.{kept_now, kept_with, some_alike}
 use Rattle.hose_core.proofs.SteppedOn.{no_quote_on, of_fields, take_memory_on, taken_on}
 use Rattle.hose_core.proofs.stepping.Core.take.Goals as goal
@@ -18,7 +18,7 @@ returns-in_default-clause-step g c = λ epoch history holdings fits.
     no_quote_on g.K.Books c.args.self.now epoch history holdings customer fits c.args.number c.epoch-at.result at none
 
 pub claim_take-requires : goal.claim_take-requires
-claim_take-requires g c = ((c.self.invariant c.args.customer.now).made c.args.number c.in-Some.quote.now c.in-Some.ensures.some).1.ranges
+claim_take-requires g c = ((c.self.invariant c.args.customer.now).made c.args.number c.in-Some.quote.now c.in-Some.ensures.some).made.ranges
 
 pub returns-in_default-claim_take-clause-step : goal.returns-in_default-claim_take-clause-step
 returns-in_default-claim_take-clause-step g c = λ epoch history holdings fits.
@@ -27,7 +27,14 @@ returns-in_default-claim_take-clause-step g c = λ epoch history holdings fits.
     take_memory_on g.K.Books c.args.self.now epoch history holdings customer fits c.args.number c.in-Some.quote.now there
 
 pub take_now-reply-requires-clause-made : goal.take_now-reply-requires-clause-made
-take_now-reply-requires-clause-made g c = (c.self.invariant c.args.customer.now).made c.args.number c.in-Some.quote.now c.in-Some.ensures.some
+take_now-reply-requires-clause-made g c =
+    let before = (c.self.invariant c.args.customer.now).made c.args.number c.in-Some.quote.now c.in-Some.ensures.some in
+    (before.book, before.made)
+
+pub take_now-reply-requires-clause-since : goal.take_now-reply-requires-clause-since
+take_now-reply-requires-clause-since g c =
+    let quote = c.in-Some.quote.now in
+    grounds_since (g.K.Books.ledger c.self.inside.books) quote ((c.self.invariant c.args.customer.now).made c.args.number quote c.in-Some.ensures.some)
 
 pub clear-requires : goal.clear-requires
 clear-requires g c =
@@ -38,15 +45,15 @@ clear-requires g c =
 
 pub invariant_of-self : goal.invariant_of-self
 invariant_of-self g c =
-    let network = (g.K.Books.ledger c.self.inside.books).network in
+    let ledger = g.K.Books.ledger c.self.inside.books in
     let was = c.self.inside.sessions in
     let customer = c.args.customer.now in
     let quotes = quotes_in was customer in
     let range = some_at quotes c.args.number c.in-Some.quote.now c.in-Some.ensures.some in
     let most : c.args.number ≤ MOST_QUOTES = omega (arith, range.1, (c.self.invariant customer).numbers) in
-    let one = kept_with network quotes c.args.number None range.0 most tt (c.self.invariant customer) in
-    let kept = kept_now network was c.clear.new.self customer (with_number quotes c.args.number None) c.clear.ensures one c.self.invariant in
-    subst (λ (n : Network). (name : List ℕ) → AreKept n (quotes_in c.clear.new.self name)) (sym c.take_now-reply.ensures.network) kept
+    let one = kept_with ledger quotes c.args.number None range.0 most tt (c.self.invariant customer) in
+    let kept = kept_now ledger was c.clear.new.self customer (with_number quotes c.args.number None) c.clear.ensures one c.self.invariant in
+    λ name. kept_on ledger _ c.take_now-reply.ensures.ledger (quotes_in c.clear.new.self name) (kept name)
 
 pub returns-clause-step : goal.returns-clause-step
 returns-clause-step g c = λ epoch history holdings.

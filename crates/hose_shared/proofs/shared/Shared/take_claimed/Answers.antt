@@ -5,10 +5,12 @@ use Rattle.hose_graph.specs.declared.entry.Entry.{Entry}
 use Rattle.hose_graph.specs.declared.entry.Entry.TheVariants.{Admit}
 use Rattle.hose_law.specs.History.{book_of}
 use Rattle.hose_law.specs.Quotes.{Held}
+use Rattle.hose_law.specs.Tracks.{Tracks}
 use Rattle.hose_core.specs.Holding.{IsMadeAt, IsQuoteOf}
 use Rattle.hose_turn.specs.Held.{floor_of, holder, value_of}
 use Rattle.hose_shared.specs.Keeping.{StandsShared}
 use Rattle.hose_shared.proofs.Entries.{take_entry}
+use Rattle.hose_shared.proofs.Recently.{grounds_since}
 use Rattle.hose_shared.proofs.Turned.{entered, turn_stands, turn_steps}
 use Rattle.hose_shared.proofs.shared.Shared.take_claimed.Goals as goal
 
@@ -19,6 +21,19 @@ take_now-reply-requires-clause-made g c =
     let network = ap (λ (s : _). s.ledger.network) same ∙ c.requires.stands.network ∙ c.requires.network in
     let one = c.requires.quote in
     (book_of 0 (take one.0.place seen), subst (λ (n : Network). IsMadeAt n (book_of 0 (take one.0.place seen)) c.args.quote.now) (sym network) one.1.made)
+
+pub take_now-reply-requires-clause-since : goal.take_now-reply-requires-clause-since
+take_now-reply-requires-clause-since g c =
+    let known = holder c.args.held in
+    let old = c.value_mut.result.now.store in
+    let same = ap (λ (k : _). k.store) c.value_mut.ensures.value in
+    let stood = c.requires.stands in
+    let book = ap (λ (s : _). s.ledger.book) same ∙ stood.book in
+    let network = ap (λ (s : _). s.ledger.network) same ∙ stood.network ∙ c.requires.network in
+    let tracks = subst (λ (s : _). Tracks 0 known.seen s.ledger.recent) (sym same) stood.tracks in
+    let one = c.requires.quote in
+    let of = subst (λ (n : Network). IsQuoteOf n 0 known.seen one.0 c.args.quote.now) (sym network) one.1 in
+    grounds_since old.ledger known.seen one.0 c.args.quote.now book tracks of
 
 pub end_turn-requires-clause-epoch : goal.end_turn-requires-clause-epoch
 end_turn-requires-clause-epoch g c =

@@ -32,7 +32,7 @@ pub recover-requires : goal.recover-requires
 recover-requires g c =
     let top = c.args.top in
     let is = is_digest top c.digest-digest.result c.digest-digest.ensures in
-    first_recovering g.D.Disk c.in-Ok.book top c.in-Ok-open.reading c.in-Ok.ensures
+    first_recovering g.D.Disk c.in-Ok.book top c.in-Ok-open.reading c.in-Ok.ensures.value c.in-Ok.ensures.tracks
     (subst (λ (digest : List ℕ). Reads g.D.Disk c.in-Ok-open.reading digest []) is c.in-Ok-open.ensures.reads) c.in-Ok-open.ensures.fault
 
 pub invariant_of-result : goal.invariant_of-result
@@ -57,7 +57,7 @@ returns-in-Ok-recover-clause-opened g c =
     let mid = c.in-Ok-open.reading.disk in
     let book = c.recover.new.book in
     let is = is_digest c.args.top c.digest-digest.result c.digest-digest.ensures in
-    let network : book.network ≡ c.args.top = c.recover.ensures.network ∙ ap (λ (l : Ledger). l.network) c.in-Ok.ensures in
+    let network : book.network ≡ c.args.top = c.recover.ensures.network ∙ ap (λ (l : Ledger). l.network) c.in-Ok.ensures.value in
     let list = subst (λ (digest : List ℕ). KeepsList (disk.content old) (disk.content mid) digest) (is ∙ ap digest_of (sym network)) c.in-Ok-open.ensures.list in
     subst (λ (top : Network). IsOpenedOn disk old top (record { ledger = book; journal = c.finish.result })) network
     (opened_on disk old mid book c.recover.new.reading c.finish.result c.in-Ok-recover.ensures.recovered c.in-Ok-open.ensures.keeps.tells list c.recover.ensures.only.same c.in-Ok-recover.ensures.closed c.finish.ensures.stands)
@@ -84,6 +84,6 @@ returns-in-Err-recover-clause-refused g c =
     let later = opened_then disk old mid new (digest_of top) (g.met.D.Disk.counts_now mid) run c.recover.ensures.only in
     let list = subst (λ (digest : List ℕ). KeepsList (disk.content old) (disk.content mid) digest) is c.in-Ok-open.ensures.list in
     let reads = subst (λ (digest : List ℕ). Reads disk c.in-Ok-open.reading digest []) is c.in-Ok-open.ensures.reads in
-    let stopped = subst (λ (network : Network). IsStopped disk mid new network c.in-Err-recover.fault) (ap (λ (l : Ledger). l.network) c.in-Ok.ensures) c.in-Err-recover.ensures.stopped in
+    let stopped = subst (λ (network : Network). IsStopped disk mid new network c.in-Err-recover.fault) (ap (λ (l : Ledger). l.network) c.in-Ok.ensures.value) c.in-Err-recover.ensures.stopped in
     subst (λ (last : g.row.D.Denot). IsRefused disk old last top c.in-Err-recover.fault) (sym c.stop.ensures)
     (refused_entries disk old mid new top c.in-Err-recover.fault reads.size (g.met.D.Disk.untold new) c.in-Ok-open.ensures.keeps list c.recover.ensures.only.same later stopped)

@@ -1,0 +1,97 @@
+-- Changes with those of an entry more: they track the history with the entry, and stand in order.
+use Rattle.std.proofs.Common.{◌≡◌, ◌∙◌, ℕ, ◌+◌, ◌<◌, ◌≤◌, Bool, true, false, List, [], ◌∷◌, ◌++◌, Contains, drop, get_or, length, nat_lt, take, inl, inr, sym, ap, subst, arith, cond}
+use Rattle.std.proofs.lemmas.Bool.{cases_eq}
+use Rattle.std.proofs.lemmas.List.{append-nil, append_assoc, get_or-take, get_or_default, length-take-le, take-append-drop}
+use Rattle.std.proofs.lemmas.List.Elements.{Contains-append_cases, All-get_or, All-push, All-weaker, All-nil}
+use Rattle.std.proofs.lemmas.List.Quantifiers.{all_pairs_push}
+use Rattle.hose_graph.specs.declared.entry.Entry.{Entry}
+use Rattle.hose_law.specs.Book.{Book}
+use Rattle.hose_law.specs.History.{book_of}
+use Rattle.hose_law.specs.Tracks.{Change, Recent, Tracks, changes_of, touched_links}
+use Rattle.hose_law.proofs.Tracked.{tracks_anew, tracks_more}
+use Rattle.hose_book.specs.Changes.{AreInOrder, AreUpTo, with_changes}
+use Rattle.hose_book.specs.Ledger.{HasBookOf, Ledger, next_ledger}
+use Rattle.hose_book.specs.declared.recent.TheConstants.{MOST_CHANGES}
+
+-- the next ledger tracks the history with the entry
+pub tracks_next : (ledger : Ledger) (entry : Entry) (epoch : ℕ) (history : List Entry) → HasBookOf epoch history ledger → Tracks epoch history ledger.recent
+    → Tracks epoch (history ++ entry ∷ []) (next_ledger ledger entry).recent
+tracks_next ledger entry epoch history same tracks =
+    let now : Book → Recent = λ b. with_changes ledger.recent b.epoch (touched_links b entry) in
+    let links = touched_links (book_of epoch history) entry in
+    subst (λ (b : Book). Tracks epoch (history ++ entry ∷ []) (now b)) (sym same)
+    (by_room (nat_lt MOST_CHANGES (length ledger.recent.changes + length links)))
+  where
+    by_room : (over : Bool) → Tracks epoch (history ++ entry ∷ []) (cond over
+        (record { floor = (book_of epoch history).epoch; changes = changes_of ((book_of epoch history).epoch + 1) (touched_links (book_of epoch history) entry) })
+        (record { floor = ledger.recent.floor; changes = ledger.recent.changes ++ changes_of ((book_of epoch history).epoch + 1) (touched_links (book_of epoch history) entry) }))
+    by_room true = tracks_anew epoch history entry
+    by_room false = tracks_more epoch history ledger.recent entry tracks
+
+-- where changes stand in order and none is of a later epoch, one of the epoch may follow
+in_order_push : (changes : List Change) (epoch link : ℕ) → AreInOrder changes → AreUpTo epoch changes → AreInOrder (changes ++ (epoch, link) ∷ [])
+in_order_push changes epoch link order up_to =
+    all_pairs_push (λ (one other : Change). one.0 ≤ other.0) changes (epoch, link) order (λ k d within. All-get_or (λ (change : Change). change.0 ≤ epoch) changes k d within up_to)
+
+up_to_push : (changes : List Change) (epoch link : ℕ) → AreUpTo epoch changes → AreUpTo epoch (changes ++ (epoch, link) ∷ [])
+up_to_push changes epoch link up_to = All-push (λ (change : Change). change.0 ≤ epoch) changes (epoch, link) up_to (omega arith)
+
+-- and so may those of links
+up_to_with : (changes : List Change) (epoch : ℕ) (links : List ℕ) → AreUpTo epoch changes → AreUpTo epoch (changes ++ changes_of epoch links)
+up_to_with changes epoch [] up_to = subst (AreUpTo epoch) (sym (append-nil changes)) up_to
+up_to_with changes epoch (link ∷ links) up_to =
+    subst (AreUpTo epoch) (append_assoc changes ((epoch, link) ∷ []) (changes_of epoch links))
+    (up_to_with (changes ++ (epoch, link) ∷ []) epoch links (up_to_push changes epoch link up_to))
+
+in_order_with : (changes : List Change) (epoch : ℕ) (links : List ℕ) → AreInOrder changes → AreUpTo epoch changes → AreInOrder (changes ++ changes_of epoch links)
+in_order_with changes epoch [] order up_to = subst AreInOrder (sym (append-nil changes)) order
+in_order_with changes epoch (link ∷ links) order up_to =
+    subst AreInOrder (append_assoc changes ((epoch, link) ∷ []) (changes_of epoch links))
+    (in_order_with (changes ++ (epoch, link) ∷ []) epoch links (in_order_push changes epoch link order up_to) (up_to_push changes epoch link up_to))
+
+-- no change is of a later epoch than the next one
+up_to_next : (changes : List Change) (epoch : ℕ) → AreUpTo epoch changes → AreUpTo (epoch + 1) changes
+up_to_next changes epoch up_to = All-weaker (λ (change : Change). change.0 ≤ epoch) (λ (change : Change). change.0 ≤ epoch + 1) (λ change below. omega (arith, below)) changes up_to
+
+-- the same of changes with those of an epoch more, of which the earlier ones may have gone
+module _ (recent : Recent) (epoch : ℕ) (links : List ℕ) where
+  abbrev over : Bool
+  over = nat_lt MOST_CHANGES (length recent.changes + length links)
+
+  pub with_up_to : AreUpTo epoch recent.changes → AreUpTo (epoch + 1) (with_changes recent epoch links).changes
+  with_up_to up_to = by_room over
+    where
+      by_room : (b : Bool) → AreUpTo (epoch + 1) (cond {A = Recent} b (record { floor = epoch; changes = changes_of (epoch + 1) links }) (record { floor = recent.floor; changes = recent.changes ++ changes_of (epoch + 1) links })).changes
+      by_room true = up_to_with [] (epoch + 1) links (All-nil (λ (change : Change). change.0 ≤ epoch + 1))
+      by_room false = up_to_with recent.changes (epoch + 1) links (up_to_next recent.changes epoch up_to)
+
+  pub floor_next : recent.floor ≤ epoch → (with_changes recent epoch links).floor ≤ epoch + 1
+  floor_next below = by_room over
+    where
+      by_room : (b : Bool) → (cond {A = Recent} b (record { floor = epoch; changes = changes_of (epoch + 1) links }) (record { floor = recent.floor; changes = recent.changes ++ changes_of (epoch + 1) links })).floor ≤ epoch + 1
+      by_room true = omega arith
+      by_room false = omega (arith, below)
+
+-- changes of the next epoch stand in order behind those of no later one than this
+pub in_order_next : (changes : List Change) (epoch : ℕ) (links : List ℕ) → AreInOrder changes → AreUpTo epoch changes → AreInOrder (changes ++ changes_of (epoch + 1) links)
+in_order_next changes epoch links order up_to = in_order_with changes (epoch + 1) links order (up_to_next changes epoch up_to)
+
+-- where changes stand in order, none before one of an epoch is of a later one
+pub up_to_last : (changes : List Change) (seen last : ℕ) (d : Change) → AreInOrder changes → last < length changes → (get_or changes last d).0 ≤ seen → AreUpTo seen (take (last + 1) changes)
+up_to_last changes seen last d order inside below k e within =
+    let long : k < last + 1 = omega (arith, within, length-take-le (last + 1) changes (omega (arith, inside))) in
+    let there : get_or (take (last + 1) changes) k e ≡ get_or changes k d = get_or-take (last + 1) changes k e long ∙ get_or_default changes k e d (omega (arith, long, inside)) in
+    let at : (get_or changes k d).0 ≤ seen = elim (cases_eq k last) [
+      | inl same ↦ subst (λ (n : ℕ). (get_or changes n d).0 ≤ seen) (sym same) below
+      | inr other ↦ omega (arith, order k last d (omega (arith, long, other)) inside, below)
+    ] in
+    omega (arith, at, ap (λ (change : Change). change.0) there)
+
+-- what is of a later epoch than those before a place is among the others
+pub contains_since : (changes : List Change) (seen from epoch link : ℕ) → from ≤ length changes → AreUpTo seen (take from changes) → seen < epoch → Contains changes (epoch, link) → Contains (drop from changes) (epoch, link)
+contains_since changes seen from epoch link inside before above there =
+    elim (Contains-append_cases (take from changes) (drop from changes) (epoch, link) (subst (λ (c : List Change). Contains c (epoch, link)) (sym (take-append-drop from changes)) there)) [
+      | inl early ↦ (let below = All-get_or (λ (change : Change). change.0 ≤ seen) (take from changes) early.0 (epoch, link) early.1 before in
+          absurd (omega (arith, below, above, ap (λ (change : Change). change.0) early.2)))
+      | inr late ↦ late
+    ]

@@ -1,0 +1,132 @@
+// Which links recent entries touched.
+ghost use Rattle.std.specs.Prelude.{◌≡◌, ◌+◌, ◌<◌, ◌≤◌, ◌^◌, ◌++◌, ℕ, Contains, IfOk, length, take, vec_capacity};
+ghost use Rattle.hose_book.specs.Changes.{AreInOrder, AreUpTo, opening_recent, with_changes};
+ghost use Rattle.hose_book.specs.declared.recent.TheConstants.{MOST_CHANGES};
+ghost use Rattle.hose_graph.specs.Ascending.{firsts};
+ghost use Rattle.hose_law.specs.Tracks.{changes_of};
+
+use hose_graph::{MOST_TREE_LINKS, ReservedLink};
+use std::alloc::{AllocError, Global};
+use std::marker::Model;
+
+/// How many changes a book keeps.
+pub const MOST_CHANGES: usize = 65_536;
+
+// The changes of each epoch above a floor, each an epoch and a link, with room for all that are
+// kept.
+//
+// A contract sees the floor and the changes.
+#[derive(Drop)]
+pub(crate) struct RecentChanges {
+    floor: u64,
+    changes: Vec<(u64, u32)>,
+}
+
+impl Model for RecentChanges {
+    ghost use Rattle.std.specs.Prelude.{◌≤◌, length, vec_capacity};
+    ghost use Rattle.hose_law.specs.Tracks.{Recent};
+    ghost use Rattle.hose_book.specs.Changes.{AreInOrder};
+    ghost use Rattle.hose_book.specs.declared.recent.TheConstants.{MOST_CHANGES};
+
+    ghost Value = { Recent };
+
+    ghost view = { λ r. record { floor = r.floor; changes = r.changes.items } };
+
+    ghost invariant = { λ r. (length r.changes.items ≤ MOST_CHANGES)
+        × (MOST_CHANGES ≤ vec_capacity r.changes)
+        × AreInOrder r.changes.items };
+}
+
+impl RecentChanges {
+    // None above an epoch, with room for all that may come.
+    pub(crate) fn new(alloc: Global, epoch: u64) -> Result<RecentChanges, AllocError>
+        ensures { IfOk result (λ recent. recent ≡ opening_recent epoch) }
+    {
+        let changes = Vec::with_capacity(alloc, MOST_CHANGES)?;
+        Ok(RecentChanges {
+            floor: epoch,
+            changes,
+        })
+    }
+
+    // The floor: each change of a later epoch is among the changes.
+    pub(crate) fn floor(&self) -> u64
+        ensures { result ≡ self.now.floor }
+    {
+        self.floor
+    }
+
+    // The changes, in the order of their entries.
+    pub(crate) fn as_slice(&self) -> &[(u64, u32)]
+        ensures value { result.now ≡ self.now.changes }
+        ensures few { length result.now ≤ MOST_CHANGES }
+        ensures order { AreInOrder result.now }
+    {
+        &self.changes
+    }
+
+    // The last changes, with all that are of a later epoch than this.
+    pub(crate) fn since(&self, seen: u64) -> &[(u64, u32)]
+        ensures { (epoch link : ℕ) → seen < epoch → Contains self.now.changes (epoch, link)
+            → Contains result.now (epoch, link) }
+    {
+        since(&self.changes, seen)
+    }
+
+    // Adds the links of an entry, as changes of the epoch after this one. Where the changes would
+    // be too many, the earlier ones go.
+    pub(crate) fn add(&mut self, epoch: u64, amounts: &[ReservedLink])
+        requires epochs { AreUpTo epoch self.old.changes }
+        requires epoch { epoch + 1 < 2 ^ 64 }
+        requires few { length amounts.now ≤ MOST_TREE_LINKS }
+        ensures { self.new ≡ with_changes self.old epoch (firsts amounts.now) }
+    {
+        if self.changes.len() + amounts.len() > MOST_CHANGES {
+            self.changes.clear();
+            self.floor = epoch;
+        }
+        push_changes(&mut self.changes, epoch, amounts);
+    }
+}
+
+// The last of some changes, with all that are of a later epoch than this.
+fn since(changes: &[(u64, u32)], seen: u64) -> &[(u64, u32)]
+    requires { AreInOrder changes.now }
+    ensures { (epoch link : ℕ) → seen < epoch → Contains changes.now (epoch, link)
+        → Contains result.now (epoch, link) }
+{
+    &changes[first_since(changes, seen)..]
+}
+
+// A place before which no change is of a later epoch than this.
+fn first_since(changes: &[(u64, u32)], seen: u64) -> usize
+    requires { AreInOrder changes.now }
+    ensures inside { result ≤ length changes.now }
+    ensures before { AreUpTo seen (take result changes.now) }
+{
+    let mut from = changes.len();
+    while from > 0 {
+        let last = from - 1;
+        if changes[last].0 <= seen {
+            return from;
+        }
+        from = last;
+    }
+    0
+}
+
+// Puts the links of an entry behind changes of no later epoch than this, as changes of the next.
+fn push_changes(changes: &mut Vec<(u64, u32)>, epoch: u64, amounts: &[ReservedLink])
+    requires room { length changes.old.items + length amounts.now ≤ vec_capacity changes.old }
+    requires epoch { epoch + 1 < 2 ^ 64 }
+    requires epochs { AreUpTo epoch changes.old.items }
+    requires order { AreInOrder changes.old.items }
+    ensures items { changes.new.items
+        ≡ changes.old.items ++ changes_of (epoch + 1) (firsts amounts.now) }
+    ensures order { AreInOrder changes.new.items }
+    ensures capacity { vec_capacity changes.new ≡ vec_capacity changes.old }
+{
+    for (link, _) in amounts {
+        changes.push_reserved((epoch + 1, *link));
+    }
+}

@@ -1,0 +1,104 @@
+-- Quotes that were made at a book before: their grounds since then, and that they stay so as entries come.
+use Rattle.std.proofs.Common.{◌≡◌, ◌∙◌, ℕ, ◌+◌, ◌<◌, ◌≤◌, Bool, true, false, List, ◌++◌, Option, length, nat_lt, Contains, refl, sym, ap, subst, inl, inr, arith, cond}
+use Rattle.std.proofs.lemmas.List.{get_or-map, length-map}
+use Rattle.std.proofs.lemmas.List.Elements.{Contains-append_left, Contains-append_right}
+use Rattle.hose_graph.specs.Network.{Network}
+use Rattle.hose_graph.specs.declared.entry.Entry.{Entry}
+use Rattle.hose_law.specs.Book.{Book, load_of, loads_of}
+use Rattle.hose_law.specs.Tracks.{Change, IsNamedSince, Recent, changes_of, touched_links}
+use Rattle.hose_law.proofs.LiveIds.{next_epoch}
+use Rattle.hose_law.proofs.Rooms.{loads_of-at}
+use Rattle.hose_law.proofs.Tracked.{untouched}
+use Rattle.hose_plan.specs.Planning.{AreMadeSince}
+use Rattle.hose_plan.specs.declared.decision.Grounds.{Grounds}
+use Rattle.hose_book.specs.Ledger.{Ledger, next_ledger}
+use Rattle.hose_book.specs.declared.recent.TheConstants.{MOST_CHANGES}
+use Rattle.hose_core.specs.Holding.{AreKept, HasGroundsSince, IsMadeAt, WasMadeBefore}
+use Rattle.hose_core.specs.Stepping.{IsSameOrNext}
+use Rattle.hose_core.specs.declared.quotes.Quote.{Quote}
+
+-- a quote that is made at the book of a ledger was made before
+pub made_now : (ledger : Ledger) (quote : Quote) → IsMadeAt ledger.network ledger.book quote → WasMadeBefore ledger quote
+made_now ledger quote made = record {
+  book = ledger.book;
+  made = made;
+  seen = omega (arith, made.seen);
+  fresh = λ same link. refl;
+  since = λ above link none. refl;
+}
+
+-- ---- grounds since a quote
+
+-- where the other loads are those of the quote's book, its grounds are those of its hose since then
+pub grounds_beside : (ledger : Ledger) (quote : Quote) (earlier : Book) → IsMadeAt ledger.network earlier quote
+    → (ledger.recent.floor ≤ quote.seen → (link : ℕ) → (IsNamedSince ledger.recent.changes quote.seen link → ⊥) → load_of earlier link ≡ load_of ledger.book link)
+    → HasGroundsSince ledger quote
+grounds_beside ledger quote earlier made stays above = record {
+  hose = quote.hose;
+  before = loads_of ledger.network earlier;
+  same = λ link below none. loads_of-at ledger.network earlier link below ∙ stays above link none ∙ sym (loads_of-at ledger.network ledger.book link below);
+  are = made.decision.2;
+}
+
+pub grounds_since : (ledger : Ledger) (quote : Quote) → WasMadeBefore ledger quote → HasGroundsSince ledger quote
+grounds_since ledger quote before = grounds_beside ledger quote before.book before.made before.since
+
+-- they are so by those of the changes that are of later epochs
+pub grounds_by_last : (network : Network) (loads : List ℕ) (grounds : Grounds) (changes last : List Change) (seen : ℕ)
+    → ((epoch link : ℕ) → seen < epoch → Contains changes (epoch, link) → Contains last (epoch, link))
+    → AreMadeSince network loads grounds changes seen → AreMadeSince network loads grounds last seen
+grounds_by_last network loads grounds changes last seen whole made = record {
+  hose = made.hose;
+  before = made.before;
+  same = λ link below none. made.same link below (λ named. none (named.0, named.1, whole named.0 link named.1 named.2));
+  are = made.are;
+}
+
+-- ---- as entries come
+
+-- a link that an entry touches is named by a change
+change_of : (epoch : ℕ) (links : List ℕ) (link : ℕ) → Contains links link → Contains (changes_of epoch links) (epoch, link)
+change_of epoch links link there =
+    let named : ℕ → Change = λ l. (epoch, l) in
+    (there.0, omega (arith, there.1, length-map links named), get_or-map named links there.0 link (epoch, link) there.1 ∙ ap named there.2)
+
+module _ (ledger : Ledger) (entry : Entry) (quote : Quote) (before : WasMadeBefore ledger quote) where
+  abbrev book : Book
+  book = ledger.book
+
+  abbrev now : ℕ
+  now = book.epoch + 1
+
+  abbrev added : List Change
+  added = changes_of now (touched_links book entry)
+
+  abbrev recent : Bool → Recent
+  recent over = cond over (record { floor = book.epoch; changes = added }) (record { floor = ledger.recent.floor; changes = ledger.recent.changes ++ added })
+
+  -- a link that the entry does not touch has the load of before
+  untouched_since : (link : ℕ) → (Contains added (now, link) → ⊥) → load_of book link ≡ load_of (next_ledger ledger entry).book link
+  untouched_since link none = untouched book entry link (λ there. none (change_of now (touched_links book entry) link there))
+
+  stays : (over : Bool) → (recent over).floor ≤ quote.seen → (link : ℕ) → (IsNamedSince (recent over).changes quote.seen link → ⊥) → load_of before.book link ≡ load_of (next_ledger ledger entry).book link
+  stays true above link none =
+      before.fresh (omega (arith, above, before.seen)) link ∙ untouched_since link (λ there. none (now, omega (arith, before.seen), there))
+  stays false above link none =
+      before.since above link (λ named. none (named.0, named.1, Contains-append_left ledger.recent.changes added (named.0, link) named.2))
+      ∙ untouched_since link (λ there. none (now, omega (arith, before.seen), Contains-append_right ledger.recent.changes added (now, link) there))
+
+  before_next : WasMadeBefore (next_ledger ledger entry) quote
+  before_next = record {
+    book = before.book;
+    made = before.made;
+    seen = omega (arith, before.seen, next_epoch book entry);
+    fresh = λ same link. absurd (omega (arith, same, before.seen, next_epoch book entry));
+    since = stays (nat_lt MOST_CHANGES (length ledger.recent.changes + length (touched_links book entry)));
+  }
+
+-- a quote that was made before a ledger was made before the one after it
+pub before_on : (old new : Ledger) → IsSameOrNext old new → (quote : Quote) → WasMadeBefore old quote → WasMadeBefore new quote
+before_on old new (inl same) quote before = subst (λ (l : Ledger). WasMadeBefore l quote) (sym same) before
+before_on old new (inr (entry, next)) quote before = subst (λ (l : Ledger). WasMadeBefore l quote) (sym next) (before_next old entry quote before)
+
+pub kept_on : (old new : Ledger) → IsSameOrNext old new → (quotes : List (Option Quote)) → AreKept old quotes → AreKept new quotes
+kept_on old new goes quotes kept = record { numbers = kept.numbers; made = λ number quote there. before_on old new goes quote (kept.made number quote there) }
