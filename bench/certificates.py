@@ -1,5 +1,5 @@
 #!/usr/bin/env python3
-"""Compares `hosed check` with certificates that are made here, and judged here.
+"""Compares `hosed prove` and `hosed check` with certificates that are made here, and judged here.
 
 Networks, hoses and certificates are made by a seed: the plan is that of the planner of
 compare_planner.py, over all links or a part of them, and the numbers are the distances of a plain
@@ -7,10 +7,13 @@ Dijkstra. Each comes 40 times with something changed: numbers by one or past the
 that are missing, doubled or exchanged, spaces and line feeds, rows that are cut elsewhere, links
 that are left out or not, the pairs of another tree, single bytes. Of each `check` has to say what
 the checker of tools/check_certificate.py says, which shares no code with the crates. Some networks
-are in JSON, and some are priced by a tariff.
+are in JSON, and some are priced by a tariff. Of each network and hose `prove` has to write the
+certificate that is made here over all links, to which the checker and `check` have to say yes, or
+`none` where no tree joins the hose.
 
-Prints each certificate that was answered otherwise, how often each answer was wanted, and how many
-were compared; ends with status 1 where one differs or an answer was never wanted.
+Prints each certificate that was answered otherwise or not written, how often each answer was
+wanted, and how many were compared; ends with status 1 where one differs or an answer was never
+wanted.
 
 usage: bench/certificates.py [-n COUNT] [-s SEED] [-j JOBS] [PROGRAM]
     COUNT (10000)       about how many certificates that are changed
@@ -39,7 +42,7 @@ import networks  # noqa: E402
 EACH = 40  # changed certificates of a network
 PART = 64  # numbers in a line
 SECONDS = 60  # after which the program hangs
-ANSWERS = ("yes", "no 1", "no 2", "no 3", "no 4", "no 5", "no 6")
+ANSWERS = ("yes", "no 1", "no 2", "no 3", "no 4", "no 5", "no 6", "written", "none")
 TARIFFS = {
     "flat": lambda length: length,
     "hops": lambda length: 1,
@@ -324,6 +327,7 @@ class Made:
     """A network, a hose, and a certificate over some of the links, where there is one."""
 
     def __init__(self, seed):
+        self.seed = seed
         chance = self.chance = random.Random(seed)
         large = chance.random() < 0.04
         told = large_network(chance) if large else random_network(chance, COMPARED)
@@ -333,9 +337,18 @@ class Made:
         self.words = [] if tariff is None else ["--tariff", tariff]
         self.network = priced(told, tariff)
         self.hose = sorted(random_hose(chance, self.network, COMPARED))
-        over = a_part_of(chance, self.network)
+        self.lines = self.lines_over(a_part_of(chance, self.network))
+
+    def lines_over(self, over):
+        """The certificate of the plan over these links; none where there is no plan."""
         plan = canonical_plan(self.network, over, self.hose)
-        self.lines = certificate(self.network, over, self.hose, plan) if plan else None
+        return certificate(self.network, over, self.hose, plan) if plan else None
+
+    def ends(self):
+        """The words of the endpoints, in any order."""
+        ends = [f"{self.network.nodes[node]}:{rate}" for node, rate in self.hose]
+        self.chance.shuffle(ends)
+        return ends
 
 
 def told_of(made, count):
@@ -355,22 +368,38 @@ def differences(program, seeds, each):
     """How often each answer was wanted, and what came otherwise: the seed, wanted, what came."""
     wanted, found = collections.Counter(), []
     with tempfile.TemporaryDirectory() as folder:
-        def check(made, text):
+        def asked(made, command, text, ends):
             name = "t.json" if made.is_json else "t"
-            words = [program, "check", *made.words, name]
+            words = [program, command, *made.words, name, *ends]
             done = subprocess.run(words, input=text, capture_output=True, cwd=folder,
                                   timeout=SECONDS, check=False)
             return done.returncode, done.stdout.decode(errors="replace")
+
+        def prove(made):
+            lines = made.lines_over(set(range(len(made.network.links))))
+            text = "".join(f"{line}\n" for line in lines or ["none"])
+            wanted["written" if lines else "none"] += 1
+            ends = made.ends()
+            came = asked(made, "prove", b"", ends)
+            if came != (0, text):
+                found.append((made.seed, made.text, " ".join(ends), (0, text), came))
+            elif lines:
+                line = lines[0].replace("cost", "yes")
+                assert check_certificate.judged(topology_of(made.network), text) == line
+                came = asked(made, "check", text.encode(), [])
+                if came != (0, f"{line}\n"):
+                    found.append((made.seed, made.text, text, (0, f"{line}\n"), came))
 
         for seed in seeds:
             made = Made(seed)
             name = "t.json" if made.is_json else "t"
             with open(os.path.join(folder, name), "w", encoding="ascii") as file:
                 file.write(made.text)
+            prove(made)
             for text, answer in told_of(made, each):
                 wanted["yes" if answer.startswith("yes") else answer] += 1
                 line = (0 if answer.startswith("yes") else 10), f"{answer}\n"
-                came = check(made, text)
+                came = asked(made, "check", text, [])
                 if came != line:
                     found.append((seed, made.text, text, line, came))
     return wanted, found

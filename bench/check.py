@@ -1,7 +1,8 @@
 #!/usr/bin/env python3
-"""Milliseconds that `hosed check` takes for a certificate on a network of 512 nodes and 2,048 links,
-beside those of `wc -w` of its text: the least of 20 runs each, by turns. The plan is that of the
-planner of compare_planner.py, which takes some seconds, and the network that of tools/generate.py.
+"""Milliseconds that `hosed check` takes for a certificate on a network of 512 nodes and 2,048
+links, beside those of `wc -w` of its text, and those that `hosed prove` takes to write it: the least
+of 20 runs each, by turns. The plan is that of the planner of compare_planner.py, which takes some
+seconds, and the network that of tools/generate.py.
 
 usage: bench/check.py [PROGRAM]     the PROGRAM (./hosed) as seen from the top of the repository
 """
@@ -48,15 +49,20 @@ def main():
             with open(path, "w", encoding="ascii") as file:
                 file.write(content)
         words = [program, "check", paths[0]]
-        of_check, of_words = 9, 9
+        ends = [f"{told.nodes[node]}:{rate}" for node, rate in HOSE]
+        of_check, of_words, of_prove = 9, 9, 99
         for _ in range(RUNS):
             took, output = seconds(words, paths[1])
             assert output == f"{lines[0].replace('cost', 'yes')}\n".encode(), output
             of_check = min(of_check, took)
             of_words = min(of_words, seconds(["wc", "-w"], paths[1])[0])
+            took, output = seconds([program, "prove", paths[0], *ends], os.devnull)
+            assert output.decode().splitlines() == lines
+            of_prove = min(of_prove, took)
         print(f"check: {1000 * of_check:.1f} ms for {os.path.getsize(paths[1])} bytes, with "
               f"its start; reference: wc -w {1000 * of_words:.1f} ms, ratio "
               f"{of_check / of_words:.1f} (wanted: 4 at most)")
+        print(f"prove: {1000 * of_prove:.0f} ms for the same, with its start (wanted: seconds)")
 
 
 if __name__ == "__main__":

@@ -2,7 +2,7 @@
 # What comes of want of memory: programs run once for each growth of memory, and in each run just
 # that one fails. The runs are an admission, a quote that is taken, a quote that goes stale, an
 # admission on a backbone of eleven cities, and each of a journal that is begun, gone on with and
-# another network's; an audit, a generated script, a certificate and two prices; and a server with
+# another network's; an audit, a generated script, a certificate that is written and judged, and two prices; and a server with
 # one customer. Each has to end in one of three ways: with status 7 and the line `no memory`; with a
 # line `memory` in the place of the command that was refused; or with the fault of an object that
 # wanted it, as `cabinet` and status 6. All other lines have to be those of the orders that were
@@ -73,6 +73,8 @@ RUNS = {
 ASKED = {
     "audit": (["audit", "demo/star.txt", "JOURNAL"], "", None),
     "gen": (["gen", "7", "9", "27", "20"], "", [planned(Sizes(7, 9, 27, 20)).strip()]),
+    "prove": (["prove", "demo/star.txt", "a:3", "b:4", "c:5"], "",
+              pathlib.Path("demo/star_certificate.txt").read_text().splitlines()),
     "check": (["check", "demo/star.txt"], pathlib.Path("demo/star_certificate.txt").read_text(),
               ["yes 26"]),
     "price": (["price", "demo/star.txt"], "acme a:3 b:4 c:5\nbeta a:8 b:8\n",

@@ -111,11 +111,12 @@ GENERATED = b"gen 1 hoses 0 admitted 0 refused 0 released 0 epoch 0 cost 0\n"
 INPUTS = {"check": CERTIFICATE, "price": b"acme a:3 b:4 c:5\n"}
 
 # The status and the output of each command where a stream is closed that it uses, and where it is
-# another one. Nothing is read of the input of `audit`, `serve` and `gen`.
+# another one. Nothing is read of the input of `audit`, `serve`, `prove` and `gen`.
 WITHOUT = {
     "run": {0: (3, b"read\n"), 1: (4, b""), 2: (0, LOADED)},
     "audit": {0: (0, AUDIT), 1: (4, b""), 2: (0, AUDIT)},
     "serve": {0: (0, b"ready\n" + AUDIT), 1: (4, b""), 2: (0, b"ready\n" + AUDIT)},
+    "prove": {0: (0, CERTIFICATE), 1: (4, b""), 2: (0, CERTIFICATE)},
     "check": {0: (3, b"read\n"), 1: (4, b""), 2: (0, b"yes 26\n")},
     "price": {0: (3, b"read\n"), 1: (4, b""), 2: (0, PRICES)},
     "gen": {0: (0, GENERATED), 1: (4, b""), 2: (0, GENERATED)},
@@ -178,6 +179,7 @@ def with_closed_streams(program):
                     "run": ["run", journal],
                     "audit": ["audit", "demo/star.txt", journal],
                     "serve": ["serve", "demo/star.txt", journal, str(port), "1", "1"],
+                    "prove": ["prove", "demo/star.txt", "a:3", "b:4", "c:5"],
                     "check": ["check", "demo/star.txt"],
                     "price": ["price", "demo/star.txt"],
                     "gen": ["gen", "1", "6", "5", "0"],

@@ -6,10 +6,10 @@ use std::sync::atomic::{AtomicBool, Ordering};
 const MOST_LOOKS: u64 = 1_000_000_000;
 
 /// Holds session 1, whose hose is planned, until the last session has been welcomed and answered;
-/// and the last one, once it is welcomed, until the hose of session 1 is planned. So of two both are
-/// welcomed at 0. A server of one session after the other cannot pass: session 1 waits for a session
-/// that is not accepted yet, and goes on when it has looked often enough. Nor can one of two workers
-/// each of which is there for one session, where the last is the third.
+/// and the last one, once it is welcomed, until the hose of session 1 is planned. So of two both
+/// are welcomed at 0. A server of one session after the other cannot pass: session 1 waits for a
+/// session that is not accepted yet, and goes on when it has looked often enough. Nor can one of
+/// two workers each of which is there for one session, where the last is the third.
 #[derive(Drop)]
 pub struct HoldingGate {
     last: u64,

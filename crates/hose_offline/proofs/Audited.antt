@@ -8,6 +8,8 @@ use Rattle.hose_io.specs.declared.sink.Sink.{Ghosts as SinkGhosts}
 use Rattle.hose_io.proofs.Streams.{Grows-append, GrowsInPart-after}
 use Rattle.hose_graph.specs.Network.{Network}
 use Rattle.hose_graph.specs.declared.entry.Entry.{Entry}
+use Rattle.hose_law.specs.Book.{Book}
+use Rattle.hose_law.specs.History.{book_of}
 use Rattle.hose_book.specs.Ledger.{Ledger}
 use Rattle.hose_audit.specs.Audit.{audit_text}
 use Rattle.hose_disk.specs.declared.cabinet.Cabinet.{Ghosts as CabinetGhosts}
@@ -90,7 +92,8 @@ module _ (prices : Network → Network → Type 0) {O C E : Type 0} (sink : Sink
         reads.book.is.history,
         read.1,
         reads.book.is.audited,
-        subst (λ (l : Ledger). EndsTold sink output output' status (closing_fault read.1) (audit_text l.network l.book)) reads.book.is.is ends,
+        subst (λ (n : Network). EndsTold sink output output' status (closing_fault read.1) (audit_text n (book_of 0 reads.book.is.history))) reads.book.is.is.is_network
+            (subst (λ (b : Book). EndsTold sink output output' status (closing_fault read.1) (audit_text read.0.network b)) reads.book.is.is.is_book ends),
       );
     });
     refused = λ refused. absurd (no_network_read (notation_of topology) prices _ _ reads.book.network refused reads.book.text);

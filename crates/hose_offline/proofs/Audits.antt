@@ -14,7 +14,7 @@ use Rattle.hose_words.specs.declared.lines.LineFault.TheVariants as line
 use Rattle.hose_graph.specs.Network.{IsNetwork, Network}
 use Rattle.hose_graph.specs.declared.entry.Entry.{Entry}
 use Rattle.hose_law.specs.History.{IsSound}
-use Rattle.hose_book.specs.Ledger.{Ledger}
+use Rattle.hose_book.specs.Ledger.{IsLedgerOf, Ledger}
 use Rattle.hose_disk.specs.Cabinet.{Has, IsTextCall, absent_after, object_of}
 use Rattle.hose_disk.specs.Disk.{IsCalled}
 use Rattle.hose_disk.specs.declared.cabinet.Cabinet.{Ghosts as CabinetGhosts}
@@ -65,7 +65,7 @@ module _ {E : Type 0} (disk : DiskGhosts E) (network : Network) (old left : E) (
     history = opened.history;
     read = opened.read;
     sound = subst (λ (n : Network). IsSound n 0 opened.history) opened.network opened.has.sound;
-    is = is ∙ (ap (λ (n : Network). record { network = n; book = store.ledger.book }) opened.network ∙ ap (λ b. record { network = network; book = b }) opened.has.book);
+    is = subst (IsLedgerOf network 0 opened.history) (sym is) (record { is_network = opened.network; is_book = opened.has.book; tracks = opened.has.tracks });
     told = call.told;
     images = record {
       now = λ image may. stands image (amid.each image (counts_now left (disk.moment store.journal.disk) image amid.later may));

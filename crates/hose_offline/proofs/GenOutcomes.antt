@@ -1,7 +1,7 @@
 -- What `gen` leaves, by its status.
-use Rattle.std.proofs.Common.{◌≡◌, ◌≢◌, ◌∙◌, ◌⊎◌, ℕ, List, [], ◌++◌, take, length, Option, Result, Ok, Err, inl, inr, refl, sym, ap, subst, arith, append-nil}
+use Rattle.std.proofs.Common.{◌≢◌, ℕ, List, [], take, Option, Result, Ok, Err, inl, inr, refl, sym, subst, arith, append-nil}
 use Rattle.std.specs.Prelude.{⊤}
-use Rattle.hose_io.specs.Frame.{Frame, Rose}
+use Rattle.hose_io.specs.Frame.{Rose}
 use Rattle.hose_io.specs.Stream.{Grows}
 use Rattle.hose_io.specs.Writing.{GrowsInPart}
 use Rattle.hose_io.specs.declared.sink.Sink.{Ghosts as SinkGhosts}

@@ -1,5 +1,6 @@
 pub mod Audited
 pub mod Audits
+mod EndsFound
 mod GenOutcomes
 pub mod Journals
 pub mod JsonLemmas
@@ -10,6 +11,7 @@ pub mod OneRun
 mod OrdersAnswered
 pub mod Outcomes
 mod Priced
+mod Proved
 pub mod PutBack
 pub mod Running
 mod Sheets

@@ -13,7 +13,7 @@ use Rattle.hose_law.specs.Quotes.{nothing_held}
 use Rattle.hose_law.specs.Script.{ReadLine, IsForMemory}
 use Rattle.hose_law.specs.Script.ReadLine.{Asks}
 use Rattle.hose_law.proofs.Scripts.{decided_end}
-use Rattle.hose_law.proofs.Unique.{AllAnswer, script_unique}
+use Rattle.hose_law.proofs.Unique.{script_unique}
 use Rattle.hose_book.specs.GoingOn.{none_yet}
 use Rattle.hose_book.specs.declared.books.Books.{Ghosts as BooksGhosts}
 use Rattle.hose_book.specs.declared.books.Plain.{Plain}

@@ -1,9 +1,8 @@
 -- The tally of replies, one after another.
-use Rattle.std.proofs.Common.{◌≡◌, ◌∙◌, ℕ, ◌+◌, List, [], ◌∷◌, ◌++◌, sum_by, refl, sym, ap}
+use Rattle.std.proofs.Common.{◌≡◌, ℕ, List, [], ◌∷◌, ◌++◌, refl}
 use Rattle.std.proofs.lemmas.List.Sums.{sum_by_push}
 use Rattle.hose_graph.specs.declared.reply.Reply.{Reply}
 use Rattle.hose_offline.specs.Tally.{admitted_cost, one_if_admitted, one_if_refused, one_if_released, tally_of, with_reply}
-use Rattle.hose_offline.specs.declared.tally.Tally.{Tally}
 
 -- one reply more
 pub tally_push : (replies : List Reply) (reply : Reply) (epoch : ℕ) → with_reply (tally_of replies epoch) reply ≡ tally_of (replies ++ reply ∷ []) epoch

@@ -7,8 +7,8 @@ use Rattle.hose_words.specs.Reading.{WhereTold}
 use Rattle.hose_words.specs.declared.lines.LineFault.TheVariants as line
 use Rattle.hose_graph.specs.Network.{IsNetwork, Network}
 use Rattle.hose_graph.specs.declared.entry.Entry.{Entry}
-use Rattle.hose_law.specs.History.{IsSound, book_of}
-use Rattle.hose_book.specs.Ledger.{Ledger}
+use Rattle.hose_law.specs.History.{IsSound}
+use Rattle.hose_book.specs.Ledger.{IsLedgerOf, Ledger}
 use Rattle.hose_disk.specs.Cabinet.{Has, object_of}
 use Rattle.hose_disk.specs.declared.cabinet.Cabinet.{Ghosts as CabinetGhosts}
 use Rattle.hose_disk.specs.declared.disk.Disk.{Ghosts as DiskGhosts}
@@ -96,7 +96,7 @@ pub record HasReadBook {E : Type 0} (disk : DiskGhosts E) (old left : E) (networ
   pub history : List Entry
   pub read : IfSome (disk.content old) (IsHistoryOf network history)
   pub sound : IsSound network 0 history
-  pub is : ledger ≡ record { network = network; book = book_of 0 history }
+  pub is : IsLedgerOf network 0 history ledger
   pub told : (disk.frame left).has_failed ≡ is_err closing
   pub images : IsLeftWith disk old network history left
 
@@ -125,7 +125,7 @@ pub record AuditsBook {C E : Type 0} (cabinet : CabinetGhosts C E) (disk : DiskG
     (name : List ℕ) (old new : C) (network : Network) (ledger : Ledger)
     (closing : Result ⊤ Failed) : Type 0 where
   pub history : List Entry
-  pub is : ledger ≡ record { network = network; book = book_of 0 history }
+  pub is : IsLedgerOf network 0 history ledger
   pub audited : HasAudited cabinet disk name old new network history closing
 
 -- no store was opened, or the book was read

@@ -3,6 +3,8 @@ use Rattle.std.specs.Prelude.{ℕ, List, [], ◌++◌, codes, decimal}
 use Rattle.hex.specs.Hex.{encode_lower}
 use Rattle.hose_cert.specs.declared.fault.CertFault.{CertFault}
 use Rattle.hose_cert.specs.declared.fault.CertFault.TheVariants as certificate
+use Rattle.hose_cert.specs.declared.fault.ProveFault.{ProveFault}
+use Rattle.hose_cert.specs.declared.fault.ProveFault.TheVariants as proof
 use Rattle.hose_words.specs.declared.lines.LineFault.{LineFault}
 use Rattle.hose_words.specs.declared.lines.LineFault.TheVariants as line
 use Rattle.hose_topo.specs.declared.fault.TopoFault.{TopoFault}
@@ -86,6 +88,11 @@ abbrev pub of_certificate : CertFault → Fault
 of_certificate certificate.Read = Read
 of_certificate certificate.TooLong = TooLong
 of_certificate certificate.Memory = Memory
+
+-- what a fault of writing a certificate is
+abbrev pub of_proof : ProveFault → Fault
+of_proof proof.Write = Write
+of_proof proof.Memory = Memory
 
 -- what a fault of opening a store is for a run
 abbrev pub of_store : StoreFault → Fault

@@ -3,6 +3,7 @@ pub mod Auditing
 pub mod CabinetText
 pub mod CheckOutcome
 pub mod Ending
+pub mod EndsFound
 pub mod Fault
 pub mod GenOutcome
 pub mod Generating
@@ -10,6 +11,7 @@ pub mod JsonRead
 pub mod OnDisk
 pub mod PriceOutcome
 pub mod Pricing
+pub mod ProveOutcome
 pub mod Run
 pub mod RunOutcome
 pub mod ScriptLine

@@ -7,16 +7,16 @@ ghost use Rattle.hose_io.specs.Writing.{IsPut};
 ghost use Rattle.hose_proto.specs.ReplyText.{line_of};
 ghost use Rattle.hose_offline.specs.declared.fault.Fault.TheVariants.{Memory, Write};
 ghost use Rattle.hose_offline.specs.Ending.{IsLastLine, status_of_done};
-ghost use Rattle.hose_offline.specs.Fault.{status_of, last_line, of_certificate, of_json, of_line, of_store, of_text, of_topology, refusal_words};
+ghost use Rattle.hose_offline.specs.Fault.{status_of, last_line, of_certificate, of_json, of_line, of_proof, of_store, of_text, of_topology, refusal_words};
 
 use crate::notation::Refusal;
-use hose_cert::CertFault;
+use hose_cert::{CertFault, ProveFault};
 use hose_io::{Failed, Gather, Sink, write_all};
 use hose_store::StoreFault;
 use hose_topo::TopoFault;
 use hose_topo_json::JsonFault;
 use hose_words::LineFault;
-use std::alloc::AllocError;
+use std::alloc::{AllocError, AllocFailed};
 
 /// Why a run ended early.
 #[derive(Clone, Copy, Debug, PartialEq, Eq)]
@@ -102,6 +102,14 @@ impl From<AllocError> for Fault {
     }
 }
 
+impl<T: Drop> From<AllocFailed<T>> for Fault {
+    ghost from_gives = { λ _ fault. fault ≡ Memory };
+
+    fn from(_failed: AllocFailed<T>) -> Fault {
+        Fault::Memory
+    }
+}
+
 impl From<Failed> for Fault {
     ghost from_gives = { λ _ fault. fault ≡ Write };
 
@@ -157,6 +165,17 @@ impl From<CertFault> for Fault {
             CertFault::Read => Fault::Read,
             CertFault::TooLong => Fault::TooLong,
             CertFault::Memory => Fault::Memory,
+        }
+    }
+}
+
+impl From<ProveFault> for Fault {
+    ghost from_gives = { λ proof fault. fault ≡ of_proof proof };
+
+    fn from(fault: ProveFault) -> Fault {
+        match fault {
+            ProveFault::Write => Fault::Write,
+            ProveFault::Memory => Fault::Memory,
         }
     }
 }

@@ -1,13 +1,14 @@
 //! What the program does without waiting for anybody: `run` answers the lines of an input by a
 //! book in memory or in a journal, `audit` tells the book of a journal as a text, `run_generated`
-//! sums up the script of a seed, `check` judges a certificate, and `price` prices hoses under all
-//! tariffs. `hosed` chooses between them by the program's words, and reads topologies and tells
-//! books as they do where it serves customers:
+//! sums up the script of a seed, `prove` writes a certificate of least cost, `check` judges one,
+//! and `price` prices hoses under all tariffs. `hosed` chooses between them by the program's words,
+//! and reads topologies and tells books as they do where it serves customers:
 //!
 //! ```
 //! let status = run(alloc, &OwnCosts, Some("orders.journal"), input, output, cabinet);
 //! let status = audit(alloc, &tariff, "star.json", "orders.journal", output, cabinet);
 //! let status = run_generated(alloc, 7, 200, 600, 300, output);
+//! let status = prove(alloc, &OwnCosts, "star.txt", &ends, 3, output, cabinet);
 //! let status = check(alloc, &OwnCosts, "star.txt", input, output, cabinet);
 //! let status = price(alloc, &tariffs, "star.txt", input, output, cabinet);
 //! ```
@@ -24,6 +25,7 @@ mod json_text;
 mod limits;
 mod notation;
 mod pricing;
+mod proving;
 mod script_line;
 mod sheet_answer;
 mod sheet_line;
@@ -37,3 +39,4 @@ pub use generating::run_generated;
 pub use limits::JSON_LIMIT;
 pub use notation::{Notation, Refusal};
 pub use pricing::price;
+pub use proving::prove;

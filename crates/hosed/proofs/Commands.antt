@@ -1,20 +1,24 @@
 -- The program's words, one after the other.
 use Rattle.std.specs.Prelude.{MatchOption, option_map, ⊤}
-use Rattle.std.proofs.Common.{◌≡◌, ◌≢◌, ◌∙◌, ◌⊎◌, ℕ, ◌+◌, ◌<◌, ◌≤◌, ◌-◌, ◌^◌, List, [], ◌∷◌, ◌++◌, Option, None, Some, IfNone, IfSome, codes, decimal, inl, inr, suc, zero, length, take, drop, get_or, map, refl, sym, ap, subst, arith}
+use Rattle.std.proofs.Common.{◌≡◌, ◌≢◌, ◌∙◌, ◌⊎◌, ℕ, ◌+◌, ◌<◌, ◌≤◌, ◌-◌, ◌^◌, List, [], ◌∷◌, ◌++◌, Option, None, Some, IfNone, IfSome, decimal, inl, inr, suc, zero, length, take, drop, get_or, map, refl, sym, ap, subst, arith}
 use Rattle.std.proofs.lemmas.Bool.{cases_lt}
 use Rattle.std.proofs.lemmas.Fmt.{decimal_injective}
 use Rattle.std.proofs.lemmas.List.{drop-map, drop_more, get_or-map, length-drop, length-map, take_rest}
+use mathlib.Core.List.{map-id}
 use Rattle.hose_graph.specs.Network.{Network}
 use Rattle.hose_words.specs.Cursor.{IsWrong, Misses, Position, Took}
 use Rattle.hose_words.specs.Form.{Fits64, Form, IsChoice, TellsNumber, branch, finish, grammar_of, maybe, number, place}
 use Rattle.hose_words.specs.Grammar.{IsFirst, IsFirstNotAllowed}
 use Rattle.hose_words.proofs.DecimalLemmas.{decimal_told, told_decimal}
 use Rattle.hose_words.specs.Number.{IsNumber}
+use Rattle.hose_words.proofs.Keywords.{choice_of}
 use Rattle.hose_words.proofs.Forms.{AreApart, Misses-stronger, after_place, front_wrong, wrong_at_start, wrong_choice, wrong_chosen, wrong_later, wrong_maybe, wrong_place}
-use Rattle.hose_words.proofs.Passing.{Passes, pass_branch, pass_finish, pass_maybe, pass_nothing, pass_place}
-use Rattle.hosed.specs.ProgramWords.{AreAuditWords, AreCheckWords, AreGenerateWords, ArePriceWords, ArePriceable, AreRunWords, AreServeWords, AsksFor, AsksToServe, IsChosen, IsFileName, IsFirstNamed, IsFirstWrong, IsNodeCount, IsOffered, IsStart, IsTariffName, Start, Verb, at_word, name_words, costs_at, named_form, numbers_form, sizes_form, start_form, start_word, tariff_option, tariff_words, verb_form, verb_word, with_tariff, words_form}
+use Rattle.hose_words.proofs.Passing.{Passes, pass_branch, pass_finish, pass_list, pass_maybe, pass_nothing, pass_place}
+use Rattle.hose_proto.specs.EndWords.{end_words_form}
+use Rattle.hose_proto.proofs.EndWords.{end_words_closed}
+use Rattle.hosed.specs.ProgramWords.{AreAuditWords, AreCheckWords, AreGenerateWords, ArePriceWords, ArePriceable, AreProveWords, AreRunWords, AreServeWords, AsksFor, IsChosen, IsFileName, IsFirstNamed, IsFirstWrong, IsNodeCount, IsOffered, IsStart, IsTariffName, Start, Verb, at_word, first_end, name_words, costs_at, named_form, numbers_form, sizes_form, start_word, tariff_option, tariff_words, verb_form, verb_word, with_tariff, words_form}
 use Rattle.hosed.specs.ProgramWords.Start.{named, option}
-use Rattle.hosed.specs.ProgramWords.Verb.{audit, check, generate, price, run, serve}
+use Rattle.hosed.specs.ProgramWords.Verb.{audit, check, generate, price, prove, run, serve}
 use Rattle.hosed.specs.Reading.{Chooses}
 
 -- ---- words of a slice
@@ -64,47 +68,21 @@ seed_none most bytes word None all same none = λ tells. none tells.0 (all tells
 
 -- ---- which words are wrong
 
--- each command has a word of its own
+-- each command has a word of its own, by which it is found again
+abbrev verb_of : List ℕ → Verb
+verb_of word = choice_of verb_word (run ∷ audit ∷ generate ∷ prove ∷ check ∷ price ∷ serve ∷ []) run word
+
+verb_back : (verb : Verb) → verb_of (verb_word verb) ≡ verb
+verb_back run = refl
+verb_back audit = refl
+verb_back generate = refl
+verb_back prove = refl
+verb_back check = refl
+verb_back price = refl
+verb_back serve = refl
+
 verb_apart : (one other : Verb) → verb_word one ≡ verb_word other → one ≡ other
-verb_apart one other same = at one other (ap (λ (w : List ℕ). get_or w 0 0) same)
-  where
-    at : (one other : Verb) → get_or (verb_word one) 0 0 ≡ get_or (verb_word other) 0 0 → one ≡ other
-    at run run same = refl
-    at run audit same = absurd (omega (arith, same))
-    at run generate same = absurd (omega (arith, same))
-    at run check same = absurd (omega (arith, same))
-    at run price same = absurd (omega (arith, same))
-    at run serve same = absurd (omega (arith, same))
-    at audit run same = absurd (omega (arith, same))
-    at audit audit same = refl
-    at audit generate same = absurd (omega (arith, same))
-    at audit check same = absurd (omega (arith, same))
-    at audit price same = absurd (omega (arith, same))
-    at audit serve same = absurd (omega (arith, same))
-    at generate run same = absurd (omega (arith, same))
-    at generate audit same = absurd (omega (arith, same))
-    at generate generate same = refl
-    at generate check same = absurd (omega (arith, same))
-    at generate price same = absurd (omega (arith, same))
-    at generate serve same = absurd (omega (arith, same))
-    at check run same = absurd (omega (arith, same))
-    at check audit same = absurd (omega (arith, same))
-    at check generate same = absurd (omega (arith, same))
-    at check check same = refl
-    at check price same = absurd (omega (arith, same))
-    at check serve same = absurd (omega (arith, same))
-    at price run same = absurd (omega (arith, same))
-    at price audit same = absurd (omega (arith, same))
-    at price generate same = absurd (omega (arith, same))
-    at price check same = absurd (omega (arith, same))
-    at price price same = refl
-    at price serve same = absurd (omega (arith, same))
-    at serve run same = absurd (omega (arith, same))
-    at serve audit same = absurd (omega (arith, same))
-    at serve generate same = absurd (omega (arith, same))
-    at serve check same = absurd (omega (arith, same))
-    at serve price same = absurd (omega (arith, same))
-    at serve serve same = refl
+verb_apart one other same = sym (verb_back one) ∙ (ap verb_of same ∙ verb_back other)
 
 verbs_apart : (names : List (List ℕ)) → AreApart (IsOffered names) verb_word
 verbs_apart names = record { apart = λ one other here there same. verb_apart one other same }
@@ -278,6 +256,15 @@ generate_right names words seed nodes links hoses number are wrong =
     (subst (Passes (words_form names)) (sym are.are) (pass_branch generate tt (verbs_apart names) (pass_place (seed, refl, are.is_seed) (pass_branch nodes are.nodes_within counts_apart
     (pass_place (links, refl, are.links_within) (pass_place (hoses, refl, are.hoses_within) pass_finish)))))).none number wrong
 
+-- nor of those of a certificate
+pub prove_right : (names words : List (List ℕ)) (tariff : Option ℕ) (topology : List ℕ) (ends : List (List ℕ)) (number : ℕ) → AreProveWords names words tariff topology ends → IsFirstWrong names words number → ⊥
+prove_right names words tariff topology ends number are wrong =
+    (subst (Passes (words_form names)) (sym are.are) (pass_branch prove tt (verbs_apart names)
+    (passes_with names tariff (named_form end_words_form) end_words_form topology ends are.is_tariff are.is_topology (pass_place are.is_topology rest) rest))).none number wrong
+  where
+    rest : Passes end_words_form ends
+    rest = subst (Passes end_words_form) (map-id ends) (pass_list end_words_closed are.are_ends.enough are.are_ends.are)
+
 -- nor of those of a judgement
 pub check_right : (names words : List (List ℕ)) (tariff : Option ℕ) (topology : List ℕ) (number : ℕ) → AreCheckWords names words tariff topology → IsFirstWrong names words number → ⊥
 check_right names words tariff topology number are wrong =
@@ -307,6 +294,9 @@ audit_asks names words tariff topology journal are = subst (AsksFor audit) (sym 
 
 pub generate_asks : (words : List (List ℕ)) (seed nodes links hoses : ℕ) → AreGenerateWords words seed nodes links hoses → AsksFor generate words
 generate_asks words seed nodes links hoses are = subst (AsksFor generate) (sym are.are) refl
+
+pub prove_asks : (names words : List (List ℕ)) (tariff : Option ℕ) (topology : List ℕ) (ends : List (List ℕ)) → AreProveWords names words tariff topology ends → AsksFor prove words
+prove_asks names words tariff topology ends are = subst (AsksFor prove) (sym are.are) refl
 
 pub check_asks : (names words : List (List ℕ)) (tariff : Option ℕ) (topology : List ℕ) → AreCheckWords names words tariff topology → AsksFor check words
 check_asks names words tariff topology are = subst (AsksFor check) (sym are.are) refl
@@ -396,6 +386,19 @@ one_making words seed seed' nodes nodes' links links' hoses hoses' are are' =
       same_hoses = decimal_injective hoses hoses' (omega (arith, are.hoses_within)) (omega (arith, are'.hoses_within)) (ap (λ (w : List (List ℕ)). get_or w 4 []) same);
     }
 
+-- words tell one certificate
+pub record IsSameProof (tariff tariff' : Option ℕ) (topology topology' : List ℕ) (ends ends' : List (List ℕ)) : Type 0 where
+  pub tariffs : tariff ≡ tariff'
+  pub topologies : topology ≡ topology'
+  pub all_ends : ends ≡ ends'
+
+pub one_proof : (names words : List (List ℕ)) (tariff tariff' : Option ℕ) (topology topology' : List ℕ) (ends ends' : List (List ℕ)) → AreProveWords names words tariff topology ends → AreProveWords names words tariff' topology' ends'
+    → IsSameProof tariff tariff' topology topology' ends ends'
+one_proof names words tariff tariff' topology topology' ends ends' are are' =
+    let same = one_tariff names tariff tariff' (topology ∷ ends) (topology' ∷ ends') are.is_tariff are'.is_tariff (file_first topology ends are.is_topology) (file_first topology' ends' are'.is_topology)
+    (ap (drop 1) (sym are.are ∙ are'.are)) in
+    record { tariffs = same.tariffs; topologies = ap (λ (w : List (List ℕ)). get_or w 0 []) same.rests; all_ends = ap (drop 1) same.rests }
+
 -- words tell one judgement
 pub record IsSameCheck (tariff tariff' : Option ℕ) (topology topology' : List ℕ) : Type 0 where
   pub tariffs : tariff ≡ tariff'
@@ -448,6 +451,16 @@ costs_here prices tariffs which tariff is below = costs_there prices tariffs whi
 pub chosen_within : {T : Type 0} (name_of : T → List ℕ) (tariffs : List T) (tariff : Option ℕ) → IsChosen (map name_of tariffs) tariff → MatchOption tariff ⊤ (λ which. which < length tariffs)
 chosen_within name_of tariffs None is = tt
 chosen_within name_of tariffs (Some which) is = omega (arith, is.within, length-map tariffs name_of)
+
+-- the number of the first endpoint fits
+pub first_small : (tariff : Option ℕ) (first : ℕ) → first ≡ first_end tariff → first ≤ 2 ^ 63
+first_small None first is = omega (arith, is)
+first_small (Some which) first is = omega (arith, is)
+
+-- it is that of the word after the name of a topology
+pub first_chosen : (names words : List (List ℕ)) (tariff : Option ℕ) (at : ℕ) → Chooses names words tariff at → at + 1 ≡ first_end tariff
+first_chosen names words None at chosen = omega (arith, chosen.at_once)
+first_chosen names words (Some which) at chosen = omega (arith, chosen.later)
 
 -- ---- names
 

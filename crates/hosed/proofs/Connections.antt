@@ -1,5 +1,5 @@
 -- Connections that were served, by the cabinet that holds the disk of the journal.
-use Rattle.std.proofs.Common.{◌≡◌, ◌⊎◌, inl, inr, ℕ, ◌≤◌, ◌-◌, List, Some, None, Result, Ok, Err, length, sym, ap, subst}
+use Rattle.std.proofs.Common.{◌≡◌, ◌⊎◌, inl, inr, ℕ, ◌≤◌, List, Some, None, Result, Ok, Err, length, sym, ap, subst}
 use Rattle.std.specs.Prelude.{⊤}
 use Rattle.hose_io.specs.Frame.{Frame, Met}
 use Rattle.hose_io.specs.declared.Failed.{Failed}

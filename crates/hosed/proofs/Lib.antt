@@ -1,4 +1,5 @@
 pub mod Commands
 pub mod Connections
+mod EndsSeen
 pub mod Served
 pub mod Sharing

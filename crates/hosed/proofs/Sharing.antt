@@ -1,17 +1,14 @@
 -- A store that was shared, from its opening to its closing.
-use Rattle.std.proofs.Common.{◌≡◌, ◌∙◌, ◌⊎◌, inl, inr, ⊎_elim, ℕ, ◌≤◌, ◌<◌, List, [], ◌∷◌, ◌++◌, length, Bool, true, false, Option, Some, None, is_some, ◌↔◌, IfOk, IfErr, MatchResult, Result, Ok, Err, nat_le, nat_lt, refl, sym, ap, subst, arith, append-nil, length-append}
-use Rattle.std.specs.Prelude.{⊤, if◌then◌else◌}
+use Rattle.std.proofs.Common.{◌≡◌, ◌∙◌, ◌⊎◌, inl, inr, ⊎_elim, ℕ, ◌≤◌, ◌<◌, List, [], ◌∷◌, length, Bool, Option, Some, is_some, ◌↔◌, IfOk, IfErr, MatchResult, Result, Ok, Err, nat_lt, refl, sym, ap, subst, arith, append-nil, length-append}
+use Rattle.std.specs.Prelude.{⊤}
 use mathlib.Core.List.{IsPrefix}
-use Rattle.hose_io.specs.Frame.{Frame, Met, Rose}
-use Rattle.hose_io.specs.Stream.{Grows}
 use Rattle.hose_io.specs.declared.Failed.{Failed}
 use Rattle.hose_io.specs.declared.sink.Sink.{Ghosts as SinkGhosts}
 use Rattle.hose_graph.specs.Network.{Network}
 use Rattle.hose_graph.specs.declared.entry.Entry.{Entry}
 use Rattle.hose_law.specs.Book.{Book}
 use Rattle.hose_law.specs.History.{IsDecidedAt, IsSound, book_of}
-use Rattle.hose_law.proofs.Fronts.{prefix_same}
-use Rattle.hose_book.specs.Ledger.{Ledger}
+use Rattle.hose_book.specs.Ledger.{IsLedgerOf, Ledger}
 use Rattle.hose_disk.specs.Disk.{IsCalled}
 use Rattle.hose_disk.specs.declared.disk.Disk.{Ghosts as DiskGhosts}
 use Rattle.hose_shared.specs.Closing.{HasShared}
@@ -26,12 +23,12 @@ use Rattle.hose_store.specs.Store.{Kept}
 use Rattle.hose_store.specs.declared.fault.StoreFault.{StoreFault}
 use Rattle.hose_turn.specs.Faults.{end_of_count}
 use Rattle.hose_turn.specs.Known.{Known}
-use Rattle.hose_turn.specs.Places.{HasPlaces, one_within}
+use Rattle.hose_turn.specs.Places.{HasPlaces}
 use Rattle.hose_offline.specs.Fault.{of_store}
 use Rattle.hose_offline.specs.OnDisk.{opening_of}
 use Rattle.hose_offline.specs.ServingOnDisk.{IsNotOpened}
 use Rattle.hose_offline.proofs.Journals.{not_opened}
-use Rattle.hosed.specs.ServingDoor.{DoorSeen, HasKept, HasServedConnections, IsMadeAlong, IsOpening, OpensAt, ServesByStore, ServesOpened, StaysAsRead, served_of}
+use Rattle.hosed.specs.ServingDoor.{DoorSeen, HasKept, IsMadeAlong, IsOpening, OpensAt, ServesByStore, ServesOpened, StaysAsRead, served_of}
 use Rattle.hosed.specs.declared.serving.Opened.{Opened}
 use Rattle.hosed.specs.declared.serving.Opened.TheVariants as opened
 
@@ -45,9 +42,6 @@ no_more since history (entry ∷ more, same) none = absurd (at (nat_lt (length s
 
     at : (one : Bool) → nat_lt (length since) (length history) ≡ one → ⊥
     at one is = let here = none (length since) in grind (arith, longer, here)
-
-ledger_is : (ledger : Ledger) (network : Network) (book : Book) → ledger.network ≡ network → ledger.book ≡ book → ledger ≡ record { network = network; book = book }
-ledger_is ledger network book same_network same_book = rw (sym same_network, sym same_book) refl
 
 -- a store stands for a history since any images that are no fewer
 stands_had : {E : Type 0} (disk : DiskGhosts E) (Had Has : List ℕ → Type 0) (beginning : Beginning) (history : List Entry) (store : Kept E) → ((image : List ℕ) → Had image → Has image) → StandsFor disk IsDecidedAt Had beginning history store
@@ -145,7 +139,8 @@ module _ {E : Type 0} (disk : DiskGhosts E) (was left : E) (network : Network) (
         kept = kept;
         along = along;
         served = serves.0;
-        is = sym is ∙ ledger_is store.ledger network (book_of 0 shared.history) (shared.whole.stood.network ∙ of) shared.whole.stood.book;
+        is = subst (IsLedgerOf network 0 shared.history) is
+            (record { is_network = shared.whole.stood.network ∙ of; is_book = shared.whole.stood.book; tracks = shared.whole.stood.tracks });
       },
       serves.1,
       serves.2,

@@ -12,21 +12,24 @@ use Rattle.hose_offline.specs.Ending.{IsOut}
 use Rattle.hose_offline.specs.Fault.{last_line}
 use Rattle.hose_offline.specs.GenOutcome.{GenOutcome}
 use Rattle.hose_offline.specs.PriceOutcome.{PriceOutcome}
+use Rattle.hose_offline.specs.ProveOutcome.{ProveOutcome}
 use Rattle.hose_offline.specs.RunOutcome.{RunOutcome}
 use Rattle.hose_offline.specs.declared.fault.Fault.TheVariants.{Words}
-use Rattle.hosed.specs.ProgramWords.{AreAuditWords, AreCheckWords, AreGenerateWords, ArePriceWords, AreRunWords, AreWrongWords, IsFirstWrong}
+use Rattle.hosed.specs.ProgramWords.{AreAuditWords, AreCheckWords, AreGenerateWords, ArePriceWords, AreProveWords, AreRunWords, AreWrongWords, IsFirstWrong, first_end}
 
 -- Words that are wrong end with the status 1 and take nothing of the input and of the cabinet; the
 -- last line tells the first of them that is not allowed. Other words do what their command says, at
 -- the prices of the tariff that they choose; sheets of prices are made of a network under all of
--- them.
+-- them. Of the other commands `prove` alone can end with the status 1, and says itself where.
 pub record OfflineOutcome {I O C E : Type 0} (source : SourceGhosts I) (sink : SinkGhosts O)
     (cabinet : CabinetGhosts C E) (disk : DiskGhosts E) (names : List (List ℕ))
     (prices : Option ℕ → Network → Network → Type 0) (makes : Network → Sheet → Type 0)
     (words : List (List ℕ)) (input input' : I) (output output' : O) (place place' : C)
     (status : ℕ) : Type 0 where
-  pub words_at_1 : (status ≡ 1) ↔ AreWrongWords names words
-  pub wrong_words : status ≡ 1 → (input' ≡ input) × (place' ≡ place)
+  pub words_at_1 : ((tariff : Option ℕ) (topology : List ℕ) (ends : List (List ℕ))
+      → ¬ AreProveWords names words tariff topology ends)
+      → (status ≡ 1) ↔ AreWrongWords names words
+  pub wrong_words : AreWrongWords names words → (input' ≡ input) × (place' ≡ place)
       × ((word : ℕ) × IsFirstWrong names words word
       × IsOut sink output output' (last_line (Words word)))
   pub run : (tariff : Option ℕ) (journal : Option (List ℕ))
@@ -41,6 +44,11 @@ pub record OfflineOutcome {I O C E : Type 0} (source : SourceGhosts I) (sink : S
   pub generated : (seed nodes links hoses : ℕ) → AreGenerateWords words seed nodes links hoses
       → (input' ≡ input) × (place' ≡ place)
       × GenOutcome seed nodes links hoses sink output output' status
+  pub prove : (tariff : Option ℕ) (topology : List ℕ) (ends : List (List ℕ))
+      → AreProveWords names words tariff topology ends
+      → (input' ≡ input)
+      × ProveOutcome (prices tariff) ends (first_end tariff) sink cabinet topology
+      output output' place place' status
   pub check : (tariff : Option ℕ) (topology : List ℕ) → AreCheckWords names words tariff topology
       → CheckOutcome (prices tariff) source sink cabinet topology input input' output output'
       place place' status

@@ -1,6 +1,6 @@
 -- The words that the program is run with.
 use Rattle.std.specs.Prelude.{option_map}
-use Rattle.std.specs.Prelude.{◌≡◌, ◌≢◌, ℕ, ◌-◌, ◌<◌, ◌≤◌, List, [], ◌∷◌, ◌++◌, codes, decimal, drop, get_or, length, Option, MatchOption, None, Some, suc, zero, ⊤}
+use Rattle.std.specs.Prelude.{◌≡◌, ◌≢◌, ℕ, ◌-◌, ◌<◌, ◌≤◌, List, [], ◌∷◌, ◌++◌, codes, decimal, drop, get_or, length, map, Option, MatchOption, None, Some, suc, zero, ⊤}
 use Rattle.hose_words.specs.Cursor.{Position}
 use Rattle.hose_words.specs.Form.{Fits64, Form, IsWithin, TellsNumber, branch, finish, grammar_of, maybe, number, place}
 use Rattle.hose_words.specs.Grammar.{IsFirst, IsFirstNotAllowed}
@@ -8,10 +8,12 @@ use Rattle.hose_gen.specs.declared.limits.TheConstants.{LEAST_NODES, MOST_HOSES}
 use Rattle.hose_graph.specs.Network.{Network}
 use Rattle.hose_graph.specs.declared.limits.TheConstants.{MOST_LINKS, MOST_NODES}
 use Rattle.hose_offline.specs.TopologyTold.{own_costs}
+use Rattle.hose_proto.specs.EndWords.{AreEndWords, end_words_form}
+use Rattle.std.specs.String.{string_bytes}
 use Rattle.hose_pool.specs.declared.rows.TheConstants.{MOST_WORKERS}
 use Rattle.hose_price.specs.declared.sheet.TheConstants.{MOST_TARIFFS}
 use Rattle.hosed.specs.declared.words.Command.{Command}
-use Rattle.hosed.specs.declared.words.Command.TheVariants.{Audit, Check, Generate, Price, Run}
+use Rattle.hosed.specs.declared.words.Command.TheVariants.{Audit, Check, Generate, Price, Prove, Run}
 use Rattle.hosed.specs.declared.words.Service.{Service}
 use Rattle.hosed.specs.declared.words.TheConstants.{MOST_CONNECTIONS}
 
@@ -100,6 +102,20 @@ pub record AreGenerateWords (words : List (List ℕ)) (seed nodes links hoses : 
   pub links_within : IsLinkCount nodes links
   pub hoses_within : IsHoseCount hoses
 
+-- the words are `prove`, those of a tariff if one is chosen, the name of a topology and the
+-- endpoints of a hose
+pub record AreProveWords (names words : List (List ℕ)) (tariff : Option ℕ)
+    (topology : List ℕ) (ends : List (List ℕ)) : Type 0 where
+  pub are : words ≡ codes "prove" ∷ tariff_words names tariff ++ topology ∷ ends
+  pub is_tariff : IsChosen names tariff
+  pub is_topology : IsFileName topology
+  pub are_ends : AreEndWords ends
+
+-- the number of the first of these endpoints among the words
+abbrev pub first_end : Option ℕ → ℕ
+first_end None = 3
+first_end (Some which) = 5
+
 -- the words are `check`, those of a tariff if one is chosen, and the name of a topology
 pub record AreCheckWords (names words : List (List ℕ)) (tariff : Option ℕ)
     (topology : List ℕ) : Type 0 where
@@ -141,6 +157,8 @@ pub record AreWrongWords (names words : List (List ℕ)) : Type 0 where
   pub no_audit : (tariff : Option ℕ) (topology journal : List ℕ)
       → ¬ AreAuditWords names words tariff topology journal
   pub no_generate : (seed nodes links hoses : ℕ) → ¬ AreGenerateWords words seed nodes links hoses
+  pub no_prove : (tariff : Option ℕ) (topology : List ℕ) (ends : List (List ℕ))
+      → ¬ AreProveWords names words tariff topology ends
   pub no_check : (tariff : Option ℕ) (topology : List ℕ)
       → ¬ AreCheckWords names words tariff topology
   pub no_price : (topology : List ℕ) → ¬ ArePriceWords names words topology
@@ -155,6 +173,9 @@ AreWordsOf names words (Audit tariff topology journal) =
     AreAuditWords names words tariff topology.now journal.now
 AreWordsOf names words (Generate seed nodes links hoses) =
     AreGenerateWords words seed nodes links hoses
+AreWordsOf names words (Prove tariff topology ends first) =
+    AreProveWords names words tariff topology.now (map string_bytes ends.now)
+    × (first ≡ first_end tariff)
 AreWordsOf names words (Check tariff topology) = AreCheckWords names words tariff topology.now
 AreWordsOf names words (Price topology) = ArePriceWords names words topology.now
 
@@ -171,6 +192,7 @@ pub data Verb : Type 0 where
   run : Verb
   audit : Verb
   generate : Verb
+  prove : Verb
   check : Verb
   price : Verb
   serve : Verb
@@ -180,6 +202,7 @@ abbrev pub verb_word : Verb → List ℕ
 verb_word run = codes "run"
 verb_word audit = codes "audit"
 verb_word generate = codes "gen"
+verb_word prove = codes "prove"
 verb_word check = codes "check"
 verb_word price = codes "price"
 verb_word serve = codes "serve"
@@ -189,6 +212,7 @@ abbrev pub IsOffered : List (List ℕ) → Verb → Type 0
 IsOffered names run = ⊤
 IsOffered names audit = ⊤
 IsOffered names generate = ⊤
+IsOffered names prove = ⊤
 IsOffered names check = ⊤
 IsOffered names price = ArePriceable names
 IsOffered names serve = ⊤
@@ -238,12 +262,14 @@ sizes_form nodes =
     place (TellsNumber (IsLinkCount nodes)) (place (TellsNumber IsHoseCount) finish)
 
 -- What may stand after the word of a command: a tariff or none, and then a journal or none; the
--- names of a topology and of a journal; four numbers; the name of a topology, after a tariff or
--- none, or alone; or those of a topology and of a journal, and the numbers of a server.
+-- names of a topology and of a journal; four numbers; the name of a topology and endpoints, after a
+-- tariff or none; the name of a topology, after a tariff or none, or alone; or those of a topology
+-- and of a journal, and the numbers of a server.
 abbrev pub verb_form : List (List ℕ) → Verb → Form
 verb_form names run = maybe (with_tariff names (maybe (named_form finish)) finish)
 verb_form names audit = with_tariff names (named_form (named_form finish)) (named_form finish)
 verb_form names generate = number (branch IsNodeCount decimal sizes_form)
+verb_form names prove = with_tariff names (named_form end_words_form) end_words_form
 verb_form names check = with_tariff names (named_form finish) finish
 verb_form names price = named_form finish
 verb_form names serve =

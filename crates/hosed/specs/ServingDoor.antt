@@ -13,7 +13,7 @@ use Rattle.hose_law.specs.Book.{IsOversold}
 use Rattle.hose_law.specs.Cheapest.{AreCheapest}
 use Rattle.hose_law.specs.History.{IsDecided, IsDecidedAt, book_of}
 use Rattle.hose_law.specs.Live.{AreLiveHeld, StaysLive}
-use Rattle.hose_book.specs.Ledger.{Ledger}
+use Rattle.hose_book.specs.Ledger.{IsLedgerOf, Ledger}
 use Rattle.hose_crew.specs.Crew.{AreServed}
 use Rattle.hose_disk.specs.Cabinet.{Has, object_of}
 use Rattle.hose_disk.specs.declared.cabinet.Cabinet.{Ghosts as CabinetGhosts}
@@ -105,7 +105,7 @@ pub record HasServedConnections {E : Type 0} (disk : DiskGhosts E) (was left : E
   pub kept : HasKept disk was left network since history closing
   pub along : IsMadeAlong network since history pass (disk.frame left).faults
   pub served : AreServed told told' count pass accepting
-  pub is : ledger ≡ record { network = network; book = book_of 0 history }
+  pub is : IsLedgerOf network 0 history ledger
 
 -- What comes of serving connections by a store that was opened. Where there was no memory to share
 -- it, its disk is gone.
@@ -205,7 +205,7 @@ pub record HasServedConnectionsIn {C E : Type 0} (cabinet : CabinetGhosts C E) (
   pub kept : HasKeptIn cabinet disk name old new network since history closing
   pub along : IsMadeAlong network since history pass (cabinet.frame new).returned
   pub served : AreServed told told' count pass accepting
-  pub is : ledger ≡ record { network = network; book = book_of 0 history }
+  pub is : IsLedgerOf network 0 history ledger
 
 module _ {C E O : Type 0} (cabinet : CabinetGhosts C E) (disk : DiskGhosts E) (sink : SinkGhosts O)
     (name : List ℕ) (old new : C) (network : Network) (count : ℕ) (output output' : O)

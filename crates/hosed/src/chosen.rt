@@ -1,10 +1,13 @@
 // What is done at the costs of the tariff that is chosen, or at a network's own.
-ghost use Rattle.std.specs.Prelude.{◌≡◌, ◌≢◌, ◌⊎◌, ◌<◌, ◌≤◌, MatchOption, None, length, option_map, ⊤};
+ghost use Rattle.std.specs.Prelude.{◌≡◌, ◌≢◌, ◌⊎◌, ◌<◌, ◌≤◌, ◌^◌, MatchOption, None, length, map, option_map, ⊤};
+ghost use Rattle.std.specs.String.{string_bytes};
 ghost use Rattle.hose_io.specs.Frame.{Stays};
 ghost use Rattle.hose_disk.specs.Cabinet.{object_of};
 ghost use Rattle.hose_offline.specs.AuditOutcome.{AuditOutcome};
 ghost use Rattle.hose_offline.specs.CheckOutcome.{CheckOutcome};
+ghost use Rattle.hose_offline.specs.ProveOutcome.{ProveOutcome};
 ghost use Rattle.hose_offline.specs.RunOutcome.{RunOutcome};
+ghost use Rattle.hose_proto.specs.EndWords.{AreEndWords};
 ghost use Rattle.hosed.specs.ProgramWords.{costs_at};
 ghost use Rattle.hosed.specs.ServeOutcome.{ServeOutcome};
 ghost use Rattle.hosed.specs.ServingDoor.{seen_of};
@@ -13,7 +16,7 @@ use crate::serving::serve;
 use crate::words::Service;
 use hose_disk::Cabinet;
 use hose_io::{Door, Sink, Source};
-use hose_offline::{audit, check, run};
+use hose_offline::{audit, check, prove, run};
 use hose_pool::{Gate, MOST_WORKERS};
 use hose_tariff::{OwnCosts, Prices, Tariff};
 use std::alloc::Global;
@@ -71,6 +74,41 @@ pub fn audit_by<O: Sink, C: Cabinet>(
     match tariff {
         Some(place) => audit(alloc, &tariffs[place], topology, journal, output, cabinet),
         None => audit(alloc, &OwnCosts, topology, journal, output, cabinet),
+    }
+}
+
+/// A certificate.
+pub fn prove_by<O: Sink, C: Cabinet>(
+    alloc: Global,
+    tariffs: &[Tariff],
+    tariff: Option<usize>,
+    topology: &str,
+    ends: &[String],
+    first: u64,
+    output: &mut O,
+    cabinet: &mut C,
+) -> u8
+    requires tariff { MatchOption tariff ⊤ (λ which. which < length tariffs.now) }
+    requires ends { AreEndWords (map string_bytes ends.now) }
+    requires first { first ≤ 2 ^ 63 }
+    ensures outcome { ProveOutcome (costs_at ⟦<Tariff as Prices>⟧.prices tariffs.now tariff)
+        (map string_bytes ends.now) first O.Sink C.Cabinet topology.now output.old output.new
+        cabinet.old cabinet.new result }
+    ensures out { (C.frame cabinet.new).out ≡ (C.frame cabinet.old).out }
+    ensures output { Stays (O.frame output.old) (O.frame output.new) }
+    ensures cabinet { Stays (object_of (C.frame cabinet.old)) (object_of (C.frame cabinet.new)) }
+{
+    match tariff {
+        Some(place) => prove(
+            alloc,
+            &tariffs[place],
+            topology,
+            ends,
+            first,
+            output,
+            cabinet,
+        ),
+        None => prove(alloc, &OwnCosts, topology, ends, first, output, cabinet),
     }
 }
 

@@ -6,8 +6,9 @@
 //! what the book of a journal holds; `serve TOPOLOGY JOURNAL PORT CONNECTIONS WORKERS` serves
 //! customers at a port, each in a session, by the book of a journal that they share. With
 //! `--tariff` each plans by the costs that a tariff makes of the lengths of links. Beside them
-//! `check TOPOLOGY` judges a certificate of least cost, `price TOPOLOGY` prices hoses under all
-//! tariffs, and `gen SEED NODES LINKS HOSES` runs a script that it makes of four numbers:
+//! `prove TOPOLOGY NAME:RATE ..` writes a certificate of least cost, `check TOPOLOGY` judges one,
+//! `price TOPOLOGY` prices hoses under all tariffs, and `gen SEED NODES LINKS HOSES` runs a script
+//! that it makes of four numbers:
 //!
 //! ```
 //! let input = &mut StdSource::new(stdin);
@@ -33,10 +34,11 @@ ghost use Rattle.hosed.specs.ProgramWords.{AsksToServe, costs_at};
 ghost use Rattle.hosed.specs.ServingDoor.{seen_of};
 
 mod chosen;
+mod end_words;
 mod serving;
 mod words;
 
-use chosen::{audit_by, check_by, run_by, serve_by};
+use chosen::{audit_by, check_by, prove_by, run_by, serve_by};
 use hose_disk::Cabinet;
 use hose_io::{Door, Sink, Source};
 use hose_offline::{Fault, end, price, run_generated};
@@ -51,8 +53,9 @@ use words::{Command, asks_to_serve, command_of, service_of};
 /// Does what the words say, and gives the exit status. The words are those after the program's
 /// name: `run`, and the name of a journal in the cabinet if the book is to be kept in one; `audit`,
 /// the name of a text in the cabinet with a topology, and that of a journal of it; `serve`, the
-/// same names, a port, how many connections are to be served, and by how many workers; `check` or
-/// `price`, and the name of a text with a topology; or `gen`, and four numbers. After the first of
+/// same names, a port, how many connections are to be served, and by how many workers; `prove`, the
+/// name of a text with a topology, and the endpoints of a hose; `check` or `price`, and the name of
+/// a text with a topology; or `gen`, and four numbers. After the first of
 /// them, but for `price` and `gen`, `--tariff` may stand, and the name of one of the tariffs, of
 /// which the first with that name is meant. `price` takes all tariffs, of which there have to be 1
 /// to 16. A text whose name ends in `.json` is JSON.
@@ -160,6 +163,16 @@ pub fn offline<I: Source, O: Sink, C: Cabinet>(
                 hoses,
             },
         ) => run_generated(alloc, seed, nodes, links, hoses, output),
+        Ok(
+            Command::Prove {
+                tariff,
+                topology,
+                ends,
+                first,
+            },
+        ) => prove_by(
+            alloc, tariffs, tariff, topology, ends, first, output, cabinet,
+        ),
         Ok(Command::Check { tariff, topology }) => {
             check_by(alloc, tariffs, tariff, topology, input, output, cabinet)
         }

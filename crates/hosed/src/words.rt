@@ -6,8 +6,9 @@ ghost use Rattle.hose_words.specs.Form.{Fits64, IsWithin, TellsNumber};
 ghost use Rattle.hose_words.specs.Grammar.{IsFirst};
 ghost use Rattle.hosed.specs.ProgramWords.{ArePriceable, AreServiceWords, AreWordsOf, AsksFor, AsksToServe, IsFileName, IsFirstNamed, IsFirstWrong, IsTariffName, at_word, tariff_option};
 ghost use Rattle.hosed.specs.Reading.{Chooses};
-ghost use Rattle.hosed.specs.ProgramWords.Verb.{audit, check, generate, price, run};
+ghost use Rattle.hosed.specs.ProgramWords.Verb.{audit, check, generate, price, prove, run};
 
+use crate::end_words::ends_at;
 use hose_gen::{LEAST_NODES, MOST_HOSES};
 use hose_graph::{MOST_LINKS, MOST_NODES};
 use hose_pool::MOST_WORKERS;
@@ -38,6 +39,14 @@ pub enum Command<'w> {
         nodes: u32,
         links: u32,
         hoses: u32,
+    },
+    /// Writes a certificate for the hose of these endpoints, of which the first is the word of this
+    /// number.
+    Prove {
+        tariff: Option<usize>,
+        topology: &'w str,
+        ends: &'w [String],
+        first: u64,
     },
     /// Judges a certificate.
     Check {
@@ -88,6 +97,8 @@ pub fn command_of<'w>(words: &'w [String], tariffs: &[Tariff]) -> Result<Command
         audit_of(words, tariffs)
     } else if begin_with(words, "gen") {
         generate_of(words, tariffs)
+    } else if begin_with(words, "prove") {
+        prove_of(words, tariffs)
     } else if begin_with(words, "check") {
         check_of(words, tariffs)
     } else if begin_with(words, "price") {
@@ -171,6 +182,26 @@ fn generate_of<'w>(words: &'w [String], tariffs: &[Tariff]) -> Result<Command<'w
         nodes,
         links,
         hoses,
+    })
+}
+
+// The certificate that the words ask for: a tariff may follow, the name of a topology and the
+// endpoints of a hose have to, and nothing else.
+fn prove_of<'w>(words: &'w [String], tariffs: &[Tariff]) -> Result<Command<'w>, u64>
+    requires { AsksFor prove (map string_bytes words.now) }
+    ensures ok { IfOk result (AreWordsOf (map (λ tariff. tariff.name) tariffs.now)
+        (map string_bytes words.now)) }
+    ensures wrong { IfErr result (IsFirstWrong (map (λ tariff. tariff.name) tariffs.now)
+        (map string_bytes words.now)) }
+{
+    let (tariff, at) = tariff_at(words, tariffs)?;
+    let topology = name_at(words, at)?;
+    let ends = ends_at(words, at + 1)?;
+    Ok(Command::Prove {
+        tariff,
+        topology,
+        ends,
+        first: at + 1,
     })
 }
 

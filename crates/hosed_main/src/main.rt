@@ -20,7 +20,8 @@ const WRONG_WORDS: u8 = 1;
 fn main(rt: HostRuntime) -> ExitCode {
     let alloc = rt.alloc();
     let mut output = StdSink::new(rt.stdout());
-    // A rule is made here, since what a function gives away of its own making is known by no clause.
+    // A rule is made here, since what a function gives away of its own making is known by no
+    // clause.
     let by_flat = Box::new(
         alloc,
         |length: u64| -> u64

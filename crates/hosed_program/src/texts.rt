@@ -5,6 +5,7 @@ pub const HELP: &str = "\
 usage: hosed run [--tariff NAME] [JOURNAL] < FILE
        hosed audit [--tariff NAME] TOPOLOGY JOURNAL
        hosed serve [--tariff NAME] TOPOLOGY JOURNAL PORT CONNECTIONS WORKERS
+       hosed prove [--tariff NAME] TOPOLOGY NAME:RATE ..
        hosed check [--tariff NAME] TOPOLOGY < CERTIFICATE
        hosed price TOPOLOGY < SHEET
        hosed gen SEED NODES LINKS HOSES
@@ -65,8 +66,14 @@ connection is a session of one customer, with one line in reply to each:
 
 PORT is 1 to 65535, CONNECTIONS is 1 to 10000, WORKERS is 1 to 16.
 
-hosed check reads a topology from the file TOPOLOGY, as audit does, and a certificate, which says
-what a hose reserves and why nothing else costs less. It makes no plan, and writes
+hosed prove reads a topology from the file TOPOLOGY, as audit does, plans a hose of 2 to 64
+endpoints on the whole network, as if nothing were reserved and whatever links can carry, and writes
+its certificate, which says what the plan reserves and why nothing else costs less; or
+
+    none                                no tree joins the hose
+
+hosed check reads a topology from the file TOPOLOGY, as audit does, and a certificate, which any
+program may have made. It makes no plan, and writes
 
     yes C                               the reservations carry the hose at the least cost, C
     no K                                the certificate's lowest rule that fails, 1 to 6
@@ -110,7 +117,8 @@ a rate are 1 to 1,000,000.
 
 status  comes                           last line
 0       all was read                    none
-1       wrong words                     words K
+1       wrong words, or in prove
+        the name of no node             words K
 2       no topology                     topology LINE WORD
         or, in JSON,                    topology json | nodes [I] | links [I]
 3       the input failed                read
@@ -121,7 +129,7 @@ status  comes                           last line
         that another program holds,
         or a file that failed           cabinet
 7       no memory to begin,
-        or in check or gen              no memory
+        or in prove, check or gen       no memory
 8       input or TOPOLOGY longer
         than 1 GiB, in JSON than
         16 MiB                          too long
@@ -137,6 +145,7 @@ pub const VERSION: &str = "hosed 0.1.0\n";
 pub const USAGE: &str = "hosed takes `run`, which reads a topology and commands, and after it the \
     name of a journal if the book is to be kept; or `audit`, and after it the names of a topology \
     and of a journal; or `serve`, and after it these two names, a port, and how many connections \
-    and workers; or `check` or `price`, and after it the name of a topology; or `gen`, and after \
-    it a seed and how many nodes, links and hoses; `--tariff` and a name may stand after the first \
-    word, but for `price` and `gen`; or `--help`, which tells their forms, or `--version`.";
+    and workers; or `prove`, and after it the name of a topology and endpoints; or `check` or \
+    `price`, and after it the name of a topology; or `gen`, and after it a seed and how many \
+    nodes, links and hoses; `--tariff` and a name may stand after the first word, but for `price` \
+    and `gen`; or `--help`, which tells their forms, or `--version`.";

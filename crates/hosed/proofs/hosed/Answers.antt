@@ -1,6 +1,6 @@
-use Rattle.std.proofs.Common.{◌≡◌, ◌≢◌, refl, map, rules}
+use Rattle.std.proofs.Common.{◌≡◌, refl, map, rules}
 use Rattle.std.specs.String.{string_bytes}
-use Rattle.hosed.proofs.Commands.{audit_right, check_right, generate_right, one_service, price_right, run_right, serve_right}
+use Rattle.hosed.proofs.Commands.{audit_right, check_right, generate_right, one_service, price_right, prove_right, run_right, serve_right}
 use Rattle.hosed.proofs.Served.{same_first}
 use Rattle.hosed.proofs.hosed.Goals as goal
 
@@ -36,6 +36,7 @@ returns-in-Err-clause-outcome g c =
           no_run = λ tariff journal are. run_right names words tariff journal _ are wrong;
           no_audit = λ tariff topology journal are. audit_right names words tariff topology journal _ are wrong;
           no_generate = λ seed nodes links hoses are. generate_right names words seed nodes links hoses _ are wrong;
+          no_prove = λ tariff topology ends are. prove_right names words tariff topology ends _ are wrong;
           no_check = λ tariff topology are. check_right names words tariff topology _ are wrong;
           no_price = λ topology are. price_right names words topology _ are wrong;
           no_serve = λ tariff topology journal port connections workers are. serve_right names words tariff topology journal port connections workers _ are wrong;

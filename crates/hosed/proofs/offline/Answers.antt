@@ -1,10 +1,10 @@
 use Rattle.std.specs.Prelude.{option_map}
-use Rattle.std.proofs.Common.{◌≡◌, List, ℕ, Option, None, Some, refl, map, sym, ap, arith, subst}
+use Rattle.std.proofs.Common.{None, refl, map, arith, subst}
 use Rattle.std.proofs.lemmas.List.{length-map}
 use Rattle.std.specs.String.{string_bytes}
 use Rattle.hosed.specs.ProgramWords.{AreWordsOf, AsksFor}
-use Rattle.hosed.specs.ProgramWords.Verb.{audit, check, generate, price, run}
-use Rattle.hosed.proofs.Commands.{audit_asks, audit_right, check_asks, check_right, generate_asks, generate_right, none_named, one_audit, one_check, one_making, one_priced, one_run, one_verb, price_asks, price_right, run_asks, run_right, serve_right}
+use Rattle.hosed.specs.ProgramWords.Verb.{audit, check, generate, price, prove, run}
+use Rattle.hosed.proofs.Commands.{audit_asks, audit_right, check_asks, check_right, generate_asks, generate_right, first_small, none_named, one_audit, one_check, one_making, one_priced, one_proof, one_run, one_verb, price_asks, price_right, prove_asks, prove_right, run_asks, run_right, serve_right}
 use Rattle.hosed.proofs.offline.Goals as goal
 
 pub returns-in-Ok-Run-clause-outcome : goal.returns-in-Ok-Run-clause-outcome
@@ -16,14 +16,15 @@ returns-in-Ok-Run-clause-outcome g c =
     let asks : AsksFor run words = run_asks names words c.in-Ok-Run.tariff journal are in
     let ran = c.run_by.ensures in
     record {
-      words_at_1 = ((λ one. absurd (ran.not_words one)), λ wrong. absurd (wrong.no_run c.in-Ok-Run.tariff journal are));
-      wrong_words = λ one. absurd (ran.not_words one);
+      words_at_1 = λ none. ((λ one. absurd (ran.not_words one)), λ wrong. absurd (wrong.no_run c.in-Ok-Run.tariff journal are));
+      wrong_words = λ wrong. absurd (wrong.no_run c.in-Ok-Run.tariff journal are);
       run = λ tariff other is.
           let same = one_run names words c.in-Ok-Run.tariff tariff journal other are is in
           rw (same.tariffs, same.journals) at ran.outcome;
       in_memory = λ tariff is. ran.in_memory (none_named (λ name. name.now) c.in-Ok-Run.journal (one_run names words c.in-Ok-Run.tariff tariff journal None are is).journals);
       audit = λ tariff topology other is. absurd (cc (one_verb run audit words asks (audit_asks names words tariff topology other is)));
       generated = λ seed nodes links hoses is. absurd (cc (one_verb run generate words asks (generate_asks words seed nodes links hoses is)));
+      prove = λ tariff topology' ends is. absurd (cc (one_verb prove run words (prove_asks names words tariff topology' ends is) asks));
       check = λ tariff topology is. absurd (cc (one_verb run check words asks (check_asks names words tariff topology is)));
       price = λ topology is. absurd (cc (one_verb run price words asks (price_asks names words topology is)));
     }
@@ -38,14 +39,15 @@ returns-in-Ok-Audit-clause-outcome g c =
     let asks : AsksFor audit words = audit_asks names words c.in-Ok-Audit.tariff topology journal are in
     let audited = c.audit_by.ensures in
     record {
-      words_at_1 = ((λ one. absurd (audited.not_words one)), λ wrong. absurd (wrong.no_audit c.in-Ok-Audit.tariff topology journal are));
-      wrong_words = λ one. absurd (audited.not_words one);
+      words_at_1 = λ none. ((λ one. absurd (audited.not_words one)), λ wrong. absurd (wrong.no_audit c.in-Ok-Audit.tariff topology journal are));
+      wrong_words = λ wrong. absurd (wrong.no_audit c.in-Ok-Audit.tariff topology journal are);
       run = λ tariff other is. absurd (cc (one_verb run audit words (run_asks names words tariff other is) asks));
       in_memory = λ tariff is. absurd (cc (one_verb run audit words (run_asks names words tariff None is) asks));
       audit = λ tariff topology' journal' is.
           let same = one_audit names words c.in-Ok-Audit.tariff tariff topology topology' journal journal' are is in
           (refl, rw (same.tariffs, same.topologies, same.journals) at audited.outcome);
       generated = λ seed nodes links hoses is. absurd (cc (one_verb audit generate words asks (generate_asks words seed nodes links hoses is)));
+      prove = λ tariff topology' ends is. absurd (cc (one_verb prove audit words (prove_asks names words tariff topology' ends is) asks));
       check = λ tariff topology is. absurd (cc (one_verb audit check words asks (check_asks names words tariff topology is)));
       price = λ topology is. absurd (cc (one_verb audit price words asks (price_asks names words topology is)));
     }
@@ -62,14 +64,15 @@ returns-in-Ok-Generate-clause-outcome g c =
     let asks : AsksFor generate words = generate_asks words seed nodes links hoses are in
     let ran = c.run_generated.ensures in
     record {
-      words_at_1 = ((λ one. absurd (ran.not_words one)), λ wrong. absurd (wrong.no_generate seed nodes links hoses are));
-      wrong_words = λ one. absurd (ran.not_words one);
+      words_at_1 = λ none. ((λ one. absurd (ran.not_words one)), λ wrong. absurd (wrong.no_generate seed nodes links hoses are));
+      wrong_words = λ wrong. absurd (wrong.no_generate seed nodes links hoses are);
       run = λ tariff other is. absurd (cc (one_verb run generate words (run_asks names words tariff other is) asks));
       in_memory = λ tariff is. refl;
       audit = λ tariff topology other is. absurd (cc (one_verb audit generate words (audit_asks names words tariff topology other is) asks));
       generated = λ seed' nodes' links' hoses' is.
           let same = one_making words seed seed' nodes nodes' links links' hoses hoses' are is in
           (refl, refl, rw (same.seeds, same.same_nodes, same.same_links, same.same_hoses) at ran.outcome);
+      prove = λ tariff topology' ends is. absurd (cc (one_verb prove generate words (prove_asks names words tariff topology' ends is) asks));
       check = λ tariff topology is. absurd (cc (one_verb generate check words asks (check_asks names words tariff topology is)));
       price = λ topology is. absurd (cc (one_verb generate price words asks (price_asks names words topology is)));
     }
@@ -99,6 +102,39 @@ run_generated-requires-clause-few_hoses g c =
     let are = subst (AreWordsOf (map (λ tariff. tariff.name) c.args.tariffs.now) (map string_bytes c.args.words.now)) c.in-Ok-Generate.field-0-is c.in-Ok-Generate.ensures.ok in
     are.hoses_within.1
 
+pub returns-in-Ok-Prove-clause-outcome : goal.returns-in-Ok-Prove-clause-outcome
+returns-in-Ok-Prove-clause-outcome g c =
+    let names = map (λ tariff. tariff.name) c.args.tariffs.now in
+    let words = map string_bytes c.args.words.now in
+    let topology = c.in-Ok-Prove.topology.now in
+    let ends = map string_bytes c.in-Ok-Prove.ends.now in
+    let are = subst (AreWordsOf names words) c.in-Ok-Prove.field-0-is c.in-Ok-Prove.ensures.ok in
+    let asks : AsksFor prove words = prove_asks names words c.in-Ok-Prove.tariff topology ends are.0 in
+    let proved = c.prove_by.ensures in
+    record {
+      words_at_1 = λ none. absurd (none c.in-Ok-Prove.tariff topology ends are.0);
+      wrong_words = λ wrong. absurd (wrong.no_prove c.in-Ok-Prove.tariff topology ends are.0);
+      run = λ tariff other is. absurd (cc (one_verb run prove words (run_asks names words tariff other is) asks));
+      in_memory = λ tariff is. absurd (cc (one_verb run prove words (run_asks names words tariff None is) asks));
+      audit = λ tariff topology' other is. absurd (cc (one_verb audit prove words (audit_asks names words tariff topology' other is) asks));
+      generated = λ seed nodes links hoses is. absurd (cc (one_verb generate prove words (generate_asks words seed nodes links hoses is) asks));
+      prove = λ tariff topology' ends' is.
+          let same = one_proof names words c.in-Ok-Prove.tariff tariff topology topology' ends ends' are.0 is in
+          (refl, rw (same.tariffs, same.topologies, same.all_ends) at (rw are.1 at proved.outcome));
+      check = λ tariff topology' is. absurd (cc (one_verb check prove words (check_asks names words tariff topology' is) asks));
+      price = λ topology' is. absurd (cc (one_verb price prove words (price_asks names words topology' is) asks));
+    }
+
+pub prove_by-requires-clause-ends : goal.prove_by-requires-clause-ends
+prove_by-requires-clause-ends g c =
+    let are = subst (AreWordsOf (map (λ tariff. tariff.name) c.args.tariffs.now) (map string_bytes c.args.words.now)) c.in-Ok-Prove.field-0-is c.in-Ok-Prove.ensures.ok in
+    λ _ _. are.0.are_ends
+
+pub prove_by-requires-clause-first : goal.prove_by-requires-clause-first
+prove_by-requires-clause-first g c =
+    let are = subst (AreWordsOf (map (λ tariff. tariff.name) c.args.tariffs.now) (map string_bytes c.args.words.now)) c.in-Ok-Prove.field-0-is c.in-Ok-Prove.ensures.ok in
+    λ _ _. first_small c.in-Ok-Prove.tariff c.in-Ok-Prove.first are.1
+
 pub returns-in-Ok-Check-clause-outcome : goal.returns-in-Ok-Check-clause-outcome
 returns-in-Ok-Check-clause-outcome g c =
     let names = map (λ tariff. tariff.name) c.args.tariffs.now in
@@ -108,12 +144,13 @@ returns-in-Ok-Check-clause-outcome g c =
     let asks : AsksFor check words = check_asks names words c.in-Ok-Check.tariff topology are in
     let judged = c.check_by.ensures in
     record {
-      words_at_1 = ((λ one. absurd (judged.not_words one)), λ wrong. absurd (wrong.no_check c.in-Ok-Check.tariff topology are));
-      wrong_words = λ one. absurd (judged.not_words one);
+      words_at_1 = λ none. ((λ one. absurd (judged.not_words one)), λ wrong. absurd (wrong.no_check c.in-Ok-Check.tariff topology are));
+      wrong_words = λ wrong. absurd (wrong.no_check c.in-Ok-Check.tariff topology are);
       run = λ tariff other is. absurd (cc (one_verb run check words (run_asks names words tariff other is) asks));
       in_memory = λ tariff is. absurd (cc (one_verb run check words (run_asks names words tariff None is) asks));
       audit = λ tariff topology' other is. absurd (cc (one_verb audit check words (audit_asks names words tariff topology' other is) asks));
       generated = λ seed nodes links hoses is. absurd (cc (one_verb generate check words (generate_asks words seed nodes links hoses is) asks));
+      prove = λ tariff topology' ends is. absurd (cc (one_verb prove check words (prove_asks names words tariff topology' ends is) asks));
       check = λ tariff topology' is.
           let same = one_check names words c.in-Ok-Check.tariff tariff topology topology' are is in
           rw (same.tariffs, same.topologies) at judged.outcome;
@@ -139,12 +176,13 @@ returns-in-Ok-Price-clause-outcome g c =
     let asks : AsksFor price words = price_asks names words topology are in
     let priced = c.price.ensures in
     record {
-      words_at_1 = ((λ one. absurd (priced.not_words one)), λ wrong. absurd (wrong.no_price topology are));
-      wrong_words = λ one. absurd (priced.not_words one);
+      words_at_1 = λ none. ((λ one. absurd (priced.not_words one)), λ wrong. absurd (wrong.no_price topology are));
+      wrong_words = λ wrong. absurd (wrong.no_price topology are);
       run = λ tariff other is. absurd (cc (one_verb run price words (run_asks names words tariff other is) asks));
       in_memory = λ tariff is. absurd (cc (one_verb run price words (run_asks names words tariff None is) asks));
       audit = λ tariff topology' other is. absurd (cc (one_verb audit price words (audit_asks names words tariff topology' other is) asks));
       generated = λ seed nodes links hoses is. absurd (cc (one_verb generate price words (generate_asks words seed nodes links hoses is) asks));
+      prove = λ tariff topology' ends is. absurd (cc (one_verb prove price words (prove_asks names words tariff topology' ends is) asks));
       check = λ tariff topology' is. absurd (cc (one_verb check price words (check_asks names words tariff topology' is) asks));
       price = λ topology' is. rw (one_priced names words topology topology' are is) at priced.outcome;
     }
@@ -155,22 +193,24 @@ returns-in-Err-clause-outcome g c =
     let words = map string_bytes c.args.words.now in
     let wrong = c.in-Err.ensures.wrong in
     record {
-      words_at_1 = (
+      words_at_1 = λ none. (
         (λ one. record {
           no_run = λ tariff journal are. run_right names words tariff journal _ are wrong;
           no_audit = λ tariff topology journal are. audit_right names words tariff topology journal _ are wrong;
           no_generate = λ seed nodes links hoses are. generate_right names words seed nodes links hoses _ are wrong;
+          no_prove = λ tariff topology ends are. prove_right names words tariff topology ends _ are wrong;
           no_check = λ tariff topology are. check_right names words tariff topology _ are wrong;
           no_price = λ topology are. price_right names words topology _ are wrong;
           no_serve = λ tariff topology journal port connections workers are. serve_right names words tariff topology journal port connections workers _ are wrong;
         }),
         λ none. c.end.ensures.status,
       );
-      wrong_words = λ one. (refl, refl, (_, wrong, c.end.ensures.last_line));
+      wrong_words = λ none. (refl, refl, (_, wrong, c.end.ensures.last_line));
       run = λ tariff journal are. absurd (run_right names words tariff journal _ are wrong);
       in_memory = λ tariff are. refl;
       audit = λ tariff topology journal are. absurd (audit_right names words tariff topology journal _ are wrong);
       generated = λ seed nodes links hoses are. absurd (generate_right names words seed nodes links hoses _ are wrong);
+      prove = λ tariff topology ends are. absurd (prove_right names words tariff topology ends _ are wrong);
       check = λ tariff topology are. absurd (check_right names words tariff topology _ are wrong);
       price = λ topology are. absurd (price_right names words topology _ are wrong);
     }

@@ -7,7 +7,7 @@ use Rattle.hose_offline.proofs.answering.answer_in_memory.Goals as goal
 
 pub returns-clause-serves : goal.returns-clause-serves
 returns-clause-serves g c =
-    let book = c.in_ok-book.ensures in
+    let book = c.in_ok-book.ensures.value in
     let network = ap (λ (p : Plain). p.book.network) c.new-core.ensures.books ∙ ap (λ (l : Ledger). l.network) book in
     let serves = c.answer_all.ensures.serves [] tt (c.new-core.ensures.fits 0 [] (ap (λ (l : Ledger). l.book) book)) in
     inr (

@@ -1,7 +1,7 @@
 -- The orders before the next one were answered.
-use Rattle.std.proofs.Common.{rules, ◌≡◌, arith}
+use Rattle.std.proofs.Common.{rules, ◌≡◌}
 use Rattle.hose_law.specs.Script.{IsForMemory}
-use Rattle.hose_offline.proofs.OrdersAnswered.{has_room, up_to_end, up_to_next, up_to_none}
+use Rattle.hose_offline.proofs.OrdersAnswered.{has_room, up_to_next, up_to_none}
 use Rattle.hose_offline.proofs.generating.answer_orders.Goals as goal
 
 pub loop-order-init : goal.loop-order-init

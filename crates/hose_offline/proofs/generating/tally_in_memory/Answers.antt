@@ -1,4 +1,4 @@
-use Rattle.std.proofs.Common.{◌≡◌, ◌∙◌, List, [], sym, ap, subst}
+use Rattle.std.proofs.Common.{◌∙◌, [], sym, ap, subst}
 use Rattle.std.specs.List.{All}
 use Rattle.hose_graph.specs.Naming.{AsksOf}
 use Rattle.hose_graph.specs.Network.{Network}
@@ -10,12 +10,12 @@ use Rattle.hose_offline.proofs.generating.tally_in_memory.Goals as goal
 
 pub answer_orders-requires : goal.answer_orders-requires
 answer_orders-requires c =
-    let network = ap (λ (p : Plain). p.book.network) c.new-core.ensures.books ∙ ap (λ (l : Ledger). l.network) c.in_ok-book.ensures in
+    let network = ap (λ (p : Plain). p.book.network) c.new-core.ensures.books ∙ ap (λ (l : Ledger). l.network) c.in_ok-book.ensures.value in
     subst (λ (n : Network). All (λ (order : Order). AsksOf n order.1) c.args.made.script.items) (sym network) c.requires
 
 pub returns-clause-tally : goal.returns-clause-tally
 returns-clause-tally c =
-    let book = c.in_ok-book.ensures in
+    let book = c.in_ok-book.ensures.value in
     let network = ap (λ (p : Plain). p.book.network) c.new-core.ensures.books ∙ ap (λ (l : Ledger). l.network) book in
     let fits = c.new-core.ensures.fits 0 [] (ap (λ (l : Ledger). l.book) book) in
     let epoch = c.epoch.ensures.value ∙ ap (λ (l : Ledger). l.book.epoch) (c.book-2.ensures ∙ ap (λ (p : Plain). p.book) c.books.ensures) in

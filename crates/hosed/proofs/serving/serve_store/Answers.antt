@@ -40,4 +40,5 @@ new-requires g c =
       opening.0,
       opens_at g.D.Disk c.args.was.value _ _ _ _ c.args.store.ledger.network asked.had asked.content asked.moment asked.network opening.0 c.args.store opening.1,
       opening.1.stands.has.book,
+      opening.1.stands.has.tracks,
     )

@@ -1,10 +1,11 @@
-use Rattle.std.proofs.Common.{◌≡◌, ◌+◌, ◌≤◌, Err, arith, length, map, refl, rules}
+use Rattle.std.proofs.Common.{◌≡◌, ◌+◌, ◌≤◌, Err, arith, length, map, rules}
 use Rattle.std.proofs.lemmas.List.{length-map}
 use Rattle.std.specs.String.{string_bytes}
 use Rattle.hose_words.specs.Form.{finish}
-use Rattle.hose_words.proofs.Forms.{wrong_later}
+use Rattle.hose_words.proofs.Forms.{wrong_later, wrong_place}
+use Rattle.hosed.specs.ProgramWords.{named_form}
 use Rattle.hosed.specs.ProgramWords.Verb.{check}
-use Rattle.hosed.proofs.Commands.{chosen_wrong, one_too_many, verb_wrong}
+use Rattle.hosed.proofs.Commands.{chosen_wrong, no_tariff, one_too_many, verb_wrong}
 use Rattle.hosed.proofs.words.check_of.Goals as goal
 
 pub returns-in_err-none_at-clause-wrong : goal.returns-in_err-none_at-clause-wrong
@@ -15,3 +16,16 @@ returns-in_err-none_at-clause-wrong g c =
     let more : c.in_ok-tariff.at + 1 ≤ length words = omega (arith, wrong.1, length-map c.args.words.now string_bytes) in
     rw (is, wrong.0) (verb_wrong _ check words _ tt c.requires (chosen_wrong _ finish words c.in_ok-tariff.tariff c.in_ok-tariff.at _ c.in_ok-tariff.ensures.ok
     (wrong_later c.in_ok-topology.ensures.ok c.in_ok-topology.ensures.named (one_too_many words (c.in_ok-tariff.at + 1) (omega arith) more))))
+
+pub returns-in_err-tariff-clause-wrong : goal.returns-in_err-tariff-clause-wrong
+returns-in_err-tariff-clause-wrong g c =
+    let words = map string_bytes c.args.words.now in
+    let is : c.from_residual.result ≡ Err c.in_err-tariff.field-0.0 = search rules in
+    let wrong = c.in_err-tariff.ensures.wrong in
+    rw is (verb_wrong _ check words _ tt c.requires (no_tariff _ (named_form finish) finish words _ wrong.1 wrong.2))
+
+pub returns-in_err-topology-clause-wrong : goal.returns-in_err-topology-clause-wrong
+returns-in_err-topology-clause-wrong g c =
+    let words = map string_bytes c.args.words.now in
+    let is : c.from_residual-in_err-topology.result ≡ Err c.in_err-topology.field-0.0 = search rules in
+    rw is (verb_wrong _ check words _ tt c.requires (chosen_wrong _ finish words c.in_ok-tariff.tariff c.in_ok-tariff.at _ c.in_ok-tariff.ensures.ok (wrong_place c.in_err-topology.ensures.wrong)))

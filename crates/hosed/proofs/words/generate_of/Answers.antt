@@ -1,4 +1,4 @@
-use Rattle.std.proofs.Common.{◌≡◌, ◌+◌, ◌≤◌, Err, arith, length, map, refl, rules}
+use Rattle.std.proofs.Common.{◌≡◌, ◌≤◌, Err, arith, length, map, refl, rules}
 use Rattle.std.proofs.lemmas.List.{length-map}
 use Rattle.std.specs.String.{string_bytes}
 use Rattle.hose_words.proofs.Forms.{wrong_chosen, wrong_later, wrong_place}

@@ -1,4 +1,4 @@
-use Rattle.std.proofs.Common.{map, sym, subst}
+use Rattle.std.proofs.Common.{map}
 use Rattle.std.specs.String.{string_bytes}
 use Rattle.hosed.proofs.Commands.{named_none, named_some}
 use Rattle.hosed.proofs.words.named_at.Goals as goal

@@ -1,12 +1,12 @@
-use Rattle.std.proofs.Common.{◌≡◌, ◌+◌, ◌≤◌, Err, arith, length, map, refl, rules, sym, subst}
+use Rattle.std.proofs.Common.{◌≡◌, ◌+◌, ◌≤◌, Err, arith, length, map, refl, rules, subst}
 use Rattle.std.proofs.lemmas.List.{length-map}
 use Rattle.std.specs.String.{string_bytes}
 use Rattle.hose_words.specs.Cursor.{Misses}
-use Rattle.hose_words.specs.Form.{IsWithin, TellsNumber, finish}
+use Rattle.hose_words.specs.Form.{IsWithin, TellsNumber}
 use Rattle.hose_words.proofs.Forms.{wrong_later, wrong_place}
 use Rattle.hosed.specs.ProgramWords.{IsPort, at_word, named_form, numbers_form}
-use Rattle.hosed.specs.ProgramWords.Verb.{audit, run, serve}
-use Rattle.hosed.proofs.Commands.{chosen_wrong, one_too_many, run_wrong, some_left, took_to, verb_wrong}
+use Rattle.hosed.specs.ProgramWords.Verb.{serve}
+use Rattle.hosed.proofs.Commands.{chosen_wrong, no_tariff, one_too_many, took_to, verb_wrong}
 use Rattle.hosed.proofs.words.service_of.Goals as goal
 
 pub returns-in_err-journal-clause-wrong : goal.returns-in_err-journal-clause-wrong
@@ -49,3 +49,16 @@ returns-in_err-none_at-clause-wrong g c =
     let more : c.in_ok-tariff.at + 5 ≤ length words = omega (arith, wrong.1, length-map c.args.words.now string_bytes) in
     rw (is, wrong.0) (verb_wrong _ serve words _ tt c.requires (chosen_wrong _ (named_form numbers_form) words c.in_ok-tariff.tariff c.in_ok-tariff.at _ c.in_ok-tariff.ensures.ok
     (wrong_later c.in_ok-topology.ensures.ok c.in_ok-topology.ensures.named (wrong_later (took_to words (c.in_ok-tariff.at + 1 + 1) (c.in_ok-tariff.at + 2) (omega arith) c.in_ok-journal.ensures.ok) c.in_ok-journal.ensures.named (wrong_later (took_to words (c.in_ok-tariff.at + 2 + 1) (c.in_ok-tariff.at + 3) (omega arith) c.in_ok-port.ensures.ok) (c.in_ok-port.port, refl, port) (wrong_later (took_to words (c.in_ok-tariff.at + 3 + 1) (c.in_ok-tariff.at + 4) (omega arith) c.in_ok-connections.ensures.ok) (c.in_ok-connections.connections, refl, c.in_ok-connections.ensures.within) (wrong_later (took_to words (c.in_ok-tariff.at + 4 + 1) (c.in_ok-tariff.at + 5) (omega arith) c.in_ok-workers.ensures.ok) (c.in_ok-workers.workers, refl, c.in_ok-workers.ensures.within) (one_too_many words (c.in_ok-tariff.at + 5) (omega arith) more))))))))
+
+pub returns-in_err-tariff-clause-wrong : goal.returns-in_err-tariff-clause-wrong
+returns-in_err-tariff-clause-wrong g c =
+    let words = map string_bytes c.args.words.now in
+    let is : c.from_residual.result ≡ Err c.in_err-tariff.field-0.0 = search rules in
+    let wrong = c.in_err-tariff.ensures.wrong in
+    rw is (verb_wrong _ serve words _ tt c.requires (no_tariff _ (named_form (named_form numbers_form)) (named_form numbers_form) words _ wrong.1 wrong.2))
+
+pub returns-in_err-topology-clause-wrong : goal.returns-in_err-topology-clause-wrong
+returns-in_err-topology-clause-wrong g c =
+    let words = map string_bytes c.args.words.now in
+    let is : c.from_residual-in_err-topology.result ≡ Err c.in_err-topology.field-0.0 = search rules in
+    rw is (verb_wrong _ serve words _ tt c.requires (chosen_wrong _ (named_form numbers_form) words c.in_ok-tariff.tariff c.in_ok-tariff.at _ c.in_ok-tariff.ensures.ok (wrong_place c.in_err-topology.ensures.wrong)))

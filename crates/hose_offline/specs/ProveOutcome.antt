@@ -1,0 +1,120 @@
+-- What stands after `prove`, by what ended it.
+use Rattle.std.specs.Prelude.{◌≡◌, ◌⊎◌, ◌↔◌, ℕ, ◌+◌, ◌<◌, ◌≤◌, List, codes, length, Option, None, IsSome, IsTrue, Result, Ok, Err, ⊤}
+use Rattle.hose_io.specs.Frame.{Rose}
+use Rattle.hose_io.specs.Stream.{Gives, Grows, Stream}
+use Rattle.hose_io.specs.Writing.{GrowsInPart}
+use Rattle.hose_io.specs.declared.sink.Sink.{Ghosts as SinkGhosts}
+use Rattle.hose_graph.specs.Hose.{Endpoint}
+use Rattle.hose_graph.specs.Network.{Network}
+use Rattle.hose_cert.specs.Written.{GrowsByLines, GrowsByPart, GrowsByWhole, HasNoPlan}
+use Rattle.hose_disk.specs.declared.cabinet.Cabinet.{Ghosts as CabinetGhosts}
+use Rattle.hose_proto.specs.Command.{AreEndsOf}
+use Rattle.hose_proto.specs.EndWords.{IsFirstUnknown}
+use Rattle.hose_proto.specs.ReplyText.{line_of}
+use Rattle.hose_offline.specs.Auditing.{IsTextFault}
+use Rattle.hose_offline.specs.CabinetText.{OnlyTextsRead, whole_text}
+use Rattle.hose_offline.specs.Ending.{IsLastLine, status_of_done}
+use Rattle.hose_offline.specs.OnDisk.{CabinetHeld}
+use Rattle.hose_offline.specs.Run.{HasRead}
+use Rattle.hose_offline.specs.TopologyTold.{limit_of, notation_of}
+use Rattle.hose_offline.specs.declared.fault.Fault.{Fault}
+use Rattle.hose_offline.specs.declared.fault.Fault.TheVariants.{Cabinet, Memory, TooLong, Words, Write}
+
+-- ---- the output
+
+-- the line that tells that there is no plan
+abbrev pub none_line : List ℕ
+none_line = line_of (codes "none")
+
+module _ {O : Type 0} (sink : SinkGhosts O) (output output' : O) (network : Network) where
+  -- The hose's certificate is out, whole and valid; or the hose has no plan, and that line is out.
+  abbrev pub IsProved : List Endpoint → Type 0
+  IsProved hose =
+      (GrowsByWhole network hose (sink.content output) (sink.content output')
+      ⊎ (HasNoPlan network hose × Grows (sink.content output) (sink.content output') none_line))
+      × (sink.frame output' ≡ sink.frame output)
+
+  -- the output failed, and a part of one of the two is out
+  abbrev pub IsCutOff : List Endpoint → Type 0
+  IsCutOff hose =
+      (GrowsByPart network hose (sink.content output) (sink.content output')
+      ⊎ (HasNoPlan network hose
+      × GrowsInPart (sink.content output) (sink.content output') none_line))
+      × Rose (sink.frame output) (sink.frame output')
+
+  -- memory was wanting, and nothing is out, or whole lines from the front of the certificate are
+  abbrev pub IsStarved : List Endpoint → Type 0
+  IsStarved hose = ((output' ≡ output)
+      ⊎ GrowsByLines network hose (sink.content output) (sink.content output'))
+      × (sink.frame output' ≡ sink.frame output)
+
+  -- what writing the certificate of a hose comes to
+  abbrev pub PutsProof : {T : Type 0} → List Endpoint → Result T Fault → Type 0
+  PutsProof hose (Ok _) = IsProved hose
+  PutsProof hose (Err Write) = IsCutOff hose
+  PutsProof hose (Err Memory) = IsStarved hose
+  PutsProof hose (Err _) = ⊥
+
+-- ---- the endpoints
+
+-- These are the endpoints' words, of which the first is the program's word of this number.
+module _ (words : List (List ℕ)) (first : ℕ) (network : Network) where
+  -- the word of this number is the first whose name is that of no node
+  abbrev pub NamesNoNode : ℕ → Type 0
+  NamesNoNode word = (place : ℕ) × (word ≡ first + place) × IsFirstUnknown network words place
+
+  -- why they are the endpoints of no hose: a name is that of no node, or memory was wanting
+  abbrev pub IsNoHose : Fault → Type 0
+  IsNoHose (Words word) = NamesNoNode word
+  IsNoHose Memory = ⊤
+  IsNoHose _ = ⊥
+
+  -- They are the endpoints of a hose, of which this is told, or of none; nothing is out then.
+  module _ {O : Type 0} (sink : SinkGhosts O) (output output' : O) where
+    abbrev pub ProvesWords : {T : Type 0} → Result T Fault → Type 0
+    ProvesWords result = ((hose : List Endpoint) × AreEndsOf network words hose
+        × PutsProof sink output output' network hose result)
+        ⊎ ((why : Fault) × (result ≡ Err why) × IsNoHose why × (output' ≡ output))
+
+-- ---- the topology
+
+module _ (prices : Network → Network → Type 0) (words : List (List ℕ)) (first : ℕ)
+    {O C E : Type 0} (sink : SinkGhosts O) (cabinet : CabinetGhosts C E) (topology : List ℕ)
+    (output output' : O) (place place' : C) where
+  -- The topology that was named was read, and the endpoints taken as those of its network; or it
+  -- was not, and why, and then nothing is out. Of its text this is left.
+  abbrev pub ProveLeaves : Option Stream → Result ⊤ Fault → Type 0
+  ProveLeaves left result =
+      (HasRead (notation_of topology) prices (whole_text cabinet place topology) left
+      (λ network. ProvesWords words first network sink output output' result)
+      × CabinetHeld cabinet place place')
+      ⊎ ((output' ≡ output) × ((why : Fault) × (result ≡ Err why)
+      × IsTextFault cabinet place place' (notation_of topology)
+      (whole_text cabinet place topology) left why))
+
+  -- the same, and what was taken of the text
+  pub record ProvesNamed (result : Result ⊤ Fault) : Type 0 where
+    pub left : Option Stream
+    pub taken : List ℕ
+    pub gives : Gives (whole_text cabinet place topology) left taken
+    pub limit : length taken ≤ limit_of (notation_of topology) + 1
+    -- more than the limit was taken exactly where that is told
+    pub too_long : (result ≡ Err TooLong) ↔ (limit_of (notation_of topology) < length taken)
+    pub leaves : ProveLeaves left result
+    pub only_texts : OnlyTextsRead cabinet place place'
+    -- a text that is not there is a failure of the cabinet, and one that is there is not absent
+    pub not_there : IsTrue (cabinet.frame place).tells → cabinet.text place topology ≡ None
+        → result ≡ Err Cabinet
+    pub absent : IsTrue (cabinet.frame place).tells → IsSome (cabinet.text place topology)
+        → (cabinet.frame place').absent ≡ (cabinet.frame place).absent
+
+-- A topology was read and the certificate written, or not. That left the output as `left` is, and
+-- then the last line was put, which tells the fault, if there is one.
+pub record ProveOutcome (prices : Network → Network → Type 0) (words : List (List ℕ)) (first : ℕ)
+    {O C E : Type 0} (sink : SinkGhosts O) (cabinet : CabinetGhosts C E) (topology : List ℕ)
+    (output output' : O) (place place' : C) (status : ℕ) : Type 0 where
+  pub done : Result ⊤ Fault
+  pub left : O
+  pub proves : ProvesNamed prices words first sink cabinet topology output left place place' done
+  pub last_line : IsLastLine sink left output' done
+  pub is_status : status ≡ status_of_done done

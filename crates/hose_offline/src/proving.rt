@@ -1,0 +1,140 @@
+// A proof: the certificate of a hose's plan over all links of the topology of a text.
+ghost use Rattle.std.specs.Prelude.{◌≡◌, ◌≤◌, ◌^◌, IfErr, IfOk, map};
+ghost use Rattle.std.specs.String.{string_bytes};
+ghost use Rattle.hose_io.specs.Frame.{Stays};
+ghost use Rattle.hose_graph.specs.Network.{IsNetwork};
+ghost use Rattle.hose_law.specs.Plan.{AreNodes};
+ghost use Rattle.hose_disk.specs.Cabinet.{object_of};
+ghost use Rattle.hose_proto.specs.Command.{AreEndsOf};
+ghost use Rattle.hose_proto.specs.EndWords.{AreEndWords};
+ghost use Rattle.hose_offline.specs.EndsFound.{AreEndsInOrder};
+ghost use Rattle.hose_offline.specs.ProveOutcome.{IsNoHose, ProveOutcome, ProvesNamed, ProvesWords, PutsProof};
+
+use crate::auditing::read_topology;
+use crate::fault::{Fault, end};
+use hose_cert::put_certificate;
+use hose_disk::Cabinet;
+use hose_graph::{Endpoint, Hose, Topology};
+use hose_io::{Sink, write_all};
+use hose_paths::HeapRows;
+use hose_proto::endpoint;
+use hose_tariff::Prices;
+use std::alloc::Global;
+
+/// Reads the topology of a text, writes the certificate of a hose's plan over all its links, or
+/// that there is no plan, and gives the exit status. The network has these costs. The words are the
+/// hose's endpoints, and the first of them is the program's word of this number.
+pub fn prove<P: Prices, O: Sink, C: Cabinet>(
+    alloc: Global,
+    costs: &P,
+    topology: &str,
+    ends: &[String],
+    first: u64,
+    output: &mut O,
+    cabinet: &mut C,
+) -> u8
+    requires ends { AreEndWords (map string_bytes ends.now) }
+    requires first { first ≤ 2 ^ 63 }
+    ensures outcome { ProveOutcome (P.prices costs.now) (map string_bytes ends.now) first
+        O.Sink C.Cabinet topology.now output.old output.new cabinet.old cabinet.new result }
+    ensures out { (C.frame cabinet.new).out ≡ (C.frame cabinet.old).out }
+    ensures output { Stays (O.frame output.old) (O.frame output.new) }
+    ensures cabinet { Stays (object_of (C.frame cabinet.old)) (object_of (C.frame cabinet.new)) }
+{
+    let done = prove_named(alloc, costs, topology, ends, first, output, cabinet);
+    end(done, output)
+}
+
+// What that comes to, before its last line.
+fn prove_named<P: Prices, O: Sink, C: Cabinet>(
+    alloc: Global,
+    costs: &P,
+    topology: &str,
+    ends: &[String],
+    first: u64,
+    output: &mut O,
+    cabinet: &mut C,
+) -> Result<(), Fault>
+    requires ends { AreEndWords (map string_bytes ends.now) }
+    requires first { first ≤ 2 ^ 63 }
+    ensures proves { ProvesNamed (P.prices costs.now) (map string_bytes ends.now) first
+        O.Sink C.Cabinet topology.now output.old output.new cabinet.old cabinet.new result }
+    ensures output { Stays (O.frame output.old) (O.frame output.new) }
+{
+    let top = read_topology(alloc, costs, topology, cabinet)?;
+    prove_words(alloc, &top, ends, first, output)
+}
+
+// The same on a network.
+fn prove_words<O: Sink>(
+    alloc: Global,
+    top: &Topology,
+    ends: &[String],
+    first: u64,
+    output: &mut O,
+) -> Result<(), Fault>
+    requires ends { AreEndWords (map string_bytes ends.now) }
+    requires first { first ≤ 2 ^ 63 }
+    ensures proves { ProvesWords (map string_bytes ends.now) first top.now O.Sink
+        output.old output.new result }
+    ensures output { Stays (O.frame output.old) (O.frame output.new) }
+{
+    let hose = hose_of(alloc, top, ends, first)?;
+    put_proof(alloc, top, &hose, output)
+}
+
+// Writes the certificate of a hose, or that it has no plan.
+fn put_proof<O: Sink>(
+    alloc: Global,
+    top: &Topology,
+    hose: &Hose,
+    output: &mut O,
+) -> Result<(), Fault>
+    requires { AreNodes top.now hose.now }
+    ensures proves { PutsProof O.Sink output.old output.new top.now hose.now result }
+    ensures output { Stays (O.frame output.old) (O.frame output.new) }
+{
+    if !put_certificate(alloc, output, top, hose, &mut HeapRows::new())? {
+        write_all(output, b"none\n")?;
+    }
+    Ok(())
+}
+
+// The hose of endpoints that have the form of some.
+fn hose_of(alloc: Global, top: &Topology, ends: &[String], first: u64) -> Result<Hose, Fault>
+    requires ends { AreEndWords (map string_bytes ends.now) }
+    requires first { first ≤ 2 ^ 63 }
+    ensures hose { IfOk result (AreEndsOf top.now (map string_bytes ends.now)) }
+    ensures nodes { IfOk result (AreNodes top.now) }
+    ensures none { IfErr result (IsNoHose (map string_bytes ends.now) first top.now) }
+{
+    // The call tells the proof what holds of each network: that no two nodes have one name.
+    let _nodes = top.nodes();
+    let found = ends_of(alloc, top, ends, first)?;
+    let hose = Hose::from_ends(alloc, &found)?;
+    Ok(hose)
+}
+
+// Those endpoints, in the order of their words.
+fn ends_of(
+    alloc: Global,
+    top: &Topology,
+    ends: &[String],
+    first: u64,
+) -> Result<Vec<Endpoint>, Fault>
+    requires network { IsNetwork top.now }
+    requires ends { AreEndWords (map string_bytes ends.now) }
+    requires first { first ≤ 2 ^ 63 }
+    ensures ends { IfOk result
+        (λ found. AreEndsInOrder top.now (map string_bytes ends.now) found.items) }
+    ensures none { IfErr result (IsNoHose (map string_bytes ends.now) first top.now) }
+{
+    let mut found = Vec::new(alloc);
+    while found.len() < ends.len() {
+        let Some(end) = endpoint(top, ends[found.len()].as_bytes()) else {
+            return Err(Fault::Words(first + found.len() as u64));
+        };
+        found.push(end)?;
+    }
+    Ok(found)
+}
