@@ -182,5 +182,5 @@ for links, kind, entries in places:
     after = f"{entries:,} entries {where[kind]}, {changes:,} changes" if entries else "no entry"
     print(f"comparing by changes on {links:,} links after {after}: {since:.0f} ns")
     told = f"by all links, as before, {by_all:.0f} ns; a copy of the changes {copied:.0f} ns"
-    print(f"reference: {told}, ratio {by_all / since:.1f}")
+    print(f"reference: {told}, ratio {since / by_all:.3f}")
 END
