@@ -2,12 +2,12 @@
 # What comes of want of memory: programs run once for each growth of memory, and in each run just
 # that one fails. The runs are an admission, a quote that is taken, a quote that goes stale, an
 # admission on a backbone of eleven cities, and each of a journal that is begun, gone on with and
-# another network's; an audit, a generated script, a certificate that is written and judged, and two prices; and a server with
-# one customer. Each has to end in one of three ways: with status 7 and the line `no memory`; with a
-# line `memory` in the place of the command that was refused; or with the fault of an object that
-# wanted it, as `cabinet` and status 6. All other lines have to be those of the orders that were
-# acknowledged, by the slow planner of compare_planner.py, and these the entries of the journal, by
-# the reader of forged.py. A library that gcc makes of
+# another network's; an audit, a generated script, a certificate that is written and one that is
+# judged, and two prices; and a server with one customer. Each has to end in one of three ways: with
+# status 7 and the line `no memory`; with a line `memory` in the place of the command that was
+# refused; or with the fault of an object that wanted it, as `cabinet` and status 6. All other lines
+# have to be those of the orders that were acknowledged, by the slow planner of compare_planner.py,
+# and these the entries of the journal, by the reader of forged.py. A library that gcc makes of
 # edge.c refuses the growth. A run has no more of them where twenty in a row were not wanted; how
 # many it had, and with which status it ended, is printed.
 # usage: bench/memory.sh [PROGRAM]
@@ -30,7 +30,7 @@ from collections import Counter
 
 sys.path.insert(0, "bench")
 from compare_planner import Link, Network
-from forged import journal_of, judged
+from forged import CHAINED, journal_of, judged
 from generated import Sizes, planned
 from hostile import Desk
 
@@ -56,7 +56,7 @@ TEXTS = {name: pathlib.Path(f"demo/{name}.txt").read_text() for name in NAMES}
 NETWORKS = {name: network_of(text) for name, text in TEXTS.items()}
 ADMIT = ["acme admit a:3 b:4 c:5"]
 ONE = [("admit", "acme", [(0, 3), (1, 4), (2, 5)], [(0, 3), (1, 4), (2, 5)])]
-KEPT = journal_of(NETWORKS["star"], ONE)
+KEPT = journal_of(NETWORKS["star"], ONE, CHAINED)
 
 # Names, networks, lines, and what the journal has at first where there is one.
 RUNS = {
