@@ -3,6 +3,7 @@ use Rattle.std.specs.Prelude.{ℕ, ◌-◌, ◌≤◌, ◌==◌, ◌||◌, Bool,
 use Rattle.std.specs.Char.{is_ascii_digit, is_ascii_lowercase}
 use Rattle.std.specs.List.{AllPass}
 use Rattle.hose_graph.specs.declared.limits.TheConstants.{MOST_NAME_BYTES}
+use Rattle.hose_graph.specs.declared.name.TheConstants.{OPERATOR}
 
 -- a byte that a name may have: `a` to `z`, `0` to `9` or `-`
 abbrev pub is_name_byte : ℕ → Bool
@@ -17,3 +18,7 @@ pub record IsName (bytes : List ℕ) : Type 0 where
 -- a name's bytes, and then zeros up to the greatest length
 abbrev pub padded : List ℕ → List ℕ
 padded bytes = bytes ++ replicate (MOST_NAME_BYTES - length bytes) 0
+
+-- the operator's name
+abbrev pub operator : List ℕ
+operator = OPERATOR.now

@@ -1,7 +1,7 @@
 -- The ranges of the numbers of an entry, as far as its type leaves them open.
 use Rattle.std.specs.Prelude.{◌<◌, ◌≤◌, List, All, length}
 use Rattle.hose_graph.specs.declared.entry.Entry.{Entry}
-use Rattle.hose_graph.specs.declared.entry.Entry.TheVariants.{Admit, Release}
+use Rattle.hose_graph.specs.declared.entry.Entry.TheVariants.{Admit, Release, Down, Up}
 use Rattle.hose_graph.specs.declared.limits.TheConstants.{MOST_AMOUNT, MOST_EPOCH, MOST_LINKS, MOST_TREE_LINKS}
 use Rattle.hose_graph.specs.Amounts.{ReservedLink, amount_of, link_of}
 use Rattle.hose_graph.specs.Limit.{IsUpTo}
@@ -21,3 +21,5 @@ pub record AreInRanges (amounts : List ReservedLink) : Type 0 where
 abbrev pub IsInRanges : Entry → Type 0
 IsInRanges (Admit customer hose amounts) = AreInRanges amounts
 IsInRanges (Release customer id) = id ≤ MOST_EPOCH
+IsInRanges (Down link) = link < MOST_LINKS
+IsInRanges (Up link) = link < MOST_LINKS

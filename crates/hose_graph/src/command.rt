@@ -15,6 +15,10 @@ pub enum Command {
     Release(u64),
     /// To tell the network of this number.
     Show(u64),
-    /// To tell a link and what is reserved on it.
+    /// To tell a link, what is reserved on it, and whether it is out of service.
     Link(u32),
+    /// To take a link out of service, so that no new tree uses it.
+    Down(u32),
+    /// To put a link back into service.
+    Up(u32),
 }

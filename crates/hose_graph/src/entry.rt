@@ -20,6 +20,14 @@ pub enum Entry {
         customer: Name,
         id: u64,
     },
+    /// The operator took a link out of service.
+    Down {
+        link: u32,
+    },
+    /// The operator put a link back into service.
+    Up {
+        link: u32,
+    },
 }
 
 impl Entry {
@@ -41,6 +49,8 @@ impl Entry {
                 customer: *customer,
                 id: *id,
             }),
+            Entry::Down { link } => Ok(Entry::Down { link: *link }),
+            Entry::Up { link } => Ok(Entry::Up { link: *link }),
         }
     }
 }

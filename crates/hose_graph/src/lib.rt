@@ -37,7 +37,7 @@ pub use limits::{
     MOST_TREE_LINKS,
 };
 pub use link::Link;
-pub use name::Name;
+pub use name::{Name, OPERATOR};
 pub use node_list::NodeList;
 pub use reply::Reply;
 pub use row::Row;

@@ -6,11 +6,14 @@ ghost use Rattle.std.specs.Cmp.{partial_equiv_from_equiv, unsigned_ties};
 ghost use Rattle.std.specs.Cmp.Lexicographic.{lists_ties, nat_list_cmp_total, nat_list_eq_equiv};
 ghost use Rattle.std.specs.Cmp.Lexicographic.{slice_cmp, texts_po};
 ghost use Rattle.std.specs.Ordering.{as_partial_cmp, nat_cmp};
-ghost use Rattle.hose_graph.specs.Name.{IsName, is_name_byte};
+ghost use Rattle.hose_graph.specs.Name.{IsName, is_name_byte, operator};
 
 use crate::limits::MOST_NAME_BYTES;
 use std::cmp::Ordering;
 use std::marker::Model;
+
+/// The name of the one customer who may take links out of service and put them back.
+pub const OPERATOR: &str = "operator";
 
 /// The name of a node or of a customer: 1 to 16 bytes of `a` to `z`, `0` to `9` and `-`.
 ///
@@ -65,6 +68,13 @@ impl Name {
         ensures is_name { IsName self.now }
     {
         &self.bytes[..usize::from(self.len)]
+    }
+
+    /// Whether this is the operator's name.
+    pub fn is_operator(&self) -> bool
+        ensures { IsTrue result ↔ (self.now ≡ operator) }
+    {
+        self.bytes() == OPERATOR.as_bytes()
     }
 }
 

@@ -65,10 +65,30 @@ pub enum Reply {
         hose: Hose,
         amounts: Amounts,
     },
-    /// A link, with what is reserved on it.
+    /// A link, with what is reserved on it, and whether it is out of service.
     LinkState {
         link: u64,
         load: u64,
+        out: bool,
+        at: u64,
+    },
+    /// The link was taken out of service.
+    Down {
+        link: u64,
+        at: u64,
+    },
+    /// The link was put back into service.
+    Up {
+        link: u64,
+        at: u64,
+    },
+    /// The link is already out of service, or in service, as was asked for.
+    Already {
+        link: u64,
+        at: u64,
+    },
+    /// Only the operator may ask for this.
+    Denied {
         at: u64,
     },
     /// As many networks are live as can be.
