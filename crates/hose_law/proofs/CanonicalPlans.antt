@@ -141,31 +141,31 @@ module _ (network : Network) (is : IsNetwork network) (room : Room) (hose : List
       subst (λ (s : List Bool). IsCanonicalPlan network s hose other) (allowed_unique more set theirs.allowed mine.allowed) theirs.is_plan in
       canonical_unique network is set hose one other mine.is_plan over
 
-module _ (network : Network) (room other : Room) (links : room.links ≡ other.links) (hose : List (ℕ × ℕ)) (fits : Bool) (safe : List Bool) where
+module _ (network : Network) (room other : Room) (hose : List (ℕ × ℕ)) (service : List Bool) (fits : Bool) (safe : List Bool) where
   -- Equal grounds allow the same set.
-  same_allowed : AreGrounds network room hose fits safe → AreGrounds network other hose fits safe → (set : List Bool)
+  same_allowed : AreGrounds network room hose service fits safe → AreGrounds network other hose service fits safe → (set : List Bool)
       → IsAllowed network room hose set → IsAllowed network other hose set
   same_allowed here there set allowed = at fits here there allowed
     where
-      at : (fits : Bool) → AreGrounds network room hose fits safe → AreGrounds network other hose fits safe → IsAllowed network room hose set → IsAllowed network other hose set
-      at true here there (inl first) = inl (there.0, first.1 ∙ links)
-      at true here there (inr second) = absurd (second.0 here.0)
-      at false here there (inl first) = absurd (here.0 first.0)
-      at false here there (inr second) = inr (there.0, second.1 ∙ sym here.1 ∙ there.1)
+      at : (fits : Bool) → AreGrounds network room hose service fits safe → AreGrounds network other hose service fits safe → IsAllowed network room hose set → IsAllowed network other hose set
+      at true here there (inl first) = inl (there.1, first.1 ∙ sym here.0 ∙ there.0)
+      at true here there (inr second) = absurd (second.0 here.1)
+      at false here there (inl first) = absurd (here.1 first.0)
+      at false here there (inr second) = inr (there.1, second.1 ∙ sym here.2 ∙ there.2)
 
   -- So they give equal plans.
-  pub same_planned : AreGrounds network room hose fits safe → AreGrounds network other hose fits safe → (set : List Bool) (plan : List (ℕ × ℕ))
+  pub same_planned : AreGrounds network room hose service fits safe → AreGrounds network other hose service fits safe → (set : List Bool) (plan : List (ℕ × ℕ))
       → IsPlannedOver network room hose set plan → IsPlannedOver network other hose set plan
   same_planned here there set plan planned = record { allowed = same_allowed here there set planned.allowed; is_plan = planned.is_plan }
 
 -- Equal grounds give equal refusals.
-pub same_refused : (network : Network) (room other : Room) → room.links ≡ other.links → (hose : List (ℕ × ℕ)) (fits : Bool) (safe : List Bool)
-    → AreGrounds network room hose fits safe → AreGrounds network other hose fits safe → (side : List ℕ) → IsRefused network room hose side → IsRefused network other hose side
-same_refused network room other links hose true safe here there side refused =
-    absurd (refused.no_plan here.0.0 (room.links, record { allowed = inl (here.0, refl); is_plan = here.0.1.is_plan }))
-same_refused network room other links hose false safe here there side refused = record {
-  no_plan = λ plan planned. refused.no_plan plan (planned.0, same_planned network other room (sym links) hose false safe there here planned.0 plan planned.1);
-  is_side = subst (λ (set : List Bool). IsReachedList network set (lowest_end hose) side) (sym here.1 ∙ there.1) refused.is_side;
+pub same_refused : (network : Network) (room other : Room) (hose : List (ℕ × ℕ)) (service : List Bool) (fits : Bool) (safe : List Bool)
+    → AreGrounds network room hose service fits safe → AreGrounds network other hose service fits safe → (side : List ℕ) → IsRefused network room hose side → IsRefused network other hose side
+same_refused network room other hose service true safe here there side refused =
+    absurd (refused.no_plan here.1.0 (room.links, record { allowed = inl (here.1, refl); is_plan = here.1.1.is_plan }))
+same_refused network room other hose service false safe here there side refused = record {
+  no_plan = λ plan planned. refused.no_plan plan (planned.0, same_planned network other room hose service false safe there here planned.0 plan planned.1);
+  is_side = subst (λ (set : List Bool). IsReachedList network set (lowest_end hose) side) (sym here.2 ∙ there.2) refused.is_side;
 }
 
 -- Equal grounds at two books give equal decisions, since the first plan is made over the same links.
@@ -175,11 +175,11 @@ same_decisions network book other hose grounds =
     let two = room_of network other in
     record {
       plans = λ set plan. (
-        same_planned network one two refl hose grounds.fits grounds.safe grounds.here grounds.there set plan,
-        same_planned network two one refl hose grounds.fits grounds.safe grounds.there grounds.here set plan,
+        same_planned network one two hose grounds.service grounds.fits grounds.safe grounds.here grounds.there set plan,
+        same_planned network two one hose grounds.service grounds.fits grounds.safe grounds.there grounds.here set plan,
       );
       refusals = λ side. (
-        same_refused network one two refl hose grounds.fits grounds.safe grounds.here grounds.there side,
-        same_refused network two one refl hose grounds.fits grounds.safe grounds.there grounds.here side,
+        same_refused network one two hose grounds.service grounds.fits grounds.safe grounds.here grounds.there side,
+        same_refused network two one hose grounds.service grounds.fits grounds.safe grounds.there grounds.here side,
       );
     }

@@ -24,6 +24,7 @@ pub mod Routes
 pub mod Rows
 pub mod Scripts
 mod ShortWalks
+pub mod Serving
 pub mod Sold
 pub mod Steps
 pub mod Sums

@@ -8,20 +8,27 @@ use Rattle.std.proofs.lemmas.List.Kept.{AllPairs-filter}
 use Rattle.std.proofs.lemmas.List.Quantifiers.{all_pairs_push}
 use Rattle.hose_graph.specs.declared.vpn.Vpn.{Vpn}
 use Rattle.hose_graph.specs.declared.entry.Entry.{Entry}
-use Rattle.hose_graph.specs.declared.entry.Entry.TheVariants.{Admit, Release}
+use Rattle.hose_graph.specs.declared.entry.Entry.TheVariants.{Admit, Release, Down, Up}
 use Rattle.hose_law.specs.Book.{Book}
 use Rattle.hose_law.specs.History.{opening_book, next_book, book_after, book_of, is_vpn}
 use Rattle.hose_law.specs.Live.{HasRisingIds, IsBetween}
+use Rattle.hose_law.specs.Service.{put_back, taken_out}
 
 -- an entry makes the epoch one more
 pub next_epoch : (book : Book) (entry : Entry) → (next_book book entry).epoch ≡ book.epoch + 1
 next_epoch book (Admit customer hose amounts) = refl
 next_epoch book (Release customer id) = refl
+next_epoch book (Down link) = refl
+next_epoch book (Up link) = refl
 
 -- at the next epoch the ids are as much within it
 within_next : (first : ℕ) (book : Book) → HasRisingIds first book → All (IsBetween first (book.epoch + 1)) book.live
 within_next first book ids =
     All-weaker (IsBetween first book.epoch) (IsBetween first (book.epoch + 1)) (λ vpn between. (between.0, omega (arith, between.1))) book.live ids.between
+
+-- where the live ones are the same, so are their ids
+rising_same : (first : ℕ) (book : Book) → HasRisingIds first book → (out : List ℕ) → HasRisingIds first (record { epoch = book.epoch + 1; live = book.live; out = out })
+rising_same first book ids out = record { begun = omega (arith, ids.begun); rise = ids.rise; between = within_next first book ids }
 
 -- an admission's id is the new epoch, which is above all others, and a release only takes out
 pub rising_next : (first : ℕ) (book : Book) (entry : Entry) → HasRisingIds first book → HasRisingIds first (next_book book entry)
@@ -39,6 +46,8 @@ rising_next first book (Release customer id) ids = record {
   rise = AllPairs-filter (λ (one other : Vpn). one.id < other.id) (λ v. not (is_vpn customer id v)) book.live ids.rise;
   between = All-filter (λ v. not (is_vpn customer id v)) (IsBetween first (book.epoch + 1)) book.live (within_next first book ids);
 }
+rising_next first book (Down link) ids = rising_same first book ids (taken_out book.out link)
+rising_next first book (Up link) ids = rising_same first book ids (put_back book.out link)
 
 rising_after : (first : ℕ) (book : Book) (entries : List Entry) → HasRisingIds first book → HasRisingIds first (book_after book entries)
 rising_after first book [] ids = ids

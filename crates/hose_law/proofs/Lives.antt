@@ -5,7 +5,7 @@ use Rattle.std.proofs.lemmas.Option.{none-some, same_Some}
 use Rattle.std.proofs.lemmas.List.Elements.{Contains-append_left, Contains-push, Contains-push_cases}
 use Rattle.hose_graph.specs.declared.vpn.Vpn.{Vpn}
 use Rattle.hose_graph.specs.declared.entry.Entry.{Entry}
-use Rattle.hose_graph.specs.declared.entry.Entry.TheVariants.{Admit, Release}
+use Rattle.hose_graph.specs.declared.entry.Entry.TheVariants.{Admit, Release, Down, Up}
 use Rattle.hose_law.proofs.LiveIds.{next_epoch, rising_ids}
 use Rattle.hose_graph.proofs.Members.{in_filter}
 use Rattle.hose_law.proofs.Releases.{is_vpn_decides, kept_by_release}
@@ -19,6 +19,8 @@ kept_by_entry book (Admit customer hose amounts) vpn there other =
     Contains-append_left book.live (record { id = book.epoch + 1; customer = customer; hose = hose; amounts = amounts } ∷ []) vpn there
 kept_by_entry book (Release customer id) vpn there other =
     kept_by_release book customer id vpn there (λ same. other (sym (ap (λ (name : List ℕ). Release name vpn.id) same.1 ∙ ap (Release customer) same.0)))
+kept_by_entry book (Down link) vpn there other = there
+kept_by_entry book (Up link) vpn there other = there
 
 -- and so do entries of which none is its release
 kept_by_entries : (book : Book) (entries : List Entry) (place : ℕ) (vpn : Vpn) → Contains book.live vpn
@@ -63,10 +65,14 @@ stays_live epoch history k customer hose amounts place admits behind within held
 abbrev released_customer : Entry → Option (List ℕ)
 released_customer (Admit customer hose amounts) = None
 released_customer (Release customer id) = Some customer
+released_customer (Down link) = None
+released_customer (Up link) = None
 
 abbrev released_id : Entry → Option ℕ
 released_id (Admit customer hose amounts) = None
 released_id (Release customer id) = Some id
+released_id (Down link) = None
+released_id (Up link) = None
 
 -- the entry makes the VPN live at a book
 abbrev IsMadeBy : Book → Entry → Vpn → Type 0
@@ -91,6 +97,8 @@ live_before book (Release customer id) vpn there =
           let is : is_vpn customer id vpn ≡ true = (is_vpn_decides customer id vpn).1 (sym ids, sym names) in
           false≢true (sym (ap not is) ∙ left.1),
     )
+live_before book (Down link) vpn there = inl (there, λ same. none-some vpn.id (ap released_id same))
+live_before book (Up link) vpn there = inl (there, λ same. none-some vpn.id (ap released_id same))
 
 -- a VPN that is live after entries was live before them, and no entry is its release; or an entry admitted it, and no later one is its release
 record WasLive (book : Book) (entries : List Entry) (place : ℕ) (vpn : Vpn) : Type 0 where

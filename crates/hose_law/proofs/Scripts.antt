@@ -1,14 +1,14 @@
 -- Scripts and histories that go on by one line.
-use Rattle.std.proofs.Common.{◌≡◌, ℕ, zero, suc, ◌+◌, List, [], ◌∷◌, ◌++◌, length, Option, None, Some, refl, sym, subst, arith}
+use Rattle.std.proofs.Common.{◌≡◌, ℕ, zero, suc, ◌+◌, Bool, true, false, List, [], ◌∷◌, ◌++◌, length, Option, None, Some, refl, sym, subst, arith}
 use Rattle.hose_graph.specs.declared.entry.Entry.{Entry}
 use Rattle.hose_graph.specs.declared.command.Command.{Command}
-use Rattle.hose_graph.specs.declared.command.Command.TheVariants.{Admit, Quote, Take, Release, Show, Link}
+use Rattle.hose_graph.specs.declared.command.Command.TheVariants.{Admit, Quote, Take, Release, Show, Link, Down as DownCommand, Up as UpCommand}
 use Rattle.hose_graph.specs.declared.reply.Reply.{Reply}
-use Rattle.hose_graph.specs.declared.reply.Reply.TheVariants.{Admitted, Released, NoVpn, LinkState}
+use Rattle.hose_graph.specs.declared.reply.Reply.TheVariants.{Admitted, Released, NoVpn, LinkState, Down, Up, Denied}
 use Rattle.hose_graph.specs.Network.{Network}
 use Rattle.hose_law.specs.Book.{Book}
 use Rattle.hose_law.specs.History.{AreFrom, EntryKind, next_book, book_after, book_of, opening_book, IsSound, IsSoundAt, IsDecidedAt, IsSoundFrom, IsDecided}
-use Rattle.hose_law.specs.Answer.{IsPlannedAnswer, IsAnswer, IsTakeAnswer}
+use Rattle.hose_law.specs.Answer.{IsPlannedAnswer, IsAnswer, IsOperatorAnswer, IsServiceAnswer, IsTakeAnswer}
 use Rattle.hose_law.specs.Quotes.{at_number, Held, HeldQuote, Holdings}
 use Rattle.hose_law.specs.Script.{ReadLine, IsLineStep, IsScript, disks_in, one_if_disk}
 
@@ -52,6 +52,20 @@ taken_decided network epoch history customer number held after (Some quote) (Adm
     planned_decided network (book_of epoch history) customer quote.hose (Admitted id cost at amounts) entry sound answer.0.1
 taken_decided network epoch history customer number held after (Some quote) reply entry sound answer = absurd answer.0.1
 
+-- and of the operator's commands
+service_decided : (network : Network) (book : Book) (down : Bool) (link : ℕ) (reply : Reply) (entry : Entry)
+    → IsSoundAt network book entry → IsServiceAnswer network book down link reply (Some entry) → IsDecidedAt network book entry
+service_decided network book true link (Down told at) entry sound answer =
+    subst (IsDecidedAt network book) (sym answer.4) (subst (IsSoundAt network book) answer.4 sound)
+service_decided network book false link (Up told at) entry sound answer =
+    subst (IsDecidedAt network book) (sym answer.4) (subst (IsSoundAt network book) answer.4 sound)
+service_decided network book down link reply entry sound answer = absurd answer
+
+operator_decided : (network : Network) (book : Book) (customer : List ℕ) (down : Bool) (link : ℕ) (reply : Reply) (entry : Entry)
+    → IsSoundAt network book entry → IsOperatorAnswer network book customer down link reply (Some entry) → IsDecidedAt network book entry
+operator_decided network book customer down link (Denied at) entry sound answer = absurd answer.1
+operator_decided network book customer down link reply entry sound answer = service_decided network book down link reply entry sound answer.1
+
 -- the sound entry of an answer is decided
 pub answer_decided : (network : Network) (epoch : ℕ) (history : List Entry) (customer : List ℕ) (held after : Held) (command : Command) (reply : Reply) (entry : Entry)
     → IsSoundAt network (book_of epoch history) entry → IsAnswer network epoch history customer held command reply (Some entry) after → IsDecidedAt network (book_of epoch history) entry
@@ -66,8 +80,12 @@ answer_decided network epoch history customer held after (Release id) (Released 
 answer_decided network epoch history customer held after (Release id) reply entry sound answer = absurd answer.0
 answer_decided network epoch history customer held after (Show id) (NoVpn told at) entry sound answer = absurd answer.0
 answer_decided network epoch history customer held after (Show id) reply entry sound answer = absurd answer.0
-answer_decided network epoch history customer held after (Link link) (LinkState told load at) entry sound answer = absurd answer.0
+answer_decided network epoch history customer held after (Link link) (LinkState told load out at) entry sound answer = absurd answer.0
 answer_decided network epoch history customer held after (Link link) reply entry sound answer = absurd answer.0
+answer_decided network epoch history customer held after (DownCommand link) reply entry sound answer =
+    operator_decided network (book_of epoch history) customer true link reply entry sound answer.0
+answer_decided network epoch history customer held after (UpCommand link) reply entry sound answer =
+    operator_decided network (book_of epoch history) customer false link reply entry sound answer.0
 
 -- a decided history, and the sound entry of a step at its end, are a decided history
 pub decided_push : (network : Network) (epoch since : ℕ) (history : List Entry) (entry : Entry) → IsDecided network epoch since history → IsDecidedAt network (book_of epoch history) entry → IsSoundAt network (book_of epoch history) entry

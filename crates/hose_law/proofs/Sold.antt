@@ -7,7 +7,7 @@ use Rattle.std.proofs.lemmas.Bool.Decides.{nat_tests}
 use Rattle.std.specs.List.Sorted.{IsStrictlyIncreasing}
 use Rattle.hose_graph.specs.declared.vpn.Vpn.{Vpn}
 use Rattle.hose_graph.specs.declared.entry.Entry.{Entry}
-use Rattle.hose_graph.specs.declared.entry.Entry.TheVariants.{Admit, Release}
+use Rattle.hose_graph.specs.declared.entry.Entry.TheVariants.{Admit, Release, Down, Up}
 use Rattle.hose_graph.specs.Network.{Network}
 use Rattle.hose_law.specs.Walk.{capacity_of}
 use Rattle.hose_law.specs.Book.{Book, amount_on, load_of, IsOversold}
@@ -77,6 +77,8 @@ entry_keeps network book (Admit customer hose plan) sound kept l =
     let fits = reserved_fits (room_of network book).free plan l sound.2.on_tree.reserves.ascending sound.2.fits in
     omega (arith, more, fits, room_of-within network book l, kept l)
 entry_keeps network book (Release customer id) sound kept l = omega (arith, load_after_release book customer id l, kept l)
+entry_keeps network book (Down link) sound kept l = kept l
+entry_keeps network book (Up link) sound kept l = kept l
 
 sound_keeps : (network : Network) (book : Book) (history : List Entry) (place : ℕ) → IsSoundFrom network book history → NoneOversold network book → NoneOversold network (book_after book (take place history))
 sound_keeps network book history zero sound kept = kept

@@ -3,9 +3,9 @@ use Rattle.std.proofs.Common.{◌≡◌, ◌⊎◌, ℕ, List, Option, None, Som
 use Rattle.hose_graph.specs.Network.{Network}
 use Rattle.hose_graph.specs.declared.entry.Entry.{Entry}
 use Rattle.hose_graph.specs.declared.command.Command.{Command}
-use Rattle.hose_graph.specs.declared.command.Command.TheVariants.{Admit, Quote, Take, Release, Show, Link}
+use Rattle.hose_graph.specs.declared.command.Command.TheVariants.{Admit, Quote, Take, Release, Show, Link, Down as DownCommand, Up as UpCommand}
 use Rattle.hose_graph.specs.declared.reply.Reply.{Reply}
-use Rattle.hose_graph.specs.declared.reply.Reply.TheVariants.{Welcome, Admitted, Quoted, Refused, Stale, Released, NoVpn, NoQuote, TooMany, Shown, LinkState, Full, Spent, Disk, Memory, Bad, Long, Bye}
+use Rattle.hose_graph.specs.declared.reply.Reply.TheVariants.{Welcome, Admitted, Quoted, Refused, Stale, Released, NoVpn, NoQuote, TooMany, Shown, LinkState, Down, Up, Already, Denied, Full, Spent, Disk, Memory, Bad, Long, Bye}
 use Rattle.hose_law.specs.Answer.{ChangesHeld, IsAnswer, IsStepOf, IsTakeAnswer, with_entry}
 use Rattle.hose_law.specs.History.{IsDecidedAt, IsSoundAt, book_of}
 use Rattle.hose_law.specs.Quotes.{Held, HeldQuote, at_number}
@@ -34,6 +34,10 @@ module _ (network : Network) (epoch : ℕ) (history : List Entry) (customer : Li
   without_memory (Show id) (Some entry) after answer = answer.0
   without_memory (Link link) None after answer = answer.0
   without_memory (Link link) (Some entry) after answer = answer.0
+  without_memory (DownCommand link) None after answer = answer.0.1
+  without_memory (DownCommand link) (Some entry) after answer = answer.0.1
+  without_memory (UpCommand link) None after answer = answer.0.1
+  without_memory (UpCommand link) (Some entry) after answer = answer.0.1
 
   -- a failure of the disk is no answer
   without_disk : (at : ℕ) (command : Command) (entry : Option Entry) (after : Held) → IsAnswer network epoch history customer held command (Disk at) entry after → ⊥
@@ -47,6 +51,10 @@ module _ (network : Network) (epoch : ℕ) (history : List Entry) (customer : Li
   without_disk at (Show id) (Some entry) after answer = answer.0
   without_disk at (Link link) None after answer = answer.0
   without_disk at (Link link) (Some entry) after answer = answer.0
+  without_disk at (DownCommand link) None after answer = answer.0.1
+  without_disk at (DownCommand link) (Some entry) after answer = answer.0.1
+  without_disk at (UpCommand link) None after answer = answer.0.1
+  without_disk at (UpCommand link) (Some entry) after answer = answer.0.1
 
   -- an answer, with its entry added, is a step
   pub step_of : (command : Command) (reply : Reply) (entry : Option Entry) (after : Held) → IsAnswer network epoch history customer held command reply entry after
@@ -61,7 +69,11 @@ module _ (network : Network) (epoch : ℕ) (history : List Entry) (customer : Li
   step_of command (NoQuote quote at) entry after answer = (answer, refl)
   step_of command (TooMany at) entry after answer = (answer, refl)
   step_of command (Shown id cost at hose amounts) entry after answer = (answer, refl)
-  step_of command (LinkState link load at) entry after answer = (answer, refl)
+  step_of command (LinkState link load out at) entry after answer = (answer, refl)
+  step_of command (Down link at) entry after answer = (answer, refl)
+  step_of command (Up link at) entry after answer = (answer, refl)
+  step_of command (Already link at) entry after answer = (answer, refl)
+  step_of command (Denied at) entry after answer = (answer, refl)
   step_of command (Full at) entry after answer = (answer, refl)
   step_of command (Spent at) entry after answer = (answer, refl)
   step_of command (Disk at) entry after answer = absurd (without_disk at command entry after answer)
@@ -98,7 +110,11 @@ module _ (network : Network) (epoch : ℕ) (history : List Entry) (customer : Li
   step_cases command (NoQuote quote at) entry next after step = inr (record { given = NoQuote quote at; is = step.0; goes = inr step.1 })
   step_cases command (TooMany at) entry next after step = inr (record { given = TooMany at; is = step.0; goes = inr step.1 })
   step_cases command (Shown id cost at hose amounts) entry next after step = inr (record { given = Shown id cost at hose amounts; is = step.0; goes = inr step.1 })
-  step_cases command (LinkState link load at) entry next after step = inr (record { given = LinkState link load at; is = step.0; goes = inr step.1 })
+  step_cases command (LinkState link load out at) entry next after step = inr (record { given = LinkState link load out at; is = step.0; goes = inr step.1 })
+  step_cases command (Down link at) entry next after step = inr (record { given = Down link at; is = step.0; goes = inr step.1 })
+  step_cases command (Up link at) entry next after step = inr (record { given = Up link at; is = step.0; goes = inr step.1 })
+  step_cases command (Already link at) entry next after step = inr (record { given = Already link at; is = step.0; goes = inr step.1 })
+  step_cases command (Denied at) entry next after step = inr (record { given = Denied at; is = step.0; goes = inr step.1 })
   step_cases command (Full at) entry next after step = inr (record { given = Full at; is = step.0; goes = inr step.1 })
   step_cases command (Spent at) entry next after step = inr (record { given = Spent at; is = step.0; goes = inr step.1 })
   step_cases command (Bad word) entry next after step = inr (record { given = Bad word; is = step.0; goes = inr step.1 })
@@ -136,6 +152,8 @@ module _ (network : Network) (epoch : ℕ) (history : List Entry) (customer : Li
       answer_keeps (Release id) reply others answer = answer.1
       answer_keeps (Show id) reply others answer = answer.1
       answer_keeps (Link link) reply others answer = answer.1
+      answer_keeps (DownCommand link) reply others answer = answer.1
+      answer_keeps (UpCommand link) reply others answer = answer.1
 
       at : IsIdle reply entry next after ⊎ IsAnswered command entry next after → after ≡ held
       at (inl idle) = idle.keeps

@@ -1,5 +1,5 @@
--- Where no change names a link, its load stays; and what tracks a history tracks it with an entry more.
-use Rattle.std.proofs.Common.{◌≡◌, ◌∙◌, ℕ, ◌+◌, ◌-◌, Bool, List, [], ◌∷◌, ◌++◌, length, take, drop, not, filter, sum_by, Contains, refl, sym, ap, subst, inl, inr, arith, cond, eqb}
+-- Where no change names a link, its load stays and whether it is out of service; and what tracks a history tracks it with an entry more.
+use Rattle.std.proofs.Common.{◌≡◌, ◌∙◌, ℕ, ◌+◌, ◌-◌, ◌≤◌, Bool, List, [], ◌∷◌, ◌++◌, length, take, drop, not, filter, sum_by, Contains, refl, sym, ap, subst, inl, inr, arith, cond, eqb}
 use Rattle.std.specs.List.{flat_map}
 use Rattle.std.proofs.lemmas.Bool.{cases_eq}
 use Rattle.std.proofs.lemmas.Bool.Decides.{nat_tests}
@@ -12,12 +12,14 @@ use Rattle.std.proofs.Math.Seq.{take-append-add}
 use Rattle.hose_graph.proofs.Members.{contains_first, contains_rest, first_or_rest, none_in_empty}
 use Rattle.hose_graph.specs.Ascending.{firsts}
 use Rattle.hose_graph.specs.declared.entry.Entry.{Entry}
-use Rattle.hose_graph.specs.declared.entry.Entry.TheVariants.{Admit, Release}
+use Rattle.hose_graph.specs.declared.entry.Entry.TheVariants.{Admit, Release, Down, Up}
 use Rattle.hose_graph.specs.declared.vpn.Vpn.{Vpn}
 use Rattle.hose_law.specs.Book.{Book, amount_on, load_of}
 use Rattle.hose_law.specs.History.{book_after, book_of, is_vpn, next_book, opening_book}
-use Rattle.hose_law.specs.Tracks.{Change, IsNamedSince, LoadsStay, Recent, Tracks, changes_from, changes_of, touched_links}
+use Rattle.hose_law.specs.Service.{is_out}
+use Rattle.hose_law.specs.Tracks.{Change, IsNamedSince, LoadsStay, Recent, ServiceStays, Tracks, changes_from, changes_of, touched_links}
 use Rattle.hose_law.proofs.LiveIds.{next_epoch}
+use Rattle.hose_law.proofs.Serving.{back_other, out_other}
 
 abbrev Plan : Type 0
 Plan = List (ℕ × ℕ)
@@ -59,6 +61,15 @@ untouched book (Release customer id) l none =
     let out : Vpn → Bool = is_vpn customer id in
     let parts = sum_by-filter_both out (λ v. not (out v)) (λ _. refl) (amount_in l) book.live in
     omega (arith, parts, nothing_in l (filter out book.live) none)
+untouched book (Down link) l none = refl
+untouched book (Up link) l none = refl
+
+-- and whether it is out of service
+pub untouched_out : (book : Book) (entry : Entry) (l : ℕ) → (Contains (touched_links book entry) l → ⊥) → is_out book.out l ≡ is_out (next_book book entry).out l
+untouched_out book (Admit customer hose amounts) l none = refl
+untouched_out book (Release customer id) l none = refl
+untouched_out book (Down link) l none = sym (out_other book.out link l (λ same. none (0, omega arith, sym same)))
+untouched_out book (Up link) l none = sym (back_other book.out link l (λ same. none (0, omega arith, sym same)))
 
 -- a link that is touched is named by a change
 is_change : (epoch : ℕ) (links : List ℕ) (l : ℕ) → Contains links l → Contains (changes_of epoch links) (epoch, l)
@@ -68,10 +79,11 @@ is_change epoch (first ∷ links) l there = elim (first_or_rest first l links th
   | inr later ↦ contains_rest (epoch, first) (epoch, l) (changes_of epoch links) (is_change epoch links l later)
 ]
 
--- and so do entries that do not touch it
-stays : (book : Book) (entries : List Entry) (l : ℕ) → (IsNamedSince (changes_from book entries) book.epoch l → ⊥) → load_of book l ≡ load_of (book_after book entries) l
-stays book [] l none = refl
-stays book (entry ∷ entries) l none =
+-- what an entry leaves of a link that it does not touch, entries leave that do not touch it
+stays : {X : Type 0} (of : Book → X) (l : ℕ) → ((book : Book) (entry : Entry) → (Contains (touched_links book entry) l → ⊥) → of book ≡ of (next_book book entry))
+    → (book : Book) (entries : List Entry) → (IsNamedSince (changes_from book entries) book.epoch l → ⊥) → of book ≡ of (book_after book entries)
+stays of l leaves book [] none = refl
+stays of l leaves book (entry ∷ entries) none =
     let now = book.epoch + 1 in
     let here = changes_of now (touched_links book entry) in
     let more = changes_from (next_book book entry) entries in
@@ -79,7 +91,7 @@ stays book (entry ∷ entries) l none =
     λ there. none (now, omega arith, Contains-append_left here more (now, l) (is_change now (touched_links book entry) l there)) in
     let rest : IsNamedSince more (next_book book entry).epoch l → ⊥ =
     λ named. none (named.0, omega (arith, named.1, next_epoch book entry), Contains-append_right here more (named.0, l) named.2) in
-    untouched book entry l free ∙ stays (next_book book entry) entries l rest
+    leaves book entry free ∙ stays of l leaves (next_book book entry) entries rest
 
 -- the changes of entries are those of the first ones, and then of the others
 changes_apart : (book : Book) (one other : List Entry) → changes_from book (one ++ other) ≡ changes_from book one ++ changes_from (book_after book one) other
@@ -98,9 +110,11 @@ epoch_apart : (book : Book) (entries : List Entry) → (book_after book entries)
 epoch_apart book [] = omega arith
 epoch_apart book (entry ∷ entries) = omega (arith, epoch_apart (next_book book entry) entries, next_epoch book entry)
 
--- where a history is tracked, loads stay on each link that no later change names
-pub loads_stay : (epoch : ℕ) (history : List Entry) (recent : Recent) → Tracks epoch history recent → LoadsStay epoch history recent
-loads_stay epoch history recent tracks place l within above none =
+-- where a history is tracked, that stays of each link that no later change names
+link_stays : {X : Type 0} (of : Book → X) (l : ℕ) → ((book : Book) (entry : Entry) → (Contains (touched_links book entry) l → ⊥) → of book ≡ of (next_book book entry))
+    → (epoch : ℕ) (history : List Entry) (recent : Recent) → Tracks epoch history recent → (place : ℕ) → place ≤ length history → recent.floor ≤ epoch + place
+    → ¬ IsNamedSince recent.changes (epoch + place) l → of (book_of epoch (take place history)) ≡ of (book_of epoch history)
+link_stays of l leaves epoch history recent tracks place within above none =
     let before = tracks.before in
     let since = tracks.since in
     let k = place - length before in
@@ -125,7 +139,17 @@ loads_stay epoch history recent tracks place l within above none =
       omega (arith, named.1, at),
       subst (λ (c : List Change). Contains c (named.0, l)) changes (Contains-append_right (changes_from first (take k since)) (changes_from book later) (named.0, l) named.2),
     ) in
-    ap (λ (b : Book). load_of b l) there ∙ stays book later l free ∙ ap (λ (b : Book). load_of b l) (sym all)
+    ap of there ∙ stays of l leaves book later free ∙ ap of (sym all)
+
+-- its load does
+pub loads_stay : (epoch : ℕ) (history : List Entry) (recent : Recent) → Tracks epoch history recent → LoadsStay epoch history recent
+loads_stay epoch history recent tracks place l =
+    link_stays (λ (book : Book). load_of book l) l (λ book entry none. untouched book entry l none) epoch history recent tracks place
+
+-- and whether it is out of service
+pub service_stays : (epoch : ℕ) (history : List Entry) (recent : Recent) → Tracks epoch history recent → ServiceStays epoch history recent
+service_stays epoch history recent tracks place l =
+    link_stays (λ (book : Book). is_out book.out l) l (λ book entry none. untouched_out book entry l none) epoch history recent tracks place
 
 -- what tracks a history, with the changes of an entry more, tracks the history with it
 pub tracks_more : (epoch : ℕ) (history : List Entry) (recent : Recent) (entry : Entry) → Tracks epoch history recent

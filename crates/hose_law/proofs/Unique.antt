@@ -1,15 +1,17 @@
 -- One plan, one side, one answer: without want of memory the replies of a script are the only ones.
-use Rattle.std.proofs.Common.{◌≡◌, ◌∙◌, ℕ, Bool, List, [], ◌∷◌, Option, None, Some, IsSome, length, take, inl, inr, ◌⊎◌, refl, sym, ap, subst, arith}
+use Rattle.std.proofs.Common.{◌≡◌, ◌≢◌, ◌∙◌, ℕ, Bool, true, false, not, List, [], ◌∷◌, Option, None, Some, IsSome, length, take, inl, inr, ◌⊎◌, refl, sym, ap, subst, arith}
+use Rattle.std.proofs.lemmas.Bool.{false≢true}
 use Rattle.std.proofs.lemmas.List.Elements.{All-head, All-tail}
 use Rattle.std.proofs.lemmas.List.Kept.{AllPairs-from_increasing}
+use Rattle.hose_graph.specs.Name.{operator}
 use Rattle.hose_graph.specs.Network.{Network, IsNetwork}
 use Rattle.hose_graph.specs.declared.vpn.Vpn.{Vpn}
 use Rattle.hose_graph.specs.declared.entry.Entry.{Entry}
 use Rattle.hose_graph.specs.declared.entry.Entry.TheVariants.{Admit as AdmitEntry}
 use Rattle.hose_graph.specs.declared.command.Command.{Command}
-use Rattle.hose_graph.specs.declared.command.Command.TheVariants.{Admit, Quote, Take, Release, Show, Link}
+use Rattle.hose_graph.specs.declared.command.Command.TheVariants.{Admit, Quote, Take, Release, Show, Link, Down as DownCommand, Up as UpCommand}
 use Rattle.hose_graph.specs.declared.reply.Reply.{Reply}
-use Rattle.hose_graph.specs.declared.reply.Reply.TheVariants.{Admitted, Quoted, Refused, Stale, Full, Spent, Released, NoVpn, TooMany, Shown, LinkState, Disk, Memory}
+use Rattle.hose_graph.specs.declared.reply.Reply.TheVariants.{Admitted, Quoted, Refused, Stale, Full, Spent, Released, NoVpn, TooMany, Shown, LinkState, Down, Up, Already, Denied, Disk, Memory}
 use Rattle.hose_law.proofs.LiveIds.{HasDistinctIds, live_ids, vpn_unique}
 use Rattle.hose_law.proofs.CanonicalPlans.{planned_unique}
 use Rattle.hose_law.proofs.Numbers.{some_is}
@@ -19,7 +21,8 @@ use Rattle.hose_law.specs.Book.{Book}
 use Rattle.hose_law.specs.Decision.{HaveEqualGrounds, IsReachedList, IsRefused, lowest_end}
 use Rattle.hose_law.specs.History.{book_of}
 use Rattle.hose_law.specs.Room.{room_of, safe_links}
-use Rattle.hose_law.specs.Answer.{IsPlannedAnswer, IsAdmitAnswer, IsQuoteAnswer, IsTakingAnswer, IsTakeAnswer, IsReleaseAnswer, IsShowAnswer, IsLinkAnswer, IsAnswer, IsStep, with_entry}
+use Rattle.hose_law.specs.Answer.{IsPlannedAnswer, IsAdmitAnswer, IsQuoteAnswer, IsTakingAnswer, IsTakeAnswer, IsReleaseAnswer, IsShowAnswer, IsLinkAnswer, IsOperatorAnswer, IsServiceAnswer, IsAnswer, IsStep, with_entry}
+use Rattle.hose_law.specs.Service.{LinkStands}
 use Rattle.hose_law.specs.Quotes.{Held, HeldQuote, Holdings, at_number, free_number, with_held, with_number}
 use Rattle.hose_law.specs.Script.{ReadLine, Asks, IsBad, IsLong, Unread, IsForDisk, IsForMemory, IsLineStep, IsScript, WithoutDisk, WithoutMemory}
 
@@ -193,22 +196,110 @@ module _ (network : Network) (book : Book) (customer : List ℕ) (id : ℕ) wher
 
 module _ (book : Book) (link : ℕ) where
   -- what a link is told as, is told alike
-  link_state_alone : (told load at : ℕ) (other : Reply) (more : Option Entry) → IsLinkAnswer book link (LinkState told load at) None → IsLinkAnswer book link other more
-      → (LinkState told load at ≡ other) × (None ≡ more)
-  link_state_alone told load at (LinkState told' load' at') None one two =
+  link_state_alone : (told load : ℕ) (out : Bool) (at : ℕ) (other : Reply) (more : Option Entry) → IsLinkAnswer book link (LinkState told load out at) None → IsLinkAnswer book link other more
+      → (LinkState told load out at ≡ other) × (None ≡ more)
+  link_state_alone told load out at (LinkState told' load' out' at') None one two =
       let links : told ≡ told' = one.0 ∙ sym two.0 in
       let loads : load ≡ load' = one.1 ∙ sym two.1 in
-      let times : at ≡ at' = one.2 ∙ sym two.2 in (
-        ap (λ (n : ℕ). LinkState n load at) links ∙ ap (λ (n : ℕ). LinkState told' n at) loads ∙ ap (LinkState told' load') times,
+      let outs : out ≡ out' = one.2 ∙ sym two.2 in
+      let times : at ≡ at' = one.3 ∙ sym two.3 in (
+        ap (λ (n : ℕ). LinkState n load out at) links ∙ ap (λ (n : ℕ). LinkState told' n out at) loads
+            ∙ ap (λ (b : Bool). LinkState told' load' b at) outs ∙ ap (LinkState told' load' out') times,
         refl,
       )
-  link_state_alone told load at other more one two = absurd two
+  link_state_alone told load out at other more one two = absurd two
 
   -- a question after a link has one answer at a book
   link_answer_unique : (reply other : Reply) (entry more : Option Entry) → IsLinkAnswer book link reply entry → IsLinkAnswer book link other more
       → (reply ≡ other) × (entry ≡ more)
-  link_answer_unique (LinkState told load at) other None more one two = link_state_alone told load at other more one two
+  link_answer_unique (LinkState told load out at) other None more one two = link_state_alone told load out at other more one two
   link_answer_unique reply other entry more one two = absurd one
+
+-- a link does not stand in two ways
+pub stands_once : (network : Network) (book : Book) (down : Bool) (link : ℕ) → LinkStands network book link down → LinkStands network book link (not down) → ⊥
+stands_once network book true link one two = false≢true (sym two.1 ∙ one.1)
+stands_once network book false link one two = false≢true (sym one.1 ∙ two.1)
+
+module _ (network : Network) (book : Book) (link : ℕ) where
+  -- where the link stands so already, each answer says so
+  already_alone : (down : Bool) (told at : ℕ) (other : Reply) (more : Option Entry) → IsServiceAnswer network book down link (Already told at) None → IsServiceAnswer network book down link other more
+      → (Already told at ≡ other) × (None ≡ more)
+  already_alone down told at (Already tells when) None one two =
+      let links : told ≡ tells = one.0 ∙ sym two.0 in
+      let times : at ≡ when = one.1 ∙ sym two.1 in
+      (ap (λ (n : ℕ). Already n at) links ∙ ap (Already tells) times, refl)
+  already_alone down told at (Spent when) None one two = absurd (stands_once network book down link one.2 two.2)
+  already_alone true told at (Down tells when) (Some entry) one two = absurd (stands_once network book true link one.2 two.1)
+  already_alone false told at (Up tells when) (Some entry) one two = absurd (stands_once network book false link one.2 two.1)
+  already_alone down told at other more one two = absurd two
+
+  -- where no epoch is left for it, each answer says so
+  service_spent_alone : (down : Bool) (at : ℕ) (other : Reply) (more : Option Entry) → IsServiceAnswer network book down link (Spent at) None → IsServiceAnswer network book down link other more
+      → (Spent at ≡ other) × (None ≡ more)
+  service_spent_alone down at (Already tells when) None one two = absurd (stands_once network book down link two.2 one.2)
+  service_spent_alone down at (Spent when) None one two = let times : at ≡ when = one.0 ∙ sym two.0 in (ap Spent times, refl)
+  service_spent_alone true at (Down tells when) (Some entry) one two = absurd (omega (arith, one.1, two.0))
+  service_spent_alone false at (Up tells when) (Some entry) one two = absurd (omega (arith, one.1, two.0))
+  service_spent_alone down at other more one two = absurd two
+
+  -- where the link is taken out, each answer is that
+  down_alone : (told at : ℕ) (entry : Entry) (other : Reply) (more : Option Entry) → IsServiceAnswer network book true link (Down told at) (Some entry) → IsServiceAnswer network book true link other more
+      → (Down told at ≡ other) × (Some entry ≡ more)
+  down_alone told at entry (Already tells when) None one two = absurd (stands_once network book true link two.2 one.1)
+  down_alone told at entry (Spent when) None one two = absurd (omega (arith, one.0, two.1))
+  down_alone told at entry (Down tells when) (Some entry') one two =
+      let links : told ≡ tells = one.2 ∙ sym two.2 in
+      let times : at ≡ when = one.3 ∙ sym two.3 in
+      let entries : entry ≡ entry' = one.4 ∙ sym two.4 in
+      (ap (λ (n : ℕ). Down n at) links ∙ ap (Down tells) times, ap Some entries)
+  down_alone told at entry other more one two = absurd two
+
+  -- where it is put back, each answer is that
+  up_alone : (told at : ℕ) (entry : Entry) (other : Reply) (more : Option Entry) → IsServiceAnswer network book false link (Up told at) (Some entry) → IsServiceAnswer network book false link other more
+      → (Up told at ≡ other) × (Some entry ≡ more)
+  up_alone told at entry (Already tells when) None one two = absurd (stands_once network book false link two.2 one.1)
+  up_alone told at entry (Spent when) None one two = absurd (omega (arith, one.0, two.1))
+  up_alone told at entry (Up tells when) (Some entry') one two =
+      let links : told ≡ tells = one.2 ∙ sym two.2 in
+      let times : at ≡ when = one.3 ∙ sym two.3 in
+      let entries : entry ≡ entry' = one.4 ∙ sym two.4 in
+      (ap (λ (n : ℕ). Up n at) links ∙ ap (Up tells) times, ap Some entries)
+  up_alone told at entry other more one two = absurd two
+
+  -- the operator's command has one answer at a book, and one entry of it
+  pub service_answer_unique : (down : Bool) (reply other : Reply) (entry more : Option Entry) → IsServiceAnswer network book down link reply entry → IsServiceAnswer network book down link other more
+      → (reply ≡ other) × (entry ≡ more)
+  service_answer_unique down (Already told at) other None more one two = already_alone down told at other more one two
+  service_answer_unique down (Spent at) other None more one two = service_spent_alone down at other more one two
+  service_answer_unique true (Down told at) other (Some entry) more one two = down_alone told at entry other more one two
+  service_answer_unique false (Up told at) other (Some entry) more one two = up_alone told at entry other more one two
+  service_answer_unique down reply other entry more one two = absurd one
+
+  -- the answer is that a customer is denied
+  record IsDenial (customer : List ℕ) (reply : Reply) (entry : Option Entry) : Type 0 where
+    tells : reply ≡ Denied book.epoch
+    denied : customer ≢ operator
+    alone : entry ≡ None
+
+  abbrev IsHeard : List ℕ → Bool → Reply → Option Entry → Type 0
+  IsHeard customer down reply entry = (customer ≡ operator) × IsServiceAnswer network book down link reply entry
+
+  operator_cases : (customer : List ℕ) (down : Bool) (reply : Reply) (entry : Option Entry) → IsOperatorAnswer network book customer down link reply entry → IsDenial customer reply entry ⊎ IsHeard customer down reply entry
+  operator_cases customer down (Denied at) None answer =
+      let times : at ≡ book.epoch = answer.0 in
+      inl (record { tells = ap Denied times; denied = answer.1; alone = refl })
+  operator_cases customer down reply entry answer = inr answer
+
+  -- such a command has one answer at a book, and one entry of it
+  operator_answer_unique : (customer : List ℕ) (down : Bool) (reply other : Reply) (entry more : Option Entry) → IsOperatorAnswer network book customer down link reply entry
+      → IsOperatorAnswer network book customer down link other more → (reply ≡ other) × (entry ≡ more)
+  operator_answer_unique customer down reply other entry more one two = at (operator_cases customer down reply entry one) (operator_cases customer down other more two)
+    where
+      at : IsDenial customer reply entry ⊎ IsHeard customer down reply entry → IsDenial customer other more ⊎ IsHeard customer down other more → (reply ≡ other) × (entry ≡ more)
+      at (inl denial) (inl also) = (denial.tells ∙ sym also.tells, denial.alone ∙ sym also.alone)
+      at (inl denial) (inr heard) = absurd (denial.denied heard.0)
+      at (inr heard) (inl denial) = absurd (denial.denied heard.0)
+      at (inr heard) (inr also) = service_answer_unique down reply other entry more heard.1 also.1
 
 module _ (network : Network) (is : IsNetwork network) (book : Book) (place : ℕ) (hose : List (ℕ × ℕ)) (held : Held) where
   -- where no number is free, each answer says so
@@ -309,6 +400,10 @@ answer_unique network is epoch history customer held (Show id) reply other entry
     let same = show_answer_unique network (book_of epoch history) customer id reply other entry more (live_ids epoch history) one.0 two.0 in (same.0, same.1, one.1 ∙ sym two.1)
 answer_unique network is epoch history customer held (Link link) reply other entry more after left one two =
     let same = link_answer_unique (book_of epoch history) link reply other entry more one.0 two.0 in (same.0, same.1, one.1 ∙ sym two.1)
+answer_unique network is epoch history customer held (DownCommand link) reply other entry more after left one two =
+    let same = operator_answer_unique network (book_of epoch history) link customer true reply other entry more one.0 two.0 in (same.0, same.1, one.1 ∙ sym two.1)
+answer_unique network is epoch history customer held (UpCommand link) reply other entry more after left one two =
+    let same = operator_answer_unique network (book_of epoch history) link customer false reply other entry more one.0 two.0 in (same.0, same.1, one.1 ∙ sym two.1)
 
 -- no reply is for want of memory or for a failure of the disk
 pub record AllAnswer (replies : List Reply) : Type 0 where

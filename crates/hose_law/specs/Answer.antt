@@ -1,20 +1,22 @@
 -- What the sequential book answers to a command, and the steps that this allows.
-use Rattle.std.specs.Prelude.{◌≡◌, ℕ, ◌+◌, ◌<◌, ◌≤◌, List, [], ◌∷◌, ◌++◌, length, take, None, Some, Option, IsSome, ⊤}
+use Rattle.std.specs.Prelude.{◌≡◌, ◌≢◌, Bool, true, false, not, ℕ, ◌+◌, ◌<◌, ◌≤◌, List, [], ◌∷◌, ◌++◌, length, take, None, Some, Option, IsSome, ⊤}
 use Rattle.hose_graph.specs.declared.entry.Entry.{Entry}
-use Rattle.hose_graph.specs.declared.entry.Entry.TheVariants.{Admit as AdmitEntry, Release as ReleaseEntry}
+use Rattle.hose_graph.specs.declared.entry.Entry.TheVariants.{Admit as AdmitEntry, Release as ReleaseEntry, Down as DownEntry, Up as UpEntry}
 use Rattle.hose_graph.specs.declared.command.Command.{Command}
-use Rattle.hose_graph.specs.declared.command.Command.TheVariants.{Admit, Quote, Take, Release, Show, Link}
+use Rattle.hose_graph.specs.declared.command.Command.TheVariants.{Admit, Quote, Take, Release, Show, Link, Down as DownCommand, Up as UpCommand}
 use Rattle.hose_graph.specs.declared.reply.Reply.{Reply}
-use Rattle.hose_graph.specs.declared.reply.Reply.TheVariants.{Admitted, Quoted, Refused, Stale, Full, Spent, Released, NoVpn, NoQuote, TooMany, Shown, LinkState, Disk, Memory}
+use Rattle.hose_graph.specs.declared.reply.Reply.TheVariants.{Admitted, Quoted, Refused, Stale, Full, Spent, Released, NoVpn, NoQuote, TooMany, Shown, LinkState, Down, Up, Already, Denied, Disk, Memory}
 use Rattle.hose_graph.specs.declared.vpn.Vpn.{Vpn}
 use Rattle.hose_graph.specs.Amounts.{ReservedLink}
 use Rattle.hose_graph.specs.Hose.{Endpoint}
+use Rattle.hose_graph.specs.Name.{operator}
 use Rattle.hose_graph.specs.Network.{Network}
 use Rattle.hose_law.specs.Plan.{plan_cost}
 use Rattle.hose_law.specs.Room.{room_of}
 use Rattle.hose_law.specs.Book.{Book, IsLiveVpn, HasVpn, load_of}
 use Rattle.hose_law.specs.Decision.{HaveEqualGrounds, IsPlanned, IsRefused}
 use Rattle.hose_law.specs.History.{book_of, last_epoch, most_live}
+use Rattle.hose_law.specs.Service.{LinkStands, is_out}
 use Rattle.hose_law.specs.Quotes.{Held, HeldQuote, at_number, free_number, with_number}
 
 -- ---- at a book
@@ -94,11 +96,34 @@ IsShowAnswer network book customer id (Shown told cost at hose amounts) None =
     × (cost ≡ plan_cost network vpn.amounts) × (hose ≡ vpn.hose) × (amounts ≡ vpn.amounts)
 IsShowAnswer network book customer id reply entry = ⊥
 
--- the answer to the question what is reserved on a link
+-- the answer to the question what is reserved on a link, and whether it is out of service
 abbrev pub IsLinkAnswer : Book → ℕ → Reply → Option Entry → Type 0
-IsLinkAnswer book link (LinkState told load at) None =
-    (told ≡ link) × (load ≡ load_of book link) × (at ≡ book.epoch)
+IsLinkAnswer book link (LinkState told load out at) None =
+    (told ≡ link) × (load ≡ load_of book link) × (out ≡ is_out book.out link) × (at ≡ book.epoch)
 IsLinkAnswer book link reply entry = ⊥
+
+-- The answer at a book to the operator's command to take a link out of service, where this is true,
+-- or to put it back: the first of already, spent that applies, else down or up. The entry is what
+-- joins the history.
+abbrev pub IsServiceAnswer : Network → Book → Bool → ℕ → Reply → Option Entry → Type 0
+IsServiceAnswer network book down link (Already told at) None =
+    (told ≡ link) × (at ≡ book.epoch) × LinkStands network book link down
+IsServiceAnswer network book down link (Spent at) None =
+    (at ≡ book.epoch) × (book.epoch ≡ last_epoch) × LinkStands network book link (not down)
+IsServiceAnswer network book true link (Down told at) (Some entry) =
+    (book.epoch < last_epoch) × LinkStands network book link false × (told ≡ link)
+    × (at ≡ book.epoch + 1) × (entry ≡ DownEntry link)
+IsServiceAnswer network book false link (Up told at) (Some entry) =
+    (book.epoch < last_epoch) × LinkStands network book link true × (told ≡ link)
+    × (at ≡ book.epoch + 1) × (entry ≡ UpEntry link)
+IsServiceAnswer network book down link reply entry = ⊥
+
+-- the answer to a customer who gives such a command: denied where this is not the operator
+abbrev pub IsOperatorAnswer : Network → Book → List ℕ → Bool → ℕ → Reply → Option Entry → Type 0
+IsOperatorAnswer network book customer down link (Denied at) None =
+    (at ≡ book.epoch) × (customer ≢ operator)
+IsOperatorAnswer network book customer down link reply entry =
+    (customer ≡ operator) × IsServiceAnswer network book down link reply entry
 
 -- ---- at a history
 
@@ -131,6 +156,12 @@ IsAnswer network epoch history customer held (Show id) reply entry after =
     IsShowAnswer network (book_of epoch history) customer id reply entry × (after ≡ held)
 IsAnswer network epoch history customer held (Link link) reply entry after =
     IsLinkAnswer (book_of epoch history) link reply entry × (after ≡ held)
+IsAnswer network epoch history customer held (DownCommand link) reply entry after =
+    IsOperatorAnswer network (book_of epoch history) customer true link reply entry
+    × (after ≡ held)
+IsAnswer network epoch history customer held (UpCommand link) reply entry after =
+    IsOperatorAnswer network (book_of epoch history) customer false link reply entry
+    × (after ≡ held)
 
 -- ---- steps
 
@@ -140,8 +171,8 @@ with_entry history None = history
 with_entry history (Some entry) = history ++ entry ∷ []
 
 -- Want of memory comes first at an admission and a release. It comes after too many quotes, after
--- no quote to be taken, and after no VPN to be told. What is reserved on a link is told in any
--- case.
+-- no quote to be taken, after no VPN to be told, and after a customer who is not the operator is
+-- denied. What is reserved on a link is told in any case.
 abbrev pub MayWantMemory : Book → List ℕ → Held → Command → Type 0
 MayWantMemory book customer held (Admit hose) = ⊤
 MayWantMemory book customer held (Quote hose) = IsSome (free_number held)
@@ -149,6 +180,8 @@ MayWantMemory book customer held (Take number) = IsSome (at_number held number)
 MayWantMemory book customer held (Release id) = ⊤
 MayWantMemory book customer held (Show id) = HasVpn book customer id
 MayWantMemory book customer held (Link link) = ⊥
+MayWantMemory book customer held (DownCommand link) = customer ≡ operator
+MayWantMemory book customer held (UpCommand link) = customer ≡ operator
 
 -- A step at a history, whose answer has this entry: the answer, with its entry added; or the disk
 -- failed to keep the entry, which is not added; or want of memory, which changes nothing.
@@ -175,6 +208,11 @@ IsStep network epoch history customer held command reply next after =
 
 -- the commands that may change what their customer holds
 abbrev pub ChangesHeld : Command → Type 0
+ChangesHeld (Admit hose) = ⊥
 ChangesHeld (Quote hose) = ⊤
 ChangesHeld (Take number) = ⊤
-ChangesHeld _ = ⊥
+ChangesHeld (Release id) = ⊥
+ChangesHeld (Show id) = ⊥
+ChangesHeld (Link link) = ⊥
+ChangesHeld (DownCommand link) = ⊥
+ChangesHeld (UpCommand link) = ⊥

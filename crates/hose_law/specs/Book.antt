@@ -1,4 +1,5 @@
--- The book: what is admitted and live, and what it reserves on each link.
+-- The book: what is admitted and live, what it reserves on each link, and which links are out of
+-- service.
 use Rattle.std.specs.Prelude.{◌≡◌, ℕ, ◌<◌, List, map, length, Contains, sum_by, if◌then◌else◌, ◌==◌}
 use Rattle.std.specs.List.{range_with_len}
 use Rattle.hose_graph.specs.declared.vpn.Vpn.{Vpn}
@@ -6,10 +7,12 @@ use Rattle.hose_graph.specs.Amounts.{ReservedLink, link_of, amount_of}
 use Rattle.hose_graph.specs.Network.{Network}
 use Rattle.hose_law.specs.Walk.{capacity_of}
 
--- an epoch, which counts the accepted entries, and the live VPNs in the order of their admission
+-- an epoch, which counts the accepted entries, the live VPNs in the order of their admission, and
+-- the links that are out of service
 pub record Book : Type 0 where
   pub epoch : ℕ
   pub live : List Vpn
+  pub out : List ℕ
 
 -- a live VPN is the one of this number, and is this customer's
 pub record IsLiveVpn (book : Book) (customer : List ℕ) (id : ℕ) (vpn : Vpn) : Type 0 where

@@ -68,21 +68,23 @@ pub record IsRefused (network : Network) (room : Room) (hose : List Endpoint)
   pub no_plan : (plan : List ReservedLink) → ¬ IsPlanned network room hose plan
   pub is_side : IsReachedList network (safe_links room hose) (lowest_end hose) side
 
--- The grounds of a decision: whether the first plan exists and fits; and where it does not, the
--- safe links, else no link.
-abbrev pub AreGrounds : Network → Room → List Endpoint → Bool → List Bool → Type 0
-AreGrounds network room hose true safe =
-    HasFirstFit network room hose × (safe ≡ replicate (length network.links) false)
-AreGrounds network room hose false safe =
-    (¬ HasFirstFit network room hose) × (safe ≡ safe_links room hose)
+-- The grounds of a decision: the links in service, over which the first plan is made; whether the
+-- first plan exists and fits; and where it does not, the safe links, else no link.
+abbrev pub AreGrounds : Network → Room → List Endpoint → List Bool → Bool → List Bool → Type 0
+AreGrounds network room hose service true safe =
+    (service ≡ room.links) × HasFirstFit network room hose
+    × (safe ≡ replicate (length network.links) false)
+AreGrounds network room hose service false safe =
+    (service ≡ room.links) × (¬ HasFirstFit network room hose) × (safe ≡ safe_links room hose)
 
 -- the decisions on a hose at two books have the same grounds
 pub record HaveEqualGrounds (network : Network) (one other : Book)
     (hose : List Endpoint) : Type 0 where
+  pub service : List Bool
   pub fits : Bool
   pub safe : List Bool
-  pub here : AreGrounds network (room_of network one) hose fits safe
-  pub there : AreGrounds network (room_of network other) hose fits safe
+  pub here : AreGrounds network (room_of network one) hose service fits safe
+  pub there : AreGrounds network (room_of network other) hose service fits safe
 
 -- The decisions on a hose at two books are the same: one admits it with a plan over a set just
 -- where the other does, and refuses it with a side just where the other does.

@@ -14,6 +14,7 @@ pub mod Room
 pub mod Route
 pub mod Row
 pub mod Script
+pub mod Service
 pub mod Tracks
 pub mod Transcript
 pub mod Tree

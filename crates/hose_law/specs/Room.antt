@@ -4,16 +4,18 @@ use Rattle.std.specs.List.{range_with_len}
 use Rattle.hose_graph.specs.Hose.{Endpoint, total_rate}
 use Rattle.hose_graph.specs.Network.{Network}
 use Rattle.hose_law.specs.Book.{Book, loads_of}
-use Rattle.hose_law.specs.Walk.{all_links, capacity_of}
+use Rattle.hose_law.specs.Service.{links_in_service}
+use Rattle.hose_law.specs.Walk.{capacity_of}
 
 -- the set of links over which the first plan is made, and what each link has free
 pub record Room : Type 0 where
   pub links : List Bool
   pub free : List ℕ
 
--- the links over which a book lets the first plan be made, and of which any tree may be: today all
+-- the links over which a book lets the first plan be made, and of which any tree may be: those in
+-- service
 abbrev pub first_links : Network → Book → List Bool
-first_links network book = all_links network
+first_links network book = links_in_service network book.out
 
 -- what each link has free beside its load: the rest of its capacity
 abbrev pub free_rates : Network → List ℕ → List ℕ

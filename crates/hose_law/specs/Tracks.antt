@@ -1,12 +1,14 @@
--- Which links the recent entries of a history touched, and so which loads may have changed.
+-- Which links the recent entries of a history touched: only their loads may have changed, and
+-- whether they are in service.
 use Rattle.std.specs.Prelude.{◌≡◌, ℕ, ◌+◌, ◌<◌, ◌≤◌, List, [], ◌∷◌, ◌++◌, filter, length, map, take, Contains}
 use Rattle.std.specs.List.{flat_map}
 use Rattle.hose_graph.specs.Ascending.{firsts}
 use Rattle.hose_graph.specs.declared.entry.Entry.{Entry}
-use Rattle.hose_graph.specs.declared.entry.Entry.TheVariants.{Admit, Release}
+use Rattle.hose_graph.specs.declared.entry.Entry.TheVariants.{Admit, Release, Down, Up}
 use Rattle.hose_graph.specs.declared.vpn.Vpn.{Vpn}
 use Rattle.hose_law.specs.Book.{Book, load_of}
 use Rattle.hose_law.specs.History.{book_of, is_vpn, next_book}
+use Rattle.hose_law.specs.Service.{is_out}
 
 -- a change: the epoch after an entry, and a link that the entry touched
 abbrev pub Change : Type 0
@@ -17,11 +19,14 @@ pub record Recent : Type 0 where
   pub floor : ℕ
   pub changes : List Change
 
--- the links that an entry touches at a book: those of the amounts that it admits or gives up
+-- the links that an entry touches at a book: those of the amounts that it admits or gives up, or
+-- the one that it takes out of service or puts back
 abbrev pub touched_links : Book → Entry → List ℕ
 touched_links book (Admit customer hose amounts) = firsts amounts
 touched_links book (Release customer id) =
     flat_map (λ (vpn : Vpn). firsts vpn.amounts) (filter (is_vpn customer id) book.live)
+touched_links book (Down link) = link ∷ []
+touched_links book (Up link) = link ∷ []
 
 -- links as changes of an epoch
 abbrev pub changes_of : ℕ → List ℕ → List Change
@@ -54,3 +59,10 @@ LoadsStay epoch history recent = (place link : ℕ)
     → place ≤ length history → recent.floor ≤ epoch + place
     → ¬ IsNamedSince recent.changes (epoch + place) link
     → load_of (book_of epoch (take place history)) link ≡ load_of (book_of epoch history) link
+
+-- so does whether it is out of service
+abbrev pub ServiceStays : ℕ → List Entry → Recent → Type 0
+ServiceStays epoch history recent = (place link : ℕ)
+    → place ≤ length history → recent.floor ≤ epoch + place
+    → ¬ IsNamedSince recent.changes (epoch + place) link
+    → is_out (book_of epoch (take place history)).out link ≡ is_out (book_of epoch history).out link

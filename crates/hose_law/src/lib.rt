@@ -19,7 +19,7 @@ ghost use Rattle.hose_law.specs.History.{IsSound, book_of};
 ghost use Rattle.hose_law.specs.Live.{AreLiveHeld, IsAdmission, StaysLive};
 ghost use Rattle.hose_law.specs.Plan.{plan_cost};
 ghost use Rattle.hose_law.specs.Route.{AreSame, HaveSameRoutes};
-ghost use Rattle.hose_law.specs.Tracks.{LoadsStay, Recent, Tracks};
+ghost use Rattle.hose_law.specs.Tracks.{LoadsStay, Recent, ServiceStays, Tracks};
 ghost use Rattle.hose_law.specs.Tree.{IsTree, IsTreeOver, growth};
 
 use hose_graph::{Amounts, Entry, Hose, Step, Topology};
@@ -105,9 +105,10 @@ pub fn law_grounds(top: &Topology, e0: u64, h: &[Entry], i: u64, j: u64, hose: &
         hose.now }
 {}
 
-/// Where changes of links track a history, each link's load stays, from each place at or above the
-/// floor on, unless a later change names the link.
+/// Where changes of links track a history, each link's load stays, and whether it is out of
+/// service, from each place at or above the floor on, unless a later change names the link.
 pub fn law_tracks(e0: u64, h: &[Entry], floor: u64, changes: &[(u64, u32)])
     requires { Tracks e0 h.now (record { floor = floor; changes = changes.now }) }
-    ensures { LoadsStay e0 h.now (record { floor = floor; changes = changes.now }) }
+    ensures loads { LoadsStay e0 h.now (record { floor = floor; changes = changes.now }) }
+    ensures service { ServiceStays e0 h.now (record { floor = floor; changes = changes.now }) }
 {}
