@@ -10,7 +10,7 @@ use hose_graph::{Row, Topology};
 use hose_links::LinkSet;
 use std::alloc::{AllocError, Global};
 
-/// All links of a topology, over which each hose is planned first.
+/// All links of a topology, in service or not.
 pub fn all_links(alloc: Global, top: &Topology) -> Result<LinkSet, AllocError>
     ensures links { IfOk result (λ links. links ≡ all_links top.now) }
     ensures places { IfOk result (λ links. length links ≡ length top.now.links) }

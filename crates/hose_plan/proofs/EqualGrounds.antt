@@ -5,7 +5,7 @@ use mathlib.Core.Bool.{beq}
 use Rattle.std.specs.Option.{IfSome}
 use Rattle.std.specs.Prelude.{◌↔◌, ◌&&◌, IsSomeAnd, IsTrue, nat_le, slice_index, slice_index_or}
 use Rattle.std.proofs.lemmas.Bool.{cases_lt, false≢true}
-use Rattle.std.proofs.lemmas.List.{get_or-replicate, get_or_past, length-replicate}
+use Rattle.std.proofs.lemmas.List.{get_or_past, length-replicate}
 use Rattle.std.proofs.lemmas.List.Elements.{All-contains, All-contains_itself, All-weaker}
 use Rattle.std.proofs.lemmas.List.FromFn.{fill_by_all, get_or-map-range_with_len, length-map-range_with_len}
 use Rattle.hose_graph.specs.Hose.{IsHose}
@@ -13,13 +13,13 @@ use Rattle.hose_graph.specs.Network.{Network, IsNetwork}
 use Rattle.hose_law.specs.Book.{Book, loads_of}
 use Rattle.hose_law.specs.CanonicalPlan.{IsCanonicalPlan}
 use Rattle.hose_law.specs.Decision.{AreGrounds, CanBeReserved, Fits, HasFirstFit, HaveEqualGrounds, IsPlanned}
-use Rattle.hose_law.specs.Room.{Room, free_rates, half_rate, room_of, safe_links}
+use Rattle.hose_law.specs.Room.{Room, first_links, free_rates, half_rate, room_of, safe_links}
 use Rattle.hose_law.specs.Tree.{links_of}
-use Rattle.hose_law.specs.Walk.{IsIn, all_links}
+use Rattle.hose_law.specs.Walk.{IsIn}
 use Rattle.hose_law.proofs.CanonicalPlans.{canonical_unique, planned_sound, same_planned}
 use Rattle.hose_tree.specs.Amounts.{AreOnLinks}
 use Rattle.hose_plan.specs.declared.decision.Grounds.{Grounds}
-use Rattle.hose_plan.specs.Planning.{AreGroundsOf, AreMade, HoldBySafe, room_beside}
+use Rattle.hose_plan.specs.Planning.{AreGroundsOf, AreMade, HoldBySafe, IsSafeStill, room_beside}
 use Rattle.hose_plan.specs.Rooting.{IsPlanOver}
 use Rattle.hose_plan.proofs.Deciding.{none_fits}
 
@@ -44,18 +44,26 @@ first_below network set hose None none = tt
 first_below network set hose (Some plan) is = plan_below network set hose plan is
 
 pub first_on_links : (network : Network) (grounds : Grounds) → AreMade network grounds → IfSome grounds.first (AreOnLinks network)
-first_on_links network grounds (hose, room, over, are) =
-    subst (λ (n : ℕ). IfSome grounds.first (All (λ (pair : ℕ × ℕ). pair.0 < n))) (ap length over ∙ length-replicate (length network.links) true)
-    (first_below network room.links hose grounds.first are.first)
+first_on_links network grounds (hose, room, places, are) =
+    subst (λ (n : ℕ). IfSome grounds.first (All (λ (pair : ℕ × ℕ). pair.0 < n))) places (first_below network room.links hose grounds.first are.first)
 
-places_of : (network : Network) (room : Room) (hose : List (ℕ × ℕ)) → room.links ≡ all_links network → (fits : Bool) (safe : List Bool) → AreGrounds network room hose fits safe
-    → length safe ≡ length network.links
-places_of network room hose over true safe are = ap length are.1 ∙ length-replicate (length network.links) false
-places_of network room hose over false safe are =
-    ap length are.1 ∙ length-map-range_with_len _ 0 (length room.links) ∙ ap length over ∙ length-replicate (length network.links) true
+-- the links in service of grounds are those over which the first plan is made
+pub service_is : (network : Network) (room : Room) (hose : List (ℕ × ℕ)) (service : List Bool) (fits : Bool) (safe : List Bool) → AreGrounds network room hose service fits safe
+    → service ≡ room.links
+service_is network room hose service true safe are = are.0
+service_is network room hose service false safe are = are.0
+
+places_of : (network : Network) (room : Room) (hose : List (ℕ × ℕ)) → length room.links ≡ length network.links → (service : List Bool) (fits : Bool) (safe : List Bool)
+    → AreGrounds network room hose service fits safe → length safe ≡ length network.links
+places_of network room hose places service true safe are = ap length are.2 ∙ length-replicate (length network.links) false
+places_of network room hose places service false safe are = ap length are.2 ∙ length-map-range_with_len _ 0 (length room.links) ∙ places
 
 pub safe_places : (network : Network) (grounds : Grounds) → AreMade network grounds → length grounds.safe ≡ length network.links
-safe_places network grounds (hose, room, over, are) = places_of network room hose over grounds.first_fits grounds.safe are.rests_on
+safe_places network grounds (hose, room, places, are) = places_of network room hose places grounds.service grounds.first_fits grounds.safe are.rests_on
+
+pub service_places : (network : Network) (grounds : Grounds) → AreMade network grounds → length grounds.service ≡ length network.links
+service_places network grounds (hose, room, places, are) =
+    ap length (service_is network room hose grounds.service grounds.first_fits grounds.safe are.rests_on) ∙ places
 
 -- ---- grounds at another room
 
@@ -70,42 +78,38 @@ first_fit network is room hose (Some plan) is_plan = (
 
 -- ---- the safe links at another room
 
-module _ (network : Network) (loads : List ℕ) (hose : List (ℕ × ℕ)) where
+module _ (network : Network) (service : List Bool) (loads : List ℕ) (hose : List (ℕ × ℕ)) (long : length service ≡ length network.links) where
   abbrev free : List ℕ
   free = free_rates network loads
 
   abbrev is_safe : ℕ → Bool
-  is_safe l = slice_index_or (all_links network) l false && nat_le (half_rate hose) (slice_index free l)
+  is_safe l = slice_index_or service l false && nat_le (half_rate hose) (slice_index free l)
 
-  -- of all links those are safe that have half of the rates free
-  safe_is : (l : ℕ) → l < length network.links → is_safe l ≡ nat_le (half_rate hose) (slice_index free l)
-  safe_is l below = ap (λ (b : Bool). b && nat_le (half_rate hose) (slice_index free l)) (get_or-replicate (length network.links) l true false below)
-
-  -- a set that has each link just where half of the rates is free there is that of the safe links
+  -- a set that has each link just where it is in service and half of the rates is free there is that of the safe links
   pub safe_from : (half : ℕ) (safe : List Bool) → half ≡ half_rate hose → length safe ≡ length network.links
-      → ((l : ℕ) → l < length network.links → slice_index_or safe l false ≡ nat_le half (slice_index free l)) → safe ≡ safe_links (room_beside network loads) hose
+      → ((l : ℕ) → l < length network.links → IsSafeStill network service loads half safe l) → safe ≡ safe_links (room_beside network service loads) hose
   safe_from half safe halves places each =
-      let long : length (all_links network) ≡ length network.links = length-replicate (length network.links) true in
-      fill_by_all is_safe safe (length (all_links network)) false (places ∙ sym long)
+      fill_by_all is_safe safe (length service) false (places ∙ sym long)
       (λ l below.
-      let inside : l < length network.links = omega (arith, below, long) in
-      each l inside ∙ ap (λ (n : ℕ). nat_le n (slice_index free l)) halves ∙ sym (safe_is l inside))
+      each l (omega (arith, below, long)) ∙ ap (λ (n : ℕ). slice_index_or service l false && nat_le n (slice_index free l)) halves)
 
   -- and that set has each link so
-  pub safe_at : (half : ℕ) (safe : List Bool) → half ≡ half_rate hose → safe ≡ safe_links (room_beside network loads) hose
-      → (l : ℕ) → l < length network.links → slice_index_or safe l false ≡ nat_le half (slice_index free l)
+  pub safe_at : (half : ℕ) (safe : List Bool) → half ≡ half_rate hose → safe ≡ safe_links (room_beside network service loads) hose
+      → (l : ℕ) → l < length network.links → IsSafeStill network service loads half safe l
   safe_at half safe halves same l inside =
-      let long : length (all_links network) ≡ length network.links = length-replicate (length network.links) true in
       ap (λ (set : List Bool). slice_index_or set l false) same
-      ∙ get_or-map-range_with_len is_safe 0 (length (all_links network)) l l false (omega (arith, inside, long)) (omega arith)
-      ∙ safe_is l inside ∙ ap (λ (n : ℕ). nat_le n (slice_index free l)) (sym halves)
+      ∙ get_or-map-range_with_len is_safe 0 (length service) l l false (omega (arith, inside, long)) (omega arith)
+      ∙ ap (λ (n : ℕ). slice_index_or service l false && nat_le n (slice_index free l)) (sym halves)
 
 -- ---- grounds beside loads
 
-module _ (network : Network) (is : IsNetwork network) (loads : List ℕ) (earlier : Room) (over : earlier.links ≡ all_links network) (hose : List (ℕ × ℕ)) (grounds : Grounds)
-    (are : AreGroundsOf network earlier hose grounds) where
+module _ (network : Network) (is : IsNetwork network) (service : List Bool) (loads : List ℕ) (earlier : Room) (hose : List (ℕ × ℕ)) (grounds : Grounds)
+    (same_service : grounds.service ≡ service) (are : AreGroundsOf network earlier hose grounds) where
   abbrev here : Room
-  here = room_beside network loads
+  here = room_beside network service loads
+
+  over : earlier.links ≡ service
+  over = sym (service_is network earlier hose grounds.service grounds.first_fits grounds.safe are.rests_on) ∙ same_service
 
   -- the first plan is the same, as it is made over the same links
   first_here : IsPlanOver network here.links hose grounds.first
@@ -114,59 +118,79 @@ module _ (network : Network) (is : IsNetwork network) (loads : List ℕ) (earlie
   fit_here : IsSomeAnd grounds.first (Fits here.free) ↔ HasFirstFit network here hose
   fit_here = first_fit network is here hose grounds.first first_here
 
-  rests : (fits : Bool) → fits ≡ grounds.first_fits → AreGrounds network here hose fits grounds.safe → AreGroundsOf network here hose grounds
-  rests fits same on = record { first = first_here; half = are.half; rests_on = subst (λ (b : Bool). AreGrounds network here hose b grounds.safe) same on }
+  abbrev Rest : Bool → Type 0
+  Rest fits = AreGrounds network here hose grounds.service fits grounds.safe
 
-  rested : (fits : Bool) → fits ≡ grounds.first_fits → AreGroundsOf network here hose grounds → AreGrounds network here hose fits grounds.safe
-  rested fits same still = subst (λ (b : Bool). AreGrounds network here hose b grounds.safe) (sym same) still.rests_on
+  rests : (fits : Bool) → fits ≡ grounds.first_fits → Rest fits → AreGroundsOf network here hose grounds
+  rests fits same on = record { first = first_here; half = are.half; rests_on = subst Rest same on }
+
+  rested : (fits : Bool) → fits ≡ grounds.first_fits → AreGroundsOf network here hose grounds → Rest fits
+  rested fits same still = subst Rest (sym same) still.rests_on
 
   -- The grounds hold just where the first plan fits as before and, where it does not fit, the safe links are the same.
   pub hold_by_safe : (fits : Bool) → IsTrue fits ↔ IsSomeAnd grounds.first (Fits here.free)
       → HoldBySafe network here hose grounds (beq fits grounds.first_fits) ↔ AreGroundsOf network here hose grounds
   hold_by_safe fits tells = at fits grounds.first_fits refl tells are.rests_on
     where
-      at : (fits wanted : Bool) → wanted ≡ grounds.first_fits → IsTrue fits ↔ IsSomeAnd grounds.first (Fits here.free) → AreGrounds network earlier hose wanted grounds.safe
+      at : (fits wanted : Bool) → wanted ≡ grounds.first_fits → IsTrue fits ↔ IsSomeAnd grounds.first (Fits here.free) → AreGrounds network earlier hose grounds.service wanted grounds.safe
           → (IsTrue (beq fits wanted) × (wanted ≡ false → grounds.safe ≡ safe_links here hose)) ↔ AreGroundsOf network here hose grounds
-      at true true same tells on = (λ hold. rests true same (fit_here.0 (tells.0 refl), on.1), λ still. (refl, λ no. absurd (false≢true (sym no))))
+      at true true same tells on = (λ hold. rests true same (same_service, fit_here.0 (tells.0 refl), on.2), λ still. (refl, λ no. absurd (false≢true (sym no))))
       at false false same tells on = (
-        λ hold. rests false same (λ has. false≢true (tells.1 (fit_here.1 has)), hold.1 refl),
-        λ still. (refl, λ _. (rested false same still).1),
+        λ hold. rests false same (same_service, λ has. false≢true (tells.1 (fit_here.1 has)), hold.1 refl),
+        λ still. (refl, λ _. (rested false same still).2),
       )
-      at true false same tells on = (λ hold. absurd (false≢true hold.0), λ still. absurd ((rested false same still).0 (fit_here.0 (tells.0 refl))))
-      at false true same tells on = (λ hold. absurd (false≢true hold.0), λ still. absurd (false≢true (tells.1 (fit_here.1 (rested true same still).0))))
+      at true false same tells on = (λ hold. absurd (false≢true hold.0), λ still. absurd ((rested false same still).1 (fit_here.0 (tells.0 refl))))
+      at false true same tells on = (λ hold. absurd (false≢true hold.0), λ still. absurd (false≢true (tells.1 (fit_here.1 (rested true same still).1))))
+
+-- where the links in service are others, the grounds do not hold
+pub other_service : (network : Network) (service : List Bool) (loads : List ℕ) (hose : List (ℕ × ℕ)) (grounds : Grounds) → (¬ (grounds.service ≡ service))
+    → ¬ AreGroundsOf network (room_beside network service loads) hose grounds
+other_service network service loads hose grounds differ still =
+    differ (service_is network (room_beside network service loads) hose grounds.service grounds.first_fits grounds.safe still.rests_on)
 
 -- ---- grounds at two books
 
 -- the grounds of a hose at a room are equal in any telling
-grounds_unique : (network : Network) (room : Room) (hose : List (ℕ × ℕ)) (fits other : Bool) (safe more : List Bool) → AreGrounds network room hose fits safe
-    → AreGrounds network room hose other more → (fits ≡ other) × (safe ≡ more)
-grounds_unique network room hose true true safe more one two = (refl, one.1 ∙ sym two.1)
-grounds_unique network room hose false false safe more one two = (refl, one.1 ∙ sym two.1)
-grounds_unique network room hose true false safe more one two = absurd (two.0 one.0)
-grounds_unique network room hose false true safe more one two = absurd (one.0 two.0)
+grounds_unique : (network : Network) (room : Room) (hose : List (ℕ × ℕ)) (service served : List Bool) (fits other : Bool) (safe more : List Bool) → AreGrounds network room hose service fits safe
+    → AreGrounds network room hose served other more → (service ≡ served) × (fits ≡ other) × (safe ≡ more)
+grounds_unique network room hose service served true true safe more one two = (one.0 ∙ sym two.0, refl, one.2 ∙ sym two.2)
+grounds_unique network room hose service served false false safe more one two = (one.0 ∙ sym two.0, refl, one.2 ∙ sym two.2)
+grounds_unique network room hose service served true false safe more one two = absurd (two.1 one.1)
+grounds_unique network room hose service served false true safe more one two = absurd (one.1 two.1)
 
 -- grounds of a hose at a book are its grounds at another just where the two books give it equal ones
 pub equal_grounds : (network : Network) (earlier now : Book) (hose : List (ℕ × ℕ)) (grounds : Grounds) → AreGroundsOf network (room_of network earlier) hose grounds
     → AreGroundsOf network (room_of network now) hose grounds ↔ HaveEqualGrounds network earlier now hose
 equal_grounds network earlier now hose grounds are = (
-  λ still. record { fits = grounds.first_fits; safe = grounds.safe; here = are.rests_on; there = still.rests_on },
+  λ still. record { service = grounds.service; fits = grounds.first_fits; safe = grounds.safe; here = are.rests_on; there = still.rests_on },
   λ equal.
-      let same = grounds_unique network (room_of network earlier) hose equal.fits grounds.first_fits equal.safe grounds.safe equal.here are.rests_on in
-      let fits = subst (λ (b : Bool). AreGrounds network (room_of network now) hose b equal.safe) same.0 equal.there in
-      record { first = are.first; half = are.half; rests_on = subst (AreGrounds network (room_of network now) hose grounds.first_fits) same.1 fits },
+      let one = room_of network earlier in
+      let two = room_of network now in
+      let same = grounds_unique network one hose equal.service grounds.service equal.fits grounds.first_fits equal.safe grounds.safe equal.here are.rests_on in
+      let links : one.links ≡ two.links = sym (service_is network one hose equal.service equal.fits equal.safe equal.here) ∙ service_is network two hose equal.service equal.fits equal.safe equal.there in
+      let served = subst (λ (set : List Bool). AreGrounds network two hose set equal.fits equal.safe) same.0 equal.there in
+      let fits = subst (λ (b : Bool). AreGrounds network two hose grounds.service b equal.safe) same.1 served in
+      record {
+        first = subst (λ (set : List Bool). IsPlanOver network set hose grounds.first) links are.first;
+        half = are.half;
+        rests_on = subst (AreGrounds network two hose grounds.service grounds.first_fits) same.2 fits;
+      },
 )
 
 -- what tells of each room whether the grounds hold tells it of each book
-pub hold_at_books : (network : Network) (loads : List ℕ) (grounds : Grounds) (holds : Bool)
-    → ((hose : List (ℕ × ℕ)) (earlier : Room) → earlier.links ≡ all_links network → AreGroundsOf network earlier hose grounds
-    → IsTrue holds ↔ AreGroundsOf network (room_beside network loads) hose grounds)
-    → (hose : List (ℕ × ℕ)) (earlier now : Book) → loads ≡ loads_of network now → AreGroundsOf network (room_of network earlier) hose grounds
+pub hold_at_books : (network : Network) (service : List Bool) (loads : List ℕ) (grounds : Grounds) (holds : Bool)
+    → ((hose : List (ℕ × ℕ)) (earlier : Room) → AreGroundsOf network earlier hose grounds
+    → IsTrue holds ↔ AreGroundsOf network (room_beside network service loads) hose grounds)
+    → (hose : List (ℕ × ℕ)) (earlier now : Book) → service ≡ first_links network now → loads ≡ loads_of network now → AreGroundsOf network (room_of network earlier) hose grounds
     → IsTrue holds ↔ HaveEqualGrounds network earlier now hose
-hold_at_books network loads grounds holds rooms hose earlier now same are =
-    let tells = rooms hose (room_of network earlier) refl are in
-    let equal = equal_grounds network earlier now hose grounds are in (
-      λ yes. equal.0 (subst (λ (l : List ℕ). AreGroundsOf network (room_beside network l) hose grounds) same (tells.0 yes)),
-      λ both. tells.1 (subst (λ (l : List ℕ). AreGroundsOf network (room_beside network l) hose grounds) (sym same) (equal.1 both)),
+hold_at_books network service loads grounds holds rooms hose earlier now served same are =
+    let tells = rooms hose (room_of network earlier) are in
+    let equal = equal_grounds network earlier now hose grounds are in
+    let Here : Room → Type 0 = λ room. AreGroundsOf network room hose grounds in
+    let room : room_beside network service loads ≡ room_of network now =
+    ap (λ (set : List Bool). room_beside network set loads) served ∙ ap (room_beside network (first_links network now)) same in (
+      λ yes. equal.0 (subst Here room (tells.0 yes)),
+      λ both. tells.1 (subst Here (sym room) (equal.1 both)),
     )
 
 -- A plan of a hose at a book is its plan at each other at which its grounds are equal, and can be reserved there.
@@ -175,5 +199,5 @@ pub planned_here : (network : Network) → IsNetwork network → (earlier now : 
 planned_here network is earlier now hose plan is_hose equal planned =
     let one = room_of network earlier in
     let two = room_of network now in
-    let here = same_planned network one two refl hose equal.fits equal.safe equal.here equal.there planned.0 plan planned.1 in
+    let here = same_planned network one two hose equal.service equal.fits equal.safe equal.here equal.there planned.0 plan planned.1 in
     ((planned.0, here), planned_sound network is two hose planned.0 plan is_hose here)

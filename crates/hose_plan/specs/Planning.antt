@@ -1,5 +1,5 @@
--- What is decided of a hose beside loads, as the planner answers it.
-use Rattle.std.specs.Prelude.{◌≡◌, ℕ, ◌<◌, Bool, false, List, All, IsTrue, length, nat_le, slice_index, slice_index_or, if◌then◌else◌, ⊤}
+-- What is decided of a hose over the links in service and beside loads, as the planner answers it.
+use Rattle.std.specs.Prelude.{◌≡◌, ℕ, ◌<◌, ◌&&◌, Bool, false, List, All, IsTrue, length, nat_le, slice_index, slice_index_or, if◌then◌else◌, ⊤}
 use Rattle.hose_plan.specs.declared.decision.Grounds.{Grounds}
 use Rattle.hose_plan.specs.declared.decision.Decision.{Decision}
 use Rattle.hose_plan.specs.declared.decision.Decision.TheVariants.{Plan, Refused}
@@ -11,27 +11,30 @@ use Rattle.hose_law.specs.Decision.{AreGrounds, CanBeReserved, IsPlannedOver, Is
 use Rattle.hose_law.specs.Plan.{plan_cost}
 use Rattle.hose_law.specs.Room.{Room, free_rates, half_rate, safe_links}
 use Rattle.hose_law.specs.Tracks.{Change, IsNamedSince}
-use Rattle.hose_law.specs.Walk.{all_links}
 use Rattle.hose_plan.specs.Rooting.{IsPlanOver}
 
--- the room beside loads: the first plan may be made over all links, and each link has free what its
--- load leaves of its capacity
-abbrev pub room_beside : Network → List ℕ → Room
-room_beside network loads = record { links = all_links network; free = free_rates network loads }
+-- the room beside loads: the first plan may be made over the links in service, and each link has
+-- free what its load leaves of its capacity
+abbrev pub room_beside : Network → List Bool → List ℕ → Room
+room_beside network service loads =
+    record { links = service; free = free_rates network loads }
 
 -- these are the grounds of the decision, with the hose's first plan, or none where there is none
 pub record AreGroundsOf (network : Network) (room : Room) (hose : List Endpoint)
     (grounds : Grounds) : Type 0 where
   pub first : IsPlanOver network room.links hose grounds.first
   pub half : grounds.half ≡ half_rate hose
-  pub rests_on : AreGrounds network room hose grounds.first_fits grounds.safe
+  pub rests_on : AreGrounds network room hose grounds.service grounds.first_fits grounds.safe
 
--- these are the grounds of some hose at some room in which the first plan may be made over all
--- links
+-- these are the grounds of some hose at some room, with a place in service for each link
 abbrev pub AreMade : Network → Grounds → Type 0
 AreMade network grounds =
-    (hose : List Endpoint) × (room : Room) × (room.links ≡ all_links network)
+    (hose : List Endpoint) × (room : Room) × (length room.links ≡ length network.links)
     × AreGroundsOf network room hose grounds
+
+-- a link is in service just where it was
+abbrev pub IsServedStill : List Bool → List Bool → ℕ → Type 0
+IsServedStill before now l = slice_index_or before l false ≡ slice_index_or now l false
 
 -- the loads are those of before, but on the links that a pair of a later epoch names
 abbrev pub AreLoadsSince : Network → List Change → ℕ → List ℕ → List ℕ → Type 0
@@ -39,19 +42,29 @@ AreLoadsSince network changes seen before now =
     (l : ℕ) → l < length network.links → (¬ IsNamedSince changes seen l)
     → slice_index before l ≡ slice_index now l
 
--- these are the grounds of some hose beside loads that were these, but on the links that a pair of
--- a later epoch names
-pub record AreMadeSince (network : Network) (now : List ℕ) (grounds : Grounds)
-    (changes : List Change) (seen : ℕ) : Type 0 where
-  pub hose : List Endpoint
-  pub before : List ℕ
-  pub same : AreLoadsSince network changes seen before now
-  pub are : AreGroundsOf network (room_beside network before) hose grounds
+-- the links in service are those of before, but for the links that a pair of a later epoch names
+abbrev pub AreServedSince : Network → List Change → ℕ → List Bool → List Bool → Type 0
+AreServedSince network changes seen before now =
+    (l : ℕ) → l < length network.links → (¬ IsNamedSince changes seen l)
+    → IsServedStill before now l
 
--- a link is in a set just where it has this much free beside loads
-abbrev pub IsSafeStill : Network → List ℕ → ℕ → List Bool → ℕ → Type 0
-IsSafeStill network loads half safe l =
-    slice_index_or safe l false ≡ nat_le half (slice_index (free_rates network loads) l)
+-- these are the grounds of some hose over links in service and beside loads that were these, but on
+-- the links that a pair of a later epoch names
+pub record AreMadeSince (network : Network) (service : List Bool) (now : List ℕ)
+    (grounds : Grounds) (changes : List Change) (seen : ℕ) : Type 0 where
+  pub hose : List Endpoint
+  pub served : List Bool
+  pub before : List ℕ
+  pub places : length served ≡ length network.links
+  pub same_service : AreServedSince network changes seen served service
+  pub same : AreLoadsSince network changes seen before now
+  pub are : AreGroundsOf network (room_beside network served before) hose grounds
+
+-- a link is in a set just where it is in service and has this much free beside loads
+abbrev pub IsSafeStill : Network → List Bool → List ℕ → ℕ → List Bool → ℕ → Type 0
+IsSafeStill network service loads half safe l =
+    slice_index_or safe l false
+    ≡ (slice_index_or service l false && nat_le half (slice_index (free_rates network loads) l))
 
 -- the first plan fits just where it did, and where it does not fit the safe links are the same
 abbrev pub HoldBySafe : Network → Room → List Endpoint → Grounds → Bool → Type 0

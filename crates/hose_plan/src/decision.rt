@@ -1,9 +1,8 @@
 // The decision on a hose, and its grounds.
-ghost use Rattle.std.specs.Prelude.{IfOk};
+ghost use Rattle.std.specs.Prelude.{◌≡◌, IfOk, length};
 ghost use Rattle.hose_graph.specs.Hose.{IsHose};
 ghost use Rattle.hose_law.specs.Decision.{HasFirstFit};
 ghost use Rattle.hose_law.specs.Plan.{AreNodes};
-ghost use Rattle.hose_law.specs.Walk.{all_links};
 ghost use Rattle.hose_plan.specs.Planning.{IsCheapestDecision, IsDecision, IsSoundDecision, NamesNodes, room_beside};
 ghost use Rattle.hose_plan.specs.Rooting.{IsPlanOver};
 ghost use Rattle.hose_tree.specs.Amounts.{AreCarried};
@@ -12,7 +11,7 @@ use crate::canonical::plan;
 use crate::safe::safe_links;
 use hose_graph::{Amounts, Hose, NodeList, Topology};
 use hose_links::LinkSet;
-use hose_paths::{RowMaker, all_links};
+use hose_paths::RowMaker;
 use hose_tree::{cost, fits, reached};
 use std::alloc::{AllocError, Global};
 
@@ -25,9 +24,11 @@ pub struct Grounds {
     pub half: u64,
     /// Whether the first plan exists, and each of its amounts is at most what its link has free.
     pub first_fits: bool,
-    /// The links that have half of the hose's rates free; no link where the first plan fits, since
-    /// the others do not matter then.
+    /// The links in service that have half of the hose's rates free; no link where the first plan
+    /// fits, since the others do not matter then.
     pub safe: LinkSet,
+    /// The links in service, over which the first plan is made.
+    pub service: LinkSet,
 }
 
 /// What is decided of a hose.
@@ -49,8 +50,10 @@ pub enum Decision {
     },
 }
 
-/// Decides on a hose beside the loads of a topology's links: the first plan where it fits, else the
-/// plan over the safe links, else a refusal. There is a load for each link, at most its capacity.
+/// Decides on a hose over the links in service of a topology and beside the loads of its links: the
+/// first plan, over the links in service, where it fits, else the plan over the safe ones of them,
+/// else a refusal. There is a place in service and a load for each link, the load at most the
+/// link's capacity.
 ///
 /// A plan carries all traffic within the hose's rates, and no amounts on any tree over the links
 /// that are then allowed carry it at less cost. That is this project's own law, for one rate an
@@ -59,27 +62,28 @@ pub enum Decision {
 pub fn decide<R: RowMaker>(
     alloc: Global,
     top: &Topology,
+    service: &LinkSet,
     loads: &[u64],
     hose: &Hose,
     rows: &mut R,
 ) -> Result<Decision, AllocError>
+    requires service { length service.now ≡ length top.now.links }
     requires loads { AreCarried top.now loads.now }
     requires nodes { AreNodes top.now hose.now }
     ensures decision { IfOk result
-        (IsDecision top.now (room_beside top.now loads.now) hose.now) }
+        (IsDecision top.now (room_beside top.now service.now loads.now) hose.now) }
     ensures sound { IfOk result
-        (IsSoundDecision top.now (room_beside top.now loads.now) hose.now) }
+        (IsSoundDecision top.now (room_beside top.now service.now loads.now) hose.now) }
     ensures cheapest { IfOk result
-        (IsCheapestDecision top.now (room_beside top.now loads.now) hose.now) }
+        (IsCheapestDecision top.now (room_beside top.now service.now loads.now) hose.now) }
     ensures names { IfOk result (NamesNodes top.now) }
     ensures hose { IfOk result (λ _. IsHose hose.now) }
 {
-    let all = all_links(alloc, top)?;
-    let Some(first) = plan(alloc, top, &all, hose, rows)? else {
-        return decide_over_safe(alloc, top, loads, hose, None, rows);
+    let Some(first) = plan(alloc, top, service, hose, rows)? else {
+        return decide_over_safe(alloc, top, service, loads, hose, None, rows);
     };
     if !fits(top, loads, &first) {
-        return decide_over_safe(alloc, top, loads, hose, Some(first), rows);
+        return decide_over_safe(alloc, top, service, loads, hose, Some(first), rows);
     }
     let cost = cost(top, &first);
     let amounts = first.copy(alloc)?;
@@ -88,6 +92,7 @@ pub fn decide<R: RowMaker>(
         half: hose.total() / 2,
         first_fits: true,
         safe: LinkSet::new(alloc, top.links())?,
+        service: service.copy(alloc)?,
     };
     Ok(Decision::Plan {
         grounds,
@@ -101,35 +106,39 @@ pub fn decide<R: RowMaker>(
 fn decide_over_safe<R: RowMaker>(
     alloc: Global,
     top: &Topology,
+    service: &LinkSet,
     loads: &[u64],
     hose: &Hose,
     first: Option<Amounts>,
     rows: &mut R,
 ) -> Result<Decision, AllocError>
+    requires service { length service.now ≡ length top.now.links }
     requires loads { AreCarried top.now loads.now }
     requires nodes { AreNodes top.now hose.now }
-    requires first { IsPlanOver top.now (all_links top.now) hose.now first }
-    requires no_fit { ¬ HasFirstFit top.now (room_beside top.now loads.now) hose.now }
+    requires first { IsPlanOver top.now service.now hose.now first }
+    requires no_fit { ¬ HasFirstFit top.now (room_beside top.now service.now loads.now) hose.now }
     ensures decision { IfOk result
-        (IsDecision top.now (room_beside top.now loads.now) hose.now) }
+        (IsDecision top.now (room_beside top.now service.now loads.now) hose.now) }
     ensures sound { IfOk result
-        (IsSoundDecision top.now (room_beside top.now loads.now) hose.now) }
+        (IsSoundDecision top.now (room_beside top.now service.now loads.now) hose.now) }
     ensures cheapest { IfOk result
-        (IsCheapestDecision top.now (room_beside top.now loads.now) hose.now) }
+        (IsCheapestDecision top.now (room_beside top.now service.now loads.now) hose.now) }
     ensures names { IfOk result (NamesNodes top.now) }
     ensures hose { IfOk result (λ _. IsHose hose.now) }
 {
-    let safe = safe_links(alloc, top, loads, hose)?;
+    let safe = safe_links(alloc, top, service, loads, hose)?;
     let Some(amounts) = plan(alloc, top, &safe, hose, rows)? else {
         let side = reached(alloc, top, &safe, hose.ends()[0].0)?;
         return Ok(Decision::Refused { side });
     };
     let cost = cost(top, &amounts);
+    let service = service.copy(alloc)?;
     let grounds = Grounds {
         first,
         half: hose.total() / 2,
         first_fits: false,
         safe,
+        service,
     };
     Ok(Decision::Plan {
         grounds,

@@ -3,8 +3,7 @@ ghost use Rattle.std.specs.Prelude.{◌≡◌, ◌<◌, ◌↔◌, List, IfSome,
 ghost use Rattle.hose_graph.specs.Hose.{Endpoint};
 ghost use Rattle.hose_law.specs.Book.{Book, loads_of};
 ghost use Rattle.hose_law.specs.Decision.{Fits, HaveEqualGrounds};
-ghost use Rattle.hose_law.specs.Room.{Room, free_rates, half_rate, room_of, safe_links};
-ghost use Rattle.hose_law.specs.Walk.{all_links};
+ghost use Rattle.hose_law.specs.Room.{Room, first_links, free_rates, half_rate, room_of, safe_links};
 ghost use Rattle.hose_plan.specs.Planning.{AreGroundsOf, AreMade, HoldBySafe, IsSafeStill, room_beside};
 ghost use Rattle.hose_tree.specs.Amounts.{AreCarried, AreOnLinks};
 
@@ -13,50 +12,63 @@ use hose_graph::{Amounts, Topology};
 use hose_links::LinkSet;
 use hose_tree::{fits, free_rate};
 
-/// Whether the grounds of the hose beside these loads equal the given ones, which are those of a
-/// decision on it beside others: then the decision is the same too. There is a load for each link
-/// of the topology, at most its capacity.
-pub fn grounds_hold(top: &Topology, loads: &[u64], grounds: &Grounds) -> bool
+/// Whether the grounds of the hose over these links in service and beside these loads equal the
+/// given ones, which are those of a decision on it over others and beside others: then the decision
+/// is the same too. There is a place in service and a load for each link of the topology, the load
+/// at most the link's capacity.
+pub fn grounds_hold(top: &Topology, service: &LinkSet, loads: &[u64], grounds: &Grounds) -> bool
+    requires service { length service.now ≡ length top.now.links }
     requires loads { AreCarried top.now loads.now }
     requires made { AreMade top.now grounds.now }
-    ensures rooms { (hose : List Endpoint) (earlier : Room) → earlier.links ≡ all_links top.now
+    ensures rooms { (hose : List Endpoint) (earlier : Room)
         → AreGroundsOf top.now earlier hose grounds.now
         → (IsTrue result
-        ↔ AreGroundsOf top.now (room_beside top.now loads.now) hose grounds.now) }
-    ensures books { (hose : List Endpoint) (earlier now : Book) → loads.now ≡ loads_of top.now now
+        ↔ AreGroundsOf top.now (room_beside top.now service.now loads.now) hose grounds.now) }
+    ensures books { (hose : List Endpoint) (earlier now : Book)
+        → service.now ≡ first_links top.now now → loads.now ≡ loads_of top.now now
         → AreGroundsOf top.now (room_of top.now earlier) hose grounds.now
         → (IsTrue result ↔ HaveEqualGrounds top.now earlier now hose) }
 {
-    are_grounds(top, loads, grounds)
+    are_grounds(top, service, loads, grounds)
 }
 
 // The same of rooms.
-fn are_grounds(top: &Topology, loads: &[u64], grounds: &Grounds) -> bool
+fn are_grounds(top: &Topology, service: &LinkSet, loads: &[u64], grounds: &Grounds) -> bool
+    requires service { length service.now ≡ length top.now.links }
     requires loads { AreCarried top.now loads.now }
     requires made { AreMade top.now grounds.now }
-    ensures { (hose : List Endpoint) (earlier : Room) → earlier.links ≡ all_links top.now
+    ensures { (hose : List Endpoint) (earlier : Room)
         → AreGroundsOf top.now earlier hose grounds.now
         → (IsTrue result
-        ↔ AreGroundsOf top.now (room_beside top.now loads.now) hose grounds.now) }
+        ↔ AreGroundsOf top.now (room_beside top.now service.now loads.now) hose grounds.now) }
 {
-    if !fits_as_before(top, loads, grounds) {
+    if !service.same(&grounds.service) {
+        return false;
+    }
+    if !fits_as_before(top, service, loads, grounds) {
         return false;
     }
     if grounds.first_fits {
         return true;
     }
-    are_safe(top, loads, grounds.half, &grounds.safe)
+    are_safe(top, service, loads, grounds.half, &grounds.safe)
 }
 
-// Whether the first plan fits just where it did. Then the grounds hold where it fits, and where it
-// does not just where the safe links are the same.
-pub(crate) fn fits_as_before(top: &Topology, loads: &[u64], grounds: &Grounds) -> bool
+// Whether the first plan fits just where it did, over the same links in service. Then the grounds
+// hold where it fits, and where it does not just where the safe links are the same.
+pub(crate) fn fits_as_before(
+    top: &Topology,
+    service: &LinkSet,
+    loads: &[u64],
+    grounds: &Grounds,
+) -> bool
+    requires same { grounds.now.service ≡ service.now }
     requires loads { AreCarried top.now loads.now }
     requires made { AreMade top.now grounds.now }
-    ensures { (hose : List Endpoint) (earlier : Room) → earlier.links ≡ all_links top.now
+    ensures { (hose : List Endpoint) (earlier : Room)
         → AreGroundsOf top.now earlier hose grounds.now
-        → (HoldBySafe top.now (room_beside top.now loads.now) hose grounds.now result
-        ↔ AreGroundsOf top.now (room_beside top.now loads.now) hose grounds.now) }
+        → (HoldBySafe top.now (room_beside top.now service.now loads.now) hose grounds.now result
+        ↔ AreGroundsOf top.now (room_beside top.now service.now loads.now) hose grounds.now) }
 {
     // The call tells the proof what holds of each network: that a hose has one plan over its links.
     let _nodes = top.nodes();
@@ -75,33 +87,37 @@ fn first_fits(top: &Topology, loads: &[u64], first: &Option<Amounts>) -> bool
     }
 }
 
-// Whether the links that have this much free are those of the set.
-fn are_safe(top: &Topology, loads: &[u64], half: u64, safe: &LinkSet) -> bool
+// Whether the links in service that have this much free are those of the set.
+fn are_safe(top: &Topology, service: &LinkSet, loads: &[u64], half: u64, safe: &LinkSet) -> bool
+    requires service { length service.now ≡ length top.now.links }
     requires loads { AreCarried top.now loads.now }
     requires places { length safe.now ≡ length top.now.links }
     ensures { (hose : List Endpoint) → half ≡ half_rate hose
-        → (IsTrue result ↔ (safe.now ≡ safe_links (room_beside top.now loads.now) hose)) }
+        → (IsTrue result
+        ↔ (safe.now ≡ safe_links (room_beside top.now service.now loads.now) hose)) }
 {
     for link in 0..top.links() {
-        if !is_safe_as_before(top, loads, half, safe, link) {
+        if !is_safe_as_before(top, service, loads, half, safe, link) {
             return false;
         }
     }
     true
 }
 
-// Whether a link of the topology is in the set just where it has this much free.
+// Whether a link of the topology is in the set just where it is in service and has this much free.
 pub(crate) fn is_safe_as_before(
     top: &Topology,
+    service: &LinkSet,
     loads: &[u64],
     half: u64,
     safe: &LinkSet,
     link: u32,
 ) -> bool
+    requires service { length service.now ≡ length top.now.links }
     requires loads { AreCarried top.now loads.now }
     requires places { length safe.now ≡ length top.now.links }
     requires link { link < length top.now.links }
-    ensures { IsTrue result ↔ IsSafeStill top.now loads.now half safe.now link }
+    ensures { IsTrue result ↔ IsSafeStill top.now service.now loads.now half safe.now link }
 {
-    safe.has(link) == (half <= free_rate(top, loads, link))
+    safe.has(link) == (service.has(link) && half <= free_rate(top, loads, link))
 }

@@ -1,8 +1,9 @@
-//! The planner: whether a hose is admitted beside the loads that a network carries, with which plan
-//! and at which cost, and on which grounds; and whether the grounds still hold beside other loads.
+//! The planner: whether a hose is admitted over the links in service of a network and beside the
+//! loads that it carries, with which plan and at which cost, and on which grounds; and whether the
+//! grounds still hold over other links and beside other loads.
 //!
 //! ```
-//! match decide(alloc, &top, &loads, &hose, &mut PlainRows::new())? {
+//! match decide(alloc, &top, &service, &loads, &hose, &mut PlainRows::new())? {
 //!     Decision::Plan { amounts, cost, .. } => reserve(amounts, cost),
 //!     Decision::Refused { side } => refuse(side),
 //! }

@@ -1,12 +1,11 @@
-// Whether the grounds of a decision still hold, by the links whose loads moved since.
+// Whether the grounds of a decision still hold, by the links that moved since.
 ghost use Rattle.std.specs.Prelude.{◌≡◌, ◌↔◌, ℕ, ◌<◌, List, IsTrue, length};
 ghost use Rattle.hose_graph.specs.Hose.{Endpoint};
 ghost use Rattle.hose_law.specs.Book.{Book, loads_of};
 ghost use Rattle.hose_law.specs.Decision.{HaveEqualGrounds};
-ghost use Rattle.hose_law.specs.Room.{Room, half_rate, room_of, safe_links};
+ghost use Rattle.hose_law.specs.Room.{Room, first_links, half_rate, room_of, safe_links};
 ghost use Rattle.hose_law.specs.Tracks.{IsNamedSince};
-ghost use Rattle.hose_law.specs.Walk.{all_links};
-ghost use Rattle.hose_plan.specs.Planning.{AreGroundsOf, AreMadeSince, IsSafeStill, room_beside};
+ghost use Rattle.hose_plan.specs.Planning.{AreGroundsOf, AreMadeSince, AreServedSince, IsSafeStill, room_beside};
 ghost use Rattle.hose_tree.specs.Amounts.{AreCarried};
 
 use crate::decision::Grounds;
@@ -14,76 +13,119 @@ use crate::holding::{fits_as_before, is_safe_as_before};
 use hose_graph::Topology;
 use hose_links::LinkSet;
 
-/// Whether the grounds of the hose beside these loads equal the given ones, as `grounds_hold` tells
-/// it, by the links alone whose loads moved. `seen` is the epoch at which the grounds were made,
-/// and a change is an epoch and the link whose load it changed: each link whose load is another by
-/// now stands in a change of an epoch above `seen`. The changes may stand in any order; those of
-/// other epochs are passed over, and so is a number that is no link's. There is a load for each
-/// link of the topology, at most its capacity. It takes no memory.
+/// Whether the grounds of the hose over these links in service and beside these loads equal the
+/// given ones, as `grounds_hold` tells it, by the links alone that moved. `seen` is the epoch at
+/// which the grounds were made, and a change is an epoch and the link that it touched: each link
+/// whose load is another by now, or that was taken out of service or put back, stands in a change
+/// of an epoch above `seen`. The changes may stand in any order; those of other epochs are passed
+/// over, and so is a number that is no link's. There is a place in service and a load for each link
+/// of the topology, the load at most the link's capacity. It takes no memory.
 pub fn grounds_hold_since(
     top: &Topology,
+    service: &LinkSet,
     loads: &[u64],
     grounds: &Grounds,
     changes: &[(u64, u32)],
     seen: u64,
 ) -> bool
+    requires service { length service.now ≡ length top.now.links }
     requires loads { AreCarried top.now loads.now }
-    requires made { AreMadeSince top.now loads.now grounds.now changes.now seen }
-    ensures rooms { (hose : List Endpoint) (earlier : Room) → earlier.links ≡ all_links top.now
+    requires made { AreMadeSince top.now service.now loads.now grounds.now changes.now seen }
+    ensures rooms { (hose : List Endpoint) (earlier : Room)
         → AreGroundsOf top.now earlier hose grounds.now
         → (IsTrue result
-        ↔ AreGroundsOf top.now (room_beside top.now loads.now) hose grounds.now) }
-    ensures books { (hose : List Endpoint) (earlier now : Book) → loads.now ≡ loads_of top.now now
+        ↔ AreGroundsOf top.now (room_beside top.now service.now loads.now) hose grounds.now) }
+    ensures books { (hose : List Endpoint) (earlier now : Book)
+        → service.now ≡ first_links top.now now → loads.now ≡ loads_of top.now now
         → AreGroundsOf top.now (room_of top.now earlier) hose grounds.now
         → (IsTrue result ↔ HaveEqualGrounds top.now earlier now hose) }
 {
-    are_grounds_since(top, loads, grounds, changes, seen)
+    are_grounds_since(top, service, loads, grounds, changes, seen)
 }
 
 // The same of rooms.
 fn are_grounds_since(
     top: &Topology,
+    service: &LinkSet,
     loads: &[u64],
     grounds: &Grounds,
     changes: &[(u64, u32)],
     seen: u64,
 ) -> bool
+    requires service { length service.now ≡ length top.now.links }
     requires loads { AreCarried top.now loads.now }
-    requires made { AreMadeSince top.now loads.now grounds.now changes.now seen }
-    ensures { (hose : List Endpoint) (earlier : Room) → earlier.links ≡ all_links top.now
+    requires made { AreMadeSince top.now service.now loads.now grounds.now changes.now seen }
+    ensures { (hose : List Endpoint) (earlier : Room)
         → AreGroundsOf top.now earlier hose grounds.now
         → (IsTrue result
-        ↔ AreGroundsOf top.now (room_beside top.now loads.now) hose grounds.now) }
+        ↔ AreGroundsOf top.now (room_beside top.now service.now loads.now) hose grounds.now) }
 {
-    if !fits_as_before(top, loads, grounds) {
+    if !is_service_since(top, service, &grounds.service, changes, seen) {
+        return false;
+    }
+    if !fits_as_before(top, service, loads, grounds) {
         return false;
     }
     if grounds.first_fits {
         return true;
     }
-    are_safe_since(top, loads, grounds.half, &grounds.safe, changes, seen)
+    are_safe_since(
+        top,
+        service,
+        loads,
+        grounds.half,
+        &grounds.safe,
+        changes,
+        seen,
+    )
 }
 
-// Whether the links that have this much free are those of the set, where it is known of all but
-// those that changes of later epochs name.
+// Whether the links in service are those that were, where it is known of all but those that changes
+// of later epochs name.
+fn is_service_since(
+    top: &Topology,
+    service: &LinkSet,
+    served: &LinkSet,
+    changes: &[(u64, u32)],
+    seen: u64,
+) -> bool
+    requires service { length service.now ≡ length top.now.links }
+    requires served { length served.now ≡ length top.now.links }
+    requires others { AreServedSince top.now changes.now seen served.now service.now }
+    ensures { IsTrue result ↔ (served.now ≡ service.now) }
+{
+    for &(at, touched) in changes {
+        let is_later = seen < at && touched < top.links();
+        if is_later && served.has(touched) != service.has(touched) {
+            return false;
+        }
+    }
+    true
+}
+
+// Whether the links in service that have this much free are those of the set, where it is known of
+// all but those that changes of later epochs name.
 fn are_safe_since(
     top: &Topology,
+    service: &LinkSet,
     loads: &[u64],
     half: u64,
     safe: &LinkSet,
     changes: &[(u64, u32)],
     seen: u64,
 ) -> bool
+    requires service { length service.now ≡ length top.now.links }
     requires loads { AreCarried top.now loads.now }
     requires places { length safe.now ≡ length top.now.links }
     requires others { (l : ℕ) → l < length top.now.links → (¬ IsNamedSince changes.now seen l)
-        → IsSafeStill top.now loads.now half safe.now l }
+        → IsSafeStill top.now service.now loads.now half safe.now l }
     ensures { (hose : List Endpoint) → half ≡ half_rate hose
-        → (IsTrue result ↔ (safe.now ≡ safe_links (room_beside top.now loads.now) hose)) }
+        → (IsTrue result
+        ↔ (safe.now ≡ safe_links (room_beside top.now service.now loads.now) hose)) }
 {
     for &(epoch, link) in changes {
         let is_named = epoch > seen && link < top.links();
-        if is_named && !is_safe_as_before(top, loads, half, safe, link) {
+        if is_named && !is_safe_as_before(top, service, loads, half, safe, link) {
             return false;
         }
     }

@@ -67,7 +67,8 @@ impl<T: Threads + Sync> RowMaker for PoolRows<'_, T> {
         links: &LinkSet,
         root: u32,
     ) -> Result<Row, AllocError> {
-        // Each hose is planned over all links first, so these rows are asked for again.
+        // While no link is out of service each hose is planned over all links first, so these rows
+        // are asked for again.
         if !has_all(links) {
             return HeapRows::new().row(alloc, top, links, root);
         }

@@ -5,5 +5,5 @@ pub first_fits-requires-clause-links : goal.first_fits-requires-clause-links
 first_fits-requires-clause-links c = first_on_links c.args.top.now c.args.grounds.now c.requires.made
 
 pub returns : goal.returns
-returns c hose earlier over are =
-    hold_by_safe c.args.top.now c.nodes-nodes.ensures.network c.args.loads.now earlier over hose c.args.grounds.now are c.first_fits.result c.first_fits.ensures
+returns c hose earlier are =
+    hold_by_safe c.args.top.now c.nodes-nodes.ensures.network c.args.service.now c.args.loads.now earlier hose c.args.grounds.now c.requires.same are c.first_fits.result c.first_fits.ensures
