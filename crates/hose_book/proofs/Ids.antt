@@ -16,8 +16,8 @@ use Rattle.hose_book.specs.Ledger.{Ledger}
 use Rattle.hose_law.specs.Live.{HasRisingIds, IsBetween, Rise}
 
 -- where nothing is live the ids rise
-pub none_rise : (epoch : ℕ) → HasRisingIds 0 (record { epoch = epoch; live = [] })
-none_rise epoch = record { begun = omega arith; rise = λ i j d less inside. absurd (omega (arith, inside)); between = All-nil (IsBetween 0 epoch) }
+pub none_rise : (epoch : ℕ) (out : List ℕ) → HasRisingIds 0 (record { epoch = epoch; live = []; out = out })
+none_rise epoch out = record { begun = omega arith; rise = λ i j d less inside. absurd (omega (arith, inside)); between = All-nil (IsBetween 0 epoch) }
 
 module _ (live : List Vpn) (id : ℕ) (rise : Rise live) where
   -- those below an id come first

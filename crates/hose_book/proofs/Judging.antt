@@ -1,75 +1,206 @@
 -- What a book says of an entry: it is sound, or there is one cause to refuse it.
-use Rattle.std.proofs.Common.{◌≡◌, ◌<◌, ◌≤◌, ◌↔◌, ℕ, List, Result, Ok, Err, IsOk, length, get_or, map, take, get_or-take, refl, sym, ap, subst, inl, inr, ◌∙◌, arith}
+use Rattle.std.proofs.Common.{◌≡◌, ◌<◌, ◌≤◌, ◌↔◌, ℕ, Bool, true, false, not, List, Result, Ok, Err, IsOk, length, get_or, map, take, get_or-take, refl, sym, ap, subst, inl, inr, ◌∙◌, arith}
 use Rattle.std.specs.Bool.{⊤}
-use Rattle.std.proofs.lemmas.Bool.{cases_eq, cases_lt}
+use mathlib.Core.Bool.{beq}
+use Rattle.std.specs.Prelude.{slice_index_or}
+use Rattle.std.proofs.lemmas.Bool.{cases_eq, cases_lt, false≢true}
 use Rattle.std.proofs.lemmas.List.{get_or-map, get_or_default, length-map, length-take}
 use Rattle.std.proofs.lemmas.List.Kept.{AllPairs-from_increasing}
 use Rattle.std.proofs.lemmas.List.Elements.{All-contains, Contains-get_or}
 use Rattle.hose_graph.specs.declared.entry.Entry.{Entry}
-use Rattle.hose_graph.specs.declared.entry.Entry.TheVariants.{Admit, Release}
+use Rattle.hose_graph.specs.declared.entry.Entry.TheVariants.{Admit, Release, Down, Up}
 use Rattle.hose_graph.specs.Network.{Network}
-use Rattle.hose_law.specs.Book.{Book}
-use Rattle.hose_law.specs.Decision.{Fits}
-use Rattle.hose_law.specs.History.{IsSoundAt}
-use Rattle.hose_law.specs.Room.{room_of}
+use Rattle.hose_law.specs.Book.{Book, HasVpn}
+use Rattle.hose_law.specs.Decision.{CanBeReserved, Fits}
+use Rattle.hose_law.specs.History.{IsSoundAt, last_epoch}
+use Rattle.hose_law.specs.Room.{first_links, room_of}
+use Rattle.hose_law.specs.Service.{LinkStands, is_out, service_entry}
+use Rattle.hose_law.specs.Walk.{IsIn}
+use Rattle.hose_law.proofs.Serving.{length-links_in_service, links_in_service-at}
+use Rattle.hose_law.proofs.Unique.{stands_once}
+use Rattle.hose_book.proofs.Served.{on_tree, served_on}
 use Rattle.hose_book.specs.declared.checking.BookRefusal.{BookRefusal}
-use Rattle.hose_book.specs.declared.checking.BookRefusal.TheVariants.{Spent, Full, NotATree, NoRoom, NoVpn}
+use Rattle.hose_book.specs.declared.checking.BookRefusal.TheVariants.{Spent, Full, NotATree, OutOfService, NoRoom, NoVpn, NoLink, Already}
 use Rattle.hose_graph.specs.Ascending.{IsAscending}
-use Rattle.hose_book.specs.Refusal.{IsAbove, IsLowestFull, IsRefusedFor, Judges}
+use Rattle.hose_book.specs.Refusal.{AreServed, HasPlace, IsAbove, IsLowestFull, IsLowestOut, IsRefusedAdmission, IsRefusedFor, IsRefusedRelease, IsRefusedService, Judges}
 
 module _ (network : Network) (book : Book) where
+  abbrev service : List Bool
+  service = first_links network book
+
+  -- an admission that is sound is not refused
+  sound_admission : (hose amounts : List (ℕ × ℕ)) (refusal : BookRefusal) → HasPlace book → CanBeReserved network (room_of network book) hose amounts → IsRefusedAdmission network book hose amounts refusal → ⊥
+  sound_admission hose amounts Spent place sound refused = omega (arith, place.epoch, refused)
+  sound_admission hose amounts Full place sound refused = omega (arith, place.room, refused.1)
+  sound_admission hose amounts NotATree place sound refused = refused.1 (on_tree network service hose amounts sound.on_tree (length-links_in_service network book.out))
+  sound_admission hose amounts (OutOfService link) place sound refused =
+      let out = refused.2 in
+      out.out (All-contains (λ (pair : ℕ × ℕ). IsIn service pair.0) amounts out.pair (served_on network service hose amounts sound.on_tree) out.there)
+  sound_admission hose amounts (NoRoom link) place sound refused =
+      let full = refused.3 in
+      let fits = All-contains (λ (pair : ℕ × ℕ). pair.1 ≤ get_or (room_of network book).free pair.0 0) amounts full.pair sound.fits full.there in omega (arith, fits, full.above)
+  sound_admission hose amounts NoVpn place sound refused = refused
+  sound_admission hose amounts NoLink place sound refused = refused
+  sound_admission hose amounts Already place sound refused = refused
+
+  -- nor a release
+  sound_release : (customer : List ℕ) (id : ℕ) (refusal : BookRefusal) → book.epoch < last_epoch → HasVpn book customer id → IsRefusedRelease book customer id refusal → ⊥
+  sound_release customer id Spent left has refused = omega (arith, left, refused.1)
+  sound_release customer id NoVpn left has refused = refused has
+  sound_release customer id Full left has refused = refused
+  sound_release customer id NotATree left has refused = refused
+  sound_release customer id (OutOfService link) left has refused = refused
+  sound_release customer id (NoRoom link) left has refused = refused
+  sound_release customer id NoLink left has refused = refused
+  sound_release customer id Already left has refused = refused
+
+  -- nor an entry on a link
+  sound_service : (down : Bool) (link : ℕ) (refusal : BookRefusal) → book.epoch < last_epoch → LinkStands network book link (not down) → IsRefusedService network book down link refusal → ⊥
+  sound_service down link NoLink left stands refused = refused stands.0
+  sound_service down link Already left stands refused = stands_once network book down link refused stands
+  sound_service down link Spent left stands refused = omega (arith, left, refused.1)
+  sound_service down link Full left stands refused = refused
+  sound_service down link NotATree left stands refused = refused
+  sound_service down link (OutOfService other) left stands refused = refused
+  sound_service down link (NoRoom other) left stands refused = refused
+  sound_service down link NoVpn left stands refused = refused
+
   -- what is sound is not refused
   sound_not_refused : (entry : Entry) (refusal : BookRefusal) → IsSoundAt network book entry → IsRefusedFor network book entry refusal → ⊥
-  sound_not_refused (Admit customer hose amounts) Spent sound refused = omega (arith, sound.0, refused)
-  sound_not_refused (Admit customer hose amounts) Full sound refused = omega (arith, sound.1, refused.1)
-  sound_not_refused (Admit customer hose amounts) NotATree sound refused = refused.1 sound.2.on_tree
-  sound_not_refused (Admit customer hose amounts) (NoRoom link) sound refused =
-      let full = refused.2 in
-      let fits = All-contains (λ (pair : ℕ × ℕ). pair.1 ≤ get_or (room_of network book).free pair.0 0) amounts full.pair sound.2.fits full.there in omega (arith, fits, full.above)
-  sound_not_refused (Admit customer hose amounts) NoVpn sound refused = refused
-  sound_not_refused (Release customer id) Spent sound refused = omega (arith, sound.0, refused.1)
-  sound_not_refused (Release customer id) NoVpn sound refused = refused sound.1
-  sound_not_refused (Release customer id) Full sound refused = refused
-  sound_not_refused (Release customer id) NotATree sound refused = refused
-  sound_not_refused (Release customer id) (NoRoom link) sound refused = refused
+  sound_not_refused (Admit customer hose amounts) refusal sound refused = sound_admission hose amounts refusal (record { epoch = sound.0; room = sound.1 }) sound.2 refused
+  sound_not_refused (Release customer id) refusal sound refused = sound_release customer id refusal sound.0 sound.1 refused
+  sound_not_refused (Down link) refusal sound refused = sound_service true link refusal sound.0 sound.1 refused
+  sound_not_refused (Up link) refusal sound refused = sound_service false link refusal sound.0 sound.1 refused
 
-  -- the lowest link without room is one
+  -- the lowest link without room is one, and so is the lowest that is out
   lowest_unique : (free : List ℕ) (amounts : List (ℕ × ℕ)) (one other : ℕ) → IsLowestFull free amounts one → IsLowestFull free amounts other → one ≡ other
   lowest_unique free amounts one other here there =
       let below = here.lowest there.pair there.there there.above in
       let above = there.lowest here.pair here.there here.above in
       omega (arith, below, above, here.here, there.here)
 
-  -- and it is refused for one cause
+  lowest_out_unique : (amounts : List (ℕ × ℕ)) (one other : ℕ) → IsLowestOut service amounts one → IsLowestOut service amounts other → one ≡ other
+  lowest_out_unique amounts one other here there =
+      let below = here.lowest there.pair there.there there.out in
+      let above = there.lowest here.pair here.there here.out in
+      omega (arith, below, above, here.here, there.here)
+
+  -- amounts of which one is on a link that is out are not all in service
+  not_served : (amounts : List (ℕ × ℕ)) (link : ℕ) → IsLowestOut service amounts link → AreServed service amounts → ⊥
+  not_served amounts link out served = out.out (All-contains (λ (pair : ℕ × ℕ). IsIn service pair.0) amounts out.pair served out.there)
+
+  -- an admission is refused for one cause
+  one_admission : (hose amounts : List (ℕ × ℕ)) (one other : BookRefusal) → IsRefusedAdmission network book hose amounts one → IsRefusedAdmission network book hose amounts other → one ≡ other
+  one_admission hose amounts Spent Spent here there = refl
+  one_admission hose amounts Spent Full here there = absurd (omega (arith, here, there.0))
+  one_admission hose amounts Spent NotATree here there = absurd (omega (arith, here, there.0.epoch))
+  one_admission hose amounts Spent (OutOfService link) here there = absurd (omega (arith, here, there.0.epoch))
+  one_admission hose amounts Spent (NoRoom link) here there = absurd (omega (arith, here, there.0.epoch))
+  one_admission hose amounts Full Spent here there = absurd (omega (arith, there, here.0))
+  one_admission hose amounts Full Full here there = refl
+  one_admission hose amounts Full NotATree here there = absurd (omega (arith, here.1, there.0.room))
+  one_admission hose amounts Full (OutOfService link) here there = absurd (omega (arith, here.1, there.0.room))
+  one_admission hose amounts Full (NoRoom link) here there = absurd (omega (arith, here.1, there.0.room))
+  one_admission hose amounts NotATree Spent here there = absurd (omega (arith, there, here.0.epoch))
+  one_admission hose amounts NotATree Full here there = absurd (omega (arith, there.1, here.0.room))
+  one_admission hose amounts NotATree NotATree here there = refl
+  one_admission hose amounts NotATree (OutOfService link) here there = absurd (here.1 there.1)
+  one_admission hose amounts NotATree (NoRoom link) here there = absurd (here.1 there.1)
+  one_admission hose amounts (OutOfService link) Spent here there = absurd (omega (arith, there, here.0.epoch))
+  one_admission hose amounts (OutOfService link) Full here there = absurd (omega (arith, there.1, here.0.room))
+  one_admission hose amounts (OutOfService link) NotATree here there = absurd (there.1 here.1)
+  one_admission hose amounts (OutOfService link) (OutOfService other) here there = ap OutOfService (lowest_out_unique amounts link other here.2 there.2)
+  one_admission hose amounts (OutOfService link) (NoRoom other) here there = absurd (not_served amounts link here.2 there.2)
+  one_admission hose amounts (NoRoom link) Spent here there = absurd (omega (arith, there, here.0.epoch))
+  one_admission hose amounts (NoRoom link) Full here there = absurd (omega (arith, there.1, here.0.room))
+  one_admission hose amounts (NoRoom link) NotATree here there = absurd (there.1 here.1)
+  one_admission hose amounts (NoRoom link) (OutOfService other) here there = absurd (not_served amounts other there.2 here.2)
+  one_admission hose amounts (NoRoom link) (NoRoom other) here there = ap NoRoom (lowest_unique (room_of network book).free amounts link other here.3 there.3)
+  one_admission hose amounts NoVpn other here there = absurd here
+  one_admission hose amounts NoLink other here there = absurd here
+  one_admission hose amounts Already other here there = absurd here
+  one_admission hose amounts one NoVpn here there = absurd there
+  one_admission hose amounts one NoLink here there = absurd there
+  one_admission hose amounts one Already here there = absurd there
+
+  -- so is a release
+  one_release : (customer : List ℕ) (id : ℕ) (one other : BookRefusal) → IsRefusedRelease book customer id one → IsRefusedRelease book customer id other → one ≡ other
+  one_release customer id Spent Spent here there = refl
+  one_release customer id Spent NoVpn here there = absurd (there here.0)
+  one_release customer id NoVpn Spent here there = absurd (here there.0)
+  one_release customer id NoVpn NoVpn here there = refl
+  one_release customer id Full other here there = absurd here
+  one_release customer id NotATree other here there = absurd here
+  one_release customer id (OutOfService link) other here there = absurd here
+  one_release customer id (NoRoom link) other here there = absurd here
+  one_release customer id NoLink other here there = absurd here
+  one_release customer id Already other here there = absurd here
+  one_release customer id one Full here there = absurd there
+  one_release customer id one NotATree here there = absurd there
+  one_release customer id one (OutOfService link) here there = absurd there
+  one_release customer id one (NoRoom link) here there = absurd there
+  one_release customer id one NoLink here there = absurd there
+  one_release customer id one Already here there = absurd there
+
+  -- and an entry on a link
+  one_service : (down : Bool) (link : ℕ) (one other : BookRefusal) → IsRefusedService network book down link one → IsRefusedService network book down link other → one ≡ other
+  one_service down link NoLink NoLink here there = refl
+  one_service down link NoLink Already here there = absurd (here there.0)
+  one_service down link NoLink Spent here there = absurd (here there.0.0)
+  one_service down link Already NoLink here there = absurd (there here.0)
+  one_service down link Already Already here there = refl
+  one_service down link Already Spent here there = absurd (stands_once network book down link here there.0)
+  one_service down link Spent NoLink here there = absurd (there here.0.0)
+  one_service down link Spent Already here there = absurd (stands_once network book down link there here.0)
+  one_service down link Spent Spent here there = refl
+  one_service down link Full other here there = absurd here
+  one_service down link NotATree other here there = absurd here
+  one_service down link (OutOfService l) other here there = absurd here
+  one_service down link (NoRoom l) other here there = absurd here
+  one_service down link NoVpn other here there = absurd here
+  one_service down link one Full here there = absurd there
+  one_service down link one NotATree here there = absurd there
+  one_service down link one (OutOfService l) here there = absurd there
+  one_service down link one (NoRoom l) here there = absurd there
+  one_service down link one NoVpn here there = absurd there
+
   one_cause : (entry : Entry) (one other : BookRefusal) → IsRefusedFor network book entry one → IsRefusedFor network book entry other → one ≡ other
-  one_cause (Admit customer hose amounts) Spent Spent here there = refl
-  one_cause (Admit customer hose amounts) Spent Full here there = absurd (omega (arith, here, there.0))
-  one_cause (Admit customer hose amounts) Spent NotATree here there = absurd (omega (arith, here, there.0.epoch))
-  one_cause (Admit customer hose amounts) Spent (NoRoom link) here there = absurd (omega (arith, here, there.0.epoch))
-  one_cause (Admit customer hose amounts) Full Spent here there = absurd (omega (arith, there, here.0))
-  one_cause (Admit customer hose amounts) Full Full here there = refl
-  one_cause (Admit customer hose amounts) Full NotATree here there = absurd (omega (arith, here.1, there.0.room))
-  one_cause (Admit customer hose amounts) Full (NoRoom link) here there = absurd (omega (arith, here.1, there.0.room))
-  one_cause (Admit customer hose amounts) NotATree Spent here there = absurd (omega (arith, there, here.0.epoch))
-  one_cause (Admit customer hose amounts) NotATree Full here there = absurd (omega (arith, there.1, here.0.room))
-  one_cause (Admit customer hose amounts) NotATree NotATree here there = refl
-  one_cause (Admit customer hose amounts) NotATree (NoRoom link) here there = absurd (here.1 there.1)
-  one_cause (Admit customer hose amounts) (NoRoom link) Spent here there = absurd (omega (arith, there, here.0.epoch))
-  one_cause (Admit customer hose amounts) (NoRoom link) Full here there = absurd (omega (arith, there.1, here.0.room))
-  one_cause (Admit customer hose amounts) (NoRoom link) NotATree here there = absurd (there.1 here.1)
-  one_cause (Admit customer hose amounts) (NoRoom link) (NoRoom other) here there = ap NoRoom (lowest_unique (room_of network book).free amounts link other here.2 there.2)
-  one_cause (Admit customer hose amounts) NoVpn other here there = absurd here
-  one_cause (Admit customer hose amounts) one NoVpn here there = absurd there
-  one_cause (Release customer id) Spent Spent here there = refl
-  one_cause (Release customer id) Spent NoVpn here there = absurd (there here.0)
-  one_cause (Release customer id) NoVpn Spent here there = absurd (here there.0)
-  one_cause (Release customer id) NoVpn NoVpn here there = refl
-  one_cause (Release customer id) Full other here there = absurd here
-  one_cause (Release customer id) NotATree other here there = absurd here
-  one_cause (Release customer id) (NoRoom link) other here there = absurd here
-  one_cause (Release customer id) one Full here there = absurd there
-  one_cause (Release customer id) one NotATree here there = absurd there
-  one_cause (Release customer id) one (NoRoom link) here there = absurd there
+  one_cause (Admit customer hose amounts) one other here there = one_admission hose amounts one other here there
+  one_cause (Release customer id) one other here there = one_release customer id one other here there
+  one_cause (Down link) one other here there = one_service true link one other here there
+  one_cause (Up link) one other here there = one_service false link one other here there
+
+  -- what is known of an entry on a link is known of it as the one or the other
+  pub service_refused : (down : Bool) (link : ℕ) (refusal : BookRefusal) → IsRefusedService network book down link refusal → IsRefusedFor network book (service_entry down link) refusal
+  service_refused true link refusal refused = refused
+  service_refused false link refusal refused = refused
+
+  pub service_sound : (down : Bool) (link : ℕ) → book.epoch < last_epoch → LinkStands network book link (not down) → IsSoundAt network book (service_entry down link)
+  service_sound true link left stands = (left, stands)
+  service_sound false link left stands = (left, stands)
+
+  -- truth values that differ, and those that do not
+  pub differ_not : (a b : Bool) → not (beq a b) ≡ true → a ≡ not b
+  differ_not true true differ = absurd (false≢true differ)
+  differ_not false false differ = absurd (false≢true differ)
+  differ_not true false differ = refl
+  differ_not false true differ = refl
+
+  pub same_not : (a b : Bool) → not (beq a b) ≡ false → a ≡ not (not b)
+  same_not true true same = refl
+  same_not false false same = refl
+  same_not true false same = absurd (false≢true (sym same))
+  same_not false true same = absurd (false≢true (sym same))
+
+  -- a link stands as the set in service tells it
+  pub stands_so : (link : ℕ) (has down : Bool) → link < length network.links → has ≡ slice_index_or service link false → has ≡ not down → LinkStands network book link down
+  stands_so link has down inside tells is = (inside, not_same (is_out book.out link) down (sym (links_in_service-at network book.out link false inside) ∙ sym tells ∙ is))
+    where
+      not_same : (a b : Bool) → not a ≡ not b → a ≡ b
+      not_same true true same = refl
+      not_same false false same = refl
+      not_same true false same = absurd (false≢true same)
+      not_same false true same = absurd (false≢true (sym same))
 
   -- So an answer is Ok exactly where the entry is sound, and a refusal exactly where that is the cause.
   pub judged_sound : (entry : Entry) (result : Result ⊤ BookRefusal) → Judges network book entry result → IsOk result ↔ IsSoundAt network book entry
@@ -108,6 +239,26 @@ first_is_lowest free amounts i ascending inside fit above = record {
         let here = ap (λ (p : ℕ × ℕ). p.1) same in
         let free_here = ap (λ (p : ℕ × ℕ). get_or free p.0 0) same in
         absurd (omega (arith, fits, here, free_here, over))
+    | inr later ↦
+        let here = get_or_default amounts k other (0, 0) below in
+        let link = ap (λ (p : ℕ × ℕ). p.0) (sym here ∙ is) in
+        omega (arith, link, later_link amounts i k ascending later below)
+  ];
+}
+
+-- so is the first amount that is on a link that is not in a set
+pub first_out_is_lowest : (service : List Bool) (amounts : List (ℕ × ℕ)) (i : ℕ) → IsAscending amounts → i < length amounts → AreServed service (take i amounts)
+    → (¬ IsIn service (get_or amounts i (0, 0)).0) → IsLowestOut service amounts (get_or amounts i (0, 0)).0
+first_out_is_lowest service amounts i ascending inside served out = record {
+  pair = get_or amounts i (0, 0);
+  there = Contains-get_or amounts i (0, 0) inside;
+  here = refl;
+  out = out;
+  lowest = λ other (k, below, is) also. elim (cases_lt k i) [
+    | inl before ↦
+        let free = served k other (omega (arith, before, inside, length-take i amounts)) in
+        let same : get_or (take i amounts) k other ≡ other = get_or-take i amounts k other before ∙ is in
+        absurd (also (subst (λ (pair : ℕ × ℕ). IsIn service pair.0) same free))
     | inr later ↦
         let here = get_or_default amounts k other (0, 0) below in
         let link = ap (λ (p : ℕ × ℕ). p.0) (sym here ∙ is) in

@@ -4,4 +4,5 @@ pub mod Loads
 pub mod Moving
 pub mod Releasing
 pub mod Reserved
+mod Served
 pub mod Tracking

@@ -122,7 +122,7 @@ module _ (book : Book) (customer : List ℕ) (id place : ℕ) where
   pub record Taken (vpn : Vpn) : Type 0 where
     pub inside : place < length book.live
     pub is : IsLiveVpn book customer id vpn
-    pub released : next_book book (Release customer id) ≡ record { epoch = book.epoch + 1; live = remove book.live place }
+    pub released : next_book book (Release customer id) ≡ record { epoch = book.epoch + 1; live = remove book.live place; out = book.out }
     pub touched : touched_links book (Release customer id) ≡ firsts vpn.amounts
     pub load_less : (l : ℕ) → load_of (next_book book (Release customer id)) l + amount_on l vpn.amounts ≡ load_of book l
 
@@ -131,8 +131,8 @@ module _ (book : Book) (customer : List ℕ) (id place : ℕ) where
       let inside : place < length book.live = within book.live place (IsLiveVpn book customer id) asked in
       let there : slice_get book.live place ≡ Some vpn = slice_get-get_or book.live place vpn inside ∙ ap Some (sym read) in
       let is : IsLiveVpn book customer id vpn = subst (λ (o : Option Vpn). IsSomeAnd o (IsLiveVpn book customer id)) there asked in
-      let released : next_book book (Release customer id) ≡ record { epoch = book.epoch + 1; live = remove book.live place } =
-      ap (λ (live : List Vpn). record { epoch = book.epoch + 1; live = live }) (filter_removes customer id book.live place vpn rise there (is.is_id, is.is_customer)) in
+      let released : next_book book (Release customer id) ≡ record { epoch = book.epoch + 1; live = remove book.live place; out = book.out } =
+      ap (λ (live : List Vpn). record { epoch = book.epoch + 1; live = live; out = book.out }) (filter_removes customer id book.live place vpn rise there (is.is_id, is.is_customer)) in
       let less : (l : ℕ) → load_of (next_book book (Release customer id)) l + amount_on l vpn.amounts ≡ load_of book l = λ l.
       (let amount : Vpn → ℕ = λ v. amount_on l v.amounts in
       let out = sum_by-remove amount book.live place vpn inside in

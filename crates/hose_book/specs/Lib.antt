@@ -3,3 +3,4 @@ pub mod Commit
 pub mod GoingOn
 pub mod Ledger
 pub mod Refusal
+pub mod Serving

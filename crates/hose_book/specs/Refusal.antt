@@ -1,17 +1,18 @@
 -- Why a book refuses an entry: the first cause that applies.
-use Rattle.std.specs.Prelude.{◌≡◌, ℕ, ◌<◌, ◌≤◌, List, length, Contains, slice_index, Result, Ok, Err, ⊤}
+use Rattle.std.specs.Prelude.{◌≡◌, ℕ, ◌<◌, ◌≤◌, Bool, true, false, not, List, length, All, Contains, slice_index, Result, Ok, Err, ⊤}
 use Rattle.hose_graph.specs.declared.entry.Entry.{Entry}
-use Rattle.hose_graph.specs.declared.entry.Entry.TheVariants.{Admit, Release}
+use Rattle.hose_graph.specs.declared.entry.Entry.TheVariants.{Admit, Release, Down, Up}
 use Rattle.hose_graph.specs.Amounts.{ReservedLink, amount_of, link_of}
 use Rattle.hose_graph.specs.Hose.{Endpoint}
-use Rattle.hose_graph.specs.Network.{Network}
+use Rattle.hose_graph.specs.Network.{Network, IsLinkOf}
 use Rattle.hose_law.specs.Book.{Book, HasVpn}
 use Rattle.hose_law.specs.History.{IsSoundAt, last_epoch, most_live}
-use Rattle.hose_law.specs.Room.{room_of}
+use Rattle.hose_law.specs.Room.{first_links, room_of}
+use Rattle.hose_law.specs.Service.{LinkStands}
 use Rattle.hose_law.specs.Tree.{IsTreeReservation}
-use Rattle.hose_law.specs.Walk.{all_links}
+use Rattle.hose_law.specs.Walk.{IsIn, all_links}
 use Rattle.hose_book.specs.declared.checking.BookRefusal.{BookRefusal}
-use Rattle.hose_book.specs.declared.checking.BookRefusal.TheVariants.{Spent, Full, NotATree, NoRoom, NoVpn}
+use Rattle.hose_book.specs.declared.checking.BookRefusal.TheVariants.{Spent, Full, NotATree, OutOfService, NoRoom, NoVpn, NoLink, Already}
 
 -- the book has an epoch left, and room among the live
 pub record HasPlace (book : Book) : Type 0 where
@@ -31,25 +32,75 @@ pub record IsLowestFull (free : List ℕ) (amounts : List ReservedLink) (link : 
   pub lowest : (other : ReservedLink) → Contains amounts other → IsAbove free other
       → link ≤ link_of other
 
+-- all links of these amounts are in a set
+abbrev pub AreServed : List Bool → List ReservedLink → Type 0
+AreServed service amounts = All (λ (pair : ReservedLink). IsIn service (link_of pair)) amounts
+
+-- this is the lowest link of these amounts that is not in a set
+pub record IsLowestOut (service : List Bool) (amounts : List ReservedLink) (link : ℕ) :
+    Type 0 where
+  pub pair : ReservedLink
+  pub there : Contains amounts pair
+  pub here : link_of pair ≡ link
+  pub out : ¬ IsIn service (link_of pair)
+  pub lowest : (other : ReservedLink) → Contains amounts other → (¬ IsIn service (link_of other))
+      → link ≤ link_of other
+
 -- the amounts are what the hose reserves on a tree, of whatever links
 abbrev pub AreOnTree : Network → List Endpoint → List ReservedLink → Type 0
 AreOnTree network hose amounts = IsTreeReservation network (all_links network) hose amounts
 
--- The entry is refused at a book for this cause, and for none before it: an admission for spent,
--- full, not a tree, no room; a release for no VPN, spent.
-abbrev pub IsRefusedFor : Network → Book → Entry → BookRefusal → Type 0
-IsRefusedFor network book (Admit customer hose amounts) Spent = book.epoch ≡ last_epoch
-IsRefusedFor network book (Admit customer hose amounts) Full =
+-- An admission is refused at a book for this cause, and for none before it: spent, full, not a
+-- tree, out of service, no room.
+abbrev pub IsRefusedAdmission : Network → Book → List Endpoint → List ReservedLink → BookRefusal
+    → Type 0
+IsRefusedAdmission network book hose amounts Spent = book.epoch ≡ last_epoch
+IsRefusedAdmission network book hose amounts Full =
     (book.epoch < last_epoch) × (most_live ≤ length book.live)
-IsRefusedFor network book (Admit customer hose amounts) NotATree =
+IsRefusedAdmission network book hose amounts NotATree =
     HasPlace book × (¬ AreOnTree network hose amounts)
-IsRefusedFor network book (Admit customer hose amounts) (NoRoom link) =
+IsRefusedAdmission network book hose amounts (OutOfService link) =
     HasPlace book × AreOnTree network hose amounts
+    × IsLowestOut (first_links network book) amounts link
+IsRefusedAdmission network book hose amounts (NoRoom link) =
+    HasPlace book × AreOnTree network hose amounts × AreServed (first_links network book) amounts
     × IsLowestFull (room_of network book).free amounts link
-IsRefusedFor network book (Release customer id) NoVpn = ¬ HasVpn book customer id
-IsRefusedFor network book (Release customer id) Spent =
-    HasVpn book customer id × (book.epoch ≡ last_epoch)
-IsRefusedFor network book entry refusal = ⊥
+IsRefusedAdmission network book hose amounts NoVpn = ⊥
+IsRefusedAdmission network book hose amounts NoLink = ⊥
+IsRefusedAdmission network book hose amounts Already = ⊥
+
+-- the same of a release: no VPN, spent
+abbrev pub IsRefusedRelease : Book → List ℕ → ℕ → BookRefusal → Type 0
+IsRefusedRelease book customer id NoVpn = ¬ HasVpn book customer id
+IsRefusedRelease book customer id Spent = HasVpn book customer id × (book.epoch ≡ last_epoch)
+IsRefusedRelease book customer id Full = ⊥
+IsRefusedRelease book customer id NotATree = ⊥
+IsRefusedRelease book customer id (OutOfService link) = ⊥
+IsRefusedRelease book customer id (NoRoom link) = ⊥
+IsRefusedRelease book customer id NoLink = ⊥
+IsRefusedRelease book customer id Already = ⊥
+
+-- the same of a link that is taken out of service, where this is true, or put back: no link,
+-- already, spent
+abbrev pub IsRefusedService : Network → Book → Bool → ℕ → BookRefusal → Type 0
+IsRefusedService network book down link NoLink = ¬ IsLinkOf network link
+IsRefusedService network book down link Already = LinkStands network book link down
+IsRefusedService network book down link Spent =
+    LinkStands network book link (not down) × (book.epoch ≡ last_epoch)
+IsRefusedService network book down link Full = ⊥
+IsRefusedService network book down link NotATree = ⊥
+IsRefusedService network book down link (OutOfService other) = ⊥
+IsRefusedService network book down link (NoRoom other) = ⊥
+IsRefusedService network book down link NoVpn = ⊥
+
+-- the entry is refused at a book for this cause, and for none before it
+abbrev pub IsRefusedFor : Network → Book → Entry → BookRefusal → Type 0
+IsRefusedFor network book (Admit customer hose amounts) refusal =
+    IsRefusedAdmission network book hose amounts refusal
+IsRefusedFor network book (Release customer id) refusal =
+    IsRefusedRelease book customer id refusal
+IsRefusedFor network book (Down link) refusal = IsRefusedService network book true link refusal
+IsRefusedFor network book (Up link) refusal = IsRefusedService network book false link refusal
 
 -- what a book says of an entry: it is sound there, or refused for this cause
 abbrev pub Judges : Network → Book → Entry → Result ⊤ BookRefusal → Type 0

@@ -11,8 +11,8 @@ use hose_graph::{Amounts, Entry, Hose, Name, ReservedLink, Vpn};
 
 impl Book {
     /// Enters an entry for which `check` answers Ok: the epoch is one more, an admitted VPN is the
-    /// last of the live, a released one is not live any more, and the links of either are changes
-    /// of the new epoch. It takes no memory.
+    /// last of the live, a released one is not live any more, a link is taken out of service or put
+    /// back, and the links that the entry touched are changes of the new epoch. It takes no memory.
     pub fn apply(&mut self, entry: Entry)
         requires { IsSoundAt self.old.network self.old.book entry }
         ensures ledger { self.new ≡ next_ledger self.old entry }
@@ -26,7 +26,27 @@ impl Book {
                 amounts,
             } => self.admit(customer, hose, amounts),
             Entry::Release { customer, id } => self.release(&customer, id),
+            Entry::Down { link } => self.take_out(link),
+            Entry::Up { link } => self.put_back(link),
         }
+    }
+
+    fn take_out(&mut self, link: u32)
+        requires { IsSoundAt self.old.network self.old.book (Entry.Down link) }
+        ensures { self.new ≡ next_ledger self.old (Entry.Down link) }
+    {
+        self.served.take_out(link);
+        self.recent.add_link(self.epoch, link);
+        self.epoch += 1;
+    }
+
+    fn put_back(&mut self, link: u32)
+        requires { IsSoundAt self.old.network self.old.book (Entry.Up link) }
+        ensures { self.new ≡ next_ledger self.old (Entry.Up link) }
+    {
+        self.served.put_back(link);
+        self.recent.add_link(self.epoch, link);
+        self.epoch += 1;
     }
 
     fn admit(&mut self, customer: Name, hose: Hose, amounts: Amounts)

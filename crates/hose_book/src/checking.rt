@@ -5,11 +5,13 @@ ghost use Rattle.hose_graph.specs.Ascending.{IsAscending};
 ghost use Rattle.hose_law.specs.Decision.{Fits};
 ghost use Rattle.hose_law.specs.History.{IsSoundAt};
 ghost use Rattle.hose_law.specs.Room.{free_rates};
+ghost use Rattle.hose_law.specs.Service.{service_entry};
 ghost use Rattle.hose_tree.specs.Amounts.{AreCarried, AreOnLinks};
-ghost use Rattle.hose_book.specs.Refusal.{IsLowestFull, IsRefusedFor, Judges};
+ghost use Rattle.hose_book.specs.Refusal.{AreServed, IsLowestFull, IsLowestOut, IsRefusedFor, Judges};
 
 use crate::Book;
 use hose_graph::{Amounts, Entry, Hose, MOST_EPOCH, MOST_LIVE, Name, Topology};
+use hose_links::LinkSet;
 use hose_tree::{free_rate, is_reservation};
 
 /// Why an entry is not sound at a book.
@@ -21,16 +23,23 @@ pub enum BookRefusal {
     Full,
     /// The amounts are not what the hose reserves on any tree that joins it, or one of them is 0.
     NotATree,
+    /// An amount is on a link that is out of service; it is the lowest-numbered of these.
+    OutOfService { link: u32 },
     /// A link has less free than its amount; it is the lowest-numbered of these.
     NoRoom { link: u32 },
     /// The customer has no live VPN of this id.
     NoVpn,
+    /// The network has no link of this number.
+    NoLink,
+    /// The link is already out of service, or in service, as the entry would have it.
+    Already,
 }
 
 impl Book {
     /// Judges an entry: whether it is sound at the book, or the first cause that it is not. For an
-    /// admission these are in order `Spent`, `Full`, `NotATree`, `NoRoom`; for a release `NoVpn`,
-    /// `Spent`.
+    /// admission these are in order `Spent`, `Full`, `NotATree`, `OutOfService`, `NoRoom`; for a
+    /// release `NoVpn`, `Spent`; for a link that is taken out of service or put back `NoLink`,
+    /// `Already`, `Spent`.
     pub fn check(&self, entry: &Entry) -> Result<(), BookRefusal>
         ensures ok { IsOk result ↔ IsSoundAt self.now.network self.now.book entry.now }
         ensures refused { (refusal : BookRefusal) → (result ≡ Err refusal)
@@ -39,6 +48,8 @@ impl Book {
         match entry {
             Entry::Admit { hose, amounts, .. } => self.check_admission(hose, amounts),
             Entry::Release { customer, id } => self.check_release(customer, *id),
+            Entry::Down { link } => self.check_service(*link, true),
+            Entry::Up { link } => self.check_service(*link, false),
         }
     }
 
@@ -54,6 +65,9 @@ impl Book {
         }
         if !is_reservation(&self.topology, hose, amounts) {
             return Err(BookRefusal::NotATree);
+        }
+        if let Some(link) = first_link_out(self.service(), amounts) {
+            return Err(BookRefusal::OutOfService { link });
         }
         match first_full_link(&self.topology, self.loads(), amounts) {
             Some(link) => Err(BookRefusal::NoRoom { link }),
@@ -72,6 +86,36 @@ impl Book {
         }
         Ok(())
     }
+
+    // Judges that a link is taken out of service, where this is true, or put back.
+    fn check_service(&self, link: u32, down: bool) -> Result<(), BookRefusal>
+        ensures { Judges self.now.network self.now.book (service_entry down link) result }
+    {
+        if link >= self.topology.links() {
+            return Err(BookRefusal::NoLink);
+        }
+        if self.service().has(link) != down {
+            return Err(BookRefusal::Already);
+        }
+        if self.epoch == MOST_EPOCH {
+            return Err(BookRefusal::Spent);
+        }
+        Ok(())
+    }
+}
+
+// The lowest link of the amounts that is out of service.
+fn first_link_out(service: &LinkSet, amounts: &Amounts) -> Option<u32>
+    requires { All (λ pair. link_of pair < length service.now) amounts.now }
+    ensures some { IfSome result (IsLowestOut service.now amounts.now) }
+    ensures none { IfNone result (AreServed service.now amounts.now) }
+{
+    for &(link, _) in amounts.pairs() {
+        if !service.has(link) {
+            return Some(link);
+        }
+    }
+    None
 }
 
 // The lowest link that has less free than its amount.

@@ -1,6 +1,6 @@
-//! The book of a network: which VPNs are live, and what they reserve on each link. It judges any
-//! entry, whoever made it, and enters those that are sound; a journal can be read into it and put
-//! under it.
+//! The book of a network: which VPNs are live, what they reserve on each link, and which links are
+//! in service. It judges any entry, whoever made it, and enters those that are sound; a journal can
+//! be read into it and put under it.
 //!
 //! ```
 //! let mut book = Book::new(alloc, topology)?;
@@ -24,6 +24,7 @@ ghost use Rattle.hose_graph.specs.Network.{IsNetwork};
 ghost use Rattle.hose_graph.specs.declared.limits.TheConstants.{MOST_EPOCH};
 ghost use Rattle.hose_law.specs.Book.{loads_of};
 ghost use Rattle.hose_law.specs.Live.{Rise};
+ghost use Rattle.hose_law.specs.Room.{first_links};
 ghost use Rattle.hose_law.specs.Tracks.{Tracks};
 ghost use Rattle.hose_tree.specs.Amounts.{AreCarried};
 
@@ -34,20 +35,23 @@ mod committed;
 mod finding;
 mod live_vpns;
 mod recent;
+mod served_links;
 
 use crate::live_vpns::LiveVpns;
 use crate::recent::RecentChanges;
+use crate::served_links::ServedLinks;
 pub use books::{Books, Plain};
 pub use checking::BookRefusal;
 pub use committed::Committed;
 use hose_graph::{MOST_EPOCH, Topology, Vpn};
+use hose_links::LinkSet;
 pub use recent::MOST_CHANGES;
 use std::alloc::{AllocError, Global};
 use std::marker::Model;
 
-/// A network with its live VPNs, in the order of their admission, and the sum of what they reserve
-/// on each link. No link is ever oversold. At most 256 VPNs that were released keep their memory,
-/// until a later release.
+/// A network with its live VPNs, in the order of their admission, the sum of what they reserve on
+/// each link, and the links that are in service. No link is ever oversold. At most 256 VPNs that
+/// were released keep their memory, until a later release.
 ///
 /// A contract sees it as the network, its book, and the changes that it keeps.
 #[derive(Drop)]
@@ -56,38 +60,43 @@ pub struct Book {
     epoch: u64,
     loads: Vec<u64>,
     live: LiveVpns,
+    served: ServedLinks,
     recent: RecentChanges,
 }
 
 impl Model for Book {
-    ghost use Rattle.std.specs.Prelude.{◌≤◌, All};
+    ghost use Rattle.std.specs.Prelude.{◌≡◌, ◌≤◌, All};
     ghost use Rattle.hose_graph.specs.Network.{IsNetwork};
     ghost use Rattle.hose_book.specs.Changes.{AreUpTo};
     ghost use Rattle.hose_book.specs.Ledger.{Ledger, AreKeptLoads, IsKept};
     ghost use Rattle.hose_law.specs.History.{last_epoch};
     ghost use Rattle.hose_law.specs.Live.{HasRisingIds};
+    ghost use Rattle.hose_law.specs.Service.{links_in_service};
 
     ghost Value = { Ledger };
 
     ghost view = { λ b.
         record {
           network = b.topology;
-          book = record { epoch = b.epoch; live = b.live };
+          book = record { epoch = b.epoch; live = b.live; out = b.served.out };
           recent = b.recent;
         } };
 
     ghost invariant = { λ b. IsNetwork b.topology
-        × AreKeptLoads b.topology (record { epoch = b.epoch; live = b.live }) b.loads.items
+        × AreKeptLoads b.topology (record { epoch = b.epoch; live = b.live; out = b.served.out })
+        b.loads.items
         × (b.epoch ≤ last_epoch)
-        × HasRisingIds 0 (record { epoch = b.epoch; live = b.live })
+        × HasRisingIds 0 (record { epoch = b.epoch; live = b.live; out = b.served.out })
         × All (IsKept b.topology) b.live
         × (b.recent.floor ≤ b.epoch)
-        × AreUpTo b.epoch b.recent.changes };
+        × AreUpTo b.epoch b.recent.changes
+        × (b.served.links ≡ links_in_service b.topology b.served.out) };
 }
 
 impl Book {
-    /// The book of a network at epoch 0, with nothing live. It has room for 20,000 VPNs and 65,536
-    /// changes, so that nothing after it takes memory.
+    /// The book of a network at epoch 0, with nothing live and every link in service. It has room
+    /// for 20,000 VPNs and 65,536 changes, and for as many links out of service as a network can
+    /// have, so that nothing after it takes memory.
     pub fn new(alloc: Global, topology: Topology) -> Result<Book, AllocError>
         ensures value { IfOk result (λ book. book ≡ opening_ledger topology 0) }
         ensures tracks { IfOk result (λ book. Tracks 0 [] book.recent) }
@@ -103,12 +112,14 @@ impl Book {
     {
         let loads = Vec::from_elem(alloc, 0, topology.links() as usize)?;
         let live = LiveVpns::new(alloc)?;
+        let served = ServedLinks::new(alloc, topology.links())?;
         let recent = RecentChanges::new(alloc, epoch)?;
         Ok(Book {
             topology,
             epoch,
             loads,
             live,
+            served,
             recent,
         })
     }
@@ -136,6 +147,14 @@ impl Book {
         ensures carried { AreCarried self.now.network result.now }
     {
         &self.loads
+    }
+
+    /// The links in service, over which the first plan of each hose is made.
+    pub fn service(&self) -> &LinkSet
+        ensures value { result.now ≡ first_links self.now.network self.now.book }
+        ensures places { length result.now ≡ length self.now.network.links }
+    {
+        self.served.links()
     }
 
     /// The live VPNs, in the order of their admission: their ids rise.

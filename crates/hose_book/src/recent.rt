@@ -1,5 +1,5 @@
 // Which links recent entries touched.
-ghost use Rattle.std.specs.Prelude.{◌≡◌, ◌+◌, ◌<◌, ◌≤◌, ◌^◌, ◌++◌, ℕ, Contains, IfOk, length, take, vec_capacity};
+ghost use Rattle.std.specs.Prelude.{[], ◌≡◌, ◌+◌, ◌<◌, ◌≤◌, ◌^◌, ◌∷◌, ◌++◌, ℕ, Contains, IfOk, length, take, vec_capacity};
 ghost use Rattle.hose_book.specs.Changes.{AreInOrder, AreUpTo, opening_recent, with_changes};
 ghost use Rattle.hose_book.specs.declared.recent.TheConstants.{MOST_CHANGES};
 ghost use Rattle.hose_graph.specs.Ascending.{firsts};
@@ -86,6 +86,16 @@ impl RecentChanges {
             self.floor = epoch;
         }
         push_changes(&mut self.changes, epoch, amounts);
+    }
+
+    // The same of an entry that touches one link.
+    pub(crate) fn add_link(&mut self, epoch: u64, link: u32)
+        requires epochs { AreUpTo epoch self.old.changes }
+        requires epoch { epoch + 1 < 2 ^ 64 }
+        ensures { self.new ≡ with_changes self.old epoch (link ∷ []) }
+    {
+        // What the link carries is not asked for here.
+        self.add(epoch, &[(link, 0)]);
     }
 }
 

@@ -21,7 +21,7 @@ pub add_amounts-requires-clause-links : goal.add_amounts-requires-clause-links
 add_amounts-requires-clause-links c = λ k d inside.
     let network = c.self.inside.topology in
     let entry = Admit c.args.customer c.args.hose c.args.amounts in
-    let sound : IsSoundAt network (record { epoch = c.self.inside.epoch; live = c.self.inside.live }) entry =
+    let sound : IsSoundAt network (record { epoch = c.self.inside.epoch; live = c.self.inside.live; out = c.self.inside.served.out }) entry =
     subst (λ (s : Ledger). IsSoundAt s.network s.book entry) (sym c.self.view_is) c.requires in
     let links = reserved_links network c.self.invariant.0 _ c.args.hose c.args.amounts sound.2.on_tree in
     let link : (get_or c.args.amounts k d).0 < length network.links = links k d (omega (arith, inside, ap length c.pairs.ensures.value)) in
@@ -36,7 +36,7 @@ add_amounts-requires-clause-links c = λ k d inside.
 pub add_amounts-requires-clause-fits : goal.add_amounts-requires-clause-fits
 add_amounts-requires-clause-fits c = λ l inside.
     let network = c.self.inside.topology in
-    let book : Book = record { epoch = c.self.inside.epoch; live = c.self.inside.live } in
+    let book : Book = record { epoch = c.self.inside.epoch; live = c.self.inside.live; out = c.self.inside.served.out } in
     let entry = Admit c.args.customer c.args.hose c.args.amounts in
     let sound : IsSoundAt network book entry = subst (λ (s : Ledger). IsSoundAt s.network s.book entry) (sym c.self.view_is) c.requires in
     let kept : NoneOversold network (next_book book entry) = entry_keeps network book entry sound c.self.invariant.1.none_oversold in
@@ -55,7 +55,7 @@ add_amounts-requires-clause-fits c = λ l inside.
 pub invariant_of-self : goal.invariant_of-self
 invariant_of-self c =
     let network = c.self.inside.topology in
-    let book : Book = record { epoch = c.self.inside.epoch; live = c.self.inside.live } in
+    let book : Book = record { epoch = c.self.inside.epoch; live = c.self.inside.live; out = c.self.inside.served.out } in
     let entry = Admit c.args.customer c.args.hose c.args.amounts in
     let sound : IsSoundAt network book entry = subst (λ (s : Ledger). IsSoundAt s.network s.book entry) (sym c.self.view_is) c.requires in
     let kept : NoneOversold network (next_book book entry) = entry_keeps network book entry sound c.self.invariant.1.none_oversold in
@@ -65,8 +65,9 @@ invariant_of-self c =
     let long : length new ≡ length network.links = omega (arith, c.add_amounts.auto.loads, ap length loads_is, old.places) in
     let taken : take c.self.inside.loads.len (new ++ drop (length new) c.self.inside.loads.items) ≡ new =
     take_at new (drop (length new) c.self.inside.loads.items) c.self.inside.loads.len (omega (arith, long, old.places, c.self.inside.loads.ok.0)) in
-    let next_is : next_book book entry ≡ record { epoch = c.self.inside.epoch + 1; live = c.push.new.self } =
-    ap (λ (live : List Vpn). record { epoch = c.self.inside.epoch + 1; live = live }) (sym c.push.ensures) in
+    let out = c.self.inside.served.out in
+    let next_is : next_book book entry ≡ record { epoch = c.self.inside.epoch + 1; live = c.push.new.self; out = out } =
+    ap (λ (live : List Vpn). record { epoch = c.self.inside.epoch + 1; live = live; out = out }) (sym c.push.ensures) in
     let vpn : Vpn = record { id = c.self.inside.epoch + 1; customer = c.args.customer; hose = c.args.hose; amounts = c.args.amounts } in
     let is_kept : IsKept network vpn = record {
       nodes = reserved_nodes network c.self.invariant.0 _ c.args.hose c.args.amounts sound.2.on_tree;
@@ -92,12 +93,13 @@ invariant_of-self c =
       subst (All (IsKept network)) (sym c.push.ensures) (All-push (IsKept network) book.live vpn c.self.invariant.4 is_kept),
       subst (λ (r : Recent). r.floor ≤ book.epoch + 1) (sym c.add.ensures) (floor_next c.self.inside.recent book.epoch (firsts c.pairs-2.result.now) c.self.invariant.5),
       subst (λ (r : Recent). AreUpTo (book.epoch + 1) r.changes) (sym c.add.ensures) (with_up_to c.self.inside.recent book.epoch (firsts c.pairs-2.result.now) c.self.invariant.6),
+      c.self.invariant.7,
     )
 
 pub add-requires-clause-few : goal.add-requires-clause-few
 add-requires-clause-few c =
     let network = c.self.inside.topology in
     let entry = Admit c.args.customer c.args.hose c.args.amounts in
-    let sound : IsSoundAt network (record { epoch = c.self.inside.epoch; live = c.self.inside.live }) entry =
+    let sound : IsSoundAt network (record { epoch = c.self.inside.epoch; live = c.self.inside.live; out = c.self.inside.served.out }) entry =
     subst (λ (s : Ledger). IsSoundAt s.network s.book entry) (sym c.self.view_is) c.requires in
     omega (arith, reserved_few network c.self.invariant.0 _ c.args.hose c.args.amounts sound.2.on_tree, ap length c.pairs-2.ensures.value)

@@ -21,7 +21,7 @@ subtract_amounts-requires-clause-links c = λ k d inside.
     let customer = c.args.customer.now in
     let id = c.args.id in
     let vpn = c.index-as_slice-place.result in
-    let book : Book = record { epoch = c.self.inside.epoch; live = c.self.inside.live } in
+    let book : Book = record { epoch = c.self.inside.epoch; live = c.self.inside.live; out = c.self.inside.served.out } in
     let out : Taken book customer id c.args.place vpn = taken_in c.args.self.now.book book customer id c.args.place vpn (ap (λ (s : Ledger). s.book) c.self.view_is) c.self.invariant.3.rise c.requires.there (c.index-as_slice-place.is ∙ ap (λ (live : List Vpn). get_or live c.args.place c.index-as_slice-place.result) c.as_slice.ensures.value) in
     let kept : IsKept network vpn = subst (IsKept network) (sym (c.index-as_slice-place.is ∙ ap (λ (live : List Vpn). get_or live c.args.place c.index-as_slice-place.result) c.as_slice.ensures.value)) (c.self.invariant.4 c.args.place vpn out.inside) in
     omega (
@@ -38,7 +38,7 @@ subtract_amounts-requires-clause-held c = λ l inside.
     let customer = c.args.customer.now in
     let id = c.args.id in
     let vpn = c.index-as_slice-place.result in
-    let book : Book = record { epoch = c.self.inside.epoch; live = c.self.inside.live } in
+    let book : Book = record { epoch = c.self.inside.epoch; live = c.self.inside.live; out = c.self.inside.served.out } in
     let out : Taken book customer id c.args.place vpn = taken_in c.args.self.now.book book customer id c.args.place vpn (ap (λ (s : Ledger). s.book) c.self.view_is) c.self.invariant.3.rise c.requires.there (c.index-as_slice-place.is ∙ ap (λ (live : List Vpn). get_or live c.args.place c.index-as_slice-place.result) c.as_slice.ensures.value) in
     let loads_is = c.deref_mut.ensures.value in
     omega (
@@ -55,10 +55,10 @@ invariant_of-self c =
     let customer = c.args.customer.now in
     let id = c.args.id in
     let entry = Release customer id in
-    let book : Book = record { epoch = c.self.inside.epoch; live = c.self.inside.live } in
+    let book : Book = record { epoch = c.self.inside.epoch; live = c.self.inside.live; out = c.self.inside.served.out } in
     let out : Taken book customer id c.args.place c.index-as_slice-place.result = taken_in c.args.self.now.book book customer id c.args.place c.index-as_slice-place.result (ap (λ (s : Ledger). s.book) c.self.view_is) c.self.invariant.3.rise c.requires.there (c.index-as_slice-place.is ∙ ap (λ (live : List Vpn). get_or live c.args.place c.index-as_slice-place.result) c.as_slice.ensures.value) in
-    let next : Book = record { epoch = book.epoch + 1; live = c.remove.new.self } in
-    let next_is : next_book book entry ≡ next = out.released ∙ ap (λ (live : List Vpn). record { epoch = book.epoch + 1; live = live }) (sym c.remove.ensures) in
+    let next : Book = record { epoch = book.epoch + 1; live = c.remove.new.self; out = book.out } in
+    let next_is : next_book book entry ≡ next = out.released ∙ ap (λ (live : List Vpn). record { epoch = book.epoch + 1; live = live; out = book.out }) (sym c.remove.ensures) in
     let old = c.self.invariant.1 in
     let loads_is = c.deref_mut.ensures.value in
     let new = c.subtract_amounts.new.loads in
@@ -85,16 +85,17 @@ invariant_of-self c =
       subst (λ (b : Book). All (IsKept network) b.live) next_is (kept_left network book customer id c.self.invariant.4),
       subst (λ (r : Recent). r.floor ≤ book.epoch + 1) (sym c.add.ensures) (floor_next c.self.inside.recent book.epoch (firsts c.pairs-2.result.now) c.self.invariant.5),
       subst (λ (r : Recent). AreUpTo (book.epoch + 1) r.changes) (sym c.add.ensures) (with_up_to c.self.inside.recent book.epoch (firsts c.pairs-2.result.now) c.self.invariant.6),
+      c.self.invariant.7,
     )
 
 pub returns : goal.returns
 returns c =
     let customer = c.args.customer.now in
     let id = c.args.id in
-    let book : Book = record { epoch = c.self.inside.epoch; live = c.self.inside.live } in
+    let book : Book = record { epoch = c.self.inside.epoch; live = c.self.inside.live; out = c.self.inside.served.out } in
     let out : Taken book customer id c.args.place c.index-as_slice-place.result = taken_in c.args.self.now.book book customer id c.args.place c.index-as_slice-place.result (ap (λ (s : Ledger). s.book) c.self.view_is) c.self.invariant.3.rise c.requires.there (c.index-as_slice-place.is ∙ ap (λ (live : List Vpn). get_or live c.args.place c.index-as_slice-place.result) c.as_slice.ensures.value) in
-    let next : next_book book (Release customer id) ≡ record { epoch = book.epoch + 1; live = c.remove.new.self } =
-    out.released ∙ ap (λ (live : List Vpn). record { epoch = book.epoch + 1; live = live }) (sym c.remove.ensures) in
+    let next : next_book book (Release customer id) ≡ record { epoch = book.epoch + 1; live = c.remove.new.self; out = book.out } =
+    out.released ∙ ap (λ (live : List Vpn). record { epoch = book.epoch + 1; live = live; out = book.out }) (sym c.remove.ensures) in
     let recent = c.add.ensures ∙ ap (λ (pairs : List (ℕ × ℕ)). with_changes c.self.inside.recent book.epoch (firsts pairs)) c.pairs-2.ensures.value ∙ ap (with_changes c.self.inside.recent book.epoch) (sym out.touched) in
     (λ i. record { network = c.self.inside.topology; book = sym next i; recent = recent i })
     ∙ ap (λ (s : Ledger). next_ledger s (Release customer id)) c.self.view_is
