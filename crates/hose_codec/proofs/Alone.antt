@@ -1,11 +1,11 @@
 -- No field begins another: where two of a kind begin the same bytes, they are one.
-use Rattle.std.proofs.Common.{◌≡◌, ◌∙◌, ℕ, ◌+◌, ◌<◌, ◌≤◌, ◌^◌, List, [], ◌∷◌, ◌++◌, length, sym, append_assoc, arith}
+use Rattle.std.proofs.Common.{◌≡◌, ◌∙◌, ℕ, ◌+◌, ◌<◌, ◌≤◌, ◌^◌, List, [], ◌∷◌, ◌++◌, length, ap, sym, append_assoc, arith}
 use Rattle.byteorder.specs.Endian.{big_bytes}
 use Rattle.hose_graph.specs.declared.limits.TheConstants.{MOST_AMOUNT, MOST_LINKS, MOST_NODES, MOST_RATE}
 use Rattle.hose_graph.specs.Hose.{IsHose, IsEnd}
 use Rattle.hose_graph.specs.declared.entry.Entry.{Entry}
-use Rattle.hose_graph.specs.declared.entry.Entry.TheVariants.{Admit, Release}
-use Rattle.hose_codec.specs.Fields.{name_field, pair_field, pairs_field, ends_field, amounts_field, id_field, FitsPair, AreFormatAmounts}
+use Rattle.hose_graph.specs.declared.entry.Entry.TheVariants.{Admit, Release, Down, Up}
+use Rattle.hose_codec.specs.Fields.{name_field, pair_field, pairs_field, ends_field, amounts_field, id_field, link_field, FitsPair, AreFormatAmounts}
 use Rattle.hose_graph.specs.Ranges.{IsAmount}
 use Rattle.hose_codec.specs.Reading.{ArePairsFrom}
 use Rattle.hose_codec.specs.Spelling.{spelling, IsEntry}
@@ -59,6 +59,9 @@ same_amounts x y r s are_x are_y same =
     let counts = same_numbers 2 (length x) (length y) (pairs_field x ++ r) (pairs_field y ++ s) (omega (arith, are_x.fit.few)) (omega (arith, are_y.fit.few)) parts in
     same_pairs MOST_LINKS MOST_AMOUNT 0 0 x y r s (omega arith) (omega arith) counts.0 (amount_pairs x are_x) (amount_pairs y are_y) counts.1
 
+pub same_links : (x y : ℕ) (r s : List ℕ) → x < MOST_LINKS → y < MOST_LINKS → link_field x ++ r ≡ link_field y ++ s → (x ≡ y) × (r ≡ s)
+same_links x y r s is_x is_y same = same_numbers 2 x y r s (omega (arith, is_x)) (omega (arith, is_y)) same
+
 -- two entries whose spellings begin the same bytes
 pub same_entries : (x y : Entry) (r s : List ℕ) → IsEntry x → IsEntry y → spelling x ++ r ≡ spelling y ++ s → (x ≡ y) × (r ≡ s)
 same_entries (Admit customer hose amounts) (Admit client ends pairs) r s is_x is_y same =
@@ -69,11 +72,14 @@ same_entries (Admit customer hose amounts) (Admit client ends pairs) r s is_x is
     (sym (append_assoc (ends_field hose) (amounts_field amounts) r) ∙ names.1 ∙ append_assoc (ends_field ends) (amounts_field pairs) s) in
     let last = same_amounts amounts pairs r s is_x.2 is_y.2 hoses.1 in
     (λ i. Admit (names.0 i) (hoses.0 i) (last.0 i), last.1)
-same_entries (Admit customer hose amounts) (Release client id) r s is_x is_y same = absurd cc
-same_entries (Release customer id) (Admit client ends pairs) r s is_x is_y same = absurd cc
 same_entries (Release customer id) (Release client other) r s is_x is_y same =
     let rest : (name_field customer ++ id_field id) ++ r ≡ (name_field client ++ id_field other) ++ s = cc in
     let names = same_names customer client (id_field id ++ r) (id_field other ++ s)
     (sym (append_assoc (name_field customer) (id_field id) r) ∙ rest ∙ append_assoc (name_field client) (id_field other) s) in
     let last = same_numbers 4 id other r s (omega (arith, is_x.1)) (omega (arith, is_y.1)) names.1 in
     (λ i. Release (names.0 i) (last.0 i), last.1)
+same_entries (Down one) (Down other) r s is_x is_y same =
+    let links = same_links one other r s is_x is_y cc in (ap Down links.0, links.1)
+same_entries (Up one) (Up other) r s is_x is_y same =
+    let links = same_links one other r s is_x is_y cc in (ap Up links.0, links.1)
+same_entries x y r s is_x is_y same = absurd cc

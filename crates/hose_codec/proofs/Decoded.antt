@@ -2,7 +2,7 @@
 use Rattle.std.proofs.Common.{◌≡◌, ℕ, List, [], ◌++◌, Result, Ok, Err}
 use Rattle.std.specs.Prelude.{IfOk}
 use Rattle.hose_graph.specs.declared.entry.Entry.{Entry}
-use Rattle.hose_graph.specs.declared.entry.Entry.TheVariants.{Admit, Release}
+use Rattle.hose_graph.specs.declared.entry.Entry.TheVariants.{Admit, Release, Down, Up}
 use Rattle.hose_codec.specs.declared.fault.CodecFault.{CodecFault}
 use Rattle.hose_codec.specs.Spelling.{spelling, IsEntry, IsSpelling, Decodes}
 use Rattle.hose_graph.specs.Ranges.{IsInRanges}
@@ -20,4 +20,6 @@ alone bytes (Err fault) decodes = tt
 pub fits : (bytes : List ℕ) (result : Result Entry CodecFault) → Decodes bytes result → IfOk result IsInRanges
 fits bytes (Ok (Admit customer hose amounts)) decodes = decodes.is_entry.2.fit
 fits bytes (Ok (Release customer id)) decodes = decodes.is_entry.1
+fits bytes (Ok (Down link)) decodes = decodes.is_entry
+fits bytes (Ok (Up link)) decodes = decodes.is_entry
 fits bytes (Err fault) decodes = tt

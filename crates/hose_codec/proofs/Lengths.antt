@@ -3,7 +3,7 @@ use Rattle.std.proofs.Common.{◌≡◌, ℕ, ◌+◌, ◌*◌, ◌≤◌, List,
 use Rattle.byteorder.specs.Endian.{big_bytes}
 use Rattle.byteorder.specs.Numbers.{length-bytes_high_first}
 use Rattle.hose_graph.specs.declared.entry.Entry.{Entry}
-use Rattle.hose_graph.specs.declared.entry.Entry.TheVariants.{Admit, Release}
+use Rattle.hose_graph.specs.declared.entry.Entry.TheVariants.{Admit, Release, Down, Up}
 use Rattle.hose_codec.specs.Fields.{name_field, pair_field, pairs_field, ends_field, amounts_field, id_field}
 use Rattle.hose_codec.specs.Spelling.{spelling, IsEntry}
 use Rattle.hose_codec.specs.declared.limits.TheConstants.{MOST_SPELLING, PAIR_BYTES}
@@ -34,3 +34,5 @@ pub length-spelling : (entry : Entry) → IsEntry entry → length (spelling ent
 length-spelling (Admit customer hose amounts) is =
     omega (arith, length-admission customer hose amounts, is.0.short, is.1.counted.few, is.2.fit.few)
 length-spelling (Release customer id) is = omega (arith, length-release customer id, is.0.short)
+length-spelling (Down link) is = omega (arith, length-bytes_high_first 2 link)
+length-spelling (Up link) is = omega (arith, length-bytes_high_first 2 link)

@@ -1,5 +1,5 @@
 -- The fields that entries are spelled with. Numbers stand highest byte first.
-use Rattle.std.specs.Prelude.{ℕ, ◌<◌, ◌≤◌, ◌^◌, List, ◌∷◌, ◌++◌, length, All}
+use Rattle.std.specs.Prelude.{ℕ, ◌<◌, ◌^◌, List, ◌∷◌, ◌++◌, length}
 use Rattle.std.specs.List.{flat_map}
 use Rattle.byteorder.specs.Endian.{big_bytes}
 use Rattle.hose_graph.specs.Amounts.{ReservedLink}
@@ -35,6 +35,10 @@ amounts_field amounts = big_bytes 2 (length amounts) ++ pairs_field amounts
 -- the number of a VPN: four bytes
 abbrev pub id_field : ℕ → List ℕ
 id_field id = big_bytes 4 id
+
+-- the number of a link: two bytes
+abbrev pub link_field : ℕ → List ℕ
+link_field link = big_bytes 2 link
 
 -- amounts that the format has: in its ranges, with their links ascending
 pub record AreFormatAmounts (amounts : List ReservedLink) : Type 0 where

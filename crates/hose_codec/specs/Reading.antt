@@ -30,6 +30,13 @@ abbrev pub Takes : {X : Type 0} → (X → List ℕ) → (X → Type 0) → List
 Takes field MayBe old new (Some value) = Begins field MayBe value old new
 Takes field MayBe old new None = BeginsNone field MayBe old
 
+-- The same of a reader that reads all that is left.
+abbrev pub ReadsWhole : {V X : Type 0} → (X → List ℕ) → (X → Type 0) → (V → X) → List ℕ →
+    Result V CodecFault → Type 0
+ReadsWhole field MayBe view old (Ok read) = Begins field MayBe (view read) old []
+ReadsWhole {V} {X} field MayBe view old (Err fault) =
+    (fault ≡ Bad) × ((value : X) → ¬ Begins field MayBe value old [])
+
 -- a pair with its first number from `least` on and below `bound`, and its second from 1 to `most`
 pub record IsPairFrom (bound most least : ℕ) (pair : ℕ × ℕ) : Type 0 where
   pub later : least ≤ pair.0

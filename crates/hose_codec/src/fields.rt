@@ -3,7 +3,7 @@ ghost use Rattle.std.specs.Prelude.{◌≡◌, ◌+◌, ◌<◌, ◌≤◌, ◌^
 ghost use Rattle.byteorder.specs.Endian.{big_bytes};
 ghost use Rattle.hose_graph.specs.Name.{IsName};
 ghost use Rattle.hose_graph.specs.Hose.{IsHose};
-ghost use Rattle.hose_codec.specs.Fields.{name_field, pair_field, pairs_field, ends_field, amounts_field, id_field, AreFormatAmounts};
+ghost use Rattle.hose_codec.specs.Fields.{name_field, pair_field, pairs_field, ends_field, amounts_field, id_field, link_field, AreFormatAmounts};
 ghost use Rattle.hose_codec.specs.Reading.{Reads, Takes, ArePairsFrom, AreCountedPairs, TakesPair, pairs_of};
 
 use crate::fault::CodecFault;
@@ -103,6 +103,18 @@ impl<'a> Fields<'a> {
             return Err(CodecFault::Bad);
         }
         Ok(id)
+    }
+
+    /// The number of a link.
+    pub fn link(&mut self) -> Result<u32, CodecFault>
+        ensures { Reads link_field (λ link. link < MOST_LINKS) (λ link. link)
+            self.old self.new result }
+    {
+        let link = u32::from(self.two_bytes()?);
+        if link >= MOST_LINKS {
+            return Err(CodecFault::Bad);
+        }
+        Ok(link)
     }
 
     // The bytes of so many pairs, whose first numbers ascend and are below `bound`, and whose

@@ -15,5 +15,11 @@ pub const ADMIT: u8 = 1;
 /// The kind of a release.
 pub const RELEASE: u8 = 2;
 
+/// The kind of a link that was taken out of service.
+pub const DOWN: u8 = 3;
+
+/// The kind of a link that was put back into service.
+pub const UP: u8 = 4;
+
 /// The number of bytes of a pair: two of a node or link, and four of its rate or amount.
 pub const PAIR_BYTES: usize = 6;

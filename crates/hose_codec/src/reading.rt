@@ -1,13 +1,15 @@
 // Reading an entry. No memory is taken before the bytes are known to be the spelling of one.
-ghost use Rattle.std.specs.Prelude.{◌≡◌, ◌↔◌, ◌∷◌, ◌++◌, [], List, ℕ, IfOk, IsErrOf};
+ghost use Rattle.std.specs.Prelude.{◌≡◌, ◌↔◌, ◌∷◌, ◌++◌, [], List, ℕ, ◌<◌, IfOk, IsErrOf};
 ghost use Rattle.hose_graph.specs.declared.entry.Entry.{Entry};
 ghost use Rattle.hose_codec.specs.Spelling.{IsEntry, IsSpelling, IsNoSpelling, Decodes, spelling};
 ghost use Rattle.hose_graph.specs.Ranges.{IsInRanges};
+ghost use Rattle.hose_codec.specs.Fields.{link_field};
+ghost use Rattle.hose_codec.specs.Reading.{ReadsWhole};
 
 use crate::fault::CodecFault;
 use crate::fields::{Fields, pairs_of};
-use crate::limits::{ADMIT, RELEASE};
-use hose_graph::{Amounts, Entry, Hose};
+use crate::limits::{ADMIT, DOWN, RELEASE, UP};
+use hose_graph::{Amounts, Entry, Hose, MOST_LINKS};
 use std::alloc::Global;
 
 /// The entry that these bytes are the spelling of.
@@ -36,6 +38,12 @@ fn entry_of(alloc: Global, bytes: &[u8]) -> Result<Entry, CodecFault>
     match fields.byte()? {
         ADMIT => admission(alloc, fields),
         RELEASE => release(fields),
+        DOWN => Ok(Entry::Down {
+            link: only_link(fields)?,
+        }),
+        UP => Ok(Entry::Up {
+            link: only_link(fields)?,
+        }),
         _ => Err(CodecFault::Bad),
     }
 }
@@ -67,4 +75,14 @@ fn release(mut fields: Fields) -> Result<Entry, CodecFault>
     let id = fields.id()?;
     fields.end()?;
     Ok(Entry::Release { customer, id })
+}
+
+// The link whose number is all that these fields have.
+fn only_link(mut fields: Fields) -> Result<u32, CodecFault>
+    ensures { ReadsWhole link_field (λ link. link < MOST_LINKS) (λ link. link)
+        fields.entry result }
+{
+    let link = fields.link()?;
+    fields.end()?;
+    Ok(link)
 }

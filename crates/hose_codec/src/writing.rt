@@ -2,12 +2,12 @@
 ghost use Rattle.std.specs.Prelude.{◌≡◌, ◌<◌, ◌≤◌, ◌^◌, ◌++◌, All, OnOk, IfOk, length, vec_len};
 ghost use Rattle.hose_graph.specs.Name.{IsName};
 ghost use Rattle.hose_graph.specs.Hose.{IsHose};
-ghost use Rattle.hose_codec.specs.Fields.{name_field, pairs_field, ends_field, amounts_field, id_field, FitsPair};
+ghost use Rattle.hose_codec.specs.Fields.{name_field, pairs_field, ends_field, amounts_field, id_field, link_field, FitsPair};
 ghost use Rattle.hose_graph.specs.Ranges.{AreInRanges};
 ghost use Rattle.hose_codec.specs.Spelling.{spelling, IsEntry, IsSpelling};
 ghost use Rattle.hose_graph.specs.Ranges.{IsInRanges};
 
-use crate::limits::{ADMIT, MOST_SPELLING, PAIR_BYTES, RELEASE};
+use crate::limits::{ADMIT, DOWN, MOST_SPELLING, PAIR_BYTES, RELEASE, UP};
 use byteorder::{BigEndian, ByteOrder};
 use hose_graph::{Endpoint, Entry, Name, ReservedLink};
 use std::alloc::{AllocError, Global};
@@ -35,6 +35,7 @@ fn spelling_len(entry: &Entry) -> usize
             amounts,
         } => 5 + customer.bytes().len() + PAIR_BYTES * (hose.ends().len() + amounts.pairs().len()),
         Entry::Release { customer, .. } => 6 + customer.bytes().len(),
+        Entry::Down { .. } | Entry::Up { .. } => 3,
     }
 }
 
@@ -58,6 +59,14 @@ fn put_entry(out: &mut Vec<u8>, entry: &Entry) -> Result<(), AllocError>
             out.push(RELEASE)?;
             put_name(out, customer)?;
             put_id(out, *id)
+        }
+        Entry::Down { link } => {
+            out.push(DOWN)?;
+            put_link(out, *link)
+        }
+        Entry::Up { link } => {
+            out.push(UP)?;
+            put_link(out, *link)
         }
     }
 }
@@ -95,6 +104,15 @@ fn put_id(out: &mut Vec<u8>, id: u64) -> Result<(), AllocError>
 {
     let mut field = [0; 4];
     BigEndian::write_u32(&mut field, id as u32);
+    out.extend_from_slice(&field)
+}
+
+fn put_link(out: &mut Vec<u8>, link: u32) -> Result<(), AllocError>
+    requires { link < 2 ^ 16 }
+    ensures { OnOk result (out.new.items ≡ out.old.items ++ link_field link) }
+{
+    let mut field = [0; 2];
+    BigEndian::write_u16(&mut field, link as u16);
     out.extend_from_slice(&field)
 }
 
