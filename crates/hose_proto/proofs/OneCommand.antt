@@ -7,7 +7,7 @@ use Rattle.hose_words.proofs.Passing.{Passes, pass_branch, pass_finish, pass_lis
 use Rattle.hose_graph.specs.Hose.{IsHose}
 use Rattle.hose_graph.specs.Network.{Network, IsNetwork}
 use Rattle.hose_graph.specs.declared.command.Command.{Command}
-use Rattle.hose_graph.specs.declared.command.Command.TheVariants.{Admit, Quote, Take, Release, Show, Link}
+use Rattle.hose_graph.specs.declared.command.Command.TheVariants.{Admit, Quote, Take, Release, Show, Link, Down, Up}
 use Rattle.std.proofs.lemmas.List.Sorted.{length_permutation}
 use Rattle.hose_proto.specs.Command.{AreEndsOf, IsCommand, command_form, command_grammar, ends_form}
 use Rattle.hose_graph.specs.Naming.{AsksOf}
@@ -30,6 +30,8 @@ command_by network verb.Take words = Take (told words 1)
 command_by network verb.Release words = Release (told words 1)
 command_by network verb.Show words = Show (told words 1)
 command_by network verb.Link words = Link (told words 1)
+command_by network verb.Down words = Down (told words 1)
+command_by network verb.Up words = Up (told words 1)
 
 abbrev command_of : Network → List (List ℕ) → Command
 command_of network words = command_by network (verb_of (get_or words 0 [])) words
@@ -42,6 +44,8 @@ IsOrdered (Take quote) command = command ≡ Take quote
 IsOrdered (Release id) command = command ≡ Release id
 IsOrdered (Show id) command = command ≡ Show id
 IsOrdered (Link link) command = command ≡ Link link
+IsOrdered (Down link) command = command ≡ Down link
+IsOrdered (Up link) command = command ≡ Up link
 
 -- so it is one command at most
 ordered_unique : (command one other : Command) → IsOrdered command one → IsOrdered command other → one ≡ other
@@ -53,6 +57,8 @@ ordered_unique (Take quote) one other is is' = is ∙ sym is'
 ordered_unique (Release id) one other is is' = is ∙ sym is'
 ordered_unique (Show id) one other is is' = is ∙ sym is'
 ordered_unique (Link link) one other is is' = is ∙ sym is'
+ordered_unique (Down link) one other is is' = is ∙ sym is'
+ordered_unique (Up link) one other is is' = is ∙ sym is'
 
 module _ (network : Network) (is : IsNetwork network) where
   -- endpoints are found again from their words
@@ -77,6 +83,10 @@ module _ (network : Network) (is : IsNetwork network) where
       subst (λ w. IsOrdered (command_of network w) (Show id)) (sym cut) (ap Show (sym (number_back id (omega (arith, within)))))
   command_back words (Link link) (cut, within) =
       subst (λ w. IsOrdered (command_of network w) (Link link)) (sym cut) (ap Link (sym (number_back link (omega (arith, within, is.few_links)))))
+  command_back words (Down link) (cut, within) =
+      subst (λ w. IsOrdered (command_of network w) (Down link)) (sym cut) (ap Down (sym (number_back link (omega (arith, within, is.few_links)))))
+  command_back words (Up link) (cut, within) =
+      subst (λ w. IsOrdered (command_of network w) (Up link)) (sym cut) (ap Up (sym (number_back link (omega (arith, within, is.few_links)))))
 
   -- ---- a command is not wrong
 
@@ -98,6 +108,10 @@ module _ (network : Network) (is : IsNetwork network) where
       subst (Passes (command_form network)) (sym cut) (pass_branch verb.Show tt verbs_apart (pass_place (id, refl, within) pass_finish))
   pass_command words (Link link) (cut, within) =
       subst (Passes (command_form network)) (sym cut) (pass_branch verb.Link tt verbs_apart (pass_branch link within (links_apart network is) pass_finish))
+  pass_command words (Down link) (cut, within) =
+      subst (Passes (command_form network)) (sym cut) (pass_branch verb.Down tt verbs_apart (pass_branch link within (links_apart network is) pass_finish))
+  pass_command words (Up link) (cut, within) =
+      subst (Passes (command_form network)) (sym cut) (pass_branch verb.Up tt verbs_apart (pass_branch link within (links_apart network is) pass_finish))
 
 -- words spell one hose at most
 pub ends_unique : (network : Network) (words : List (List ℕ)) (hose other : List (ℕ × ℕ)) → IsNetwork network → AreEndsOf network words hose → AreEndsOf network words other → hose ≡ other
@@ -138,6 +152,8 @@ asks_of network words (Take quote) asks = tt
 asks_of network words (Release id) asks = asks.1.1
 asks_of network words (Show id) asks = tt
 asks_of network words (Link link) (cut, within) = within
+asks_of network words (Down link) (cut, within) = within
+asks_of network words (Up link) (cut, within) = within
 
 pub read_asks_of : {E : Type 0} (network : Network) (words : List (List ℕ)) (read : Result Command E) → IfOk read (IsCommand network words) → IfOk read (AsksOf network)
 read_asks_of network words (Ok command) asks = asks_of network words command asks

@@ -1,5 +1,5 @@
 -- The words of a reply pass its form, so none of them is wrong.
-use Rattle.std.proofs.Common.{◌≡◌, ◌⊎◌, ℕ, List, [], ◌∷◌, ◌++◌, Result, Ok, Err, IfOk, IfErr, map, codes, decimal, inl, inr, refl, ap, subst}
+use Rattle.std.proofs.Common.{◌≡◌, ◌⊎◌, ℕ, Bool, true, false, List, [], ◌∷◌, ◌++◌, Result, Ok, Err, IfOk, IfErr, map, codes, decimal, inl, inr, refl, ap, subst}
 use Rattle.std.specs.List.{slice_get}
 use Rattle.std.proofs.lemmas.Result.{IfErr-at_err}
 use Rattle.hose_words.specs.Cursor.{Position}
@@ -7,29 +7,37 @@ use Rattle.hose_words.specs.Form.{Fits64}
 use Rattle.hose_words.specs.Grammar.{IsFirstNotAllowed}
 use Rattle.hose_words.proofs.Forms.{wrong_at_start}
 use Rattle.hose_words.proofs.Passing.{Passes, pass_branch, pass_finish, pass_list, pass_place, pass_these, pass_until}
-use Rattle.hose_graph.specs.Network.{Network, IsNetwork}
+use Rattle.hose_graph.specs.Network.{Network, IsNetwork, IsLinkOf}
 use Rattle.hose_graph.specs.declared.limits.TheConstants.{LEAST_ENDS}
 use Rattle.hose_graph.specs.declared.reply.Reply.{Reply}
-use Rattle.hose_graph.specs.declared.reply.Reply.TheVariants.{Welcome, Admitted, Quoted, Refused, Stale, Released, NoVpn, NoQuote, TooMany, Shown, LinkState, Full, Spent, Disk, Memory, Bad, Long, Bye}
+use Rattle.hose_graph.specs.declared.reply.Reply.TheVariants.{Welcome, Admitted, Quoted, Refused, Stale, Released, NoVpn, NoQuote, TooMany, Shown, LinkState, Down, Up, Already, Denied, Full, Spent, Disk, Memory, Bad, Long, Bye}
 use Rattle.hose_proto.specs.Places.{IsHoseOf, end_word}
 use Rattle.hose_proto.specs.Reading.{IsFaultOf}
-use Rattle.hose_proto.specs.ReplyGrammar.{AreEnds, at_form, id_form, amounts_form, hose_form, priced_form, reply_form, reply_grammar}
+use Rattle.hose_proto.specs.ReplyGrammar.{AreEnds, at_form, id_form, amounts_form, changed_form, hose_form, priced_form, reply_form, reply_grammar, service_form}
 use Rattle.hose_graph.specs.Naming.{NamesPlaces}
-use Rattle.hose_proto.specs.ReplyWords.{AreAmounts, IsOfKind, IsReply, pair_word, link_words, priced_words, reply_words}
+use Rattle.hose_proto.specs.ReplyWords.{AreAmounts, IsOfKind, IsReply, pair_word, link_words, priced_words, reply_words, service_words}
 use Rattle.hose_proto.specs.declared.fault.ReadFault.{ReadFault}
 use Rattle.hose_proto.specs.declared.fault.ReadFault.TheVariants as fault
 use Rattle.hose_proto.specs.declared.head.Head.TheVariants as head
 use Rattle.hose_proto.specs.declared.head.Missing.TheVariants as missing
+use Rattle.hose_proto.specs.declared.head.Service.TheVariants as service
 use Rattle.hose_proto.proofs.EndsUntil.{ends_no_links}
 use Rattle.hose_proto.proofs.Items.{amounts_closed, ends_closed, side_closed}
 use Rattle.hose_proto.proofs.TellsBack.{reply_unique}
-use Rattle.hose_proto.proofs.Words.{heads_apart, links_apart, missing_apart}
+use Rattle.hose_proto.proofs.Words.{heads_apart, links_apart, missing_apart, services_apart}
 
 pass_at : (at : ℕ) → Fits64 at → Passes at_form (codes "at" ∷ decimal at ∷ [])
 pass_at at small = pass_place refl (pass_place (at, refl, small) pass_finish)
 
 pass_id : (id at : ℕ) → Fits64 id → Fits64 at → Passes id_form (decimal id ∷ codes "at" ∷ decimal at ∷ [])
 pass_id id at small small' = pass_place (id, refl, small) (pass_at at small')
+
+pass_service : (out : Bool) (at : ℕ) → Fits64 at → Passes service_form (service_words out at)
+pass_service true at small = pass_branch service.Out tt services_apart (pass_at at small)
+pass_service false at small = pass_branch service.At tt services_apart (pass_place (at, refl, small) pass_finish)
+
+pass_changed : (network : Network) → IsNetwork network → (link at : ℕ) → IsLinkOf network link → Fits64 at → Passes (changed_form network) (decimal link ∷ codes "at" ∷ decimal at ∷ [])
+pass_changed network is link at there small = pass_branch link there (links_apart network is) (pass_at at small)
 
 pass_amounts : (network : Network) (amounts : List (ℕ × ℕ)) → AreAmounts network amounts → Passes (amounts_form network) (map pair_word amounts)
 pass_amounts network amounts are = pass_list (amounts_closed network) are.some are
@@ -58,10 +66,14 @@ module _ (network : Network) (is : IsNetwork network) where
   pass_reply (Shown id cost at hose amounts) kind =
       pass_branch head.Vpn tt heads_apart
       (pass_place (id, refl, kind.0) (pass_place refl (pass_place (cost, refl, kind.1) (pass_place refl (pass_place (at, refl, kind.2) (pass_place refl (pass_hose network hose amounts kind.3 kind.4)))))))
-  pass_reply (LinkState link load at) kind =
+  pass_reply (LinkState link load out at) kind =
       pass_branch head.Link tt heads_apart
       (pass_branch link kind.0 (links_apart network is)
-      (pass_these (link_words network (slice_get network.links link)) _ (codes "load" ∷ decimal load ∷ codes "at" ∷ decimal at ∷ []) (pass_place refl (pass_id load at kind.1 kind.2))))
+      (pass_these (link_words network (slice_get network.links link)) _ (codes "load" ∷ decimal load ∷ service_words out at) (pass_place refl (pass_place (load, refl, kind.1) (pass_service out at kind.2)))))
+  pass_reply (Down link at) kind = pass_branch head.Down tt heads_apart (pass_changed network is link at kind.0 kind.1)
+  pass_reply (Up link at) kind = pass_branch head.Up tt heads_apart (pass_changed network is link at kind.0 kind.1)
+  pass_reply (Already link at) kind = pass_branch head.Already tt heads_apart (pass_changed network is link at kind.0 kind.1)
+  pass_reply (Denied at) kind = pass_branch head.Denied tt heads_apart (pass_at at kind)
   pass_reply (Full at) kind = pass_branch head.Full tt heads_apart (pass_at at kind)
   pass_reply (Spent at) kind = pass_branch head.Spent tt heads_apart (pass_at at kind)
   pass_reply (Disk at) kind = pass_branch head.Disk tt heads_apart (pass_at at kind)
@@ -94,7 +106,11 @@ places_of network (NoVpn id at) kind = tt
 places_of network (NoQuote quote at) kind = tt
 places_of network (TooMany at) kind = tt
 places_of network (Shown id cost at hose amounts) kind = (kind.3).nodes
-places_of network (LinkState link load at) kind = kind.0
+places_of network (LinkState link load out at) kind = kind.0
+places_of network (Down link at) kind = kind.0
+places_of network (Up link at) kind = kind.0
+places_of network (Already link at) kind = kind.0
+places_of network (Denied at) kind = tt
 places_of network (Full at) kind = tt
 places_of network (Spent at) kind = tt
 places_of network (Disk at) kind = tt

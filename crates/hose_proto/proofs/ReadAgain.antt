@@ -1,5 +1,5 @@
 -- The words of a reply's text tell the reply.
-use Rattle.std.proofs.Common.{zero, suc, ◌≡◌, ℕ, ◌<◌, List, [], ◌∷◌, ◌++◌, Option, None, Some, IfSome, length, map, codes, decimal, refl, sym, subst, arith, append_assoc, append-nil}
+use Rattle.std.proofs.Common.{zero, suc, ◌≡◌, ℕ, ◌<◌, List, [], ◌∷◌, ◌++◌, Bool, true, false, Option, None, Some, IfSome, length, map, codes, decimal, refl, sym, subst, arith, append_assoc, append-nil}
 use Rattle.std.specs.List.{All, flat_map, slice_get}
 use Rattle.std.proofs.lemmas.Grind.{flat_map-append}
 use Rattle.std.proofs.lemmas.List.Folds.{flat_map-map}
@@ -10,10 +10,10 @@ use Rattle.hose_graph.specs.Network.{Network, IsNetwork, IsLink, name_of}
 use Rattle.hose_graph.specs.Hose.{IsEnd}
 use Rattle.hose_graph.specs.declared.link.Link.{Link}
 use Rattle.hose_graph.specs.declared.reply.Reply.{Reply}
-use Rattle.hose_graph.specs.declared.reply.Reply.TheVariants.{Welcome, Admitted, Quoted, Refused, Stale, Released, NoVpn, NoQuote, TooMany, Shown, LinkState, Full, Spent, Disk, Memory, Bad, Long, Bye}
-use Rattle.hose_proto.specs.ReplyText.{reply_text, pair_text, node_text, end_text, link_text, priced_text}
+use Rattle.hose_graph.specs.declared.reply.Reply.TheVariants.{Welcome, Admitted, Quoted, Refused, Stale, Released, NoVpn, NoQuote, TooMany, Shown, LinkState, Down, Up, Already, Denied, Full, Spent, Disk, Memory, Bad, Long, Bye}
+use Rattle.hose_proto.specs.ReplyText.{reply_text, pair_text, node_text, end_text, link_text, priced_text, service_text}
 use Rattle.hose_proto.specs.Places.{IsHoseOf, end_word}
-use Rattle.hose_proto.specs.ReplyWords.{reply_words, pair_word, link_words, priced_words, IsOfKind, IsReply, AreAmounts}
+use Rattle.hose_proto.specs.ReplyWords.{reply_words, pair_word, link_words, priced_words, service_words, IsOfKind, IsReply, AreAmounts}
 use Rattle.hose_words.proofs.Spaced.{spaced, words_of-line, AreWords, AreWords-map, AreWords-append, IsWord, IsWord-allowed, IsWord-known, IsWord-decimal, IsWord-colon}
 
 -- ---- a text is its words, with spaces between them
@@ -37,6 +37,10 @@ spaced-link network (Some link) = rw (append_assoc, append_assoc, append_assoc, 
 spaced-priced : (cost at : ℕ) (amounts : List (ℕ × ℕ)) → priced_text cost at amounts ≡ spaced (priced_words cost at amounts)
 spaced-priced cost at amounts = rw (append_assoc, append_assoc, append_assoc, spaced-pairs amounts) refl
 
+spaced-service : (out : Bool) (at : ℕ) → service_text out at ≡ spaced (service_words out at)
+spaced-service true at = simp append-nil
+spaced-service false at = simp append-nil
+
 -- a reply's text with a space before it
 pub spaced-reply : (network : Network) (reply : Reply) → 32 ∷ reply_text network reply ≡ spaced (reply_words network reply)
 spaced-reply network (Welcome at) = simp append-nil
@@ -52,8 +56,12 @@ spaced-reply network (Shown id cost at hose amounts) =
     rw
     (append_assoc, append_assoc, append_assoc, append_assoc, append_assoc, append_assoc, append_assoc, spaced-ends network hose, spaced-pairs amounts, spaced-append (map (end_word network) hose) (codes "links" ∷ map pair_word amounts))
     refl
-spaced-reply network (LinkState link load at) =
-    rw (append_assoc, append_assoc, append_assoc, append_assoc, spaced-link network (slice_get network.links link), spaced-append (link_words network (slice_get network.links link)) (codes "load" ∷ decimal load ∷ codes "at" ∷ decimal at ∷ []), append-nil) refl
+spaced-reply network (LinkState link load out at) =
+    rw (append_assoc, append_assoc, append_assoc, spaced-link network (slice_get network.links link), spaced-append (link_words network (slice_get network.links link)) (codes "load" ∷ decimal load ∷ service_words out at), spaced-service out at) refl
+spaced-reply network (Down link at) = rw (append_assoc, append-nil) refl
+spaced-reply network (Up link at) = rw (append_assoc, append-nil) refl
+spaced-reply network (Already link at) = rw (append_assoc, append-nil) refl
+spaced-reply network (Denied at) = simp append-nil
 spaced-reply network (Full at) = simp append-nil
 spaced-reply network (Spent at) = simp append-nil
 spaced-reply network (Disk at) = simp append-nil
@@ -79,6 +87,10 @@ cost_word = IsWord-known (codes "cost") refl (omega arith)
 -- `at` and an epoch
 AreWords-at : (at : ℕ) → Fits64 at → AreWords (codes "at" ∷ decimal at ∷ [])
 AreWords-at at small = (at_word, (IsWord-decimal at small, tt))
+
+AreWords-service : (out : Bool) (at : ℕ) → Fits64 at → AreWords (service_words out at)
+AreWords-service true at small = (IsWord-known (codes "out") refl (omega arith), AreWords-at at small)
+AreWords-service false at small = AreWords-at at small
 
 module _ (network : Network) (is : IsNetwork network) where
   -- a name
@@ -140,8 +152,12 @@ module _ (network : Network) (is : IsNetwork network) where
       (IsWord-known (codes "too") refl (omega arith), (IsWord-known (codes "many") refl (omega arith), (IsWord-known (codes "quotes") refl (omega arith), AreWords-at at small)))
   AreWords-reply (Shown id cost at hose amounts) kind =
       (IsWord-known (codes "vpn") refl (omega arith), (IsWord-decimal id kind.0, (cost_word, (IsWord-decimal cost kind.1, (at_word, (IsWord-decimal at kind.2, (IsWord-known (codes "ends") refl (omega arith), AreWords-append (map (end_word network) hose) (codes "links" ∷ map pair_word amounts) (AreWords-ends hose kind.3) (AreWords-links amounts kind.4))))))))
-  AreWords-reply (LinkState link load at) kind =
-      (IsWord-known (codes "link") refl (omega arith), (IsWord-decimal link (few kind.0), AreWords-append (link_words network (slice_get network.links link)) (codes "load" ∷ decimal load ∷ codes "at" ∷ decimal at ∷ []) (AreWords-link (slice_get network.links link) (IfSome-place (IsLink network) network.links link is.links)) (IsWord-known (codes "load") refl (omega arith), (IsWord-decimal load kind.1, AreWords-at at kind.2))))
+  AreWords-reply (LinkState link load out at) kind =
+      (IsWord-known (codes "link") refl (omega arith), (IsWord-decimal link (few kind.0), AreWords-append (link_words network (slice_get network.links link)) (codes "load" ∷ decimal load ∷ service_words out at) (AreWords-link (slice_get network.links link) (IfSome-place (IsLink network) network.links link is.links)) (IsWord-known (codes "load") refl (omega arith), (IsWord-decimal load kind.1, AreWords-service out at kind.2))))
+  AreWords-reply (Down link at) kind = (IsWord-known (codes "down") refl (omega arith), (IsWord-decimal link (few kind.0), AreWords-at at kind.1))
+  AreWords-reply (Up link at) kind = (IsWord-known (codes "up") refl (omega arith), (IsWord-decimal link (few kind.0), AreWords-at at kind.1))
+  AreWords-reply (Already link at) kind = (IsWord-known (codes "already") refl (omega arith), (IsWord-decimal link (few kind.0), AreWords-at at kind.1))
+  AreWords-reply (Denied at) small = (IsWord-known (codes "denied") refl (omega arith), AreWords-at at small)
   AreWords-reply (Full at) small = (IsWord-known (codes "full") refl (omega arith), AreWords-at at small)
   AreWords-reply (Spent at) small = (IsWord-known (codes "spent") refl (omega arith), AreWords-at at small)
   AreWords-reply (Disk at) small = (IsWord-known (codes "disk") refl (omega arith), AreWords-at at small)

@@ -1,5 +1,5 @@
 -- The reply that words tell is found from the words alone, so they tell one at most.
-use Rattle.std.proofs.Common.{◌≡◌, ◌∙◌, ℕ, Bool, false, cond, List, [], length, get_or, map, drop, codes, decimal, refl, sym, ap, ◌<◌}
+use Rattle.std.proofs.Common.{◌≡◌, ◌∙◌, ℕ, Bool, true, false, cond, List, [], length, get_or, map, drop, codes, decimal, refl, sym, ap, ◌<◌}
 use Rattle.std.specs.List.{All}
 use Rattle.std.specs.Str.{bytes_eq}
 use Rattle.std.proofs.lemmas.Option.{slice_get-get_or}
@@ -7,7 +7,7 @@ use Rattle.hose_words.specs.Form.{Fits64}
 use Rattle.hose_graph.specs.Network.{Network, IsNetwork, name_of}
 use Rattle.hose_graph.specs.declared.link.Link.{Link}
 use Rattle.hose_graph.specs.declared.reply.Reply.{Reply}
-use Rattle.hose_graph.specs.declared.reply.Reply.TheVariants.{Welcome, Admitted, Quoted, Refused, Stale, Released, NoVpn, NoQuote, TooMany, Shown, LinkState, Full, Spent, Disk, Memory, Bad, Long, Bye}
+use Rattle.hose_graph.specs.declared.reply.Reply.TheVariants.{Welcome, Admitted, Quoted, Refused, Stale, Released, NoVpn, NoQuote, TooMany, Shown, LinkState, Down, Up, Already, Denied, Full, Spent, Disk, Memory, Bad, Long, Bye}
 use Rattle.hose_proto.specs.Places.{IsHoseOf, end_word}
 use Rattle.hose_proto.specs.ReplyWords.{AreAmounts, IsOfKind, IsReply, pair_word, reply_words}
 use Rattle.hose_proto.specs.declared.head.Head.{Head}
@@ -38,7 +38,12 @@ reply_by network head.No words = cond (bytes_eq (get_or words 1 []) (codes "vpn"
 reply_by network head.Too words = TooMany (told words 4)
 reply_by network head.Vpn words =
     Shown (told words 1) (told words 3) (told words 5) (map (end_spelled network) (front_of is_links (drop 7 words))) (map pair_spelled (rest_of is_links (drop 7 words)))
-reply_by network head.Link words = LinkState (told words 1) (told words 9) (told words 11)
+reply_by network head.Link words =
+    cond (bytes_eq (get_or words 10 []) (codes "out")) (LinkState (told words 1) (told words 9) true (told words 12)) (LinkState (told words 1) (told words 9) false (told words 11))
+reply_by network head.Down words = Down (told words 1) (told words 3)
+reply_by network head.Up words = Up (told words 1) (told words 3)
+reply_by network head.Already words = Already (told words 1) (told words 3)
+reply_by network head.Denied words = Denied (told words 2)
 reply_by network head.Full words = Full (told words 2)
 reply_by network head.Spent words = Spent (told words 2)
 reply_by network head.Disk words = Disk (told words 2)
@@ -71,8 +76,11 @@ module _ (network : Network) (is : IsNetwork network) where
   two_back : (make : ℕ → ℕ → Reply) (one two : ℕ) → Fits64 one → Fits64 two → make (number_spelled (decimal one)) (number_spelled (decimal two)) ≡ make one two
   two_back make one two a b = λ i. make (number_back one a i) (number_back two b i)
 
-  link_back : (link load at : ℕ) → IsOfKind network (LinkState link load at) → reply_of network (reply_words network (LinkState link load at)) ≡ LinkState link load at
-  link_back link load at kind = rw (slice_get-get_or network.links link no_link kind.0) (λ i. LinkState (number_back link (few network is kind.0) i) (number_back load kind.1 i) (number_back at kind.2 i))
+  link_back : (link load : ℕ) (out : Bool) (at : ℕ) → IsOfKind network (LinkState link load out at) → reply_of network (reply_words network (LinkState link load out at)) ≡ LinkState link load out at
+  link_back link load true at kind =
+      rw (slice_get-get_or network.links link no_link kind.0) (λ i. LinkState (number_back link (few network is kind.0) i) (number_back load kind.1 i) true (number_back at kind.2 i))
+  link_back link load false at kind =
+      rw (slice_get-get_or network.links link no_link kind.0) (λ i. LinkState (number_back link (few network is kind.0) i) (number_back load kind.1 i) false (number_back at kind.2 i))
 
   -- the words of a reply lead back to it
   reply_back : (reply : Reply) → IsOfKind network reply → reply_of network (reply_words network reply) ≡ reply
@@ -90,7 +98,11 @@ module _ (network : Network) (is : IsNetwork network) where
       let front = ap (map (end_spelled network)) (front_is is_links (map (end_word network) hose) links (map pair_word amounts) (no_links_pass hose) refl) ∙ hose_back hose kind.3 in
       let rest = ap (map pair_spelled) (rest_is is_links (map (end_word network) hose) links (map pair_word amounts) (no_links_pass hose) refl) ∙ amounts_back amounts kind.4 in
       λ i. Shown (number_back id kind.0 i) (number_back cost kind.1 i) (number_back at kind.2 i) (front i) (rest i)
-  reply_back (LinkState link load at) kind = link_back link load at kind
+  reply_back (LinkState link load out at) kind = link_back link load out at kind
+  reply_back (Down link at) kind = two_back Down link at (few network is kind.0) kind.1
+  reply_back (Up link at) kind = two_back Up link at (few network is kind.0) kind.1
+  reply_back (Already link at) kind = two_back Already link at (few network is kind.0) kind.1
+  reply_back (Denied at) kind = ap Denied (number_back at kind)
   reply_back (Full at) kind = ap Full (number_back at kind)
   reply_back (Spent at) kind = ap Spent (number_back at kind)
   reply_back (Disk at) kind = ap Disk (number_back at kind)

@@ -9,11 +9,13 @@ use Rattle.hose_words.proofs.Forms.{AreApart, apart_by}
 use Rattle.hose_words.proofs.Keywords.{choice_of}
 use Rattle.hose_graph.specs.Network.{Network, IsNetwork, IsLinkOf}
 use Rattle.hose_proto.specs.Command.{verb_word}
-use Rattle.hose_proto.specs.ReplyGrammar.{head_word, missing_word}
+use Rattle.hose_proto.specs.ReplyGrammar.{head_word, missing_word, service_word}
 use Rattle.hose_proto.specs.declared.head.Head.{Head}
 use Rattle.hose_proto.specs.declared.head.Head.TheVariants as head
 use Rattle.hose_proto.specs.declared.head.Missing.{Missing}
 use Rattle.hose_proto.specs.declared.head.Missing.TheVariants as missing
+use Rattle.hose_proto.specs.declared.head.Service.{Service}
+use Rattle.hose_proto.specs.declared.head.Service.TheVariants as service
 use Rattle.hose_proto.specs.declared.head.TheConstants.{HEADS}
 use Rattle.hose_proto.specs.declared.verb.Verb.{Verb}
 use Rattle.hose_proto.specs.declared.verb.Verb.TheVariants as verb
@@ -34,6 +36,10 @@ head_of-word head.No = refl
 head_of-word head.Too = refl
 head_of-word head.Vpn = refl
 head_of-word head.Link = refl
+head_of-word head.Down = refl
+head_of-word head.Up = refl
+head_of-word head.Already = refl
+head_of-word head.Denied = refl
 head_of-word head.Full = refl
 head_of-word head.Spent = refl
 head_of-word head.Disk = refl
@@ -57,13 +63,17 @@ every_head P all head.No = all 6 head.Bye (omega arith)
 every_head P all head.Too = all 7 head.Bye (omega arith)
 every_head P all head.Vpn = all 8 head.Bye (omega arith)
 every_head P all head.Link = all 9 head.Bye (omega arith)
-every_head P all head.Full = all 10 head.Bye (omega arith)
-every_head P all head.Spent = all 11 head.Bye (omega arith)
-every_head P all head.Disk = all 12 head.Bye (omega arith)
-every_head P all head.Memory = all 13 head.Bye (omega arith)
-every_head P all head.Bad = all 14 head.Bye (omega arith)
-every_head P all head.Long = all 15 head.Bye (omega arith)
-every_head P all head.Bye = all 16 head.Bye (omega arith)
+every_head P all head.Down = all 10 head.Bye (omega arith)
+every_head P all head.Up = all 11 head.Bye (omega arith)
+every_head P all head.Already = all 12 head.Bye (omega arith)
+every_head P all head.Denied = all 13 head.Bye (omega arith)
+every_head P all head.Full = all 14 head.Bye (omega arith)
+every_head P all head.Spent = all 15 head.Bye (omega arith)
+every_head P all head.Disk = all 16 head.Bye (omega arith)
+every_head P all head.Memory = all 17 head.Bye (omega arith)
+every_head P all head.Bad = all 18 head.Bye (omega arith)
+every_head P all head.Long = all 19 head.Bye (omega arith)
+every_head P all head.Bye = all 20 head.Bye (omega arith)
 
 -- the word after `no` that a word is
 abbrev pub missing_of : List ℕ → Missing
@@ -76,6 +86,17 @@ missing_of-word missing.Quote = refl
 pub missing_apart : AreApart Each missing_word
 missing_apart = apart_by missing_of (λ one _. missing_of-word one)
 
+-- the word after a link's load that a word is
+abbrev pub service_of : List ℕ → Service
+service_of word = choice_of service_word (service.Out ∷ service.At ∷ []) service.At word
+
+service_of-word : (one : Service) → service_of (service_word one) ≡ one
+service_of-word service.Out = refl
+service_of-word service.At = refl
+
+pub services_apart : AreApart Each service_word
+services_apart = apart_by service_of (λ one _. service_of-word one)
+
 -- the first word of a command that a word is
 abbrev pub verb_of : List ℕ → Verb
 verb_of word = choice_of verb_word VERBS verb.Link word
@@ -87,6 +108,8 @@ verb_of-word verb.Take = refl
 verb_of-word verb.Release = refl
 verb_of-word verb.Show = refl
 verb_of-word verb.Link = refl
+verb_of-word verb.Down = refl
+verb_of-word verb.Up = refl
 
 pub verbs_apart : AreApart Each verb_word
 verbs_apart = apart_by verb_of (λ one _. verb_of-word one)
@@ -99,6 +122,8 @@ every_verb P all verb.Take = all 2 verb.Link (omega arith)
 every_verb P all verb.Release = all 3 verb.Link (omega arith)
 every_verb P all verb.Show = all 4 verb.Link (omega arith)
 every_verb P all verb.Link = all 5 verb.Link (omega arith)
+every_verb P all verb.Down = all 6 verb.Link (omega arith)
+every_verb P all verb.Up = all 7 verb.Link (omega arith)
 
 pub links_apart : (network : Network) → IsNetwork network → AreApart (IsLinkOf network) decimal
 links_apart network is = record { apart = λ one other below below' same. decimal_injective one other (omega (arith, below, is.few_links)) (omega (arith, below', is.few_links)) same }

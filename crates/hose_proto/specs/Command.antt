@@ -1,12 +1,12 @@
--- Commands as words: `admit NAME:RATE ..`, `quote NAME:RATE ..`, `take Q`, `release ID`, `show ID`
--- and `link L`.
+-- Commands as words: `admit NAME:RATE ..`, `quote NAME:RATE ..`, `take Q`, `release ID`, `show ID`,
+-- `link L`, `down L` and `up L`.
 use Rattle.std.specs.Prelude.{◌≡◌, ℕ, ◌≤◌, List, [], ◌∷◌, All, ⊤, map, codes, decimal, length, IsPermutation}
 use Rattle.hose_words.specs.Form.{Form, finish, place, branch, list, Each, TellsNumber, IsWithin, grammar_of}
 use Rattle.hose_words.specs.Grammar.{Grammar}
 use Rattle.hose_graph.specs.Hose.{IsEnd, HasDistinctNodes, Endpoint, node_of}
 use Rattle.hose_graph.specs.Network.{Network, IsLinkOf, IsNodeOf}
 use Rattle.hose_graph.specs.declared.command.Command.{Command}
-use Rattle.hose_graph.specs.declared.command.Command.TheVariants.{Admit, Quote, Take, Release, Show, Link}
+use Rattle.hose_graph.specs.declared.command.Command.TheVariants.{Admit, Quote, Take, Release, Show, Link, Down, Up}
 use Rattle.hose_graph.specs.declared.limits.TheConstants.{LEAST_ENDS, MOST_ENDS, MOST_EPOCH}
 use Rattle.hose_proto.specs.Places.{IsHoseOf, end_word}
 use Rattle.hose_proto.specs.declared.verb.Verb.{Verb}
@@ -36,6 +36,10 @@ IsCommand network words (Release id) = (words ≡ codes "release" ∷ decimal id
 IsCommand network words (Show id) = (words ≡ codes "show" ∷ decimal id ∷ []) × IsId id
 IsCommand network words (Link link) =
     (words ≡ codes "link" ∷ decimal link ∷ []) × IsLinkOf network link
+IsCommand network words (Down link) =
+    (words ≡ codes "down" ∷ decimal link ∷ []) × IsLinkOf network link
+IsCommand network words (Up link) =
+    (words ≡ codes "up" ∷ decimal link ∷ []) × IsLinkOf network link
 
 -- ---- what is not allowed
 
@@ -66,6 +70,8 @@ verb_word verb.Take = codes "take"
 verb_word verb.Release = codes "release"
 verb_word verb.Show = codes "show"
 verb_word verb.Link = codes "link"
+verb_word verb.Down = codes "down"
+verb_word verb.Up = codes "up"
 
 -- what may stand after the first word
 abbrev pub verb_form : Network → Verb → Form
@@ -75,6 +81,8 @@ verb_form network verb.Take = sole_id_form
 verb_form network verb.Release = sole_id_form
 verb_form network verb.Show = sole_id_form
 verb_form network verb.Link = sole_link_form network
+verb_form network verb.Down = sole_link_form network
+verb_form network verb.Up = sole_link_form network
 
 -- a command
 abbrev pub command_form : Network → Form
@@ -88,4 +96,9 @@ command_grammar network = grammar_of (command_form network)
 abbrev pub TakesMemory : Verb → Type 0
 TakesMemory verb.Admit = ⊤
 TakesMemory verb.Quote = ⊤
-TakesMemory _ = ⊥
+TakesMemory verb.Take = ⊥
+TakesMemory verb.Release = ⊥
+TakesMemory verb.Show = ⊥
+TakesMemory verb.Link = ⊥
+TakesMemory verb.Down = ⊥
+TakesMemory verb.Up = ⊥

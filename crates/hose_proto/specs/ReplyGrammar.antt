@@ -12,6 +12,8 @@ use Rattle.hose_proto.specs.declared.head.Head.{Head}
 use Rattle.hose_proto.specs.declared.head.Head.TheVariants as head
 use Rattle.hose_proto.specs.declared.head.Missing.{Missing}
 use Rattle.hose_proto.specs.declared.head.Missing.TheVariants as missing
+use Rattle.hose_proto.specs.declared.head.Service.{Service}
+use Rattle.hose_proto.specs.declared.head.Service.TheVariants as service
 
 -- ---- the forms of replies
 
@@ -59,14 +61,33 @@ hose_form network =
 abbrev pub shown_form : Network → Form
 shown_form network = cost_form (this (codes "ends") (hose_form network))
 
--- what the network tells of a link, and `load X at N`
+-- the word after a link's load
+abbrev pub service_word : Service → List ℕ
+service_word service.Out = codes "out"
+service_word service.At = codes "at"
+
+-- what may stand after that word
+abbrev pub after_service : Service → Form
+after_service service.Out = at_form
+after_service service.At = number finish
+
+-- `out at N` where a link is out of service, and else `at N`
+abbrev pub service_form : Form
+service_form = branch Each service_word after_service
+
+-- what the network tells of a link, `load X`, and `out at N` or `at N`
 abbrev pub load_form : Network → ℕ → Form
 load_form network link =
-    these (link_words network (slice_get network.links link)) (this (codes "load") id_form)
+    these (link_words network (slice_get network.links link))
+    (this (codes "load") (number service_form))
 
--- `L A B capacity C cost K load X at N`
+-- `L A B capacity C cost K load X at N`, with `out` before `at` or without it
 abbrev pub link_form : Network → Form
 link_form network = branch (IsLinkOf network) decimal (load_form network)
+
+-- `L at N`
+abbrev pub changed_form : Network → Form
+changed_form network = branch (IsLinkOf network) decimal (λ _. at_form)
 
 -- the word after `no`
 abbrev pub missing_word : Missing → List ℕ
@@ -85,6 +106,10 @@ head_word head.No = codes "no"
 head_word head.Too = codes "too"
 head_word head.Vpn = codes "vpn"
 head_word head.Link = codes "link"
+head_word head.Down = codes "down"
+head_word head.Up = codes "up"
+head_word head.Already = codes "already"
+head_word head.Denied = codes "denied"
 head_word head.Full = codes "full"
 head_word head.Spent = codes "spent"
 head_word head.Disk = codes "disk"
@@ -105,6 +130,10 @@ head_form network head.No = branch Each missing_word (λ _. id_form)
 head_form network head.Too = these (codes "many" ∷ codes "quotes" ∷ []) at_form
 head_form network head.Vpn = shown_form network
 head_form network head.Link = link_form network
+head_form network head.Down = changed_form network
+head_form network head.Up = changed_form network
+head_form network head.Already = changed_form network
+head_form network head.Denied = at_form
 head_form network head.Full = at_form
 head_form network head.Spent = at_form
 head_form network head.Disk = at_form
@@ -119,11 +148,27 @@ reply_form network = branch Each head_word (head_form network)
 
 -- the replies that have lists, and that take memory to read
 abbrev pub HasLists : Head → Type 0
+HasLists head.Welcome = ⊥
 HasLists head.Admitted = ⊤
 HasLists head.Quoted = ⊤
 HasLists head.Refused = ⊤
+HasLists head.Stale = ⊥
+HasLists head.Released = ⊥
+HasLists head.No = ⊥
+HasLists head.Too = ⊥
 HasLists head.Vpn = ⊤
-HasLists _ = ⊥
+HasLists head.Link = ⊥
+HasLists head.Down = ⊥
+HasLists head.Up = ⊥
+HasLists head.Already = ⊥
+HasLists head.Denied = ⊥
+HasLists head.Full = ⊥
+HasLists head.Spent = ⊥
+HasLists head.Disk = ⊥
+HasLists head.Memory = ⊥
+HasLists head.Bad = ⊥
+HasLists head.Long = ⊥
+HasLists head.Bye = ⊥
 
 -- the grammar of replies
 abbrev pub reply_grammar : Network → Grammar

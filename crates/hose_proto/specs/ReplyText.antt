@@ -1,12 +1,12 @@
 -- The texts of replies.
-use Rattle.std.specs.Prelude.{ℕ, List, [], ◌∷◌, ◌++◌, Option, None, Some, codes, decimal, slice_get}
+use Rattle.std.specs.Prelude.{ℕ, Bool, true, false, List, [], ◌∷◌, ◌++◌, Option, None, Some, codes, decimal, slice_get}
 use Rattle.std.specs.List.{flat_map}
 use Rattle.hose_graph.specs.Amounts.{ReservedLink, amount_of, link_of}
 use Rattle.hose_graph.specs.Hose.{Endpoint, node_of, rate_of}
 use Rattle.hose_graph.specs.Network.{Network, name_of}
 use Rattle.hose_graph.specs.declared.link.Link.{Link}
 use Rattle.hose_graph.specs.declared.reply.Reply.{Reply}
-use Rattle.hose_graph.specs.declared.reply.Reply.TheVariants.{Welcome, Admitted, Quoted, Refused, Stale, Released, NoVpn, NoQuote, TooMany, Shown, LinkState, Full, Spent, Disk, Memory, Bad, Long, Bye}
+use Rattle.hose_graph.specs.declared.reply.Reply.TheVariants.{Welcome, Admitted, Quoted, Refused, Stale, Released, NoVpn, NoQuote, TooMany, Shown, LinkState, Down, Up, Already, Denied, Full, Spent, Disk, Memory, Bad, Long, Bye}
 
 -- a link and its amount
 abbrev pub pair_text : ReservedLink → List ℕ
@@ -33,6 +33,11 @@ priced_text cost at amounts =
     codes " cost " ++ decimal cost ++ codes " at " ++ decimal at
     ++ codes " links" ++ flat_map pair_text amounts
 
+-- where a link is out of service the word for that, and an epoch
+abbrev pub service_text : Bool → ℕ → List ℕ
+service_text true at = codes " out at " ++ decimal at
+service_text false at = codes " at " ++ decimal at
+
 -- the text of a reply
 abbrev pub reply_text : Network → Reply → List ℕ
 reply_text network (Welcome at) = codes "welcome at " ++ decimal at
@@ -52,9 +57,14 @@ reply_text network (Shown id cost at hose amounts) =
     codes "vpn " ++ decimal id ++ codes " cost " ++ decimal cost ++ codes " at " ++ decimal at
     ++ codes " ends" ++ flat_map (end_text network) hose
     ++ codes " links" ++ flat_map pair_text amounts
-reply_text network (LinkState link load at) =
+reply_text network (LinkState link load out at) =
     codes "link " ++ decimal link ++ link_text network (slice_get network.links link)
-    ++ codes " load " ++ decimal load ++ codes " at " ++ decimal at
+    ++ codes " load " ++ decimal load ++ service_text out at
+reply_text network (Down link at) = codes "down " ++ decimal link ++ codes " at " ++ decimal at
+reply_text network (Up link at) = codes "up " ++ decimal link ++ codes " at " ++ decimal at
+reply_text network (Already link at) =
+    codes "already " ++ decimal link ++ codes " at " ++ decimal at
+reply_text network (Denied at) = codes "denied at " ++ decimal at
 reply_text network (Full at) = codes "full at " ++ decimal at
 reply_text network (Spent at) = codes "spent at " ++ decimal at
 reply_text network (Disk at) = codes "disk at " ++ decimal at

@@ -1,5 +1,5 @@
 -- Replies as words. Words tell a reply exactly where they are those of its text.
-use Rattle.std.specs.Prelude.{◌≡◌, ℕ, ◌≤◌, List, [], ◌∷◌, ◌++◌, ⊤, All, Option, None, Some, length, map, codes, decimal, slice_get}
+use Rattle.std.specs.Prelude.{◌≡◌, ℕ, Bool, true, false, ◌≤◌, List, [], ◌∷◌, ◌++◌, ⊤, All, Option, None, Some, length, map, codes, decimal, slice_get}
 use Rattle.std.specs.List.Sorted.{IsStrictlyIncreasing}
 use Rattle.hose_words.specs.Form.{Fits64}
 use Rattle.hose_graph.specs.Amounts.{ReservedLink, amount_of, link_of}
@@ -7,7 +7,7 @@ use Rattle.hose_graph.specs.Ascending.{IsAscending}
 use Rattle.hose_graph.specs.Network.{Network, name_of, IsLinkOf, IsNodeOf}
 use Rattle.hose_graph.specs.declared.link.Link.{Link}
 use Rattle.hose_graph.specs.declared.reply.Reply.{Reply}
-use Rattle.hose_graph.specs.declared.reply.Reply.TheVariants.{Welcome, Admitted, Quoted, Refused, Stale, Released, NoVpn, NoQuote, TooMany, Shown, LinkState, Full, Spent, Disk, Memory, Bad, Long, Bye}
+use Rattle.hose_graph.specs.declared.reply.Reply.TheVariants.{Welcome, Admitted, Quoted, Refused, Stale, Released, NoVpn, NoQuote, TooMany, Shown, LinkState, Down, Up, Already, Denied, Full, Spent, Disk, Memory, Bad, Long, Bye}
 use Rattle.hose_proto.specs.Places.{IsHoseOf, end_word}
 
 -- ---- the words
@@ -32,6 +32,11 @@ abbrev pub priced_words : ℕ → ℕ → List ReservedLink → List (List ℕ)
 priced_words cost at amounts =
     codes "cost" ∷ decimal cost ∷ codes "at" ∷ decimal at ∷ codes "links" ∷ map pair_word amounts
 
+-- where a link is out of service the word for that, and an epoch
+abbrev pub service_words : Bool → ℕ → List (List ℕ)
+service_words true at = codes "out" ∷ codes "at" ∷ decimal at ∷ []
+service_words false at = codes "at" ∷ decimal at ∷ []
+
 -- the words of a reply
 abbrev pub reply_words : Network → Reply → List (List ℕ)
 reply_words network (Welcome at) = codes "welcome" ∷ codes "at" ∷ decimal at ∷ []
@@ -52,9 +57,14 @@ reply_words network (TooMany at) =
 reply_words network (Shown id cost at hose amounts) =
     codes "vpn" ∷ decimal id ∷ codes "cost" ∷ decimal cost ∷ codes "at" ∷ decimal at
     ∷ codes "ends" ∷ map (end_word network) hose ++ codes "links" ∷ map pair_word amounts
-reply_words network (LinkState link load at) =
+reply_words network (LinkState link load out at) =
     codes "link" ∷ decimal link ∷ link_words network (slice_get network.links link)
-    ++ codes "load" ∷ decimal load ∷ codes "at" ∷ decimal at ∷ []
+    ++ codes "load" ∷ decimal load ∷ service_words out at
+reply_words network (Down link at) = codes "down" ∷ decimal link ∷ codes "at" ∷ decimal at ∷ []
+reply_words network (Up link at) = codes "up" ∷ decimal link ∷ codes "at" ∷ decimal at ∷ []
+reply_words network (Already link at) =
+    codes "already" ∷ decimal link ∷ codes "at" ∷ decimal at ∷ []
+reply_words network (Denied at) = codes "denied" ∷ codes "at" ∷ decimal at ∷ []
 reply_words network (Full at) = codes "full" ∷ codes "at" ∷ decimal at ∷ []
 reply_words network (Spent at) = codes "spent" ∷ codes "at" ∷ decimal at ∷ []
 reply_words network (Disk at) = codes "disk" ∷ codes "at" ∷ decimal at ∷ []
@@ -93,8 +103,12 @@ IsOfKind network (NoQuote quote at) = Fits64 quote × Fits64 at
 IsOfKind network (TooMany at) = Fits64 at
 IsOfKind network (Shown id cost at hose amounts) =
     Fits64 id × Fits64 cost × Fits64 at × IsHoseOf network hose × AreAmounts network amounts
-IsOfKind network (LinkState link load at) =
+IsOfKind network (LinkState link load out at) =
     IsLinkOf network link × Fits64 load × Fits64 at
+IsOfKind network (Down link at) = IsLinkOf network link × Fits64 at
+IsOfKind network (Up link at) = IsLinkOf network link × Fits64 at
+IsOfKind network (Already link at) = IsLinkOf network link × Fits64 at
+IsOfKind network (Denied at) = Fits64 at
 IsOfKind network (Full at) = Fits64 at
 IsOfKind network (Spent at) = Fits64 at
 IsOfKind network (Disk at) = Fits64 at

@@ -105,6 +105,8 @@ fn read_after(
         Verb::Release => Ok(Command::Release(read_id(words)?)),
         Verb::Show => Ok(Command::Show(read_id(words)?)),
         Verb::Link => Ok(Command::Link(read_link(top, words)?)),
+        Verb::Down => Ok(Command::Down(read_link(top, words)?)),
+        Verb::Up => Ok(Command::Up(read_link(top, words)?)),
     }
 }
 

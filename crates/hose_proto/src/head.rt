@@ -1,6 +1,6 @@
 // The words that tell which reply a line is.
 ghost use Rattle.std.specs.Prelude.{◌≡◌};
-ghost use Rattle.hose_proto.specs.ReplyGrammar.{head_word, missing_word};
+ghost use Rattle.hose_proto.specs.ReplyGrammar.{head_word, missing_word, service_word};
 
 use hose_words::Keyword;
 
@@ -17,6 +17,10 @@ pub(crate) enum Head {
     Too,
     Vpn,
     Link,
+    Down,
+    Up,
+    Already,
+    Denied,
     Full,
     Spent,
     Disk,
@@ -26,7 +30,7 @@ pub(crate) enum Head {
     Bye,
 }
 
-const HEADS: [Head; 17] = [
+const HEADS: [Head; 21] = [
     Head::Welcome,
     Head::Admitted,
     Head::Quoted,
@@ -37,6 +41,10 @@ const HEADS: [Head; 17] = [
     Head::Too,
     Head::Vpn,
     Head::Link,
+    Head::Down,
+    Head::Up,
+    Head::Already,
+    Head::Denied,
     Head::Full,
     Head::Spent,
     Head::Disk,
@@ -74,6 +82,10 @@ impl Head {
             Head::Too => b"too",
             Head::Vpn => b"vpn",
             Head::Link => b"link",
+            Head::Down => b"down",
+            Head::Up => b"up",
+            Head::Already => b"already",
+            Head::Denied => b"denied",
             Head::Full => b"full",
             Head::Spent => b"spent",
             Head::Disk => b"disk",
@@ -99,6 +111,25 @@ impl Keyword for Missing {
         match word {
             b"vpn" => Some(Missing::Vpn),
             b"quote" => Some(Missing::Quote),
+            _ => None,
+        }
+    }
+}
+
+// Whether a link is out of service, by the word after its load.
+#[derive(Clone, Copy, Debug)]
+pub(crate) enum Service {
+    Out,
+    At,
+}
+
+impl Keyword for Service {
+    ghost word_of = { service_word };
+
+    fn of(word: &[u8]) -> Option<Service> {
+        match word {
+            b"out" => Some(Service::Out),
+            b"at" => Some(Service::At),
             _ => None,
         }
     }

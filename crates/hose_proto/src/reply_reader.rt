@@ -4,15 +4,15 @@ ghost use Rattle.hose_words.specs.Cursor.{Took, TookAll, Misses, IsWrong};
 ghost use Rattle.hose_words.specs.Form.{Fits64, IsChoice, Each, anything, branch, finish, number, these};
 ghost use Rattle.hose_words.specs.Grammar.{IsFirst, IsFirstNotAllowed};
 ghost use Rattle.hose_words.specs.Words.{words_of};
-ghost use Rattle.hose_graph.specs.Network.{Network, IsNetwork, name_of};
+ghost use Rattle.hose_graph.specs.Network.{Network, IsNetwork, IsLinkOf, name_of};
 ghost use Rattle.hose_graph.specs.declared.reply.Reply.{Reply};
 ghost use Rattle.hose_proto.specs.Reading.{IsFaultOf};
-ghost use Rattle.hose_proto.specs.ReplyGrammar.{HasLists, at_form, cost_form, id_form, priced_form, side_form, shown_form, load_form, link_form, head_word, missing_word, head_form, reply_form, reply_grammar};
+ghost use Rattle.hose_proto.specs.ReplyGrammar.{HasLists, at_form, cost_form, id_form, priced_form, side_form, shown_form, load_form, link_form, changed_form, service_form, head_word, missing_word, head_form, reply_form, reply_grammar};
 ghost use Rattle.hose_graph.specs.Naming.{NamesPlaces};
-ghost use Rattle.hose_proto.specs.ReplyWords.{AreAmounts, IsReply, cost_words, link_words, priced_words};
+ghost use Rattle.hose_proto.specs.ReplyWords.{AreAmounts, IsReply, cost_words, link_words, priced_words, service_words};
 
 use crate::fault::ReadFault;
-use crate::head::{Head, Missing};
+use crate::head::{Head, Missing, Service};
 use crate::places::read_link_number;
 use crate::reply_lists::{read_amounts, read_hose, read_side};
 use hose_graph::{Amounts, Reply, Topology};
@@ -85,6 +85,12 @@ fn read_after(
         Head::Too => Ok(read_too_many(words)?),
         Head::Vpn => read_shown(alloc, top, words),
         Head::Link => Ok(read_link(top, words)?),
+        Head::Down => Ok(read_down(top, words)?),
+        Head::Up => Ok(read_up(top, words)?),
+        Head::Already => Ok(read_already(top, words)?),
+        Head::Denied => Ok(Reply::Denied {
+            at: read_at(words)?,
+        }),
         Head::Full => Ok(Reply::Full {
             at: read_at(words)?,
         }),
@@ -222,21 +228,26 @@ fn read_link(top: &Topology, words: &mut Cursor<'_>) -> Result<Reply, WrongWord>
     ensures wrong { IfErr result (λ wrong. IsWrong (link_form top.now) words.old wrong.number) }
 {
     let link = read_link_number(top, words)?;
-    let (load, at) = read_load(top, link, words)?;
+    let (load, out, at) = read_load(top, link, words)?;
     Ok(Reply::LinkState {
         link: u64::from(link),
         load,
+        out,
         at,
     })
 }
 
-// What the topology tells of a link, the link's load and an epoch.
-fn read_load(top: &Topology, link: u32, words: &mut Cursor<'_>) -> Result<(u64, u64), WrongWord>
+// What the topology tells of a link, the link's load, whether it is out of service, and an epoch.
+fn read_load(
+    top: &Topology,
+    link: u32,
+    words: &mut Cursor<'_>,
+) -> Result<(u64, bool, u64), WrongWord>
     requires { link < length top.now.links }
     ensures ok { IfOk result (λ load. words.old.left
         ≡ link_words top.now (slice_get top.now.links link)
-        ++ codes "load" ∷ decimal load.0 ∷ codes "at" ∷ decimal load.1 ∷ []) }
-    ensures small { IfOk result (λ load. Fits64 load.0 × Fits64 load.1) }
+        ++ codes "load" ∷ decimal load.0 ∷ service_words load.1 load.2) }
+    ensures small { IfOk result (λ load. Fits64 load.0 × Fits64 load.2) }
     ensures wrong { IfErr result
         (λ wrong. IsWrong (load_form top.now link) words.old wrong.number) }
 {
@@ -248,7 +259,22 @@ fn read_load(top: &Topology, link: u32, words: &mut Cursor<'_>) -> Result<(u64, 
     words.expect(b"cost")?;
     words.expect_number(link.cost)?;
     words.expect(b"load")?;
-    read_id(words)
+    let load = words.number()?;
+    let (out, at) = read_service(words)?;
+    Ok((load, out, at))
+}
+
+// Whether a link is out of service, and an epoch, to the end of the line.
+fn read_service(words: &mut Cursor<'_>) -> Result<(bool, u64), WrongWord>
+    ensures ok { IfOk result (λ service. words.old.left ≡ service_words service.0 service.1) }
+    ensures small { IfOk result (λ service. Fits64 service.1) }
+    ensures wrong { IfErr result (λ wrong. IsWrong service_form words.old wrong.number) }
+{
+    let service: Service = words.keyword()?;
+    match service {
+        Service::Out => Ok((true, read_at(words)?)),
+        Service::At => Ok((false, read_last(words)?)),
+    }
 }
 
 // Passes over the next word, which has to be the name of this node.
@@ -267,9 +293,38 @@ fn read_bad(words: &mut Cursor<'_>) -> Result<Reply, WrongWord>
         → IsReply network (codes "bad" ∷ words.old.left) reply) }
     ensures wrong { IfErr result (λ wrong. IsWrong (number finish) words.old wrong.number) }
 {
-    let word = words.number()?;
-    words.finish()?;
+    let word = read_last(words)?;
     Ok(Reply::Bad { word })
+}
+
+// After `down`.
+fn read_down(top: &Topology, words: &mut Cursor<'_>) -> Result<Reply, WrongWord>
+    requires { IsNetwork top.now }
+    ensures ok { IfOk result (IsReply top.now (codes "down" ∷ words.old.left)) }
+    ensures wrong { IfErr result (λ wrong. IsWrong (changed_form top.now) words.old wrong.number) }
+{
+    let (link, at) = read_changed(top, words)?;
+    Ok(Reply::Down { link, at })
+}
+
+// After `up`.
+fn read_up(top: &Topology, words: &mut Cursor<'_>) -> Result<Reply, WrongWord>
+    requires { IsNetwork top.now }
+    ensures ok { IfOk result (IsReply top.now (codes "up" ∷ words.old.left)) }
+    ensures wrong { IfErr result (λ wrong. IsWrong (changed_form top.now) words.old wrong.number) }
+{
+    let (link, at) = read_changed(top, words)?;
+    Ok(Reply::Up { link, at })
+}
+
+// After `already`.
+fn read_already(top: &Topology, words: &mut Cursor<'_>) -> Result<Reply, WrongWord>
+    requires { IsNetwork top.now }
+    ensures ok { IfOk result (IsReply top.now (codes "already" ∷ words.old.left)) }
+    ensures wrong { IfErr result (λ wrong. IsWrong (changed_form top.now) words.old wrong.number) }
+{
+    let (link, at) = read_changed(top, words)?;
+    Ok(Reply::Already { link, at })
 }
 
 // A reply of one word, which came.
@@ -317,6 +372,20 @@ fn read_cost(words: &mut Cursor<'_>) -> Result<Costed, WrongWord>
     Ok(Costed { id, cost, at })
 }
 
+// `L at N`, to the end of the line.
+fn read_changed(top: &Topology, words: &mut Cursor<'_>) -> Result<(u64, u64), WrongWord>
+    requires { IsNetwork top.now }
+    ensures ok { IfOk result
+        (λ change. words.old.left ≡ decimal change.0 ∷ codes "at" ∷ decimal change.1 ∷ []) }
+    ensures is_link { IfOk result (λ change. IsLinkOf top.now change.0) }
+    ensures small { IfOk result (λ change. Fits64 change.1) }
+    ensures wrong { IfErr result (λ wrong. IsWrong (changed_form top.now) words.old wrong.number) }
+{
+    let link = read_link_number(top, words)?;
+    let at = read_at(words)?;
+    Ok((u64::from(link), at))
+}
+
 // `at N`, to the end of the line.
 fn read_at(words: &mut Cursor<'_>) -> Result<u64, WrongWord>
     ensures ok { IfOk result (λ at. words.old.left ≡ codes "at" ∷ decimal at ∷ []) }
@@ -324,9 +393,18 @@ fn read_at(words: &mut Cursor<'_>) -> Result<u64, WrongWord>
     ensures wrong { IfErr result (λ wrong. IsWrong at_form words.old wrong.number) }
 {
     words.expect(b"at")?;
-    let at = words.number()?;
+    read_last(words)
+}
+
+// A number at the end of the line.
+fn read_last(words: &mut Cursor<'_>) -> Result<u64, WrongWord>
+    ensures ok { IfOk result (λ last. words.old.left ≡ decimal last ∷ []) }
+    ensures small { IfOk result Fits64 }
+    ensures wrong { IfErr result (λ wrong. IsWrong (number finish) words.old wrong.number) }
+{
+    let last = words.number()?;
     words.finish()?;
-    Ok(at)
+    Ok(last)
 }
 
 // `ID at N`, to the end of the line.

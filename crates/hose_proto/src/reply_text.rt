@@ -7,7 +7,7 @@ ghost use Rattle.hose_io.specs.Writing.{IsPut};
 ghost use Rattle.hose_graph.specs.Hose.{node_of};
 ghost use Rattle.hose_graph.specs.Network.{IsLinkOf, IsNodeOf};
 ghost use Rattle.hose_graph.specs.declared.reply.Reply.TheVariants.{LinkState};
-ghost use Rattle.hose_proto.specs.ReplyText.{line_of, reply_text, priced_text, pair_text, node_text, end_text, link_text};
+ghost use Rattle.hose_proto.specs.ReplyText.{line_of, reply_text, priced_text, pair_text, node_text, end_text, link_text, service_text};
 ghost use Rattle.hose_graph.specs.Naming.{NamesPlaces};
 ghost use Rattle.hose_proto.specs.ReplyWords.{IsOfKind, IsReply};
 ghost use Rattle.hose_words.specs.Words.{words_of};
@@ -78,7 +78,16 @@ fn add_reply<S: Sink>(gather: &mut Gather, sink: &mut S, top: &Topology, reply: 
             add_number(gather, sink, b" at ", *at);
             add_lists(gather, sink, top, hose, amounts);
         }
-        Reply::LinkState { link, load, at } => add_state(gather, sink, top, *link, *load, *at),
+        Reply::LinkState {
+            link,
+            load,
+            out,
+            at,
+        } => add_state(gather, sink, top, *link, *load, *out, *at),
+        Reply::Down { link, at } => add_numbers(gather, sink, b"down ", *link, b" at ", *at),
+        Reply::Up { link, at } => add_numbers(gather, sink, b"up ", *link, b" at ", *at),
+        Reply::Already { link, at } => add_numbers(gather, sink, b"already ", *link, b" at ", *at),
+        Reply::Denied { at } => add_number(gather, sink, b"denied at ", *at),
         Reply::Full { at } => add_number(gather, sink, b"full at ", *at),
         Reply::Spent { at } => add_number(gather, sink, b"spent at ", *at),
         Reply::Disk { at } => add_number(gather, sink, b"disk at ", *at),
@@ -158,17 +167,30 @@ fn add_state<S: Sink>(
     top: &Topology,
     link: u64,
     load: u64,
+    out: bool,
     at: u64,
 )
     requires { IsLinkOf top.now link }
     ensures { IsAdded S.Sink gather.old sink.old gather.new sink.new
-        (reply_text top.now (LinkState link load at)) }
+        (reply_text top.now (LinkState link load out at)) }
 {
     // The call tells the proof that each network has few links, so that their numbers fit.
     let _links = top.links();
     add_number(gather, sink, b"link ", link);
     add_link(gather, sink, top, &top.link(link as u32));
-    add_numbers(gather, sink, b" load ", load, b" at ", at);
+    add_number(gather, sink, b" load ", load);
+    add_service(gather, sink, out, at);
+}
+
+// Adds whether a link is out of service, and an epoch.
+fn add_service<S: Sink>(gather: &mut Gather, sink: &mut S, out: bool, at: u64)
+    ensures { IsAdded S.Sink gather.old sink.old gather.new sink.new (service_text out at) }
+{
+    if out {
+        add_number(gather, sink, b" out at ", at);
+    } else {
+        add_number(gather, sink, b" at ", at);
+    }
 }
 
 // Adds links with their amounts.

@@ -13,15 +13,19 @@ pub(crate) enum Verb {
     Release,
     Show,
     Link,
+    Down,
+    Up,
 }
 
-const VERBS: [Verb; 6] = [
+const VERBS: [Verb; 8] = [
     Verb::Admit,
     Verb::Quote,
     Verb::Take,
     Verb::Release,
     Verb::Show,
     Verb::Link,
+    Verb::Down,
+    Verb::Up,
 ];
 
 impl Keyword for Verb {
@@ -48,6 +52,8 @@ impl Verb {
             Verb::Release => b"release",
             Verb::Show => b"show",
             Verb::Link => b"link",
+            Verb::Down => b"down",
+            Verb::Up => b"up",
         }
     }
 }

@@ -1,5 +1,4 @@
 use Rattle.std.proofs.Common.{refl}
-use Rattle.std.proofs.lemmas.Result.{IfErr-weaker}
 use Rattle.hose_words.proofs.Exits.{still_wrong}
 use Rattle.hose_words.proofs.Forms.{wrong_place, wrong_later}
 use Rattle.hose_proto.proofs.reply_reader.read_load.Goals as goal
@@ -32,6 +31,10 @@ pub returns-in_err-expect-3-clause-wrong : goal.returns-in_err-expect-3-clause-w
 returns-in_err-expect-3-clause-wrong c =
     rw c.link-link.ensures.value (still_wrong c.from_residual-in_err-expect-3.result c.from_residual-in_err-expect-3.ensures.1 (wrong_later c.in_ok-read_node.ensures.ok refl (wrong_later c.in_ok-read_node-2.ensures.ok refl (wrong_later c.in_ok-expect.ensures.ok refl (wrong_later c.in_ok-expect_number.ensures.ok refl (wrong_later c.in_ok-expect-2.ensures.ok refl (wrong_later c.in_ok-expect_number-2.ensures.ok refl (wrong_place c.in_err-expect-3.ensures.wrong))))))))
 
-pub returns-clause-wrong : goal.returns-clause-wrong
-returns-clause-wrong c =
-    rw c.link-link.ensures.value (IfErr-weaker c.read_id.result _ _ (λ error wrong. wrong_later c.in_ok-read_node.ensures.ok refl (wrong_later c.in_ok-read_node-2.ensures.ok refl (wrong_later c.in_ok-expect.ensures.ok refl (wrong_later c.in_ok-expect_number.ensures.ok refl (wrong_later c.in_ok-expect-2.ensures.ok refl (wrong_later c.in_ok-expect_number-2.ensures.ok refl (wrong_later c.in_ok-expect-3.ensures.ok refl (wrong)))))))) c.read_id.ensures.wrong)
+pub returns-in_err-load-clause-wrong : goal.returns-in_err-load-clause-wrong
+returns-in_err-load-clause-wrong c =
+    rw c.link-link.ensures.value (still_wrong c.from_residual-in_err-load.result c.from_residual-in_err-load.ensures.1 (wrong_later c.in_ok-read_node.ensures.ok refl (wrong_later c.in_ok-read_node-2.ensures.ok refl (wrong_later c.in_ok-expect.ensures.ok refl (wrong_later c.in_ok-expect_number.ensures.ok refl (wrong_later c.in_ok-expect-2.ensures.ok refl (wrong_later c.in_ok-expect_number-2.ensures.ok refl (wrong_later c.in_ok-expect-3.ensures.ok refl (wrong_place c.in_err-load.ensures.wrong)))))))))
+
+pub returns-in_err-out-clause-wrong : goal.returns-in_err-out-clause-wrong
+returns-in_err-out-clause-wrong c =
+    rw c.link-link.ensures.value (still_wrong c.from_residual-in_err-out.result c.from_residual-in_err-out.ensures.1 (wrong_later c.in_ok-read_node.ensures.ok refl (wrong_later c.in_ok-read_node-2.ensures.ok refl (wrong_later c.in_ok-expect.ensures.ok refl (wrong_later c.in_ok-expect_number.ensures.ok refl (wrong_later c.in_ok-expect-2.ensures.ok refl (wrong_later c.in_ok-expect_number-2.ensures.ok refl (wrong_later c.in_ok-expect-3.ensures.ok refl (wrong_later c.in_ok-load.ensures.ok (c.in_ok-load.load, refl, c.in_ok-load.ensures.small) c.in_err-out.ensures.wrong)))))))))

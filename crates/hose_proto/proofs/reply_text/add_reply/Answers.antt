@@ -36,3 +36,12 @@ returns-in-Shown g c =
 
 pub returns-in-LinkState : goal.returns-in-LinkState
 returns-in-LinkState g c = rw c.in-LinkState.is c.add_state.ensures
+
+pub returns-in-Down : goal.returns-in-Down
+returns-in-Down g c = rw c.in-Down.is c.add_numbers-in-Down.ensures
+
+pub returns-in-Up : goal.returns-in-Up
+returns-in-Up g c = rw c.in-Up.is c.add_numbers-in-Up.ensures
+
+pub returns-in-Already : goal.returns-in-Already
+returns-in-Already g c = rw c.in-Already.is c.add_numbers-in-Already.ensures
