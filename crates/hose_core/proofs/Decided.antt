@@ -1,5 +1,5 @@
 -- What was decided of a hose at a ledger, and what becomes of it.
-use Rattle.std.proofs.Common.{◌≡◌, ℕ, List, Option, None, Some, Result, Ok, Err, IfOk, inl, refl, ap, subst}
+use Rattle.std.proofs.Common.{◌≡◌, ◌∙◌, ℕ, Bool, List, Option, None, Some, Result, Ok, Err, IfOk, inl, refl, ap, subst}
 use Rattle.hose_graph.specs.Hose.{IsHose}
 use Rattle.hose_graph.specs.Network.{IsNetwork, Network}
 use Rattle.hose_graph.specs.declared.command.Command.TheVariants as command
@@ -11,7 +11,7 @@ use Rattle.hose_law.specs.Book.{Book, loads_of}
 use Rattle.hose_law.specs.Decision.{IsRefused}
 use Rattle.hose_law.specs.History.{book_of}
 use Rattle.hose_law.specs.Quotes.{Held}
-use Rattle.hose_law.specs.Room.{room_of}
+use Rattle.hose_law.specs.Room.{Room, first_links, room_of}
 use Rattle.hose_law.proofs.Bounds.{reserved_ranges}
 use Rattle.hose_plan.specs.Planning.{IsDecision, IsSoundDecision, NamesNodes, room_beside}
 use Rattle.hose_plan.specs.declared.decision.Grounds.{Grounds}
@@ -83,22 +83,26 @@ module _ {K R : Type 0} (books : Ghosts K R) (old new : K) (epoch : ℕ) (histor
 
 -- ---- a quote
 
--- What comes of planning beside the loads of a ledger is so at that ledger.
-pub planned_there : (here ledger : Ledger) → here ≡ ledger → (top : Network) (loads : List ℕ) (at : ℕ) (hose : List (ℕ × ℕ)) (planned : Planned) → top ≡ here.network → loads ≡ loads_of here.network here.book → at ≡ here.book.epoch
-    → ((book : Book) → loads ≡ loads_of top book → at ≡ book.epoch → IsPlannedAt top book hose planned) → IsPlannedAt ledger.network ledger.book hose planned
-planned_there here ledger same top loads at hose planned is_top is_loads is_at plans =
+-- What comes of planning over the links in service of a ledger and beside its loads is so at that ledger.
+pub planned_there : (here ledger : Ledger) → here ≡ ledger → (top : Network) (service : List Bool) (loads : List ℕ) (at : ℕ) (hose : List (ℕ × ℕ)) (planned : Planned) → top ≡ here.network
+    → service ≡ first_links here.network here.book → loads ≡ loads_of here.network here.book → at ≡ here.book.epoch
+    → ((book : Book) → service ≡ first_links top book → loads ≡ loads_of top book → at ≡ book.epoch → IsPlannedAt top book hose planned) → IsPlannedAt ledger.network ledger.book hose planned
+planned_there here ledger same top service loads at hose planned is_top is_service is_loads is_at plans =
     subst (λ (l : Ledger). IsPlannedAt l.network l.book hose planned) same
-    (subst (λ (n : Network). (book : Book) → loads ≡ loads_of n book → at ≡ book.epoch → IsPlannedAt n book hose planned) is_top plans here.book is_loads is_at)
+    (subst (λ (n : Network). (book : Book) → service ≡ first_links n book → loads ≡ loads_of n book → at ≡ book.epoch → IsPlannedAt n book hose planned) is_top plans here.book is_service is_loads is_at)
 
--- A plan that was decided beside the loads of a book is a quote that was made there.
-pub made_beside : (network : Network) → IsNetwork network → (loads : List ℕ) (hose amounts : List (ℕ × ℕ)) (cost epoch : ℕ) (grounds : Grounds) (decision : Decision) → decision ≡ Plan grounds amounts cost → IsHose hose
-    → IsDecision network (room_beside network loads) hose decision → IsSoundDecision network (room_beside network loads) hose decision → (book : Book) → loads ≡ loads_of network book → epoch ≡ book.epoch
+-- A plan that was decided over the links in service of a book and beside its loads is a quote that was made there.
+pub made_beside : (network : Network) → IsNetwork network → (service : List Bool) (loads : List ℕ) (hose amounts : List (ℕ × ℕ)) (cost epoch : ℕ) (grounds : Grounds) (decision : Decision) → decision ≡ Plan grounds amounts cost → IsHose hose
+    → IsDecision network (room_beside network service loads) hose decision → IsSoundDecision network (room_beside network service loads) hose decision
+    → (book : Book) → service ≡ first_links network book → loads ≡ loads_of network book → epoch ≡ book.epoch
     → IsMadeAt network book (record { hose = hose; seen = epoch; cost = cost; amounts = amounts; grounds = grounds })
-made_beside network is loads hose amounts cost epoch grounds decision plan is_hose decided sound book same here =
-    let is_sound = subst (λ (l : List ℕ). IsSoundDecision network (room_beside network l) hose (Plan grounds amounts cost)) same (subst (IsSoundDecision network (room_beside network loads) hose) plan sound) in
+made_beside network is service loads hose amounts cost epoch grounds decision plan is_hose decided sound book served same here =
+    let room : room_beside network service loads ≡ room_of network book =
+    ap (λ (s : List Bool). room_beside network s loads) served ∙ ap (room_beside network (first_links network book)) same in
+    let is_sound = subst (λ (r : Room). IsSoundDecision network r hose (Plan grounds amounts cost)) room (subst (IsSoundDecision network (room_beside network service loads) hose) plan sound) in
     record {
       is_hose = is_hose;
       ranges = reserved_ranges network is (room_of network book).links hose amounts is_hose is_sound.on_tree;
       seen = here;
-      decision = subst (λ (l : List ℕ). IsDecision network (room_beside network l) hose (Plan grounds amounts cost)) same (subst (IsDecision network (room_beside network loads) hose) plan decided);
+      decision = subst (λ (r : Room). IsDecision network r hose (Plan grounds amounts cost)) room (subst (IsDecision network (room_beside network service loads) hose) plan decided);
     }

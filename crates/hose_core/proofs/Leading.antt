@@ -4,7 +4,7 @@ use Rattle.hose_graph.specs.Network.{Network}
 use Rattle.hose_graph.specs.declared.command.Command.{Command}
 use Rattle.hose_graph.specs.declared.entry.Entry.{Entry}
 use Rattle.hose_graph.specs.declared.reply.Reply.{Reply}
-use Rattle.hose_graph.specs.declared.reply.Reply.TheVariants.{Welcome, Admitted, Quoted, Refused, Stale, Released, NoVpn, NoQuote, TooMany, Shown, LinkState, Full, Spent, Disk, Memory, Bad, Long, Bye}
+use Rattle.hose_graph.specs.declared.reply.Reply.TheVariants.{Welcome, Admitted, Quoted, Refused, Stale, Released, NoVpn, NoQuote, TooMany, Shown, LinkState, Down, Up, Already, Denied, Full, Spent, Disk, Memory, Bad, Long, Bye}
 use Rattle.hose_law.specs.Answer.{IsStepOf}
 use Rattle.hose_law.specs.History.{IsDecidedAt, IsSoundWith, book_of}
 use Rattle.hose_law.specs.Quotes.{Held}
@@ -26,7 +26,11 @@ module _ (network : Network) (epoch : ℕ) (history : List Entry) (customer : Li
   entry_leads (NoQuote quote at) entry next after step = step.1
   entry_leads (TooMany at) entry next after step = step.1
   entry_leads (Shown id cost at hose amounts) entry next after step = step.1
-  entry_leads (LinkState link load at) entry next after step = step.1
+  entry_leads (LinkState link load out at) entry next after step = step.1
+  entry_leads (Down link at) entry next after step = step.1
+  entry_leads (Up link at) entry next after step = step.1
+  entry_leads (Already link at) entry next after step = step.1
+  entry_leads (Denied at) entry next after step = step.1
   entry_leads (Full at) entry next after step = step.1
   entry_leads (Spent at) entry next after step = step.1
   entry_leads (Disk at) entry next after step = step.3

@@ -6,6 +6,7 @@ mod Leading
 mod Memory
 mod PlannedEntries
 mod ReleasedEntries
+mod ServiceEntries
 mod Stepped
 mod SteppedOn
 mod TakenQuotes

@@ -1,7 +1,8 @@
 -- A core that answered a command goes on: it fits what the step leads to.
-use Rattle.std.proofs.Common.{◌≡◌, ◌≢◌, ◌⊎◌, ◌∙◌, ◌≤◌, ℕ, List, Option, None, Some, IsSome, length, inl, inr, refl, sym, ap, subst, arith}
+use Rattle.std.proofs.Common.{◌≡◌, ◌≢◌, ◌⊎◌, ◌∙◌, ◌≤◌, ℕ, Bool, true, false, List, Option, None, Some, IsSome, length, inl, inr, refl, sym, ap, subst, arith}
 use Rattle.std.specs.Prelude.{⊤}
 use Rattle.std.proofs.lemmas.List.{take_all}
+use Rattle.hose_graph.specs.Name.{operator}
 use Rattle.hose_graph.specs.Network.{Network}
 use Rattle.hose_graph.specs.declared.command.Command.{Command}
 use Rattle.hose_graph.specs.declared.command.Command.TheVariants as command
@@ -20,10 +21,12 @@ use Rattle.hose_plan.specs.Planning.{allowed_links}
 use Rattle.hose_book.specs.declared.books.Books.{Ghosts}
 use Rattle.hose_book.specs.Ledger.{Ledger}
 use Rattle.hose_core.specs.Holding.{AreHeld, HoldsNow, IsMadeAt, IsQuoteOf, State, quotes_in}
+use Rattle.hose_core.specs.Serving.{service_command}
 use Rattle.hose_core.specs.Stepping.{FitsHistory, HasStepped, StepsOn}
 use Rattle.hose_core.proofs.Leading.{decided, leads}
 use Rattle.hose_core.specs.declared.quotes.Quote.{Quote}
 use Rattle.hose_core.proofs.Customers.{holds_same}
+use Rattle.hose_core.proofs.ServiceEntries.{order_answer, order_wants}
 use Rattle.hose_core.proofs.Told.{told_step}
 use Rattle.hose_core.proofs.HeldQuotes.{IsFront, free_alike, front_same, front_with, held_longer, held_now, held_with, none_alike, some_alike}
 
@@ -51,9 +54,19 @@ module _ {K R : Type 0} (books : Ghosts K R) (old new : K) (epoch : ℕ) (histor
 
 -- a command that leaves what is held
 abbrev pub IsKeeping : Command → Type 0
+IsKeeping (command.Admit hose) = ⊤
 IsKeeping (command.Quote hose) = ⊥
 IsKeeping (command.Take number) = ⊥
-IsKeeping _ = ⊤
+IsKeeping (command.Release id) = ⊤
+IsKeeping (command.Show id) = ⊤
+IsKeeping (command.Link link) = ⊤
+IsKeeping (command.Down link) = ⊤
+IsKeeping (command.Up link) = ⊤
+
+-- as an order of the operator
+pub order_keeps : (down : Bool) (link : ℕ) → IsKeeping (service_command down link)
+order_keeps true link = tt
+order_keeps false link = tt
 
 -- its answer leaves what is held
 answer_keeps : (network : Network) (epoch : ℕ) (history : List Entry) (customer : List ℕ) (held after : Held) (asked : Command) (given : Reply) (entry : Option Entry) → IsKeeping asked
@@ -64,6 +77,8 @@ answer_keeps network epoch history customer held after (command.Take number) giv
 answer_keeps network epoch history customer held after (command.Release id) given entry keeping answer = answer.1
 answer_keeps network epoch history customer held after (command.Show id) given entry keeping answer = answer.1
 answer_keeps network epoch history customer held after (command.Link link) given entry keeping answer = answer.1
+answer_keeps network epoch history customer held after (command.Down link) given entry keeping answer = answer.1
+answer_keeps network epoch history customer held after (command.Up link) given entry keeping answer = answer.1
 
 -- ---- what the core holds then
 
@@ -187,6 +202,15 @@ module _ {K R : Type 0} (books : Ghosts K R) (old : State K) (epoch : ℕ) (hist
   take_memory_on number quote there =
       let one = some_alike was.network epoch history mine quotes (fits.held customer) number quote there in
       memory_on (command.Take number) (subst IsSome (sym one.1) refl)
+
+  -- a customer who is not the operator is denied
+  pub denied_on : (down : Bool) (link at : ℕ) → at ≡ was.book.epoch → customer ≢ operator → Stays (service_command down link) (reply.Denied at)
+  denied_on down link at is other =
+      told_on (service_command down link) (reply.Denied at) (order_answer was.network epoch history customer mine down link (reply.Denied at) None (here at is, other), refl)
+
+  -- and where this is the operator, memory may be wanting
+  pub order_memory_on : (down : Bool) (link : ℕ) → customer ≡ operator → Stays (service_command down link) reply.Memory
+  order_memory_on down link is = memory_on (service_command down link) (order_wants (book_of epoch history) customer mine down link is)
 
   -- ---- a quote that is put
 

@@ -12,7 +12,7 @@ use Rattle.hose_law.specs.Book.{Book, loads_of}
 use Rattle.hose_law.specs.Decision.{HaveEqualGrounds, IsPlannedOver}
 use Rattle.hose_law.specs.History.{book_of}
 use Rattle.hose_law.specs.Quotes.{Held, HeldQuote, at_number, with_number}
-use Rattle.hose_law.specs.Room.{room_of}
+use Rattle.hose_law.specs.Room.{first_links, room_of}
 use Rattle.hose_law.proofs.CanonicalPlans.{planned_sound, same_decisions}
 use Rattle.hose_plan.specs.Planning.{AreGroundsOf, allowed_links}
 use Rattle.hose_book.specs.declared.books.Books.{Ghosts}
@@ -85,14 +85,14 @@ module _ {K R : Type 0} (books : Ghosts K R) (old new : K) (epoch number : ℕ) 
     told = inl (refl, ap (λ (k : K). (books.ledger k).book) same);
   })
 
--- what is known of grounds beside the loads of a book is known of them at the book
-pub holds_beside : (top network : Network) (loads : List ℕ) (book : Book) (quote : Quote) (result : Bool) → top ≡ network → loads ≡ loads_of network book
-    → ((hose : List (ℕ × ℕ)) (earlier now : Book) → loads ≡ loads_of top now → AreGroundsOf top (room_of top earlier) hose quote.grounds → IsTrue result ↔ HaveEqualGrounds top earlier now hose)
+-- what is known of grounds over the links in service of a book and beside its loads is known of them at the book
+pub holds_beside : (top network : Network) (service : List Bool) (loads : List ℕ) (book : Book) (quote : Quote) (result : Bool) → top ≡ network → service ≡ first_links network book → loads ≡ loads_of network book
+    → ((hose : List (ℕ × ℕ)) (earlier now : Book) → service ≡ first_links top now → loads ≡ loads_of top now → AreGroundsOf top (room_of top earlier) hose quote.grounds → IsTrue result ↔ HaveEqualGrounds top earlier now hose)
     → (earlier : Book) → IsMadeAt network earlier quote → IsTrue result ↔ HaveEqualGrounds network earlier book quote.hose
-holds_beside top network loads book quote result is_top is_loads holds earlier made =
+holds_beside top network service loads book quote result is_top is_service is_loads holds earlier made =
     subst
-    (λ (n : Network). (hose : List (ℕ × ℕ)) (earlier now : Book) → loads ≡ loads_of n now → AreGroundsOf n (room_of n earlier) hose quote.grounds → IsTrue result ↔ HaveEqualGrounds n earlier now hose)
-    is_top holds quote.hose earlier book is_loads made.decision.2
+    (λ (n : Network). (hose : List (ℕ × ℕ)) (earlier now : Book) → service ≡ first_links n now → loads ≡ loads_of n now → AreGroundsOf n (room_of n earlier) hose quote.grounds → IsTrue result ↔ HaveEqualGrounds n earlier now hose)
+    is_top holds quote.hose earlier book is_service is_loads made.decision.2
 
 -- what is known of grounds at a book is known of it as it is called
 pub holds_there : (here ledger : Ledger) → here ≡ ledger → (quote : Quote) (result : Bool)

@@ -1,11 +1,12 @@
--- Claims: all the memory that the entry of a take or a release needs.
-use Rattle.std.specs.Prelude.{◌≡◌, ℕ, List, Some, ⊤}
+-- Claims: all the memory that the entry of a take, a release or an order of the operator needs.
+use Rattle.std.specs.Prelude.{◌≡◌, ℕ, Bool, List, Some, ⊤}
 use Rattle.hose_graph.specs.Amounts.{ReservedLink}
 use Rattle.hose_graph.specs.Hose.{Endpoint, IsHose}
 use Rattle.hose_graph.specs.Ranges.{AreInRanges}
 use Rattle.hose_graph.specs.declared.entry.Entry.{Entry}
 use Rattle.hose_law.specs.Decision.{CanBeReserved, IsPlanned}
 use Rattle.hose_law.specs.Room.{room_of}
+use Rattle.hose_law.specs.Service.{service_entry}
 use Rattle.hose_book.specs.Ledger.{Ledger}
 use Rattle.hose_plan.specs.Planning.{IsDecision, IsSoundDecision, NamesNodes}
 use Rattle.hose_plan.specs.declared.decision.Decision.{Decision}
@@ -26,6 +27,12 @@ pub record IsClaimOf {K R : Type 0} (books : Ghosts K R) (claim : Claim K R) (cu
 pub record IsReleaseClaim {K R : Type 0} (books : Ghosts K R) (claim : Claim K R)
     (customer : List ℕ) (id : ℕ) : Type 0 where
   pub entry : claim.entry ≡ Release customer id
+  pub ready : books.fits claim.ready claim.entry
+
+-- the claim is to take this link out of service, where `down` is true, or to put it back
+pub record IsServiceClaim {K R : Type 0} (books : Ghosts K R) (claim : Claim K R) (down : Bool)
+    (link : ℕ) : Type 0 where
+  pub entry : claim.entry ≡ service_entry down link
   pub ready : books.fits claim.ready claim.entry
 
 -- the entry admits a customer's hose with the plan that it has at a ledger, which can be reserved

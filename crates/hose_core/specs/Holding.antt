@@ -13,7 +13,8 @@ use Rattle.hose_graph.specs.Ranges.{AreInRanges}
 use Rattle.hose_law.specs.Book.{Book, load_of, loads_of}
 use Rattle.hose_law.specs.History.{book_of}
 use Rattle.hose_law.specs.Quotes.{Held, HeldQuote, at_number, none_held}
-use Rattle.hose_law.specs.Room.{room_of}
+use Rattle.hose_law.specs.Room.{first_links, room_of}
+use Rattle.hose_law.specs.Service.{is_out}
 use Rattle.hose_law.specs.Tracks.{IsNamedSince}
 use Rattle.hose_book.specs.Ledger.{Ledger}
 use Rattle.hose_plan.specs.Planning.{AreMadeSince, IsDecision}
@@ -35,23 +36,28 @@ abbrev pub IsMade : Network → Quote → Type 0
 IsMade network quote = (book : Book) × IsMadeAt network book quote
 
 -- where a ledger has all changes since the quote, the quote's grounds are those of a hose beside
--- loads that are as they were, but on the links that such a change names
+-- loads and links in service that are as they were, but for the links that such a change names
 abbrev pub HasGroundsSince : Ledger → Quote → Type 0
 HasGroundsSince ledger quote = ledger.recent.floor ≤ quote.seen
-    → AreMadeSince ledger.network (loads_of ledger.network ledger.book) quote.grounds
-    ledger.recent.changes quote.seen
+    → AreMadeSince ledger.network (first_links ledger.network ledger.book)
+    (loads_of ledger.network ledger.book) quote.grounds ledger.recent.changes quote.seen
 
--- The quote was made at a book that a ledger came from. Where no entry came since, each load is as
--- it was; and where the ledger has all changes since, so is that of each link which none names.
+-- a link carries at one book what it does at the other, and is out of service at both or at neither
+pub record LinkStays (one other : Book) (link : ℕ) : Type 0 where
+  pub load : load_of one link ≡ load_of other link
+  pub out : is_out one.out link ≡ is_out other.out link
+
+-- The quote was made at a book that a ledger came from. Where no entry came since, each link is as
+-- it was; and where the ledger has all changes since, so is each that none of them names.
 pub record WasMadeBefore (ledger : Ledger) (quote : Quote) : Type 0 where
   pub book : Book
   pub made : IsMadeAt ledger.network book quote
   pub seen : quote.seen ≤ ledger.book.epoch
   pub fresh : quote.seen ≡ ledger.book.epoch
-      → (link : ℕ) → load_of book link ≡ load_of ledger.book link
+      → (link : ℕ) → LinkStays book ledger.book link
   pub since : ledger.recent.floor ≤ quote.seen → (link : ℕ)
       → ¬ IsNamedSince ledger.recent.changes quote.seen link
-      → load_of book link ≡ load_of ledger.book link
+      → LinkStays book ledger.book link
 
 -- there are as many numbers as quotes can have, and what is held under them was made before
 pub record AreKept (ledger : Ledger) (quotes : List (Option Quote)) : Type 0 where

@@ -1,5 +1,6 @@
 pub mod Claiming
 pub mod Holding
 pub mod Planning
+pub mod Serving
 pub mod Stepping
 pub mod Telling

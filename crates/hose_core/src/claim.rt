@@ -1,15 +1,16 @@
-// Claims on what a take or a release needs.
-ghost use Rattle.std.specs.Prelude.{◌≡◌, ◌≤◌, IfOk};
+// Claims on what a take, a release or an order of the operator needs.
+ghost use Rattle.std.specs.Prelude.{◌≡◌, ◌<◌, ◌≤◌, IfOk};
 ghost use Rattle.hose_graph.specs.Ranges.{AreInRanges};
-ghost use Rattle.hose_graph.specs.declared.limits.TheConstants.{MOST_EPOCH};
-ghost use Rattle.hose_core.specs.Claiming.{IsClaimOf, IsReleaseClaim};
+ghost use Rattle.hose_graph.specs.declared.limits.TheConstants.{MOST_EPOCH, MOST_LINKS};
+ghost use Rattle.hose_law.specs.Service.{service_entry};
+ghost use Rattle.hose_core.specs.Claiming.{IsClaimOf, IsReleaseClaim, IsServiceClaim};
 
 use crate::quotes::Quote;
 use hose_book::Books;
 use hose_graph::{Amounts, Entry, Name};
 use std::alloc::{AllocError, Global};
 
-/// All the memory that a take or a release needs, taken before it.
+/// All the memory that a take, a release or an order of the operator needs, taken before it.
 #[derive(Drop)]
 pub struct Claim<K: Books> {
     pub(crate) entry: Entry,
@@ -69,4 +70,29 @@ pub fn claim_release<K: Books>(
         ready,
         told: None,
     })
+}
+
+/// Claims what is needed to take a link out of service, where `down` is true, or to put it back. The
+/// link's number is below 2,048.
+pub fn claim_service<K: Books>(alloc: Global, link: u32, down: bool) -> Result<Claim<K>, AllocError>
+    requires { link < MOST_LINKS }
+    ensures { IfOk result (λ claim. IsServiceClaim K.Books claim down link) }
+{
+    let entry = service_entry(link, down);
+    let ready = K::prepare(alloc, &entry)?;
+    Ok(Claim {
+        entry,
+        ready,
+        told: None,
+    })
+}
+
+// The entry that takes a link out of service, or puts it back.
+fn service_entry(link: u32, down: bool) -> Entry
+    ensures { result ≡ service_entry down link }
+{
+    if down {
+        return Entry::Down { link };
+    }
+    Entry::Up { link }
 }

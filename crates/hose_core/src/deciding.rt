@@ -44,5 +44,5 @@ fn decide_at<R: RowMaker>(
     ensures network { IsNetwork book.now.network }
 {
     let (top, loads) = (book.topology(), book.loads());
-    decide(alloc, top, loads, hose, rows)
+    decide(alloc, top, book.service(), loads, hose, rows)
 }

@@ -6,9 +6,10 @@
 //! let reply = core.step(alloc, &customer, Command::Quote(hose), &mut PlainRows::new());
 //! ```
 //!
-//! `admit_now`, `take_now`, `release_now`, `show_now` and `link_now` do the same to books that are
-//! kept by others, as under a lock: a take and a release take no memory there, since all of it is
-//! in their claim. What is quoted can be planned outside of it, by `plan_beside`.
+//! `admit_now`, `take_now`, `release_now`, `service_now`, `show_now` and `link_now` do the same to
+//! books that are kept by others, as under a lock: a take, a release and an order of the operator
+//! take no memory there, since all of it is in their claim. What is quoted can be planned outside of
+//! it, by `plan_beside`.
 #![tactic(auto)]
 
 mod admitting;
@@ -19,17 +20,19 @@ mod laws;
 mod planning;
 mod quotes;
 mod releasing;
+mod serving;
 mod sessions;
 mod stepping;
 mod taking;
 mod telling;
 
 pub use admitting::admit_now;
-pub use claim::{Claim, claim_release, claim_take};
+pub use claim::{Claim, claim_release, claim_service, claim_take};
 pub use laws::{law_quotes, law_step};
 pub use planning::{Planned, plan_beside};
 pub use quotes::{Quote, Quotes};
 pub use releasing::release_now;
+pub use serving::service_now;
 pub use stepping::Core;
 pub use taking::take_now;
 pub use telling::{link_now, show_now};

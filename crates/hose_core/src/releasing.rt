@@ -50,5 +50,7 @@ fn released(entry: &Entry) -> (Name, u64)
     match entry {
         Entry::Release { customer, id } => (*customer, *id),
         Entry::Admit { .. } => unreachable!(),
+        Entry::Down { .. } => unreachable!(),
+        Entry::Up { .. } => unreachable!(),
     }
 }

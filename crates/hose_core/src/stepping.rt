@@ -11,13 +11,15 @@ ghost use Rattle.hose_book.specs.Commit.{IsMet};
 ghost use Rattle.hose_book.specs.Ledger.{HasBookOf};
 ghost use Rattle.hose_book.specs.declared.committed.Committed.{Committed};
 ghost use Rattle.hose_core.specs.Holding.{IsMadeAt, quotes_of};
+ghost use Rattle.hose_core.specs.Serving.{service_command};
 ghost use Rattle.hose_core.specs.Stepping.{FitsHistory, Steps, committed_of};
 
 use crate::admitting::admit_now;
-use crate::claim::{claim_release, claim_take};
+use crate::claim::{claim_release, claim_service, claim_take};
 use crate::planning::{Planned, plan_beside};
 use crate::quotes::Quote;
 use crate::releasing::release_now;
+use crate::serving::service_now;
 use crate::sessions::Sessions;
 use crate::taking::take_now;
 use crate::telling::{link_now, show_now};
@@ -100,6 +102,8 @@ impl<K: Books + Drop> Core<K> {
             Command::Release(id) => self.release(alloc, customer, id),
             Command::Show(id) => self.show(alloc, customer, id),
             Command::Link(link) => self.link(link),
+            Command::Down(link) => self.operate(alloc, customer, link, true),
+            Command::Up(link) => self.operate(alloc, customer, link, false),
         }
     }
 
@@ -140,7 +144,8 @@ impl<K: Books + Drop> Core<K> {
         let Some(number) = self.sessions.free(customer) else {
             return Reply::TooMany { at };
         };
-        match plan_beside(alloc, book.topology(), book.loads(), at, hose, rows) {
+        let (top, service, loads) = (book.topology(), book.service(), book.loads());
+        match plan_beside(alloc, top, service, loads, at, hose, rows) {
             Err(_) => Reply::Memory,
             Ok(Planned::Refused { side }) => Reply::Refused { at, side },
             Ok(Planned::Quote(quote)) => self.hold(alloc, customer, number, quote),
@@ -227,5 +232,29 @@ impl<K: Books + Drop> Core<K> {
         ensures names { NamesPlaces (K.ledger self.now.books).network result }
     {
         link_now(&self.books, link)
+    }
+
+    // Takes a link out of service where `down` is true, or puts it back, for the operator alone.
+    fn operate(&mut self, alloc: Global, customer: &Name, link: u32, down: bool) -> Reply
+        requires { IsLinkOf (K.ledger self.old.books).network link }
+        ensures step { Steps K.Books self.old self.new customer.now
+            (service_command down link) result }
+        ensures network { (K.ledger self.new.books).network ≡ (K.ledger self.old.books).network }
+        ensures met { IsMet (K.frame self.old.books) (committed_of result)
+            (K.frame self.new.books) }
+        ensures names { NamesPlaces (K.ledger self.old.books).network result }
+    {
+        let book = self.books.book();
+        let is_operator = customer.is_operator();
+        if !is_operator {
+            let at = book.epoch();
+            return Reply::Denied { at };
+        }
+        // What holds of each network is told with it: how many links there can be.
+        let _topology = book.topology();
+        let Ok(claim) = claim_service(alloc, link, down) else {
+            return Reply::Memory;
+        };
+        service_now(&mut self.books, claim)
     }
 }

@@ -23,7 +23,8 @@ use hose_plan::{grounds_hold, grounds_hold_since};
 /// Admits what was quoted, where the grounds of the quote are as they were: `Admitted`, `Stale`,
 /// `Spent`, `Full` or `Disk`. It takes no memory, and plans nothing. Where the book has all changes
 /// since the quote, the links that they name are all that is compared beside the first plan; so the
-/// loads of the others have to be those that the quote was made beside.
+/// loads of the others, and whether they are in service, have to be as they were when the quote was
+/// made.
 pub fn take_now<K: Books>(books: &mut K, quote: &Quote, claim: Claim<K>) -> Reply
     requires made { IsMade (K.ledger books.old).network quote.now }
     requires since { HasGroundsSince (K.ledger books.old) quote.now }
@@ -71,10 +72,11 @@ fn still_holds(book: &hose_book::Book, quote: &Quote) -> bool
         ↔ HaveEqualGrounds book.now.network earlier book.now.book quote.now.hose) }
     ensures network { IsNetwork book.now.network }
 {
-    let (top, loads, seen) = (book.topology(), book.loads(), quote.seen);
+    let (top, service, loads) = (book.topology(), book.service(), book.loads());
+    let seen = quote.seen;
     if seen >= book.floor() {
         let changes = book.changes_since(seen);
-        return grounds_hold_since(top, loads, &quote.grounds, changes, seen);
+        return grounds_hold_since(top, service, loads, &quote.grounds, changes, seen);
     }
-    grounds_hold(top, loads, &quote.grounds)
+    grounds_hold(top, service, loads, &quote.grounds)
 }

@@ -12,6 +12,7 @@ ghost use Rattle.hose_book.specs.declared.committed.Committed.{Committed};
 ghost use Rattle.hose_core.specs.Stepping.{HasStepped, committed_of};
 ghost use Rattle.hose_core.specs.Telling.{IsShown};
 
+use crate::serving::is_out;
 use hose_book::{Book, Books};
 use hose_graph::{Name, Reply};
 use hose_tree::cost;
@@ -29,7 +30,8 @@ pub fn show_now<K: Books>(alloc: Global, books: &K, customer: &Name, id: u64) ->
     show(books.book(), alloc, customer, id)
 }
 
-/// Tells what is reserved on a link of the network: `LinkState`. It takes no memory.
+/// Tells what is reserved on a link of the network, and whether it is out of service: `LinkState`.
+/// It takes no memory.
 pub fn link_now<K: Books>(books: &K, link: u32) -> Reply
     requires { IsLinkOf (K.ledger books.now).network link }
     ensures step { (customer : List ℕ) (epoch : ℕ) (history : List Entry) (held : Held)
@@ -67,7 +69,7 @@ fn show(book: &Book, alloc: Global, customer: &Name, id: u64) -> Reply
     }
 }
 
-// The reply to a customer who asks what is reserved on a link.
+// The reply to a customer who asks what is reserved on a link, and whether it is out of service.
 fn link_state(book: &Book, link: u32) -> Reply
     requires { link < length book.now.network.links }
     ensures answer { IsLinkAnswer book.now.book link result None }
@@ -76,6 +78,7 @@ fn link_state(book: &Book, link: u32) -> Reply
     Reply::LinkState {
         link: u64::from(link),
         load: book.loads()[link as usize],
+        out: is_out(book, link),
         at: book.epoch(),
     }
 }

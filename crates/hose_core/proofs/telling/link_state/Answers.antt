@@ -9,5 +9,6 @@ returns-clause-answer c =
       c.from.ensures,
       ap (λ (loads : List ℕ). get_or loads c.args.link 0) c.loads.ensures.value
           ∙ get_or-map-range_with_len (load_of ledger.book) 0 (length ledger.network.links) c.args.link c.args.link 0 c.requires (omega arith),
+      c.is_out.ensures,
       c.epoch.ensures.value,
     )

@@ -28,6 +28,6 @@ returns-in-Ok-Refused-clause-step g c = λ epoch history holdings fits.
     let here = c.book-book.ensures ∙ ap (λ (s : State _). g.K.Books.ledger s.books) c.self.view_is in
     let at = c.epoch-at.ensures.value ∙ ap (λ (l : Ledger). l.book.epoch) here in
     let free = ap (λ (s : State _). free_number (quotes_in s.sessions customer)) (sym c.self.view_is) ∙ sym c.free.ensures.lowest ∙ c.in-Some.is in
-    let planned = planned_there c.book-book.result.now now here c.topology.result.now c.loads.result.now c.epoch-at.result c.args.hose c.in-Ok-Refused.field-0 c.topology.ensures.value c.loads.ensures.value c.epoch-at.ensures.value c.in-Ok-Refused.ensures in
+    let planned = planned_there c.book-book.result.now now here c.topology-top.result.now c.service-service.result.now c.loads-loads.result.now c.epoch-at.result c.args.hose c.in-Ok-Refused.field-0 c.topology-top.ensures.value c.service-service.ensures.value c.loads-loads.ensures.value c.epoch-at.ensures.value c.in-Ok-Refused.ensures in
     let refused : IsPlannedAt now.network now.book c.args.hose (Refused c.in-Ok-Refused.side) = rw c.in-Ok-Refused.field-0-is at planned in
     refused_on g.K.Books c.args.self.now epoch history holdings customer fits c.args.hose c.in-Some.number c.epoch-at.result c.in-Ok-Refused.side at free refused.0

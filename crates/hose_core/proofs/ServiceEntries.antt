@@ -1,0 +1,164 @@
+-- What becomes of an order to take a link out of service, or to put it back.
+use Rattle.std.proofs.Common.{◌≡◌, ◌≢◌, ◌+◌, ◌<◌, ◌∙◌, ℕ, Bool, true, false, not, List, Option, None, Some, inl, inr, refl, sym, ap, subst}
+use mathlib.Core.Bool.{beq}
+use Rattle.hose_graph.specs.Name.{operator}
+use Rattle.hose_graph.specs.Naming.{NamesPlaces}
+use Rattle.hose_graph.specs.Network.{IsLinkOf, Network}
+use Rattle.hose_graph.specs.declared.entry.Entry.{Entry}
+use Rattle.hose_graph.specs.declared.reply.Reply.{Reply}
+use Rattle.hose_graph.specs.declared.reply.Reply.TheVariants as reply
+use Rattle.hose_law.specs.Answer.{IsAnswer, IsOperatorAnswer, IsServiceAnswer, MayWantMemory}
+use Rattle.hose_law.specs.Book.{Book}
+use Rattle.hose_law.specs.History.{IsSoundAt, book_of, last_epoch}
+use Rattle.hose_law.specs.Quotes.{Held}
+use Rattle.hose_law.specs.Service.{LinkStands, service_entry}
+use Rattle.hose_book.specs.declared.books.Books.{Ghosts}
+use Rattle.hose_book.specs.declared.committed.Committed.TheVariants.{Done, Disk}
+use Rattle.hose_book.specs.Commit.{Commits}
+use Rattle.hose_book.specs.Ledger.{Ledger}
+use Rattle.hose_core.specs.Serving.{service_command, service_reply}
+use Rattle.hose_core.specs.Stepping.{AnswersBy, HasStepped, committed_of}
+use Rattle.hose_core.proofs.Stepped.{stepped_by}
+
+-- ---- orders
+
+-- an order is of one link, and of one kind
+same_order : (down other : Bool) (link more : ℕ) → service_entry down link ≡ service_entry other more → (down ≡ other) × (link ≡ more)
+same_order true true link more same = (refl, cc same)
+same_order true false link more same = absurd (cc same)
+same_order false true link more same = absurd (cc same)
+same_order false false link more same = (refl, cc same)
+
+-- what holds of the same order holds of this one
+pub as_ordered : (Is : Bool → ℕ → Type 0) (down other : Bool) (link more : ℕ) → service_entry down link ≡ service_entry other more → Is other more → Is down link
+as_ordered Is down other link more same is =
+    let both = same_order down other link more same in
+    subst (λ (b : Bool). Is b link) (sym both.0) (subst (Is other) (sym both.1) is)
+
+-- two truth values are the same, or the one is not the other
+pub same_truth : (one other : Bool) → beq one other ≡ true → one ≡ other
+same_truth true true is = refl
+same_truth true false is = absurd (cc is)
+same_truth false true is = absurd (cc is)
+same_truth false false is = refl
+
+pub other_truth : (one other : Bool) → beq one other ≡ false → one ≡ not other
+other_truth true true is = absurd (cc is)
+other_truth true false is = refl
+other_truth false true is = refl
+other_truth false false is = absurd (cc is)
+
+-- it may want memory where the operator gives it
+pub order_wants : (book : Book) (customer : List ℕ) (held : Held) (down : Bool) (link : ℕ) → customer ≡ operator → MayWantMemory book customer held (service_command down link)
+order_wants book customer held true link is = is
+order_wants book customer held false link is = is
+
+-- its reply, where it is done
+pub done_committed : (down : Bool) (link at : ℕ) → committed_of (service_reply down link at) ≡ Done
+done_committed true link at = refl
+done_committed false link at = refl
+
+pub done_names : (network : Network) (down : Bool) (link at : ℕ) → IsLinkOf network link → NamesPlaces network (service_reply down link at)
+done_names network true link at is = is
+done_names network false link at is = is
+
+-- ---- answers
+
+-- the operator's order is answered so
+by_operator : (network : Network) (book : Book) (down : Bool) (link : ℕ) (given : Reply) (entry : Option Entry) → IsServiceAnswer network book down link given entry → IsOperatorAnswer network book operator down link given entry
+by_operator network book true link (reply.Already told at) None answer = (refl, answer)
+by_operator network book false link (reply.Already told at) None answer = (refl, answer)
+by_operator network book true link (reply.Spent at) None answer = (refl, answer)
+by_operator network book false link (reply.Spent at) None answer = (refl, answer)
+by_operator network book true link (reply.Down told at) (Some entry) answer = (refl, answer)
+by_operator network book false link (reply.Up told at) (Some entry) answer = (refl, answer)
+by_operator network book down link given entry answer = absurd answer
+
+-- what answers a customer's order is an answer to the command
+pub order_answer : (network : Network) (epoch : ℕ) (history : List Entry) (customer : List ℕ) (held : Held) (down : Bool) (link : ℕ) (given : Reply) (entry : Option Entry)
+    → IsOperatorAnswer network (book_of epoch history) customer down link given entry → IsAnswer network epoch history customer held (service_command down link) given entry held
+order_answer network epoch history customer held true link given entry answer = (answer, refl)
+order_answer network epoch history customer held false link given entry answer = (answer, refl)
+
+module _ {K R : Type 0} (books : Ghosts K R) (old new : K) (down : Bool) (link : ℕ) (entry : Entry) (orders : entry ≡ service_entry down link) where
+  abbrev ledger : Ledger
+  ledger = books.ledger old
+
+  abbrev book : Book
+  book = ledger.book
+
+  abbrev Is : Reply → Option Entry → Type 0
+  Is = IsServiceAnswer ledger.network book down link
+
+  abbrev Answers : Reply → Type 0
+  Answers = AnswersBy books old new Is
+
+  abbrev same_book : new ≡ old → (books.ledger new).book ≡ book
+  same_book same = ap (λ (k : K). (books.ledger k).book) same
+
+  pub already_answers : (told at : ℕ) → told ≡ link → at ≡ book.epoch → LinkStands ledger.network book link down → new ≡ old → Answers (reply.Already told at)
+  already_answers told at tells here stands same = record {
+    given = reply.Already told at;
+    entry = None;
+    is = (tells, here, stands);
+    sound = tt;
+    goes = same;
+    told = inl (refl, same_book same);
+  }
+
+  pub spent_answers : (at : ℕ) → at ≡ book.epoch → LinkStands ledger.network book link (not down) → at ≡ last_epoch → new ≡ old → Answers (reply.Spent at)
+  spent_answers at here stands last same = record {
+    given = reply.Spent at;
+    entry = None;
+    is = (here, sym here ∙ last, stands);
+    sound = tt;
+    goes = same;
+    told = inl (refl, same_book same);
+  }
+
+  module _ (at : ℕ) (here : at ≡ book.epoch) (epoch : book.epoch < last_epoch) (stands : LinkStands ledger.network book link (not down)) where
+    abbrev done : Reply
+    done = service_reply down link (at + 1)
+
+    is_done : Is done (Some entry)
+    is_done = by down stands orders
+      where
+        by : (down : Bool) → LinkStands ledger.network book link (not down) → entry ≡ service_entry down link → IsServiceAnswer ledger.network book down link (service_reply down link (at + 1)) (Some entry)
+        by true stands is = (epoch, stands, refl, ap (λ n. n + 1) here, is)
+        by false stands is = (epoch, stands, refl, ap (λ n. n + 1) here, is)
+
+    -- the entry is sound
+    pub sound_at : IsSoundAt ledger.network book entry
+    sound_at = by down stands orders
+      where
+        by : (down : Bool) → LinkStands ledger.network book link (not down) → entry ≡ service_entry down link → IsSoundAt ledger.network book entry
+        by true stands is = subst (IsSoundAt ledger.network book) (sym is) (epoch, stands)
+        by false stands is = subst (IsSoundAt ledger.network book) (sym is) (epoch, stands)
+
+    pub done_answers : (answer : Reply) → answer ≡ done → books.went old entry Done new → Commits ledger entry Done (books.ledger new) → Answers answer
+    done_answers answer tells went commits = subst Answers (sym tells) (record {
+      given = done;
+      entry = Some entry;
+      is = is_done;
+      sound = sound_at;
+      goes = subst (λ (result : _). books.went old entry result new) (sym (done_committed down link (at + 1))) went;
+      told = inl (refl, ap (λ (l : Ledger). l.book) commits);
+    })
+
+    pub failed_answers : books.went old entry Disk new → Commits ledger entry Disk (books.ledger new) → Answers (reply.Disk at)
+    failed_answers went commits = record {
+      given = done;
+      entry = Some entry;
+      is = is_done;
+      sound = sound_at;
+      goes = went;
+      told = inr (ap reply.Disk here, refl, ap (λ (l : Ledger). l.book) commits);
+    }
+
+  -- and that is a step of the operator
+  pub service_step : (epoch : ℕ) (history : List Entry) (held : Held) (answer : Reply) → book ≡ book_of epoch history → Answers answer → HasStepped books old new epoch history operator held (service_command down link) answer
+  service_step epoch history held answer here by =
+      stepped_by books old new epoch history operator held held (service_command down link) answer Is here
+      (λ given more is.
+      order_answer ledger.network epoch history operator held down link given more
+      (by_operator ledger.network (book_of epoch history) down link given more (subst (λ (b : Book). IsServiceAnswer ledger.network b down link given more) here is))) by

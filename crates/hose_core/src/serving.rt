@@ -1,0 +1,85 @@
+// Taking links out of service, and putting them back.
+ghost use Rattle.std.specs.Prelude.{◌≡◌, ◌≢◌, ℕ, Bool, List};
+ghost use Rattle.hose_graph.specs.Name.{operator};
+ghost use Rattle.hose_graph.specs.Naming.{NamesPlaces};
+ghost use Rattle.hose_graph.specs.Network.{IsLinkOf};
+ghost use Rattle.hose_graph.specs.declared.entry.Entry.{Entry};
+ghost use Rattle.hose_graph.specs.declared.reply.Reply.{Reply};
+ghost use Rattle.hose_law.specs.Quotes.{Held};
+ghost use Rattle.hose_law.specs.Service.{is_out, service_entry};
+ghost use Rattle.hose_book.specs.Commit.{IsMet};
+ghost use Rattle.hose_book.specs.Ledger.{HasBookOf};
+ghost use Rattle.hose_core.specs.Claiming.{IsServiceClaim};
+ghost use Rattle.hose_core.specs.Serving.{service_command, service_reply};
+ghost use Rattle.hose_core.specs.Stepping.{HasStepped, IsSameOrNext, committed_of};
+
+use crate::claim::Claim;
+use hose_book::{Book, Books, Committed};
+use hose_graph::{Entry, MOST_EPOCH, Reply};
+
+/// Takes the link of a claim out of service for the operator, or puts it back: `Down`, `Up`,
+/// `Already`, `Spent` or `Disk`. It takes no memory. The link is one of the network.
+pub fn service_now<K: Books>(books: &mut K, claim: Claim<K>) -> Reply
+    requires claim { (down : Bool) × (link : ℕ) × IsServiceClaim K.Books claim down link
+        × IsLinkOf (K.ledger books.old).network link }
+    ensures step { (down : Bool) (link epoch : ℕ) (history : List Entry) (held : Held)
+        → IsServiceClaim K.Books claim down link
+        → HasBookOf epoch history (K.ledger books.old)
+        → HasStepped K.Books books.old books.new epoch history operator held
+        (service_command down link) result }
+    ensures network { (K.ledger books.new).network ≡ (K.ledger books.old).network }
+    ensures ledger { IsSameOrNext (K.ledger books.old) (K.ledger books.new) }
+    ensures met { IsMet (K.frame books.old) (committed_of result) (K.frame books.new) }
+    ensures names { NamesPlaces (K.ledger books.old).network result }
+    ensures memory { result ≢ Reply.Memory }
+{
+    let Claim { entry, ready, .. } = claim;
+    let (link, down) = ordered(&entry);
+    let at = books.book().epoch();
+    let out = is_out(books.book(), link);
+    if out == down {
+        return Reply::Already {
+            link: u64::from(link),
+            at,
+        };
+    }
+    if at == MOST_EPOCH {
+        return Reply::Spent { at };
+    }
+    match books.commit(entry, ready) {
+        Committed::Disk => Reply::Disk { at },
+        Committed::Done => done(link, down, at + 1),
+    }
+}
+
+/// Whether a link of the network is out of service.
+pub fn is_out(book: &Book, link: u32) -> bool
+    requires { IsLinkOf book.now.network link }
+    ensures { result ≡ is_out book.now.book.out link }
+{
+    !book.service().has(link)
+}
+
+// The link that an entry takes out of service, with true, or puts back.
+fn ordered(entry: &Entry) -> (u32, bool)
+    requires { (down : Bool) × (link : ℕ) × (entry.now ≡ service_entry down link) }
+    ensures { entry.now ≡ service_entry result.1 result.0 }
+{
+    match entry {
+        Entry::Down { link } => (*link, true),
+        Entry::Up { link } => (*link, false),
+        Entry::Admit { .. } => unreachable!(),
+        Entry::Release { .. } => unreachable!(),
+    }
+}
+
+// The reply that tells what was done to a link, with the epoch after it.
+fn done(link: u32, down: bool, at: u64) -> Reply
+    ensures { result ≡ service_reply down link at }
+{
+    let link = u64::from(link);
+    if down {
+        return Reply::Down { link, at };
+    }
+    Reply::Up { link, at }
+}
