@@ -1,4 +1,4 @@
--- What the steps of a settlement and of an append make of the account that a journal stands for.
+-- What the steps of a settlement, of an append and of a seal make of the account that a journal stands for.
 use Rattle.std.proofs.Common.{◌≡◌, ◌⊎◌, inl, inr, ⊎_elim, ℕ, ◌+◌, ◌<◌, ◌≤◌, ◌^◌, List, [], ◌∷◌, ◌++◌, length, Bool, true, false, Option, None, Some, is_some, IfSome, IsTrue, IsFalse, refl, sym, ◌∙◌, ap, subst, arith, length-append}
 use Rattle.std.specs.Prelude.{vec_capacity}
 use Rattle.hose_graph.specs.declared.entry.Entry.{Entry}
@@ -8,13 +8,14 @@ use Rattle.hose_disk.specs.declared.disk.Disk.{Ghosts}
 use Rattle.hose_journal.specs.declared.journal.Journal.{Journal}
 use Rattle.hose_journal.specs.declared.layout.TheConstants.{BUFFER_BYTES, CLOSED, OPEN}
 use Rattle.hose_journal.specs.Chain.{chain}
-use Rattle.hose_journal.specs.Entries.{Item, closed_record, entered, entries_format, entries_in, entries_reader, entry_bytes, front_of, item_bytes, record_bytes, IsListOf}
+use Rattle.hose_journal.specs.Entries.{Item, closed_record, entered, entries_format, entries_in, entries_reader, entry_bytes, front_of, item_bytes, record_bytes, seal_bytes, sealed, IsListOf}
 use Rattle.hose_journal.specs.Gates.{Starts, IsDoubtful}
 use Rattle.hose_journal.specs.Image.{IsClosed}
 use Rattle.hose_journal.specs.Journal.{Account, Stands, IsKept, IsListWith, IsAmid, with_doubt, with_entry}
 use Rattle.hose_journal.specs.Moments.{Images, LeavesOnly}
-use Rattle.hose_journal.proofs.Items.{chained_entry, entries_push, length-front, length-item}
-use Rattle.hose_journal.proofs.Lists.{closed_is_list, doubtful_entry, front_more, items_more, opened_is_closed}
+use Rattle.hose_journal.proofs.Chains.{length-chain}
+use Rattle.hose_journal.proofs.Items.{chained_entry, chained_seal, entries_push, entries_seal, length-front, length-item, length-seal}
+use Rattle.hose_journal.proofs.Lists.{closed_is_list, doubtful_entry, doubtful_seal, front_more, items_more, opened_is_closed}
 use Rattle.hose_journal.proofs.Runs.{joined, weaker}
 
 module _ {D : Type 0} (disk : Ghosts D) where
@@ -49,6 +50,9 @@ module _ {D : Type 0} (disk : Ghosts D) where
     pub closed_now : account.doubt ≡ None → Images disk journal.disk (IsClosed here)
     closed_now none image is = subst (λ (doubt : Option Entry). IsKept stands.version stands.items (with_doubt account doubt) image) none (stands.images image is)
 
+    pub closed_sure : IsFalse journal.doubt → Images disk journal.disk (IsClosed here)
+    closed_sure clear = closed_now (sure_by account.doubt journal.doubt stands.doubt clear)
+
     pub gate_low : length account.entries < MOST_EPOCH + 1 → journal.gate < 2 ^ 60
     gate_low few = omega (arith, stands.place, few, ap length stands.entries, length-front stands.version account.digest stands.size stands.items stands.are)
 
@@ -67,6 +71,11 @@ module _ {D : Type 0} (disk : Ghosts D) where
     list_doubtful entry image is doubtful =
         subst (λ (l : List Entry). IsListOf account.digest l image ⊎ IsListOf account.digest (l ++ entry ∷ []) image) stands.entries
         (doubtful_entry stands.version account.digest image stands.items stands.is_version stands.are entry is doubtful)
+
+    pub list_sealing : (image : List ℕ) → IsFalse journal.sealed → IsDoubtful here (closed_here sealed) image → IsListOf account.digest account.entries image
+    list_sealing image plain doubtful =
+        subst (λ (l : List Entry). IsListOf account.digest l image) stands.entries
+        (doubtful_seal stands.version account.digest image stands.items stands.is_version stands.are (stands.sealed ∙ plain) doubtful)
 
     pub amid_closed : (writing : Option Entry) (image : List ℕ) → IsClosed here image → IsAmid account writing image
     amid_closed writing image closed = inl (list_closed image closed)
@@ -119,21 +128,32 @@ module _ {D : Type 0} (disk : Ghosts D) where
         stands_on new account.doubt gate (stands.doubt ∙ sym flag) as_sealed as_chain room stands.doubt_is
         (λ image is. subst (λ (doubt : Option Entry). IsKept stands.version stands.items (with_doubt account doubt) image) (sym same) (images image is))
 
-    -- the record of an entry is by what the journal knows
-    closed_is : (entry : Entry) → closed_here (entered entry) ≡ entry_bytes journal.sealed account.digest account.entries entry ++ CLOSED ∷ []
-    closed_is entry =
-        ap (λ (b : Bool). entry_bytes b account.digest (entries_in stands.items) entry ++ CLOSED ∷ []) stands.sealed
-        ∙ ap (λ (l : List Entry). entry_bytes journal.sealed account.digest l entry ++ CLOSED ∷ []) stands.entries
+    -- the record of an entry in a sealed journal is by what the journal knows
+    closed_is : (entry : Entry) → IsTrue journal.sealed → closed_here (entered entry) ≡ entry_bytes true account.digest account.entries entry ++ CLOSED ∷ []
+    closed_is entry is_sealed =
+        ap (λ (b : Bool). entry_bytes b account.digest (entries_in stands.items) entry ++ CLOSED ∷ []) (stands.sealed ∙ is_sealed)
+        ∙ ap (λ (l : List Entry). entry_bytes true account.digest l entry ++ CLOSED ∷ []) stands.entries
 
     -- bytes that were put together are that record
-    pub written : (flag : Bool) (body value out : List ℕ) (entry : Entry) → out ≡ record_bytes flag value body ++ CLOSED ∷ [] → flag ≡ journal.sealed → body ≡ spelling entry
+    pub written : (body value out : List ℕ) (entry : Entry) → out ≡ record_bytes true value body ++ CLOSED ∷ [] → IsTrue journal.sealed → body ≡ spelling entry
         → value ≡ chain account.digest (account.entries ++ entry ∷ []) → out ≡ closed_here (entered entry)
-    written flag body value out entry is is_flag is_body is_value =
+    written body value out entry is is_sealed is_body is_value =
         is
-        ∙ ap (λ (b : Bool). record_bytes b value body ++ CLOSED ∷ []) is_flag
-        ∙ ap (λ (l : List ℕ). record_bytes journal.sealed value l ++ CLOSED ∷ []) is_body
-        ∙ ap (λ (l : List ℕ). record_bytes journal.sealed l (spelling entry) ++ CLOSED ∷ []) is_value
-        ∙ sym (closed_is entry)
+        ∙ ap (λ (l : List ℕ). record_bytes true value l ++ CLOSED ∷ []) is_body
+        ∙ ap (λ (l : List ℕ). record_bytes true l (spelling entry) ++ CLOSED ∷ []) is_value
+        ∙ sym (closed_is entry is_sealed)
+
+    -- and so is the record of a seal
+    seal_is : closed_here sealed ≡ seal_bytes (chain account.digest account.entries) ++ CLOSED ∷ []
+    seal_is = ap (λ (l : List Entry). seal_bytes (chain account.digest l) ++ CLOSED ∷ []) stands.entries
+
+    pub sealing : (out : List ℕ) → out ≡ seal_bytes journal.chain ++ CLOSED ∷ [] → out ≡ closed_here sealed
+    sealing out is = is ∙ ap (λ (v : List ℕ). seal_bytes v ++ CLOSED ∷ []) stands.chain ∙ sym seal_is
+
+    pub seal_length : length (closed_here sealed) ≡ 38
+    seal_length =
+        let value = chain account.digest (entries_in stands.items) in
+        omega (arith, length-append (seal_bytes value) (CLOSED ∷ []), length-seal value (length-chain account.digest (entries_in stands.items) stands.size))
 
     pub stands_added : (new : Journal D) (entry : Entry) → IsEntry entry → length account.entries < MOST_EPOCH → new.gate ≡ journal.gate + length (closed_here (entered entry)) → false ≡ new.doubt → new.sealed ≡ journal.sealed
         → new.chain ≡ chain account.digest (account.entries ++ entry ∷ []) → BUFFER_BYTES ≤ vec_capacity new.buffer
@@ -156,6 +176,31 @@ module _ {D : Type 0} (disk : Ghosts D) where
           chain = is_chain;
           room = room;
           images = λ image is_image. opened_is_closed format stands.version account.digest image stands.items (entered entry) (images image is_image);
+        }
+
+    pub stands_sealed : (new : Journal D) → IsFalse journal.doubt → length account.entries ≤ MOST_EPOCH → IsFalse journal.sealed → new.gate ≡ journal.gate + length (closed_here sealed) → new.doubt ≡ journal.doubt → true ≡ new.sealed
+        → new.chain ≡ journal.chain → BUFFER_BYTES ≤ vec_capacity new.buffer → Images disk new.disk (Starts (here ++ OPEN ∷ closed_here sealed)) → Stands disk new account
+    stands_sealed new clear few plain gate flag is_sealed as_chain room images =
+        let format = entries_format stands.version account.digest in
+        let bytes = item_bytes stands.version account.digest stands.items sealed in
+        let none = sure_by account.doubt journal.doubt stands.doubt clear in
+        record {
+          version = stands.version;
+          items = stands.items ++ sealed ∷ [];
+          is_version = stands.is_version;
+          entries = entries_seal stands.items ∙ stands.entries;
+          size = stands.size;
+          are = items_more format [] stands.items sealed stands.are (stands.sealed ∙ plain);
+          doubt_is = stands.doubt_is;
+          place = omega (arith, stands.place, gate, ap length (front_more format stands.version account.digest stands.items sealed), length-append here (OPEN ∷ bytes), length-append bytes (CLOSED ∷ []));
+          small = omega (arith, gate, gate_low (omega (arith, few)), seal_length);
+          doubt = stands.doubt ∙ sym flag;
+          sealed = chained_seal stands.version stands.items ∙ is_sealed;
+          chain = as_chain ∙ stands.chain;
+          room = room;
+          images = λ image is_image.
+              subst (λ (doubt : Option Entry). IsKept stands.version (stands.items ++ sealed ∷ []) (with_doubt account doubt) image) (sym none)
+              (opened_is_closed format stands.version account.digest image stands.items sealed (images image is_image));
         }
 
     pub opened_lists : (now : D) (entry : Entry) → IsEntry entry → Images disk now (Starts (here ++ OPEN ∷ closed_here (entered entry))) → Images disk now (IsListOf account.digest (account.entries ++ entry ∷ []))

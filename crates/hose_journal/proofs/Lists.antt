@@ -1,14 +1,14 @@
 -- The image of items in closed form is read as their list.
-use Rattle.std.proofs.Common.{◌≡◌, ◌⊎◌, inl, inr, ℕ, List, [], ◌∷◌, ◌++◌, refl, sym, ◌∙◌, ap, subst, arith, append_assoc, append-nil}
+use Rattle.std.proofs.Common.{◌≡◌, ◌⊎◌, inl, inr, ℕ, List, [], ◌∷◌, ◌++◌, refl, sym, ◌∙◌, ap, subst, arith, append_assoc, append-nil, false}
 use Rattle.std.proofs.lemmas.Bool.{cases_eq}
 use Rattle.hose_graph.specs.declared.entry.Entry.{Entry}
 use Rattle.hose_codec.specs.Spelling.{IsEntry}
 use Rattle.hose_journal.specs.declared.layout.TheConstants.{OPEN, CLOSED}
-use Rattle.hose_journal.specs.Entries.{IsListOf, Item, closed_record, entered, entries_format, entries_in, entries_reader, front_of}
+use Rattle.hose_journal.specs.Entries.{IsListOf, Item, closed_record, entered, entries_format, entries_in, entries_reader, front_of, is_chained, sealed}
 use Rattle.hose_journal.specs.Gates.{Starts, IsDoubtful}
 use Rattle.hose_journal.specs.Image.{Format, Reader, IsVersion, records, AreItems, head, front, journal_of, IsClosed, StandsFor, listed}
 use Rattle.hose_journal.proofs.Gates.{shut_gate}
-use Rattle.hose_journal.proofs.Items.{entries_push}
+use Rattle.hose_journal.proofs.Items.{entries_push, entries_seal}
 
 module _ {X : Type 0} (format : Format X) where
   -- one item more
@@ -68,7 +68,7 @@ journal_is_list reader version digest rest items is_version are =
     closed_is_list reader version digest (journal_of format version digest items ++ rest) items is_version are
     (shut_gate (front format version digest items) [] (journal_of format version digest items ++ rest) CLOSED (omega arith) (rest, refl))
 
--- ---- entries
+-- ---- entries and seals
 
 module _ (version : ℕ) (digest image : List ℕ) (items : List Item) (is_version : IsVersion version) (are : AreItems (entries_format version digest) [] items) where
   pub doubtful_entry : (entry : Entry) → IsEntry entry → IsDoubtful (front_of version digest items) (closed_record version digest items (entered entry)) image
@@ -79,4 +79,13 @@ module _ (version : ℕ) (digest image : List ℕ) (items : List Item) (is_versi
         | inl closed ↦ inl (closed_is_list entries_reader version digest image items is_version are closed)
         | inr more ↦ inr (subst (λ (l : List Entry). IsListOf digest l image) (entries_push items entry)
             (closed_is_list entries_reader version digest image (items ++ entered entry ∷ []) is_version (items_more format [] items (entered entry) are is) more))
+      ]
+
+  pub doubtful_seal : is_chained version items ≡ false → IsDoubtful (front_of version digest items) (closed_record version digest items sealed) image → IsListOf digest (entries_in items) image
+  doubtful_seal plain doubtful =
+      let format = entries_format version digest in
+      elim (doubtful_is_closed format version digest image items sealed doubtful) [
+        | inl closed ↦ closed_is_list entries_reader version digest image items is_version are closed
+        | inr more ↦ subst (λ (l : List Entry). IsListOf digest l image) (entries_seal items)
+            (closed_is_list entries_reader version digest image (items ++ sealed ∷ []) is_version (items_more format [] items sealed are plain) more)
       ]

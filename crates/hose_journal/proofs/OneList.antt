@@ -3,7 +3,7 @@ use Rattle.std.proofs.Common.{◌≡◌, ◌≢◌, inl, inr, ℕ, ◌+◌, ◌<
 use Rattle.std.proofs.lemmas.Bool.{false≢true}
 use Rattle.byteorder.specs.Endian.{big_bytes}
 use Rattle.hose_graph.specs.declared.entry.Entry.{Entry}
-use Rattle.hose_graph.specs.declared.entry.Entry.TheVariants.{Admit, Release}
+use Rattle.hose_graph.specs.declared.entry.Entry.TheVariants.{Admit, Release, Down, Up}
 use Rattle.hose_codec.specs.Spelling.{spelling, IsEntry}
 use Rattle.hose_codec.proofs.Alone.{same_entries}
 use Rattle.hose_codec.proofs.Lengths.{length-spelling}
@@ -33,6 +33,8 @@ same_record true v w x y r s size is_x is_y same =
 no_seal : (entry : Entry) (r s : List ℕ) → spelling entry ++ r ≢ SEAL ∷ s
 no_seal (Admit customer hose amounts) r s same = omega (arith, ap (λ (l : List ℕ). get_or l 0 0) same)
 no_seal (Release customer id) r s same = omega (arith, ap (λ (l : List ℕ). get_or l 0 0) same)
+no_seal (Down link) r s same = omega (arith, ap (λ (l : List ℕ). get_or l 0 0) same)
+no_seal (Up link) r s same = omega (arith, ap (λ (l : List ℕ). get_or l 0 0) same)
 
 not_sealed : (chained : Bool) (v w : List ℕ) (x : Entry) (r s : List ℕ) → chained ≡ false → IsEntry x → record_bytes chained v (spelling x) ++ r ≢ seal_bytes w ++ s
 not_sealed true v w x r s plain is same = false≢true (sym plain)

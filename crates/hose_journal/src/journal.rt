@@ -1,5 +1,5 @@
 // A journal to which entries are added.
-ghost use Rattle.std.specs.Prelude.{◌≡◌, ◌⊎◌, ◌<◌, ◌+◌, ◌∷◌, [], Option, Some, None, false, length, IsFalse, IsTrue, IsOk, OnErr, OnOk};
+ghost use Rattle.std.specs.Prelude.{◌≡◌, ◌⊎◌, ◌<◌, ◌≤◌, ◌+◌, ◌∷◌, [], Option, Some, None, false, length, IsFalse, IsTrue, IsOk, OnErr, OnOk};
 ghost use Rattle.hose_graph.specs.declared.entry.Entry.{Entry};
 ghost use Rattle.hose_disk.specs.Disk.{IsCalled};
 ghost use Rattle.hose_journal.specs.Chain.{chain};
@@ -9,7 +9,7 @@ ghost use Rattle.hose_journal.specs.Moments.{Images, Lands, LeavesOnly, TellsAsB
 ghost use Rattle.hose_journal.specs.declared.layout.TheConstants.{CLOSED};
 
 use crate::chaining::chain_after;
-use crate::filling::fill_record;
+use crate::filling::{fill_record, fill_seal};
 use crate::layout::{CLOSED, DIGEST_BYTES, OPEN};
 use crate::prepared::Ready;
 use crate::steps::{set_gate, stage};
@@ -109,11 +109,11 @@ impl<D: Disk> Journal<D> {
         Ok(())
     }
 
-    /// Adds an entry, after the one in doubt was revoked. Its record is of the version that the
-    /// journal has, and has a chain value where the journal is sealed.
+    /// Adds an entry to a sealed journal, after the one in doubt was revoked.
     pub fn append(&mut self, ready: &Ready) -> Result<(), Failed>
-        requires { (account : Account) × (entry : Entry) × Stands D.Disk self.old account
+        requires stands { (account : Account) × (entry : Entry) × Stands D.Disk self.old account
             × IsReady entry ready.now × (length account.entries < MOST_EPOCH) }
+        requires sealed { IsTrue self.old.sealed }
         // At every moment each image stands for the entries, or for them and one more: this one, or
         // the one that was in doubt.
         ensures any_moment { (account : Account) → (entry : Entry) →
@@ -138,18 +138,47 @@ impl<D: Disk> Journal<D> {
             ⊎ (Stands D.Disk self.new (with_doubt account None)
             ⊎ Stands D.Disk self.new (with_doubt account (Some entry)))) }
 
+        ensures sealed { IsTrue self.new.sealed }
         ensures tells { TellsAsBefore D.Disk self.old.disk self.new.disk }
         ensures call { IsCalled (D.frame self.old.disk) (D.frame self.new.disk) result }
     {
         self.settle()?;
         let value = chain_after(&self.chain, &ready.bytes);
-        fill_record(&mut self.buffer, self.sealed, &value, &ready.bytes);
+        fill_record(&mut self.buffer, &value, &ready.bytes);
         stage(&mut self.disk, self.gate, &self.buffer)?;
         self.doubt = true;
         set_gate(&mut self.disk, self.gate, OPEN)?;
         self.doubt = false;
         self.gate += self.buffer.len() as u64;
         self.chain = value;
+        Ok(())
+    }
+
+    /// Seals a journal that is not sealed and has no entry in doubt: the records that follow have
+    /// chain values. After a failure nothing is known of the journal but its images, so that the
+    /// only call that may follow is `stop`.
+    pub fn seal(&mut self) -> Result<(), Failed>
+        requires stands { (account : Account) × Stands D.Disk self.old account
+            × (length account.entries ≤ MOST_EPOCH) }
+        requires sure { IsFalse self.old.doubt }
+        requires plain { IsFalse self.old.sealed }
+        // At every moment each image stands for the entries.
+        ensures any_moment { (account : Account) → Stands D.Disk self.old account →
+            length account.entries ≤ MOST_EPOCH →
+            LeavesOnly D.Disk self.old.disk self.new.disk
+            (IsListOf account.digest account.entries) }
+        ensures stands { OnOk result ((account : Account) → Stands D.Disk self.old account →
+            length account.entries ≤ MOST_EPOCH → Stands D.Disk self.new account) }
+        ensures sealed { OnOk result (IsTrue self.new.sealed) }
+
+        ensures tells { TellsAsBefore D.Disk self.old.disk self.new.disk }
+        ensures call { IsCalled (D.frame self.old.disk) (D.frame self.new.disk) result }
+    {
+        fill_seal(&mut self.buffer, &self.chain);
+        stage(&mut self.disk, self.gate, &self.buffer)?;
+        set_gate(&mut self.disk, self.gate, OPEN)?;
+        self.gate += self.buffer.len() as u64;
+        self.sealed = true;
         Ok(())
     }
 

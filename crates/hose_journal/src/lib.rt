@@ -7,8 +7,8 @@
 //!
 //! There are two versions. In the second one each record has the chain value of the list with its
 //! entry, so that a byte that decayed is found, and two journals are compared by one value. A
-//! journal of the first version may have a seal, which is no entry and from which on records are of
-//! the second one. A journal is added to in the version that it has.
+//! journal of the first version is sealed before it is added to: a seal is no entry, has the chain
+//! value of those before it, and records from it on are of the second version.
 //!
 //! ```
 //! let mut reading = open(alloc, disk, digest).map_err(|refused| refused.0)?;
@@ -16,6 +16,9 @@
 //!     apply(&entry);
 //! }
 //! let mut journal = reading.finish();
+//! if !journal.sealed() {
+//!     journal.seal()?;
+//! }
 //! journal.append(&ready(alloc, &entry)?)?;
 //! ```
 #![tactic(auto)]
