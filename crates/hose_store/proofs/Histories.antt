@@ -1,9 +1,9 @@
 -- Histories as lists of a journal, and the images that stand for them.
-use Rattle.std.proofs.Common.{◌≡◌, inl, inr, ℕ, ◌+◌, ◌<◌, List, [], ◌∷◌, ◌++◌, length, Option, Some, None, sym, ap, subst, arith, append-nil, append_assoc}
+use Rattle.std.proofs.Common.{◌≡◌, inl, inr, ℕ, ◌+◌, ◌<◌, ◌≤◌, List, [], ◌∷◌, ◌++◌, length, Option, Some, None, sym, ap, subst, arith, append-nil, append_assoc}
 use Rattle.sha2.specs.Sha256.{sha256}
 use Rattle.hose_graph.specs.Network.{Network}
 use Rattle.hose_graph.specs.declared.entry.Entry.{Entry}
-use Rattle.hose_graph.specs.declared.entry.Entry.TheVariants.{Admit, Release}
+use Rattle.hose_graph.specs.declared.entry.Entry.TheVariants.{Admit, Release, Down, Up}
 use Rattle.hose_law.specs.Book.{Book}
 use Rattle.hose_law.specs.History.{book_of, book_after, opening_book, next_book, last_epoch, IsSound, IsSoundAt, IsSoundFrom, IsSoundWith}
 use Rattle.hose_law.proofs.LiveIds.{next_epoch}
@@ -34,11 +34,24 @@ epoch_of history = omega (arith, epoch_after (opening_book 0) history)
 sound_epoch : (network : Network) (book : Book) (entry : Entry) → IsSoundAt network book entry → book.epoch < last_epoch
 sound_epoch network book (Admit customer hose amounts) sound = sound.0
 sound_epoch network book (Release customer id) sound = sound.0
+sound_epoch network book (Down link) sound = sound.0
+sound_epoch network book (Up link) sound = sound.0
 
 -- a history at whose book an entry is sound is short enough
 pub few_entries : (network : Network) (book : Book) (history : List Entry) (entry : Entry) → book ≡ book_of 0 history → IsSoundAt network book entry → length history < last_epoch
 few_entries network book history entry same sound =
     omega (arith, sound_epoch network book entry sound, ap (λ (b : Book). b.epoch) same, epoch_after (opening_book 0) history)
+
+-- entries that are sound one after another are no more than there are epochs
+few_sound : (network : Network) (book : Book) (entries : List Entry) → book.epoch ≤ last_epoch → IsSoundFrom network book entries → book.epoch + length entries ≤ last_epoch
+few_sound network book [] low sound = omega (arith, low)
+few_sound network book (entry ∷ entries) low sound =
+    let next : (next_book book entry).epoch ≡ book.epoch + 1 = next_epoch book entry in
+    let more = few_sound network (next_book book entry) entries (omega (arith, next, sound_epoch network book entry sound.0)) sound.1 in
+    omega (arith, more, next)
+
+pub few_in_history : (network : Network) (history : List Entry) → IsSound network 0 history → length history ≤ last_epoch
+few_in_history network history sound = omega (arith, few_sound network (opening_book 0) history (omega arith) sound)
 
 -- a sound history, and an entry that is sound at its end
 pub sound_with : (network : Network) (history : List Entry) (entry : Entry) → IsSound network 0 history → IsSoundAt network (book_of 0 history) entry → IsSound network 0 (history ++ entry ∷ [])

@@ -3,4 +3,5 @@ pub mod Histories
 pub mod OneMeaning
 pub mod Openings
 pub mod Readings
+pub mod Replays
 pub mod Standing

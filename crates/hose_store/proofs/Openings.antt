@@ -27,7 +27,7 @@ use Rattle.hose_store.specs.declared.fault.StoreFault.TheVariants as store
 use Rattle.hose_store.specs.Faults.{store_fault}
 use Rattle.hose_store.specs.Opening.{IsAtOpening, IsOpenedOn, IsRecovering, IsRefused, IsStopped, IsUnchanged}
 use Rattle.hose_store.specs.Recovery.{digest_of, IsHistoryOf, IsRecoveredAs}
-use Rattle.hose_store.specs.Store.{HasHistory}
+use Rattle.hose_store.specs.Store.{HasHistory, account_of}
 use Rattle.hose_store.proofs.Commits.{has_history}
 use Rattle.hose_store.proofs.Histories.{amid_none, history_of_list, sound_items}
 use Rattle.hose_store.proofs.Readings.{told_each}
@@ -158,29 +158,31 @@ module _ {D : Type 0} (disk : Ghosts D) where
     fault = fault;
   }
 
-  -- after the last one
+  -- after the last one, once its journal is sealed
   pub has_recovered : (ledger : Ledger) (reading : Reading D) (journal : Journal D) (recovering : IsRecovering disk ledger reading)
-      → ((digest : List ℕ) (entries : List Entry) → Reads disk reading digest entries → Stands disk journal (record { digest = digest; entries = entries; doubt = None }))
-      → HasHistory disk (record { ledger = ledger; journal = journal }) recovering.entries None
-  has_recovered ledger reading journal recovering stands =
-      has_history disk (record { ledger = ledger; journal = journal }) recovering.entries None recovering.book recovering.tracks (sound_items ledger.network recovering.entries recovering.sound) tt
-      (stands (digest_of ledger.network) recovering.entries recovering.reads)
+      → Stands disk journal (account_of ledger.network recovering.entries None) → IsTrue journal.sealed → HasHistory disk (record { ledger = ledger; journal = journal }) recovering.entries None
+  has_recovered ledger reading journal recovering stands sealed =
+      has_history disk (record { ledger = ledger; journal = journal }) recovering.entries None recovering.book recovering.tracks (sound_items ledger.network recovering.entries recovering.sound) tt stands sealed
 
-  pub opened_on : (old mid : D) (ledger : Ledger) (reading : Reading D) (journal : Journal D) (recovering : IsRecovering disk ledger reading) → is_some (disk.content mid) ≡ is_some (disk.content old)
-      → KeepsList (disk.content old) (disk.content mid) (digest_of ledger.network) → disk.content reading.disk ≡ disk.content mid → IsTrue reading.closed
-      → ((digest : List ℕ) (entries : List Entry) → Reads disk reading digest entries → Stands disk journal (record { digest = digest; entries = entries; doubt = None }))
-      → IsOpenedOn disk old ledger.network (record { ledger = ledger; journal = journal })
-  opened_on old mid ledger reading journal recovering tells list same closed stands =
+  -- the entries that were read are the history for which the disk stood
+  pub read_history : (old mid : D) (ledger : Ledger) (reading : Reading D) (recovering : IsRecovering disk ledger reading) → is_some (disk.content mid) ≡ is_some (disk.content old)
+      → KeepsList (disk.content old) (disk.content mid) (digest_of ledger.network) → disk.content reading.disk ≡ disk.content mid → IsTrue reading.closed → IfSome (disk.content old) (IsHistoryOf ledger.network recovering.entries)
+  read_history old mid ledger reading recovering tells list same closed =
       let network = ledger.network in
       let reads = recovering.reads in
-      let has = has_recovered ledger reading journal recovering stands in
       let told = subst (λ (content : Option (List ℕ)). IfSome content (IsListOf (digest_of network) recovering.entries)) same (read_list disk reading (digest_of network) recovering.entries reads closed) in
+      history_from network recovering.entries (disk.content old) (disk.content mid) reads.size tells list (sound_items network recovering.entries recovering.sound) told
+
+  pub opened_on : (old : D) (ledger : Ledger) (reading : Reading D) (journal : Journal D) (recovering : IsRecovering disk ledger reading) → IfSome (disk.content old) (IsHistoryOf ledger.network recovering.entries)
+      → Stands disk journal (account_of ledger.network recovering.entries None) → IsTrue journal.sealed → IsOpenedOn disk old ledger.network (record { ledger = ledger; journal = journal })
+  opened_on old ledger reading journal recovering read stands sealed =
+      let has = has_recovered ledger reading journal recovering stands sealed in
       record {
         history = recovering.entries;
         network = refl;
         has = has;
-        read = history_from network recovering.entries (disk.content old) (disk.content mid) reads.size tells list (sound_items network recovering.entries recovering.sound) told;
-        images = λ image is. amid_none network recovering.entries image (has.images image is);
+        read = read;
+        images = λ image is. amid_none ledger.network recovering.entries image (has.images image is);
       }
 
 -- ---- images at an opening
@@ -193,3 +195,10 @@ unbegun_history network (Some bytes) unbegun = inl (unbegun, refl)
 pub at_opening : {D : Type 0} (disk : Ghosts D) (old new : D) (network : Network) → LeavesOnly disk old new (IsOpened disk old (digest_of network)) → LeavesOnly disk old new (IsAtOpening disk old network)
 at_opening disk old new network run = weaker disk old new (IsOpened disk old (digest_of network)) (IsAtOpening disk old network)
     (λ image is. ⊎_elim (λ was. inl was) (λ begun. inr ([], unbegun_history network (disk.content old) begun.0, history_of_list network [] image tt begun.1)) is) run
+
+-- within the seal each image stands for what the disk stood for
+pub sealing_at : {D : Type 0} (disk : Ghosts D) (old mid new : D) (network : Network) (history : List Entry) → IsSound network 0 history → IfSome (disk.content old) (IsHistoryOf network history)
+    → LeavesOnly disk old mid (IsAtOpening disk old network) → LeavesOnly disk mid new (IsListOf (digest_of network) history) → LeavesOnly disk old new (IsAtOpening disk old network)
+sealing_at disk old mid new network history sound read first second =
+    joined disk old mid new (IsAtOpening disk old network) first
+    (weaker disk mid new (IsListOf (digest_of network) history) (IsAtOpening disk old network) (λ image list. inr (history, read, history_of_list network history image sound list)) second)

@@ -1,5 +1,5 @@
 -- A store, as contracts see it, and the history that it stands for.
-use Rattle.std.specs.Prelude.{◌⊎◌, ℕ, List, [], ◌∷◌, ◌++◌, Option, Some, None}
+use Rattle.std.specs.Prelude.{◌⊎◌, ℕ, List, [], ◌∷◌, ◌++◌, Option, Some, None, IsTrue}
 use Rattle.hose_graph.specs.Network.{Network}
 use Rattle.hose_graph.specs.declared.entry.Entry.{Entry}
 use Rattle.hose_law.specs.History.{book_of, IsSound, IsSoundWith}
@@ -34,7 +34,8 @@ IsAmid network history doubt writing image = IsHistoryOf network history image
     ⊎ (IsHistoryWith network history doubt image ⊎ IsHistoryWith network history writing image)
 
 -- The book is that of this history, which it tracks and which is sound, and so is the entry in
--- doubt. What a stop may leave now stands for the history, with the one in doubt or without it.
+-- doubt. The journal is sealed. What a stop may leave now stands for the history, with the one in
+-- doubt or without it.
 pub record HasHistory {D : Type 0} (disk : Ghosts D) (store : Kept D) (history : List Entry)
     (doubt : Option Entry) : Type 0 where
   pub book : HasBookOf 0 history store.ledger
@@ -42,4 +43,5 @@ pub record HasHistory {D : Type 0} (disk : Ghosts D) (store : Kept D) (history :
   pub sound : IsSound store.ledger.network 0 history
   pub sound_doubt : IsSoundWith store.ledger.network (book_of 0 history) doubt
   pub journal : Stands disk store.journal (account_of store.ledger.network history doubt)
+  pub sealed : IsTrue store.journal.sealed
   pub images : Images disk store.journal.disk (IsAmid store.ledger.network history doubt None)

@@ -1,18 +1,22 @@
 // The book on a disk.
-ghost use Rattle.std.specs.Prelude.{◌≡◌, IfErr, IfOk, MatchResult};
+ghost use Rattle.std.specs.Prelude.{◌≡◌, List, Option, IfErr, IfOk, MatchResult};
 ghost use Rattle.hose_io.specs.Frame.{Frame};
 ghost use Rattle.hose_graph.specs.declared.entry.Entry.{Entry};
 ghost use Rattle.hose_disk.specs.Disk.{IsCalled, object_frame};
+ghost use Rattle.hose_journal.specs.Chain.{chain};
 ghost use Rattle.hose_journal.specs.Journal.{IsReady};
 ghost use Rattle.hose_journal.specs.Moments.{KeepsCount, LeavesOnly};
 ghost use Rattle.hose_journal.specs.Opening.{KeepsDisk};
 ghost use Rattle.hose_store.specs.Commit.{Closes, Went};
 ghost use Rattle.hose_store.specs.Opening.{IsAtOpening, IsOpenedOn, IsRefused};
+ghost use Rattle.hose_store.specs.Recovery.{digest_of};
+ghost use Rattle.hose_store.specs.Store.{HasHistory};
 
 use crate::closing::settle_or_sync;
 use crate::committing::add;
 use crate::fault::StoreFault;
 use crate::recovery::recover;
+use crate::sealing::seal_plain;
 use hose_book::{Book, Books, Committed};
 use hose_disk::{Disk, Failed};
 use hose_graph::{Entry, Topology};
@@ -45,8 +49,8 @@ impl<D: Disk> Model for Store<D> {
 }
 
 impl<D: Disk> Store<D> {
-    /// Opens the store on a disk. Where no journal was begun there, it begins one. Where it is
-    /// refused the disk comes back.
+    /// Opens the store on a disk. Where no journal was begun there, it begins one; a journal that is
+    /// not sealed it seals, after its entries were read. Where it is refused the disk comes back.
     pub fn open(alloc: Global, disk: D, top: Topology) -> Result<Store<D>, (StoreFault, D)>
         // At every moment an image is one of before, or stands for what the disk stood for.
         ensures any_moment { MatchResult result
@@ -69,12 +73,21 @@ impl<D: Disk> Store<D> {
             Err(refused) => return Err((StoreFault::from(refused.0), refused.1)),
         };
         match recover(&mut book, &mut reading) {
-            Ok(()) => Ok(Store {
-                book,
-                journal: reading.finish(),
-            }),
+            Ok(()) => match seal_plain(reading.finish()) {
+                Ok(journal) => Ok(Store { book, journal }),
+                Err(disk) => Err((StoreFault::Disk, disk)),
+            },
             Err(fault) => Err((fault, reading.stop())),
         }
+    }
+
+    /// The chain value of the history.
+    pub fn chain(&self) -> [u8; 32]
+        ensures { (history : List Entry) → (doubt : Option Entry) →
+            HasHistory D.Disk self.now history doubt →
+            result ≡ chain (digest_of self.now.ledger.network) history }
+    {
+        self.journal.chain()
     }
 
     /// Revokes the entry in doubt, or syncs once where none is, and hands back the disk and the

@@ -1,14 +1,16 @@
 use Rattle.std.proofs.Common.{◌≡◌, ◌∙◌, List, ℕ, [], sym, ap, subst, None}
 use Rattle.hose_graph.specs.Network.{Network}
 use Rattle.hose_book.specs.Ledger.{Ledger}
+use Rattle.hose_journal.specs.Entries.{IsListOf}
 use Rattle.hose_journal.specs.Moments.{LeavesOnly}
 use Rattle.hose_journal.specs.Opening.{IsOpened, KeepsList, IsRefused as IsRefusedThere}
 use Rattle.hose_journal.specs.Reading.{Reads}
 use Rattle.hose_store.specs.declared.fault.StoreFault.{StoreFault}
 use Rattle.hose_store.specs.Opening.{IsAtOpening, IsOpenedOn, IsRefused, IsStopped}
 use Rattle.hose_store.specs.Recovery.{digest_of}
-use Rattle.hose_store.proofs.Histories.{is_digest}
-use Rattle.hose_store.proofs.Openings.{at_opening, first_recovering, has_recovered, opened_on, opened_then, refused_entries, refused_head}
+use Rattle.hose_store.specs.Store.{account_of}
+use Rattle.hose_store.proofs.Histories.{few_in_history, is_digest, sound_items}
+use Rattle.hose_store.proofs.Openings.{at_opening, first_recovering, has_recovered, opened_on, opened_then, read_history, refused_entries, refused_head, sealing_at}
 use Rattle.hose_store.proofs.store.Store.open.Goals as goal
 
 pub returns-in-Err-clause-any_moment : goal.returns-in-Err-clause-any_moment
@@ -35,32 +37,96 @@ recover-requires g c =
     first_recovering g.D.Disk c.in-Ok.book top c.in-Ok-open.reading c.in-Ok.ensures.value c.in-Ok.ensures.tracks
     (subst (λ (digest : List ℕ). Reads g.D.Disk c.in-Ok-open.reading digest []) is c.in-Ok-open.ensures.reads) c.in-Ok-open.ensures.fault
 
+pub seal_plain-requires-clause-stands : goal.seal_plain-requires-clause-stands
+seal_plain-requires-clause-stands g c =
+    let book = c.recover.new.book in
+    let recovering = c.in-Ok-recover.ensures.recovered in
+    let history = recovering.entries in
+    (account_of book.network history None, c.finish.ensures.stands (digest_of book.network) history recovering.reads, few_in_history book.network history (sound_items book.network history recovering.sound))
+
+pub seal_plain-requires-clause-sure : goal.seal_plain-requires-clause-sure
+seal_plain-requires-clause-sure g c =
+    let recovering = c.in-Ok-recover.ensures.recovered in
+    sym (c.finish.ensures.stands (digest_of c.recover.new.book.network) recovering.entries recovering.reads).doubt
+
 pub invariant_of-result : goal.invariant_of-result
 invariant_of-result g c =
+    let book = c.recover.new.book in
     let recovering = c.in-Ok-recover.ensures.recovered in
-    (recovering.entries, None, has_recovered g.D.Disk c.recover.new.book c.recover.new.reading c.finish.result recovering c.finish.ensures.stands)
+    let history = recovering.entries in
+    let few = few_in_history book.network history (sound_items book.network history recovering.sound) in
+    let stands = c.finish.ensures.stands (digest_of book.network) history recovering.reads in (
+      history,
+      None,
+      has_recovered g.D.Disk book c.recover.new.reading c.in-Ok-seal_plain.journal recovering
+          (c.in-Ok-seal_plain.ensures.stands (account_of book.network history None) stands few) c.in-Ok-seal_plain.ensures.sealed,
+    )
 
-pub returns-in-Ok-recover-clause-any_moment : goal.returns-in-Ok-recover-clause-any_moment
-returns-in-Ok-recover-clause-any_moment g c =
-    let disk = g.D.Disk in
-    let old = c.args.disk in
-    let mid = c.in-Ok-open.reading.disk in
-    let is = is_digest c.args.top c.digest-digest.result c.digest-digest.ensures in
-    let run = subst (λ (digest : List ℕ). LeavesOnly disk old mid (IsOpened disk old digest)) is c.in-Ok-open.ensures.any_moment in
-    subst (λ (new : g.row.D.Denot). LeavesOnly disk old new (IsAtOpening disk old c.args.top)) (sym c.finish.ensures.disk)
-    (at_opening disk old c.recover.new.reading.disk c.args.top (opened_then disk old mid c.recover.new.reading.disk (digest_of c.args.top) (g.met.D.Disk.counts_now mid) run c.recover.ensures.only))
-
-pub returns-in-Ok-recover-clause-opened : goal.returns-in-Ok-recover-clause-opened
-returns-in-Ok-recover-clause-opened g c =
+pub returns-in-Ok-seal_plain-clause-any_moment : goal.returns-in-Ok-seal_plain-clause-any_moment
+returns-in-Ok-seal_plain-clause-any_moment g c =
     let disk = g.D.Disk in
     let old = c.args.disk in
     let mid = c.in-Ok-open.reading.disk in
     let book = c.recover.new.book in
+    let reading = c.recover.new.reading in
+    let recovering = c.in-Ok-recover.ensures.recovered in
+    let history = recovering.entries in
     let is = is_digest c.args.top c.digest-digest.result c.digest-digest.ensures in
     let network : book.network ≡ c.args.top = c.recover.ensures.network ∙ ap (λ (l : Ledger). l.network) c.in-Ok.ensures.value in
     let list = subst (λ (digest : List ℕ). KeepsList (disk.content old) (disk.content mid) digest) (is ∙ ap digest_of (sym network)) c.in-Ok-open.ensures.list in
-    subst (λ (top : Network). IsOpenedOn disk old top (record { ledger = book; journal = c.finish.result })) network
-    (opened_on disk old mid book c.recover.new.reading c.finish.result c.in-Ok-recover.ensures.recovered c.in-Ok-open.ensures.keeps.tells list c.recover.ensures.only.same c.in-Ok-recover.ensures.closed c.finish.ensures.stands)
+    let read = read_history disk old mid book reading recovering c.in-Ok-open.ensures.keeps.tells list c.recover.ensures.only.same c.in-Ok-recover.ensures.closed in
+    let sound = sound_items book.network history recovering.sound in
+    let stands = c.finish.ensures.stands (digest_of book.network) history recovering.reads in
+    let few = few_in_history book.network history sound in
+    let run = subst (λ (digest : List ℕ). LeavesOnly disk old mid (IsOpened disk old digest)) (is ∙ ap digest_of (sym network)) c.in-Ok-open.ensures.any_moment in
+    let before = at_opening disk old reading.disk book.network (opened_then disk old mid reading.disk (digest_of book.network) (g.met.D.Disk.counts_now mid) run c.recover.ensures.only) in
+    let within = subst (λ (from : g.row.D.Denot). LeavesOnly disk from c.in-Ok-seal_plain.journal.disk (IsListOf (digest_of book.network) history)) c.finish.ensures.disk
+    (c.in-Ok-seal_plain.ensures.any_moment (account_of book.network history None) stands few) in
+    subst (λ (top : Network). LeavesOnly disk old c.in-Ok-seal_plain.journal.disk (IsAtOpening disk old top)) network
+    (sealing_at disk old reading.disk c.in-Ok-seal_plain.journal.disk book.network history sound read before within)
+
+pub returns-in-Ok-seal_plain-clause-opened : goal.returns-in-Ok-seal_plain-clause-opened
+returns-in-Ok-seal_plain-clause-opened g c =
+    let disk = g.D.Disk in
+    let old = c.args.disk in
+    let mid = c.in-Ok-open.reading.disk in
+    let book = c.recover.new.book in
+    let reading = c.recover.new.reading in
+    let recovering = c.in-Ok-recover.ensures.recovered in
+    let history = recovering.entries in
+    let is = is_digest c.args.top c.digest-digest.result c.digest-digest.ensures in
+    let network : book.network ≡ c.args.top = c.recover.ensures.network ∙ ap (λ (l : Ledger). l.network) c.in-Ok.ensures.value in
+    let list = subst (λ (digest : List ℕ). KeepsList (disk.content old) (disk.content mid) digest) (is ∙ ap digest_of (sym network)) c.in-Ok-open.ensures.list in
+    let read = read_history disk old mid book reading recovering c.in-Ok-open.ensures.keeps.tells list c.recover.ensures.only.same c.in-Ok-recover.ensures.closed in
+    let sound = sound_items book.network history recovering.sound in
+    let stands = c.finish.ensures.stands (digest_of book.network) history recovering.reads in
+    let few = few_in_history book.network history sound in
+    let journal = c.in-Ok-seal_plain.journal in
+    subst (λ (top : Network). IsOpenedOn disk old top (record { ledger = book; journal = journal })) network
+    (opened_on disk old book reading journal recovering read (c.in-Ok-seal_plain.ensures.stands (account_of book.network history None) stands few) c.in-Ok-seal_plain.ensures.sealed)
+
+pub returns-in-Err-seal_plain-clause-any_moment : goal.returns-in-Err-seal_plain-clause-any_moment
+returns-in-Err-seal_plain-clause-any_moment g c =
+    let disk = g.D.Disk in
+    let old = c.args.disk in
+    let mid = c.in-Ok-open.reading.disk in
+    let book = c.recover.new.book in
+    let reading = c.recover.new.reading in
+    let recovering = c.in-Ok-recover.ensures.recovered in
+    let history = recovering.entries in
+    let is = is_digest c.args.top c.digest-digest.result c.digest-digest.ensures in
+    let network : book.network ≡ c.args.top = c.recover.ensures.network ∙ ap (λ (l : Ledger). l.network) c.in-Ok.ensures.value in
+    let list = subst (λ (digest : List ℕ). KeepsList (disk.content old) (disk.content mid) digest) (is ∙ ap digest_of (sym network)) c.in-Ok-open.ensures.list in
+    let read = read_history disk old mid book reading recovering c.in-Ok-open.ensures.keeps.tells list c.recover.ensures.only.same c.in-Ok-recover.ensures.closed in
+    let sound = sound_items book.network history recovering.sound in
+    let stands = c.finish.ensures.stands (digest_of book.network) history recovering.reads in
+    let few = few_in_history book.network history sound in
+    let run = subst (λ (digest : List ℕ). LeavesOnly disk old mid (IsOpened disk old digest)) (is ∙ ap digest_of (sym network)) c.in-Ok-open.ensures.any_moment in
+    let before = at_opening disk old reading.disk book.network (opened_then disk old mid reading.disk (digest_of book.network) (g.met.D.Disk.counts_now mid) run c.recover.ensures.only) in
+    let within = subst (λ (from : g.row.D.Denot). LeavesOnly disk from c.in-Err-seal_plain.disk (IsListOf (digest_of book.network) history)) c.finish.ensures.disk
+    (c.in-Err-seal_plain.ensures.any_moment (account_of book.network history None) stands few) in
+    subst (λ (top : Network). LeavesOnly disk old c.in-Err-seal_plain.disk (IsAtOpening disk old top)) network
+    (sealing_at disk old reading.disk c.in-Err-seal_plain.disk book.network history sound read before within)
 
 pub returns-in-Err-recover-clause-any_moment : goal.returns-in-Err-recover-clause-any_moment
 returns-in-Err-recover-clause-any_moment g c =

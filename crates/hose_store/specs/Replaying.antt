@@ -1,0 +1,69 @@
+-- Reading the entries of a journal one after another, each judged by the book of those before it.
+use Rattle.std.specs.Prelude.{◌≡◌, List, [], ◌∷◌, ◌++◌, Option, Some, None, IfSome, IsTrue, Result, Ok, Err, ⊤}
+use Rattle.hose_graph.specs.Network.{Network}
+use Rattle.hose_graph.specs.declared.entry.Entry.{Entry}
+use Rattle.hose_law.specs.Tracks.{Tracks}
+use Rattle.hose_book.specs.Ledger.{HasBookOf, Ledger}
+use Rattle.hose_disk.specs.declared.disk.Disk.{Ghosts}
+use Rattle.hose_journal.specs.Entries.{AreTaken}
+use Rattle.hose_journal.specs.Journal.{IsReady}
+use Rattle.hose_journal.specs.Moments.{KeepsCount, LeavesOnly}
+use Rattle.hose_journal.specs.Opening.{IsOpened, KeepsDisk, KeepsList}
+use Rattle.hose_journal.specs.Reading.{OnlyRead, Reads}
+use Rattle.hose_journal.specs.declared.prepared.Ready.{Ready}
+use Rattle.hose_journal.specs.declared.reading.Reading.{Reading}
+use Rattle.hose_store.specs.Opening.{IsAtOpening, IsRefused}
+use Rattle.hose_store.specs.Recovery.{IsHistoryOf, IsSoundAfter, digest_of}
+use Rattle.hose_store.specs.declared.fault.StoreFault.{StoreFault}
+use Rattle.hose_store.specs.declared.replay.Replay.{Replay}
+
+-- the reading has given these entries, which are sound, and the book is that of them
+pub record HasGiven {D : Type 0} (disk : Ghosts D) (ledger : Ledger) (reading : Reading D)
+    (entries : List Entry) : Type 0 where
+  pub reads : Reads disk reading (digest_of ledger.network) entries
+  pub sound : AreTaken (IsSoundAfter ledger.network) [] entries
+  pub book : HasBookOf 0 entries ledger
+  pub tracks : Tracks 0 entries ledger.recent
+  pub fault : reading.fault ≡ None
+
+-- The journal of a disk was opened for a network, begun where none was, and only read since; these
+-- entries were given.
+pub record IsReplaying {D : Type 0} (disk : Ghosts D) (was : D) (network : Network)
+    (replay : Replay D) (entries : List Entry) : Type 0 where
+  pub is_network : replay.book.network ≡ network
+  pub given : HasGiven disk replay.book replay.reading entries
+  pub opened : D
+  pub run : LeavesOnly disk was opened (IsOpened disk was (digest_of network))
+  pub keeps : KeepsDisk disk was opened
+  pub count : KeepsCount disk was replay.reading.disk
+  pub list : KeepsList (disk.content was) (disk.content opened) (digest_of network)
+  pub only : OnlyRead disk opened replay.reading.disk
+
+-- what was done to a disk: at every moment an image is one of before, or stands for what the disk
+-- stood for, and its count did not fall
+pub record IsOnlyOpened {D : Type 0} (disk : Ghosts D) (was now : D) (network : Network) :
+    Type 0 where
+  pub run : LeavesOnly disk was now (IsAtOpening disk was network)
+  pub keeps : KeepsDisk disk was now
+
+-- What a call that reads on gives: an entry more, as its spelling; or all entries were given, and
+-- the disk stood for them; or the disk is refused.
+abbrev pub HasReplayed : {D : Type 0} → Ghosts D → D → Network → Replay D → List Entry
+    → Result (Option Ready) StoreFault → Type 0
+HasReplayed disk was network new entries (Ok (Some ready)) = (entry : Entry)
+    × IsReady entry ready × IsReplaying disk was network new (entries ++ entry ∷ [])
+HasReplayed disk was network new entries (Ok None) = IsReplaying disk was network new entries
+    × IfSome (disk.content was) (IsHistoryOf network entries)
+    × KeepsCount disk was new.reading.disk × IsOnlyOpened disk was new.reading.disk network
+HasReplayed disk was network new entries (Err fault) =
+    IsRefused disk was new.reading.disk network fault
+    × IsOnlyOpened disk was new.reading.disk network
+
+-- the same of the book and the reading, where the entries before were given
+abbrev pub GivesNext : {D : Type 0} → Ghosts D → Ledger → Reading D → List Entry
+    → Result (Option Ready) StoreFault → Type 0
+GivesNext disk ledger reading entries (Ok (Some ready)) = (entry : Entry)
+    × IsReady entry ready × HasGiven disk ledger reading (entries ++ entry ∷ [])
+GivesNext disk ledger reading entries (Ok None) =
+    HasGiven disk ledger reading entries × IsTrue reading.closed
+GivesNext disk ledger reading entries (Err fault) = ⊤

@@ -1,0 +1,127 @@
+// A journal whose entries are read one after another and sent on.
+ghost use Rattle.std.specs.Prelude.{◌≡◌, ◌+◌, ◌≤◌, [], List, IfErr, IfOk, OnOk, OnSome, length};
+ghost use Rattle.hose_graph.specs.Network.{Network};
+ghost use Rattle.hose_graph.specs.declared.entry.Entry.{Entry};
+ghost use Rattle.hose_law.specs.History.{last_epoch};
+ghost use Rattle.hose_journal.specs.Chain.{chain};
+ghost use Rattle.hose_journal.specs.Moments.{KeepsCount};
+ghost use Rattle.hose_journal.specs.Reading.{OnlyRead};
+ghost use Rattle.hose_store.specs.Entries.{HasEntries};
+ghost use Rattle.hose_store.specs.Opening.{IsRefused, IsStopped};
+ghost use Rattle.hose_store.specs.Recovery.{digest_of};
+ghost use Rattle.hose_store.specs.Replaying.{GivesNext, HasGiven, HasReplayed, IsOnlyOpened, IsReplaying};
+
+use crate::fault::StoreFault;
+use hose_book::Book;
+use hose_disk::Disk;
+use hose_graph::Topology;
+use hose_journal::{Reading, Ready, open, ready};
+use hose_topo::digest;
+use std::alloc::Global;
+
+/// A journal whose entries are read one after another, each judged by the book of those before it.
+/// Nothing is written, but for a journal that was not begun.
+#[derive(Drop)]
+pub struct Replay<D: Disk> {
+    alloc: Global,
+    book: Book,
+    reading: Reading<D>,
+}
+
+impl<D: Disk> Replay<D> {
+    /// Opens the journal on a disk, as a store does. Where it is refused the disk comes back.
+    pub fn open(alloc: Global, disk: D, top: Topology) -> Result<Replay<D>, (StoreFault, D)>
+        ensures opened { IfOk result (λ replay. IsReplaying D.Disk disk top replay []) }
+        ensures refused { IfErr result (λ refused.
+            IsRefused D.Disk disk refused.1 top refused.0
+            × IsOnlyOpened D.Disk disk refused.1 top) }
+    {
+        let digest = digest(&top);
+        let Ok(book) = Book::new(alloc, top) else {
+            return Err((StoreFault::Memory, disk));
+        };
+        match open(alloc, disk, digest) {
+            Ok(reading) => Ok(Replay {
+                alloc,
+                book,
+                reading,
+            }),
+            Err(refused) => Err((StoreFault::from(refused.0), refused.1)),
+        }
+    }
+
+    /// The spelling of the next entry, or none at the journal's end. After a fault the only call
+    /// that may follow is `stop`.
+    pub fn next(&mut self) -> Result<Option<Ready>, StoreFault>
+        requires { (was : D) × (network : Network) × (entries : List Entry)
+            × IsReplaying D.Disk was network self.old entries }
+        ensures read { (was : D) → (network : Network) → (entries : List Entry) →
+            IsReplaying D.Disk was network self.old entries →
+            HasReplayed D.Disk was network self.new entries result }
+        ensures more { IfOk result (λ next. OnSome next
+            ((self.new.book.book.epoch ≡ self.old.book.book.epoch + 1)
+            × (self.new.book.book.epoch ≤ last_epoch))) }
+    {
+        read_next(self.alloc, &mut self.book, &mut self.reading)
+    }
+
+    /// How many entries it has given.
+    pub fn epoch(&self) -> u64
+        ensures value { result ≡ self.now.book.book.epoch }
+        ensures bound { result ≤ last_epoch }
+        ensures given { (was : D) → (network : Network) → (entries : List Entry) →
+            IsReplaying D.Disk was network self.now entries → result ≡ length entries }
+    {
+        self.book.epoch()
+    }
+
+    /// The chain value of the entries that it has given.
+    pub fn chain(&self) -> [u8; 32]
+        ensures chain { (was : D) → (network : Network) → (entries : List Entry) →
+            IsReplaying D.Disk was network self.now entries →
+            result ≡ chain (digest_of network) entries }
+        ensures held { (was : D) → (network : Network) → (entries : List Entry) →
+            IsReplaying D.Disk was network self.now entries →
+            HasEntries network (D.content was) entries }
+    {
+        self.reading.chain()
+    }
+
+    /// Hands back the disk.
+    pub fn stop(self) -> D
+        ensures { result ≡ self.reading.disk }
+    {
+        self.reading.stop()
+    }
+}
+
+// Reads the next entry, judges it, spells it and enters it.
+fn read_next<D: Disk>(
+    alloc: Global,
+    book: &mut Book,
+    reading: &mut Reading<D>,
+) -> Result<Option<Ready>, StoreFault>
+    requires { (entries : List Entry) × HasGiven D.Disk book.old reading.old entries }
+    ensures next { (entries : List Entry) → HasGiven D.Disk book.old reading.old entries →
+        GivesNext D.Disk book.new reading.new entries result }
+    ensures more { IfOk result (λ next. OnSome next
+        ((book.new.book.epoch ≡ book.old.book.epoch + 1) × (book.new.book.epoch ≤ last_epoch))) }
+    ensures network { book.new.network ≡ book.old.network }
+    ensures stopped { IfErr result
+        (IsStopped D.Disk reading.old.disk reading.new.disk book.old.network) }
+    ensures only { OnlyRead D.Disk reading.old.disk reading.new.disk }
+    ensures count { OnOk result (KeepsCount D.Disk reading.old.disk reading.new.disk) }
+{
+    let Some(entry) = reading.next()? else {
+        return Ok(None);
+    };
+    if book.check(&entry).is_err() {
+        let at = reading.at();
+        return Err(StoreFault::Damaged { at });
+    }
+    let Ok(spelling) = ready(alloc, &entry) else {
+        return Err(StoreFault::Memory);
+    };
+    book.apply(entry);
+    Ok(Some(spelling))
+}
