@@ -1,0 +1,77 @@
+-- Beginnings of a history: they are as sound and decided as it is, and one may grow by the next entry.
+use Rattle.std.proofs.Common.{◌≡◌, ◌⊎◌, ◌∙◌, ℕ, zero, suc, ◌+◌, ◌<◌, List, [], ◌∷◌, ◌++◌, Some, length, get_or, take, refl, sym, ap, subst, inl, inr, arith, All}
+use Rattle.std.specs.List.{slice_get}
+use Rattle.std.proofs.lemmas.Option.{slice_get_within}
+use mathlib.Core.List.{IsPrefix}
+use Rattle.hose_graph.specs.Network.{Network}
+use Rattle.hose_graph.specs.declared.entry.Entry.{Entry}
+use Rattle.hose_graph.specs.declared.entry.Entry.TheVariants.{Admit, Release, Down, Up}
+use Rattle.hose_law.specs.Book.{Book}
+use Rattle.hose_law.specs.History.{AreFrom, IsDecided, IsDecidedAt, IsSound, IsSoundAt, IsSoundFrom, book_after, book_of, next_book, opening_book}
+use Rattle.hose_law.proofs.LiveIds.{next_epoch}
+
+module _ {X : Type 0} where
+  -- a beginning with the list's next entry is a beginning
+  pub prefix_next : (own all : List X) (x : X) → IsPrefix own all → slice_get all (length own) ≡ Some x → IsPrefix (own ++ x ∷ []) all
+  prefix_next [] [] x prefix there = absurd (cc there)
+  prefix_next [] (y ∷ all) x prefix there = (all, cc there)
+  prefix_next (o ∷ own) all x (rest, same) there =
+      let more = prefix_next own (own ++ rest) x (rest, refl) (subst (λ (l : List X). slice_get l (suc (length own)) ≡ Some x) (sym same) there) in
+      (more.0, ap (λ (l : List X). o ∷ l) more.1 ∙ same)
+
+  -- what stands in a list stands in every longer one
+  pub get_longer : (xs more : List X) (place : ℕ) (x : X) → slice_get xs place ≡ Some x → slice_get (xs ++ more) place ≡ Some x
+  get_longer [] more place x there = absurd (cc there)
+  get_longer (y ∷ xs) more zero x there = there
+  get_longer (y ∷ xs) more (suc place) x there = get_longer xs more place x there
+
+  get_at : (xs : List X) (place : ℕ) (x d : X) → slice_get xs place ≡ Some x → get_or xs place d ≡ x
+  get_at [] place x d there = absurd (cc there)
+  get_at (y ∷ xs) zero x d there = cc there
+  get_at (y ∷ xs) (suc place) x d there = get_at xs place x d there
+
+  -- the entry that stands in a list is one of those of which this holds
+  pub all_at : (P : X → Type 0) (xs : List X) (place : ℕ) (x : X) → All P xs → slice_get xs place ≡ Some x → P x
+  all_at P xs place x all there = subst P (get_at xs place x x there) (all place x (slice_get_within xs place x there))
+
+-- a book counts its entries
+epoch_after : (book : Book) (entries : List Entry) → (book_after book entries).epoch ≡ book.epoch + length entries
+epoch_after book [] = omega arith
+epoch_after book (entry ∷ entries) = omega (arith, epoch_after (next_book book entry) entries, next_epoch book entry)
+
+pub epoch_is : (book : Book) (history : List Entry) → book ≡ book_of 0 history → book.epoch ≡ length history
+epoch_is book history is = omega (arith, ap (λ (b : Book). b.epoch) is, epoch_after (opening_book 0) history)
+
+-- ---- sound and decided beginnings
+
+pub decided_sound : (network : Network) (book : Book) (entry : Entry) → IsDecidedAt network book entry → IsSoundAt network book entry
+decided_sound network book (Admit customer hose amounts) decided = decided.0
+decided_sound network book (Release customer id) decided = decided
+decided_sound network book (Down link) decided = decided
+decided_sound network book (Up link) decided = decided
+
+sound_front : (network : Network) (book : Book) (own rest : List Entry) → IsSoundFrom network book (own ++ rest) → IsSoundFrom network book own
+sound_front network book [] rest sound = tt
+sound_front network book (entry ∷ own) rest sound = (sound.0, sound_front network (next_book book entry) own rest sound.1)
+
+decided_front : (network : Network) (book : Book) (own rest : List Entry) → AreFrom IsDecidedAt network book 0 (own ++ rest) → AreFrom IsDecidedAt network book 0 own
+decided_front network book [] rest are = tt
+decided_front network book (entry ∷ own) rest are = (are.0, decided_front network (next_book book entry) own rest are.1)
+
+-- a beginning of a legal history is one
+pub legal_front : (network : Network) (own all : List Entry) → IsPrefix own all → IsDecided network 0 0 all → IsDecided network 0 0 own
+legal_front network own all (rest, same) legal =
+    let whole = subst (λ (l : List Entry). IsDecided network 0 0 l) (sym same) legal in
+    record {
+      sound = sound_front network (opening_book 0) own rest whole.sound;
+      decided = decided_front network (opening_book 0) own rest whole.decided;
+    }
+
+sound_then : (network : Network) (book : Book) (own rest : List Entry) (entry : Entry) → IsSoundFrom network book (own ++ entry ∷ rest) → IsSoundAt network (book_after book own) entry
+sound_then network book [] rest entry sound = sound.0
+sound_then network book (first ∷ own) rest entry sound = sound_then network (next_book book first) own rest entry sound.1
+
+-- the next entry of a legal history is sound
+pub sound_next : (network : Network) (own all : List Entry) (entry : Entry) → IsPrefix (own ++ entry ∷ []) all → IsDecided network 0 0 all → IsSoundAt network (book_of 0 own) entry
+sound_next network own all entry prefix legal =
+    sound_then network (opening_book 0) own [] entry (legal_front network (own ++ entry ∷ []) all prefix legal).sound

@@ -1,0 +1,37 @@
+-- How following an input ends.
+use Rattle.std.proofs.Common.{◌≡◌, ◌≢◌, ◌⊎◌, ◌∙◌, ℕ, ◌+◌, ◌≤◌, ◌<◌, ◌^◌, List, [], ◌∷◌, ◌++◌, Option, None, Some, length, refl, sym, ap, subst, inl, inr, arith, rules, All}
+use Rattle.std.proofs.lemmas.List.Elements.{All-nil}
+use Rattle.hose_io.specs.Frame.{Frame, Rose, Stays}
+use Rattle.hose_io.specs.Stream.{Gives, Grows, IsAtEnd, Stream}
+use Rattle.hose_io.specs.declared.sink.Sink.{Ghosts as SinkGhosts}
+use Rattle.hose_io.specs.declared.source.Source.{Ghosts as SourceGhosts}
+use Rattle.hose_io.proofs.Frames.{Stays-none}
+use Rattle.hose_disk.specs.Disk.{object_frame}
+use Rattle.hose_disk.specs.declared.disk.Disk.{Ghosts as DiskGhosts}
+use Rattle.hose_store.specs.Store.{Kept}
+use Rattle.hose_follow.proofs.Buffers.{gives_none}
+use Rattle.hose_follow.specs.Ends.{Follows}
+use Rattle.hose_follow.specs.Offering.{none_yet}
+use Rattle.hose_follow.specs.Packet.{IsPacket, Packet}
+use Rattle.hose_follow.specs.declared.following.FollowEnd.{FollowEnd}
+use Rattle.hose_follow.specs.declared.following.FollowEnd.TheVariants.{End, Packet as BadPacket, Read, Write, TooLong, Memory}
+
+module _ {S O D : Type 0} (source : SourceGhosts S) (sink : SinkGhosts O) (disk : DiskGhosts D) where
+  -- nothing was done
+  pub nothing_done : (input : S) (output : O) (store : Kept D) → Follows source sink disk input input output output store store Memory
+  nothing_done input output store = record {
+    bytes = [];
+    gives = gives_none (source.content input);
+    packets = [];
+    rest = [];
+    parts = refl;
+    are = All-nil IsPacket;
+    answers = [];
+    offered = none_yet;
+    ends = (refl, refl);
+    limit = omega arith;
+    too_long = (λ same. absurd (cc same), λ more. absurd (omega (arith, more)));
+    memory = λ _. (refl, refl);
+    stays = Stays-none (object_frame (disk.frame store.journal.disk));
+    disks = inl (omega arith);
+  }

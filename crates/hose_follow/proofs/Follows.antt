@@ -1,0 +1,277 @@
+-- What a follower has is a beginning of the leader's list, after any events.
+use Rattle.std.proofs.Common.{◌≡◌, ◌≢◌, ◌⊎◌, ◌∙◌, ℕ, ◌+◌, ◌≤◌, max, List, [], ◌∷◌, ◌++◌, Option, None, Some, length, take, refl, sym, ap, subst, inl, inr, arith, All, Contains, append-nil, length-append}
+use Rattle.std.specs.List.{slice_get}
+use Rattle.std.specs.Option.{IfSome}
+use Rattle.std.proofs.lemmas.List.{take-append-le, length-take-le}
+use Rattle.std.proofs.lemmas.List.Elements.{All-contains, All-nil, All-weaker, All-push}
+use Rattle.std.proofs.lemmas.Option.{slice_get_within}
+use mathlib.Core.List.{IsPrefix}
+use Rattle.hose_graph.specs.Network.{Network}
+use Rattle.hose_graph.specs.declared.entry.Entry.{Entry}
+use Rattle.hose_law.specs.Book.{Book}
+use Rattle.hose_law.specs.History.{IsDecided, IsDecidedAt, IsSoundAt, book_of}
+use Rattle.hose_law.proofs.Fronts.{front_of, prefix_length, prefix_on, prefix_push, prefix_same}
+use Rattle.hose_law.proofs.Scripts.{decided_push}
+use Rattle.hose_book.specs.Ledger.{Ledger}
+use Rattle.hose_book.specs.declared.committed.Committed.{Committed}
+use Rattle.hose_book.specs.declared.committed.Committed.TheVariants as committed
+use Rattle.hose_codec.specs.Spelling.{IsEntry, IsSpelling, spelling}
+use Rattle.hose_codec.proofs.Entries.{same_entry}
+use Rattle.hose_disk.specs.declared.disk.Disk.{Ghosts}
+use Rattle.hose_journal.specs.Chain.{chain}
+use Rattle.hose_journal.specs.Image.{Meaning, listed}
+use Rattle.hose_store.specs.Commit.{IsLeft, Went}
+use Rattle.hose_store.specs.Opening.{IsOpenedOn}
+use Rattle.hose_store.specs.Recovery.{IsHistoryOf, IsRecoveredAs, digest_of}
+use Rattle.hose_store.specs.Store.{HasHistory, IsAmid, IsHistoryWith, Kept}
+use Rattle.hose_follow.specs.Event.{Event, accepts, sends, offers, stops, stops_within}
+use Rattle.hose_follow.specs.Offering.{Brings, Enters, IsChainOf, IsDue, IsOffered, epoch_of}
+use Rattle.hose_follow.specs.Packet.{Packet, packet_after}
+use Rattle.hose_follow.specs.World.{Happens, IsBeginning, IsFollowing, IsLeader, IsOfLeader, IsReopened, IsSentOf, Lead, World, packet_at, told_after}
+use Rattle.hose_follow.specs.declared.answers.Offered.{Offered}
+use Rattle.hose_follow.specs.declared.answers.Offered.TheVariants.{Have, Want, Differs, Memory, Unsound, Disk}
+use Rattle.hose_follow.proofs.Beginnings.{all_at, decided_sound, epoch_is, get_longer, legal_front, prefix_next, sound_next}
+
+-- an image's list, where an image stands for one list only
+listed_same : (one other : List Entry) → listed one ≡ listed other → one ≡ other
+listed_same one other same = cc same
+
+max_low : (one other most : ℕ) → one ≤ most → other ≤ most → max one other ≤ most
+max_low one other most low also = grind (arith, low, also)
+
+module _ {D : Type 0} (disk : Ghosts D) (network : Network) where
+  -- a packet that was sent is that of its place in every longer list
+  sent_longer : (leader more : List Entry) (packet : Packet) → IsSentOf network leader packet → IsSentOf network (leader ++ more) packet
+  sent_longer leader more packet (place, entry, there, is) =
+      let within = slice_get_within leader place entry there in
+      let fronts = take-append-le place leader more (omega (arith, within)) in
+      (place, entry, get_longer leader more place entry there, is ∙ ap (λ (l : List Entry). packet_after network l entry) (sym fronts))
+
+  epoch_own : (world : World D) (following : IsFollowing disk network world) → epoch_of world.store ≡ length following.own
+  epoch_own world following = epoch_is world.store.ledger.book following.own following.has.book
+
+  -- the entry of a packet that was sent and has the follower's next epoch
+  pub record IsNext (world : World D) (own : List Entry) (packet : Packet) : Type 0 where
+    pub entry : Entry
+    pub is : packet ≡ packet_after network own entry
+    pub is_entry : IsEntry entry
+    pub prefix : IsPrefix (own ++ entry ∷ []) world.leader
+
+  next_of : (world : World D) (packet : Packet) (following : IsFollowing disk network world) → Contains world.sent packet → packet.epoch ≡ epoch_of world.store + 1 → IsNext world following.own packet
+  next_of world packet following there epoch =
+      let (place, entry, here, is) = All-contains (IsSentOf network world.leader) world.sent packet following.sent there in
+      let own = following.own in
+      let within = slice_get_within world.leader place entry here in
+      let size : length (take place world.leader) ≡ place = length-take-le place world.leader (omega (arith, within)) in
+      let at : place ≡ length own = omega (arith, epoch, epoch_own world following, ap (λ (p : Packet). p.epoch) is, size) in
+      let fronts : take place world.leader ≡ own = ap (λ (n : ℕ). take n world.leader) at ∙ front_of own world.leader following.begins in
+      record {
+        entry = entry;
+        is = is ∙ ap (λ (l : List Entry). packet_after network l entry) fronts;
+        is_entry = all_at IsEntry world.leader place entry following.leader.spelled here;
+        prefix = prefix_next own world.leader entry following.begins (subst (λ (n : ℕ). slice_get world.leader n ≡ Some entry) at here);
+      }
+
+  -- what the packet of a due entry brings is that entry
+  brought : (world : World D) (packet : Packet) (entry : Entry) (following : IsFollowing disk network world) → Contains world.sent packet → IsDue disk world.store packet → Brings world.store.ledger packet entry
+      → IsPrefix (following.own ++ entry ∷ []) world.leader
+  brought world packet entry following there due brings =
+      let next = next_of world packet following there due.epoch in
+      let spelled : packet.body ≡ spelling next.entry = ap (λ (p : Packet). p.body) next.is in
+      let same = same_entry next.entry entry packet.body (record { is_entry = next.is_entry; spelled = spelled }) brings.spells in
+      subst (λ (e : Entry). IsPrefix (following.own ++ e ∷ []) world.leader) same next.prefix
+
+  -- ---- the answers that never come
+
+  pub never_differs : (world : World D) (packet : Packet) (at : ℕ) (own given : List ℕ) (left : Kept D) → IsFollowing disk network world → Contains world.sent packet → ¬ IsOffered disk world.store packet (Differs at own given) left
+  never_differs world packet at own given left following there (other, _) =
+      let next = next_of world packet following there other.epoch in
+      let mine : own ≡ chain (digest_of network) following.own =
+      other.own following.own following.doubt following.has ∙ ap (λ (n : Network). chain (digest_of n) following.own) following.is_network in
+      other.differs (other.given ∙ ap (λ (p : Packet). p.chain) next.is ∙ sym mine)
+
+  pub never_unsound : (world : World D) (packet : Packet) (epoch : ℕ) (left : Kept D) → IsFollowing disk network world → Contains world.sent packet → ¬ IsOffered disk world.store packet (Unsound epoch) left
+  never_unsound world packet epoch left following there (due, none, _, _) =
+      let next = next_of world packet following there due.epoch in
+      let sound = sound_next network following.own world.leader next.entry next.prefix following.leader.legal in
+      let here = subst (λ (book : Book). IsSoundAt network book next.entry) (sym following.has.book) sound in
+      none next.entry (record {
+        spells = record { is_entry = next.is_entry; spelled = ap (λ (p : Packet). p.body) next.is };
+        sound = subst (λ (n : Network). IsSoundAt n world.store.ledger.book next.entry) (sym following.is_network) here;
+      })
+
+  -- ---- images
+
+  of_leader : (leader own : List Entry) (doubt writing : Option Entry) (told : ℕ) (image : List ℕ) → IsPrefix own leader → IfSome doubt (λ entry. IsPrefix (own ++ entry ∷ []) leader) → IfSome writing (λ entry. IsPrefix (own ++ entry ∷ []) leader)
+      → told ≤ length own → IsAmid network own doubt writing image → IsOfLeader network leader told image
+  of_leader leader own doubt writing told image begins doubtful written low (inl stands) = record { list = own; stands = stands; begins = begins; told = low }
+  of_leader leader own doubt writing told image begins doubtful written low (inr (inl stands)) = with_one doubt doubtful stands
+    where
+      with_one : (one : Option Entry) → IfSome one (λ entry. IsPrefix (own ++ entry ∷ []) leader) → IsHistoryWith network own one image → IsOfLeader network leader told image
+      with_one None prefix none = absurd none
+      with_one (Some entry) prefix stands = record { list = own ++ entry ∷ []; stands = stands; begins = prefix; told = omega (arith, low, length-append own (entry ∷ [])) }
+  of_leader leader own doubt writing told image begins doubtful written low (inr (inr stands)) = with_one writing written stands
+    where
+      with_one : (one : Option Entry) → IfSome one (λ entry. IsPrefix (own ++ entry ∷ []) leader) → IsHistoryWith network own one image → IsOfLeader network leader told image
+      with_one None prefix none = absurd none
+      with_one (Some entry) prefix stands = record { list = own ++ entry ∷ []; stands = stands; begins = prefix; told = omega (arith, low, length-append own (entry ∷ [])) }
+
+  pub image_of : (world : World D) (image : List ℕ) → IsFollowing disk network world → disk.may_leave world.store.journal.disk image → IsOfLeader network world.leader world.told image
+  image_of world image following left =
+      let amid = subst (λ (n : Network). IsAmid n following.own following.doubt None image) following.is_network (following.has.images image left) in
+      of_leader world.leader following.own following.doubt None world.told image following.begins following.doubtful tt following.told amid
+
+  module _ (only_now : (now : D) (image : List ℕ) → disk.left_since now (disk.moment now) image → disk.may_leave now image) where
+    kept_image : (world : World D) (left : Kept D) (image : List ℕ) → IsFollowing disk network world → left ≡ world.store → disk.left_since left.journal.disk (disk.moment world.store.journal.disk) image → IsOfLeader network world.leader world.told image
+    kept_image world left image following same is =
+        let here = subst (λ (store : Kept D). disk.left_since store.journal.disk (disk.moment world.store.journal.disk) image) same is in
+        image_of world image following (only_now world.store.journal.disk image here)
+
+    entered_image : (world : World D) (packet : Packet) (entry : Entry) (result : Committed) (left : Kept D) (image : List ℕ) → IsFollowing disk network world → Contains world.sent packet → Enters disk world.store packet entry result left
+        → disk.left_since left.journal.disk (disk.moment world.store.journal.disk) image → IsOfLeader network world.leader world.told image
+    entered_image world packet entry result left image following there enters is =
+        let prefix = brought world packet entry following there enters.due enters.brings in
+        let run = enters.went.any_moment following.own following.doubt following.has in
+        let amid = subst (λ (n : Network). IsAmid n following.own following.doubt (Some entry) image) following.is_network (run.each image is) in
+        of_leader world.leader following.own following.doubt (Some entry) world.told image following.begins following.doubtful prefix following.told amid
+
+    -- at each moment within an offer
+    pub moment_of : (world : World D) (packet : Packet) (answer : Offered) (left : Kept D) (image : List ℕ) → IsFollowing disk network world → Contains world.sent packet → IsOffered disk world.store packet answer left
+        → disk.left_since left.journal.disk (disk.moment world.store.journal.disk) image → IsOfLeader network world.leader world.told image
+    moment_of world packet (Have n) left image following there (inl past) is = kept_image world left image following past.same is
+    moment_of world packet (Have n) left image following there (inr (entry, _, enters)) is = entered_image world packet entry committed.Done left image following there enters is
+    moment_of world packet (Want n) left image following there offered is = kept_image world left image following offered.2 is
+    moment_of world packet (Differs at own given) left image following there offered is = kept_image world left image following offered.1 is
+    moment_of world packet Memory left image following there offered is = kept_image world left image following offered.2 is
+    moment_of world packet (Unsound epoch) left image following there offered is = kept_image world left image following offered.3 is
+    moment_of world packet (Disk at) left image following there (entry, _, enters) is = entered_image world packet entry committed.Disk left image following there enters is
+
+  -- ---- an answer more
+
+  goes_on : (world : World D) (left : Kept D) (told : ℕ) (own : List Entry) (doubt : Option Entry) → IsFollowing disk network world → left.ledger.network ≡ network → HasHistory disk left own doubt → IsPrefix own world.leader
+      → IfSome doubt (λ entry. IsPrefix (own ++ entry ∷ []) world.leader) → told ≤ length own → IsFollowing disk network (record world { store = left; told = told })
+  goes_on world left told own doubt following is_network has begins doubtful low = record {
+    leader = following.leader;
+    sent = following.sent;
+    is_network = is_network;
+    own = own;
+    doubt = doubt;
+    has = has;
+    begins = begins;
+    doubtful = doubtful;
+    told = low;
+  }
+
+  still : (world : World D) (left : Kept D) (told : ℕ) (following : IsFollowing disk network world) → left ≡ world.store → told ≤ length following.own → IsFollowing disk network (record world { store = left; told = told })
+  still world left told following same low =
+      goes_on world left told following.own following.doubt following (ap (λ (store : Kept D). store.ledger.network) same ∙ following.is_network)
+      (subst (λ (store : Kept D). HasHistory disk store following.own following.doubt) (sym same) following.has) following.begins following.doubtful low
+
+  failed : (world : World D) (packet : Packet) (entry : Entry) (left : Kept D) (following : IsFollowing disk network world) → Contains world.sent packet → (enters : Enters disk world.store packet entry committed.Disk left)
+      → IsLeft disk following.own following.doubt entry committed.Disk left → IsFollowing disk network (record world { store = left })
+  failed world packet entry left following there enters (inl has) =
+      goes_on world left world.told following.own following.doubt following (ap (λ (l : Ledger). l.network) enters.went.commits ∙ following.is_network) has following.begins following.doubtful following.told
+  failed world packet entry left following there enters (inr (inl has)) =
+      goes_on world left world.told following.own None following (ap (λ (l : Ledger). l.network) enters.went.commits ∙ following.is_network) has following.begins tt following.told
+  failed world packet entry left following there enters (inr (inr has)) =
+      goes_on world left world.told following.own (Some entry) following (ap (λ (l : Ledger). l.network) enters.went.commits ∙ following.is_network) has following.begins
+      (brought world packet entry following there enters.due enters.brings) following.told
+
+  answered : (world : World D) (packet : Packet) (answer : Offered) (left : Kept D) (following : IsFollowing disk network world) → Contains world.sent packet → IsOffered disk world.store packet answer left
+      → IsFollowing disk network (record world { store = left; told = told_after world.told answer })
+  answered world packet (Have n) left following there (inl past) = still world left (max world.told n) following past.same (max_low world.told n (length following.own) following.told (omega (arith, past.own, epoch_own world following)))
+  answered world packet (Have n) left following there (inr (entry, is, enters)) =
+      let own = following.own in
+      let size : length (own ++ entry ∷ []) ≡ length own + 1 = length-append own (entry ∷ []) in
+      goes_on world left (max world.told n) (own ++ entry ∷ []) None following (ap (λ (l : Ledger). l.network) enters.went.commits ∙ following.is_network)
+      (enters.went.left own following.doubt following.has) (brought world packet entry following there enters.due enters.brings) tt
+      (max_low world.told n (length (own ++ entry ∷ [])) (omega (arith, size, following.told)) (omega (arith, size, is, enters.due.epoch, epoch_own world following)))
+  answered world packet (Want n) left following there offered = still world left world.told following offered.2 following.told
+  answered world packet (Differs at own given) left following there offered = still world left world.told following offered.1 following.told
+  answered world packet Memory left following there offered = still world left world.told following offered.2 following.told
+  answered world packet (Unsound epoch) left following there offered = still world left world.told following offered.3 following.told
+  answered world packet (Disk at) left following there (entry, _, enters) =
+      failed world packet entry left following there enters (enters.went.left following.own following.doubt following.has)
+
+  -- ---- the leader's events
+
+  accepted : (world : World D) (entry : Entry) → IsFollowing disk network world → IsEntry entry → IsDecidedAt network (book_of 0 world.leader) entry → IsFollowing disk network (record world { leader = world.leader ++ entry ∷ [] })
+  accepted world entry following spelled decided = record {
+    leader = record {
+      legal = decided_push network 0 0 world.leader entry following.leader.legal decided (decided_sound network (book_of 0 world.leader) entry decided);
+      spelled = All-push IsEntry world.leader entry following.leader.spelled spelled;
+    };
+    sent = All-weaker (IsSentOf network world.leader) (IsSentOf network (world.leader ++ entry ∷ [])) (sent_longer world.leader (entry ∷ [])) world.sent following.sent;
+    is_network = following.is_network;
+    own = following.own;
+    doubt = following.doubt;
+    has = following.has;
+    begins = prefix_push following.own world.leader entry following.begins;
+    doubtful = longer following.doubt following.doubtful;
+    told = following.told;
+  }
+    where
+      longer : (doubt : Option Entry) → IfSome doubt (λ (e : Entry). IsPrefix (following.own ++ e ∷ []) world.leader) → IfSome doubt (λ (e : Entry). IsPrefix (following.own ++ e ∷ []) (world.leader ++ entry ∷ []))
+      longer None none = tt
+      longer (Some e) prefix = prefix_push (following.own ++ e ∷ []) world.leader entry prefix
+
+  sent_one : (world : World D) (place : ℕ) (entry : Entry) → IsFollowing disk network world → slice_get world.leader place ≡ Some entry → IsFollowing disk network (record world { sent = world.sent ++ packet_at network world.leader place entry ∷ [] })
+  sent_one world place entry following there = record {
+    leader = following.leader;
+    sent = All-push (IsSentOf network world.leader) world.sent (packet_at network world.leader place entry) following.sent (place, entry, there, refl);
+    is_network = following.is_network;
+    own = following.own;
+    doubt = following.doubt;
+    has = following.has;
+    begins = following.begins;
+    doubtful = following.doubtful;
+    told = following.told;
+  }
+
+  -- ---- stops
+
+  module _ (once : (image : List ℕ) (one other : Meaning Entry) → IsRecoveredAs network image one → IsRecoveredAs network image other → one ≡ other) where
+    read_of : (was : D) (image : List ℕ) (history : List Entry) → disk.content was ≡ Some image → IfSome (disk.content was) (IsHistoryOf network history) → IsHistoryOf network history image
+    read_of was image history holds read = subst (λ (content : Option (List ℕ)). IfSome content (IsHistoryOf network history)) holds read
+
+    reopened : (world : World D) (image : List ℕ) (store : Kept D) → IsFollowing disk network world → IsOfLeader network world.leader world.told image → IsReopened disk network image store → IsFollowing disk network (record world { store = store })
+    reopened world image store following of (was, holds, opened) =
+        let stands = read_of was image opened.history holds opened.read in
+        let same = listed_same of.list opened.history (once image (listed of.list) (listed opened.history) of.stands stands) in
+        goes_on world store world.told opened.history None following opened.network opened.has
+        (subst (λ (l : List Entry). IsPrefix l world.leader) same of.begins) tt (subst (λ (l : List Entry). world.told ≤ length l) same of.told)
+
+    module _ (only_now : (now : D) (image : List ℕ) → disk.left_since now (disk.moment now) image → disk.may_leave now image) where
+      happens : (old new : World D) (event : Event D) → IsFollowing disk network old → Happens disk network old event new → IsFollowing disk network new
+      happens old new (accepts entry) following (spelled, decided, is) = subst (IsFollowing disk network) (sym is) (accepted old entry following spelled decided)
+      happens old new (sends place) following (entry, there, is) = subst (IsFollowing disk network) (sym is) (sent_one old place entry following there)
+      happens old new (offers packet answer) following (there, offered, is) = subst (IsFollowing disk network) (sym is) (answered old packet answer new.store following there offered)
+      happens old new (stops image) following (left, opened, is) = subst (IsFollowing disk network) (sym is) (reopened old image new.store following (image_of old image following left) opened)
+      happens old new (stops_within packet answer left image) following (there, offered, since, opened, is) =
+          subst (IsFollowing disk network) (sym is) (reopened old image new.store following (moment_of only_now old packet answer left image following there offered since) opened)
+
+      pub follows : (old new : World D) (events : List (Event D)) → IsFollowing disk network old → Lead disk network old events new → IsFollowing disk network new
+      follows old new [] following is = subst (IsFollowing disk network) (sym is) following
+      follows old new (event ∷ events) following (middle, one, more) = follows middle new events (happens old middle event following one) more
+
+  -- ---- beginnings
+
+  none_sent : (leader : List Entry) (sent : List Packet) → sent ≡ [] → All (IsSentOf network leader) sent
+  none_sent leader [] none = All-nil (IsSentOf network leader)
+  none_sent leader (packet ∷ sent) none = absurd (cc none)
+
+  pub begun : (world : World D) → IsBeginning disk network world → IsFollowing disk network world
+  begun world beginning = record {
+    leader = beginning.leader;
+    sent = none_sent world.leader world.sent beginning.sent;
+    is_network = beginning.is_network;
+    own = beginning.own;
+    doubt = None;
+    has = beginning.has;
+    begins = beginning.begins;
+    doubtful = tt;
+    told = omega (arith, beginning.told);
+  }
+
+  pub legal : (world : World D) (following : IsFollowing disk network world) → IsDecided network 0 0 following.own
+  legal world following = legal_front network following.own world.leader following.begins following.leader.legal

@@ -1,0 +1,8 @@
+mod Beginnings
+mod Buffers
+mod Ending
+mod Follows
+mod Offers
+mod Packets
+mod Shipped
+mod Turns

@@ -1,0 +1,201 @@
+-- What the packets of entries come to.
+use Rattle.std.proofs.Common.{◌≡◌, ◌⊎◌, ◌∙◌, ℕ, zero, suc, ◌+◌, ◌-◌, ◌<◌, ◌≤◌, Bool, true, false, List, [], ◌∷◌, ◌++◌, Option, None, Some, Result, Ok, Err, refl, sym, inl, inr, ap, arith, subst, drop, length, append_assoc, append-nil, length-append, ⊎_elim}
+use Rattle.std.specs.Prelude.{⊤}
+use Rattle.std.specs.List.{flat_map}
+use Rattle.std.proofs.lemmas.Bool.{cases_lt}
+use Rattle.std.proofs.lemmas.Grind.{flat_map-append}
+use Rattle.std.proofs.lemmas.List.{drop-append-le, drop_all, length-drop}
+use Rattle.std.specs.Option.{IfSome}
+use Rattle.hose_io.specs.Frame.{Rose, Stays}
+use Rattle.hose_io.specs.Gather.{Gathered, IsAdded, IsFinished}
+use Rattle.hose_io.specs.declared.Failed.{Failed}
+use Rattle.hose_io.specs.Stream.{Grows}
+use Rattle.hose_io.specs.Writing.{GrowsInPart}
+use Rattle.hose_io.proofs.Gathering.{IsAdded-next, IsAdded-none, IsPut-finished, none_gathered}
+use Rattle.hose_io.specs.declared.sink.Sink.{Ghosts as SinkGhosts}
+use Rattle.hose_io.proofs.Streams.{Grows-nil}
+use Rattle.hose_graph.specs.Network.{Network}
+use Rattle.hose_graph.specs.declared.entry.Entry.{Entry}
+use Rattle.hose_disk.specs.declared.disk.Disk.{Ghosts as DiskGhosts}
+use Rattle.hose_codec.specs.Spelling.{IsEntry, spelling}
+use Rattle.hose_journal.specs.Chain.{chain}
+use Rattle.hose_journal.specs.Journal.{IsReady}
+use Rattle.hose_journal.specs.Moments.{KeepsCount, LeavesOnly}
+use Rattle.hose_journal.specs.declared.prepared.Ready.{Ready}
+use Rattle.hose_journal.proofs.Runs.{started}
+use Rattle.hose_store.specs.Entries.{BeginsWith, HasEntries}
+use Rattle.hose_store.specs.Recovery.{IsHistoryOf, digest_of}
+use Rattle.hose_store.specs.Replaying.{HasReplayed, IsOnlyOpened, IsReplaying}
+use Rattle.hose_store.specs.declared.fault.StoreFault.{StoreFault}
+use Rattle.hose_store.specs.declared.replay.Replay.{Replay}
+use Rattle.hose_follow.specs.Packet.{Packet, packet_after, packet_bytes, packets_after, packets_bytes, packets_from}
+use Rattle.hose_follow.specs.Shipping.{AddsAll, AddsNext, HasAdded, HasAddedAll, HasAddedUpTo, Ships, ShipsAll, ShipsUpTo, shipped_of}
+use Rattle.hose_follow.specs.declared.shipping.ShipFault.{ShipFault}
+use Rattle.hose_follow.specs.declared.shipping.ShipFault.TheVariants.{Store, Write}
+
+drop_none : {X : Type 0} (n : ℕ) (none : List X) → none ≡ [] → drop n none ≡ []
+drop_none zero none is = is
+drop_none (suc n) [] is = refl
+drop_none (suc n) (x ∷ xs) is = absurd (cc is)
+
+-- ---- the packets of one entry more
+
+packets_push : (network : Network) (before entries : List Entry) (entry : Entry) → packets_after network before (entries ++ entry ∷ []) ≡ packets_after network before entries ++ packet_after network (before ++ entries) entry ∷ []
+packets_push network before [] entry = ap (λ (l : List Entry). packet_after network l entry ∷ []) (sym (append-nil before))
+packets_push network before (first ∷ entries) entry =
+    ap (λ (l : List Packet). packet_after network before first ∷ l)
+    (packets_push network (before ++ first ∷ []) entries entry
+    ∙ ap (λ (l : List Entry). packets_after network (before ++ first ∷ []) entries ++ packet_after network l entry ∷ []) (append_assoc before (first ∷ []) entries))
+
+length-packets : (network : Network) (before entries : List Entry) → length (packets_after network before entries) ≡ length entries
+length-packets network before [] = refl
+length-packets network before (entry ∷ entries) = ap suc (length-packets network (before ++ entry ∷ []) entries)
+
+-- one that is wanted
+wanted_more : (network : Network) (from : ℕ) (entries : List Entry) (entry : Entry) → from ≤ length entries + 1 → packets_from network from (entries ++ entry ∷ []) ≡ packets_from network from entries ++ packet_after network entries entry ∷ []
+wanted_more network from entries entry low =
+    ap (λ (l : List Packet). drop (from - 1) l) (packets_push network [] entries entry)
+    ∙ drop-append-le (from - 1) (packets_after network [] entries) (packet_after network entries entry ∷ []) (omega (arith, low, length-packets network [] entries))
+
+-- one that is not
+passed_more : (network : Network) (from : ℕ) (entries : List Entry) (entry : Entry) → length entries + 1 < from → packets_from network from (entries ++ entry ∷ []) ≡ packets_from network from entries
+passed_more network from entries entry high =
+    let size : length (entries ++ entry ∷ []) ≡ length entries + 1 = length-append entries (entry ∷ []) in
+    drop_all (from - 1) (packets_after network [] (entries ++ entry ∷ [])) (omega (arith, high, size, length-packets network [] (entries ++ entry ∷ [])))
+    ∙ sym (drop_all (from - 1) (packets_after network [] entries) (omega (arith, high, length-packets network [] entries)))
+
+-- the bytes of one packet more
+bytes_push : (packets : List Packet) (packet : Packet) → packets_bytes (packets ++ packet ∷ []) ≡ packets_bytes packets ++ packet_bytes packet
+bytes_push packets packet = flat_map-append packet_bytes packets (packet ∷ []) ∙ ap (λ (l : List ℕ). packets_bytes packets ++ l) (append-nil (packet_bytes packet))
+
+-- how many they are
+pub count_of : (network : Network) (from : ℕ) (entries : List Entry) → length (packets_from network from entries) ≡ length entries - (from - 1)
+count_of network from entries = length-drop (from - 1) (packets_after network [] entries) ∙ ap (λ (n : ℕ). n - (from - 1)) (length-packets network [] entries)
+
+-- ---- what was read
+
+none_held : (network : Network) (content : Option (List ℕ)) (none : List Entry) → none ≡ [] → IfSome content (λ bytes. (none ≡ []) ⊎ BeginsWith (digest_of network) none bytes)
+none_held network None none is = tt
+none_held network (Some bytes) none is = inl is
+
+-- no entry was read
+pub no_entries : (network : Network) (content : Option (List ℕ)) → HasEntries network content []
+no_entries network content = record { sound = tt; read = none_held network content [] refl }
+
+module _ {S D : Type 0} (sink : SinkGhosts S) (disk : DiskGhosts D) where
+  -- no packet is out
+  pub none_shipped : (output : S) (was : D) (network : Network) (from : ℕ) → ShipsUpTo disk was network from (Grows (sink.content output) (sink.content output))
+  none_shipped output was network from = record {
+    entries = [];
+    held = no_entries network (disk.content was);
+    out = subst (λ (packets : List Packet). Grows (sink.content output) (sink.content output) (packets_bytes packets)) (sym (drop_none (from - 1) [] refl)) (Grows-nil (sink.content output));
+  }
+
+  -- the disk was not touched
+  pub untouched : (was : D) → ((image : List ℕ) → disk.left_since was (disk.moment was) image → disk.may_leave was image) → LeavesOnly disk was was (disk.may_leave was)
+  untouched was only_now = started disk was (disk.may_leave was) only_now (λ image is. is)
+
+  module _ (was : D) (network : Network) (from : ℕ) where
+    -- before the first entry
+    pub added_none : (replay : Replay D) (gather : Gathered) (output : S) → IsReplaying disk was network replay [] → HasAdded sink disk was network from gather output replay gather output
+    added_none replay gather output replaying = record {
+      entries = [];
+      replaying = replaying;
+      added = subst (λ (packets : List Packet). IsAdded sink gather output gather output (packets_bytes packets)) (sym (drop_none (from - 1) [] refl)) (IsAdded-none sink gather output);
+    }
+
+    module _ (start : Gathered) (before : S) (old : Replay D) (gather : Gathered) (output : S) (has : HasAdded sink disk was network from start before old gather output) where
+      -- no entry was left
+      pub added_all : (new : Replay D) → HasEntries network (disk.content was) has.entries → HasReplayed disk was network new has.entries (Ok None) → HasAddedAll sink disk was network from start before new gather output
+      added_all new held (replaying, read, count, opened) = record {
+        has = record { entries = has.entries; replaying = replaying; added = has.added };
+        held = held;
+        read = read;
+        count = count;
+        opened = opened;
+      }
+
+      -- a fault was met
+      pub added_until : (new : Replay D) (fault : StoreFault) → HasEntries network (disk.content was) has.entries → HasReplayed disk was network new has.entries (Err fault) → HasAddedUpTo sink disk was network from start before new.reading.disk gather output fault
+      added_until new fault held (refused, opened) = record {
+        entries = has.entries;
+        held = held;
+        added = has.added;
+        refused = refused;
+        opened = opened;
+      }
+
+      -- one entry more was read
+      pub added_more : (new : Replay D) (ready : Ready) (after : Gathered) (now : S) (epoch : ℕ) (value : List ℕ) → HasReplayed disk was network new has.entries (Ok (Some ready)) → epoch ≡ length has.entries + 1 → value ≡ chain (digest_of network) has.entries
+          → (from ≤ epoch → IsAdded sink gather output after now (packet_bytes (record { epoch = epoch; chain = value; body = ready.bytes.items }))) → (epoch < from → (after ≡ gather) × (now ≡ output))
+          → HasAdded sink disk was network from start before new after now
+      added_more new ready after now epoch value (entry, is_ready, replaying) is_epoch is_value wanted passed =
+          ⊎_elim
+          (λ high. by_passed (passed high) high)
+          (λ low. by_wanted (wanted low) low)
+          (cases_lt epoch from)
+        where
+          is_packet : packet_bytes (record { epoch = epoch; chain = value; body = ready.bytes.items }) ≡ packet_bytes (packet_after network has.entries entry)
+          is_packet =
+              ap (λ (n : ℕ). packet_bytes (record { epoch = n; chain = value; body = ready.bytes.items })) is_epoch
+              ∙ ap (λ (l : List ℕ). packet_bytes (record { epoch = length has.entries + 1; chain = l; body = ready.bytes.items })) is_value
+              ∙ ap (λ (l : List ℕ). packet_bytes (record { epoch = length has.entries + 1; chain = chain (digest_of network) has.entries; body = l })) is_ready.bytes
+
+          by_wanted : IsAdded sink gather output after now (packet_bytes (record { epoch = epoch; chain = value; body = ready.bytes.items })) → from ≤ epoch → HasAdded sink disk was network from start before new after now
+          by_wanted added low =
+              let one = subst (λ (l : List ℕ). IsAdded sink gather output after now l) is_packet added in
+              let text : packets_bytes (packets_from network from (has.entries ++ entry ∷ [])) ≡ packets_bytes (packets_from network from has.entries) ++ packet_bytes (packet_after network has.entries entry) =
+              ap packets_bytes (wanted_more network from has.entries entry (omega (arith, low, is_epoch))) ∙ bytes_push (packets_from network from has.entries) (packet_after network has.entries entry) in
+              record {
+                entries = has.entries ++ entry ∷ [];
+                replaying = replaying;
+                added = subst (λ (l : List ℕ). IsAdded sink start before after now l) (sym text) (IsAdded-next has.added one);
+              }
+
+          by_passed : (after ≡ gather) × (now ≡ output) → epoch < from → HasAdded sink disk was network from start before new after now
+          by_passed same high =
+              let text = ap packets_bytes (passed_more network from has.entries entry (omega (arith, high, is_epoch))) in
+              let here = subst (λ (g : Gathered). IsAdded sink start before g output (packets_bytes (packets_from network from has.entries))) (sym same.0) has.added in
+              let there = subst (λ (s : S). IsAdded sink start before after s (packets_bytes (packets_from network from has.entries))) (sym same.1) here in
+              record {
+                entries = has.entries ++ entry ∷ [];
+                replaying = replaying;
+                added = subst (λ (l : List ℕ). IsAdded sink start before after now l) (sym text) there;
+              }
+
+    -- ---- all that was added went out
+
+    module _ (replay : Replay D) (gather : Gathered) (first after now : S) where
+      abbrev Adds : Result ⊤ StoreFault → Type 0
+      Adds added = AddsAll sink disk was network from none_gathered first replay gather after added
+
+      pub shipped : (added : Result ⊤ StoreFault) (sent : Result ⊤ Failed) (count : ℕ) → Adds added → IsFinished sink gather after now sent → ((entries : List Entry) → IsReplaying disk was network replay entries → count ≡ length entries - (from - 1))
+          → Ships sink disk first now was replay.reading.disk network from (shipped_of added sent count)
+      shipped (Ok value) (Err error) count all finished counted =
+          let put = IsPut-finished (Err error) all.has.added finished in
+          (record { entries = all.has.entries; held = all.held; out = put.err }, put.met.failed refl)
+      shipped (Err fault) (Err error) count up finished counted =
+          let put = IsPut-finished (Err error) up.added finished in
+          (record { entries = up.entries; held = up.held; out = put.err }, put.met.failed refl)
+      shipped (Ok value) (Ok done) count all finished counted =
+          let put = IsPut-finished (Ok done) all.has.added finished in (
+            record {
+              history = all.has.entries;
+              read = all.read;
+              count = counted all.has.entries all.has.replaying ∙ sym (count_of network from all.has.entries);
+              out = put.ok;
+            },
+            put.met.ok,
+            all.count,
+          )
+      shipped (Err fault) (Ok done) count up finished counted =
+          let put = IsPut-finished (Ok done) up.added finished in
+          (record { entries = up.entries; held = up.held; out = put.ok }, put.met.ok, up.refused)
+
+      pub shipped_opened : (added : Result ⊤ StoreFault) → Adds added → IsOnlyOpened disk was replay.reading.disk network
+      shipped_opened (Ok value) all = all.opened
+      shipped_opened (Err fault) up = up.opened
+
+      pub shipped_stays : (added : Result ⊤ StoreFault) (sent : Result ⊤ Failed) → Adds added → IsFinished sink gather after now sent → Stays (sink.frame first) (sink.frame now)
+      shipped_stays (Ok value) sent all finished = (IsPut-finished sent all.has.added finished).met.stays
+      shipped_stays (Err fault) sent up finished = (IsPut-finished sent up.added finished).met.stays

@@ -1,0 +1,15 @@
+use Rattle.std.specs.Prelude.{⊤}
+use Rattle.std.proofs.Common.{Err, Ok, subst, Result}
+use Rattle.hose_follow.specs.Turning.{State, TurnsTo}
+use Rattle.hose_follow.specs.declared.following.FollowEnd.{FollowEnd}
+use Rattle.hose_follow.proofs.Turns.{ended, followed_none, turned}
+use Rattle.hose_follow.proofs.following.follow_all.Goals as goal
+
+pub loop-end-init : goal.loop-end-init
+loop-end-init g c = followed_none g.S.Source g.O.Sink g.D.Disk _ c.requires.pending c.requires.taken
+
+pub loop-end-preserved : goal.loop-end-preserved
+loop-end-preserved g c = turned g.S.Source g.O.Sink g.D.Disk _ _ _ c.in_default.field-0 c.loop-end.invariant c.in_default.ensures.turns
+
+pub returns-in-Err-clause-follows : goal.returns-in-Err-clause-follows
+returns-in-Err-clause-follows g c = ended g.S.Source g.O.Sink g.D.Disk _ _ _ c.in-Err.end c.loop-end.invariant c.in-Err.ensures.turns

@@ -1,0 +1,12 @@
+pub mod Answers
+pub mod Arriving
+pub mod BufferInside
+pub mod Buffered
+pub mod Chained
+pub mod Ends
+pub mod Event
+pub mod Offering
+pub mod Packet
+pub mod Shipping
+pub mod Turning
+pub mod World

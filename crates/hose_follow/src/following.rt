@@ -1,0 +1,197 @@
+// Packets of an input, each offered and answered.
+ghost use Rattle.std.specs.Prelude.{◌≡◌, ◌<◌, ◌≤◌, [], List, ℕ, length};
+ghost use Rattle.hose_io.specs.Frame.{Stays};
+ghost use Rattle.hose_follow.specs.Ends.{Follows};
+ghost use Rattle.hose_follow.specs.Packet.{IsPartOfPacket};
+ghost use Rattle.hose_follow.specs.Turning.{TakesMore, TakesPart, TurnsTo};
+ghost use Rattle.hose_follow.specs.declared.following.FollowEnd.TheVariants.{Write};
+ghost use Rattle.hose_follow.specs.declared.limits.TheConstants.{MOST_PACKET};
+
+use crate::answers::put_answer;
+use crate::buffer::Buffer;
+use crate::limits::{FRONT_BYTES, INPUT_LIMIT};
+use crate::offering::offer;
+use crate::packet::{Front, front_of};
+use hose_disk::Disk;
+use hose_io::{Failed, Sink, Source};
+use hose_store::Store;
+use std::alloc::Global;
+
+/// How following an input ends.
+#[derive(Clone, Copy, Debug, PartialEq, Eq)]
+pub enum FollowEnd {
+    /// The input was read to its end.
+    End,
+    /// At this byte of the input no packet begins, or one that is not there whole.
+    Packet { at: u64 },
+    /// The source failed.
+    Read,
+    /// The sink failed.
+    Write,
+    /// The source gave more than 1 GiB.
+    TooLong,
+    /// There was too little memory, and nothing was done.
+    Memory,
+}
+
+impl From<Failed> for FollowEnd {
+    ghost from_gives = { λ _ end. end ≡ Write };
+
+    fn from(_error: Failed) -> FollowEnd {
+        FollowEnd::Write
+    }
+}
+
+// What was taken of an input: the bytes that belong to no packet yet that was answered, and how
+// many there were in all.
+#[derive(Drop)]
+struct Intake {
+    buffer: Buffer,
+    taken: u64,
+}
+
+/// Offers the packets of an input to a store, one after another, and writes the line of each
+/// answer, as one piece, before it goes on.
+pub fn follow<S: Source, O: Sink, D: Disk>(
+    alloc: Global,
+    source: &mut S,
+    sink: &mut O,
+    store: &mut Store<D>,
+) -> FollowEnd
+    ensures follows { Follows S.Source O.Sink D.Disk source.old source.new sink.old sink.new
+        store.old store.new result }
+    ensures source { Stays (S.frame source.old) (S.frame source.new) }
+    ensures sink { Stays (O.frame sink.old) (O.frame sink.new) }
+{
+    let Ok(buffer) = Buffer::new(alloc) else {
+        return FollowEnd::Memory;
+    };
+    let mut intake = Intake { buffer, taken: 0 };
+    follow_all(alloc, &mut intake, source, sink, store)
+}
+
+// Follows an input of which nothing was taken.
+fn follow_all<S: Source, O: Sink, D: Disk>(
+    alloc: Global,
+    intake: &mut Intake,
+    source: &mut S,
+    sink: &mut O,
+    store: &mut Store<D>,
+) -> FollowEnd
+    requires pending { intake.old.buffer.pending ≡ [] }
+    requires taken { intake.old.taken ≡ 0 }
+    ensures follows { Follows S.Source O.Sink D.Disk source.old source.new sink.old sink.new
+        store.old store.new result }
+    ensures source { Stays (S.frame source.old) (S.frame source.new) }
+    ensures sink { Stays (O.frame sink.old) (O.frame sink.new) }
+{
+    loop {
+        if let Err(end) = turn(alloc, intake, source, sink, store) {
+            return end;
+        }
+    }
+}
+
+// Answers the packet that is pending, or takes more of the source.
+fn turn<S: Source, O: Sink, D: Disk>(
+    alloc: Global,
+    intake: &mut Intake,
+    source: &mut S,
+    sink: &mut O,
+    store: &mut Store<D>,
+) -> Result<(), FollowEnd>
+    requires limit { intake.old.taken ≤ INPUT_LIMIT }
+    requires pending { length intake.old.buffer.pending ≤ intake.old.taken }
+    ensures turns { TurnsTo S.Source O.Sink D.Disk
+        (record {
+          source = source.old;
+          pending = intake.old.buffer.pending;
+          taken = intake.old.taken;
+          sink = sink.old;
+          store = store.old;
+        })
+        (record {
+          source = source.new;
+          pending = intake.new.buffer.pending;
+          taken = intake.new.taken;
+          sink = sink.new;
+          store = store.new;
+        }) result }
+    ensures source { Stays (S.frame source.old) (S.frame source.new) }
+    ensures sink { Stays (O.frame sink.old) (O.frame sink.new) }
+{
+    let pending = intake.buffer.pending();
+    match front_of(pending) {
+        Front::Whole { epoch, chain, body } => {
+            let size = FRONT_BYTES + body.len();
+            let answer = offer(alloc, store, epoch, chain, body);
+            intake.buffer.pass(size);
+            put_answer(sink, &answer)?;
+            Ok(())
+        }
+        Front::Bad => Err(FollowEnd::Packet {
+            at: intake.taken - pending.len() as u64,
+        }),
+        Front::Part => take_part(intake, source),
+    }
+}
+
+// Takes more of the source, where what is pending is a part of a packet or nothing.
+fn take_part<S: Source>(intake: &mut Intake, source: &mut S) -> Result<(), FollowEnd>
+    requires part { IsPartOfPacket intake.old.buffer.pending }
+    requires limit { intake.old.taken ≤ INPUT_LIMIT }
+    requires pending { length intake.old.buffer.pending ≤ intake.old.taken }
+    ensures takes { TakesPart S.Source source.old source.new intake.old.buffer.pending
+        intake.new.buffer.pending intake.old.taken intake.new.taken result }
+    ensures source { Stays (S.frame source.old) (S.frame source.new) }
+{
+    if take_more(intake, source)? {
+        return Ok(());
+    }
+    let left = intake.buffer.pending().len() as u64;
+    if left == 0 {
+        return Err(FollowEnd::End);
+    }
+    Err(FollowEnd::Packet {
+        at: intake.taken - left,
+    })
+}
+
+// Takes more of the source, and says whether there was more.
+fn take_more<S: Source>(intake: &mut Intake, source: &mut S) -> Result<bool, FollowEnd>
+    requires room { length intake.old.buffer.pending < MOST_PACKET }
+    requires limit { intake.old.taken ≤ INPUT_LIMIT }
+    ensures takes { TakesMore S.Source source.old source.new intake.old.buffer.pending
+        intake.new.buffer.pending intake.old.taken intake.new.taken result }
+    ensures source { Stays (S.frame source.old) (S.frame source.new) }
+{
+    if intake.taken == INPUT_LIMIT {
+        return take_past_limit(source);
+    }
+    intake.buffer.make_room();
+    match intake
+        .buffer
+        .fill(source, (INPUT_LIMIT - intake.taken) as usize)
+    {
+        Ok(0) => Ok(false),
+        Ok(count) => {
+            intake.taken += count as u64;
+            Ok(true)
+        }
+        Err(Failed) => Err(FollowEnd::Read),
+    }
+}
+
+// Where all was taken that may be, one byte more is too many.
+fn take_past_limit<S: Source>(source: &mut S) -> Result<bool, FollowEnd>
+    ensures takes { (pending : List ℕ) → TakesMore S.Source source.old source.new pending pending
+        INPUT_LIMIT INPUT_LIMIT result }
+    ensures source { Stays (S.frame source.old) (S.frame source.new) }
+{
+    let mut byte = [0];
+    match source.take(&mut byte) {
+        Ok(0) => Ok(false),
+        Ok(_) => Err(FollowEnd::TooLong),
+        Err(Failed) => Err(FollowEnd::Read),
+    }
+}

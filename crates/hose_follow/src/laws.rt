@@ -1,0 +1,66 @@
+// What is true of every follower.
+ghost use Rattle.std.specs.Prelude.{ℕ, List, Contains, Option};
+ghost use Rattle.hose_graph.specs.declared.entry.Entry.{Entry};
+ghost use Rattle.hose_law.specs.History.{IsDecided};
+ghost use Rattle.hose_store.specs.Store.{HasHistory, Kept};
+ghost use Rattle.hose_follow.specs.Chained.{LeadsOn};
+ghost use Rattle.hose_follow.specs.Event.{Event};
+ghost use Rattle.hose_follow.specs.Offering.{AreOffered, IsOffered};
+ghost use Rattle.hose_follow.specs.Packet.{Packet};
+ghost use Rattle.hose_follow.specs.World.{IsBeginning, IsFollowing, IsOfLeader, Lead, World};
+ghost use Rattle.hose_follow.specs.declared.answers.Offered.{Offered};
+
+use hose_disk::Disk;
+use hose_graph::Topology;
+use hose_store::{Premises, law_one_meaning};
+
+/// Whatever a leader and its follower do, and whatever becomes of the packets between them and of
+/// the follower's disk: the follower has a beginning of the leader's list, and so has each image of
+/// its disk at each moment, with all that a `have` told; and no packet that was sent is answered as
+/// one of another history, or as unsound.
+pub fn law_following<D: Disk>(top: &Topology)
+    ensures begins { (world : World D) →
+        IsBeginning D.Disk top.now world → IsFollowing D.Disk top.now world }
+    ensures stays { (old new : World D) → (events : List (Event D)) →
+        IsFollowing D.Disk top.now old → Lead D.Disk top.now old events new →
+        IsFollowing D.Disk top.now new }
+    // What the follower has is a legal history.
+    ensures legal { (world : World D) → (following : IsFollowing D.Disk top.now world) →
+        IsDecided top.now 0 0 following.own }
+    ensures images { (world : World D) → (image : List ℕ) →
+        IsFollowing D.Disk top.now world → D.may_leave world.store.journal.disk image →
+        IsOfLeader top.now world.leader world.told image }
+    // The same at each moment within an offer.
+    ensures moments { (world : World D) → (packet : Packet) → (answer : Offered) →
+        (left : Kept D) → (image : List ℕ) → IsFollowing D.Disk top.now world →
+        Contains world.sent packet → IsOffered D.Disk world.store packet answer left →
+        D.left_since left.journal.disk (D.moment world.store.journal.disk) image →
+        IsOfLeader top.now world.leader world.told image }
+    ensures never_differs { (world : World D) → (packet : Packet) → (at : ℕ) →
+        (own given : List ℕ) → (left : Kept D) → IsFollowing D.Disk top.now world →
+        Contains world.sent packet →
+        ¬ IsOffered D.Disk world.store packet (Offered.Differs at own given) left }
+    ensures never_unsound { (world : World D) → (packet : Packet) → (epoch : ℕ) →
+        (left : Kept D) → IsFollowing D.Disk top.now world → Contains world.sent packet →
+        ¬ IsOffered D.Disk world.store packet (Offered.Unsound epoch) left }
+{
+    // What an image stands for, it stands for alone.
+    law_one_meaning(top);
+}
+
+/// What is told of each entry that a follower enters, whoever sent it: it is sound.
+pub struct Sound;
+
+impl Premises for Sound {
+    ghost use Rattle.hose_law.specs.History.{IsSoundAt};
+
+    ghost kind = { IsSoundAt };
+}
+
+/// Packets that were offered one after another lead a store from the history that it had to one
+/// that goes on from there by commits of sound entries.
+pub fn law_offered<D: Disk>()
+    ensures { (first last : Kept D) → (packets : List Packet) → (answers : List Offered) →
+        (since : List Entry) → (doubt : Option Entry) → HasHistory D.Disk first since doubt →
+        AreOffered D.Disk first packets answers last → LeadsOn D.Disk first since last }
+{}

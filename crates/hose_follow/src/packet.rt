@@ -1,0 +1,113 @@
+// Packets as bytes.
+ghost use Rattle.std.specs.Prelude.{◌≡◌, ◌≤◌, ◌<◌, ◌^◌, ◌++◌, length};
+ghost use Rattle.byteorder.specs.Endian.{big_bytes};
+ghost use Rattle.hose_io.specs.Gather.{IsAdded};
+ghost use Rattle.hose_codec.specs.declared.limits.TheConstants.{MOST_SPELLING};
+ghost use Rattle.hose_follow.specs.Arriving.{IsFrontOf};
+ghost use Rattle.hose_follow.specs.Packet.{packet_bytes};
+
+use crate::limits::{EPOCH_BYTES, FRONT_BYTES, LENGTH_BYTES, VALUE_BYTES};
+use byteorder::{BigEndian, ByteOrder};
+use hose_codec::MOST_SPELLING;
+use hose_io::{Gather, Sink};
+
+/// What stands at the front of bytes that were taken of an input.
+#[derive(Clone, Copy)]
+pub enum Front<'a> {
+    /// A whole packet.
+    Whole {
+        epoch: u64,
+        chain: [u8; VALUE_BYTES],
+        body: &'a [u8],
+    },
+    /// The front of one, and not all of it.
+    Part,
+    /// No packet begins so.
+    Bad,
+}
+
+/// What stands at the front of these bytes.
+pub fn front_of(bytes: &[u8]) -> Front<'_>
+    ensures { IsFrontOf bytes.now result }
+{
+    if bytes.len() < LENGTH_BYTES {
+        return Front::Part;
+    }
+    let (field, after) = bytes.split_at(LENGTH_BYTES);
+    let len = number_of_two(field) as usize;
+    if len == 0 || len > MOST_SPELLING {
+        return Front::Bad;
+    }
+    if bytes.len() < FRONT_BYTES + len {
+        return Front::Part;
+    }
+    let (epoch, after) = after.split_at(EPOCH_BYTES);
+    let (value, after) = after.split_at(VALUE_BYTES);
+    Front::Whole {
+        epoch: u64::from(number_of_four(epoch)),
+        chain: value_of(value),
+        body: &after[..len],
+    }
+}
+
+// The number whose bytes these two are.
+fn number_of_two(bytes: &[u8]) -> u16
+    requires { length bytes.now ≡ 2 }
+    ensures { big_bytes 2 result ≡ bytes.now }
+{
+    BigEndian::read_u16(bytes)
+}
+
+// The number whose bytes these four are.
+fn number_of_four(bytes: &[u8]) -> u32
+    requires { length bytes.now ≡ 4 }
+    ensures { big_bytes 4 result ≡ bytes.now }
+{
+    BigEndian::read_u32(bytes)
+}
+
+// These bytes, which are as many as a chain value has.
+fn value_of(bytes: &[u8]) -> [u8; VALUE_BYTES]
+    requires { length bytes.now ≡ VALUE_BYTES }
+    ensures { result ≡ bytes.now }
+{
+    let mut value = [0; VALUE_BYTES];
+    value.copy_from_slice(bytes);
+    value
+}
+
+/// Adds the bytes of a packet.
+pub fn add_packet<S: Sink>(
+    gather: &mut Gather,
+    sink: &mut S,
+    epoch: u32,
+    chain: &[u8; VALUE_BYTES],
+    body: &[u8],
+)
+    requires { length body.now ≤ MOST_SPELLING }
+    ensures { IsAdded S.Sink gather.old sink.old gather.new sink.new
+        (packet_bytes (record { epoch = epoch; chain = chain.now; body = body.now })) }
+{
+    gather.add(sink, &length_field(body.len() as u16));
+    gather.add(sink, &epoch_field(epoch));
+    gather.add(sink, chain);
+    gather.add(sink, body);
+}
+
+// The bytes of a length.
+fn length_field(len: u16) -> [u8; LENGTH_BYTES]
+    ensures { result ≡ big_bytes 2 len }
+{
+    let mut field = [0; LENGTH_BYTES];
+    BigEndian::write_u16(&mut field, len);
+    field
+}
+
+// The bytes of an epoch.
+fn epoch_field(epoch: u32) -> [u8; EPOCH_BYTES]
+    ensures { result ≡ big_bytes 4 epoch }
+{
+    let mut field = [0; EPOCH_BYTES];
+    BigEndian::write_u32(&mut field, epoch);
+    field
+}
