@@ -1,5 +1,5 @@
 -- Which entry joined, and what an admission's take and the replies without an entry are as steps.
-use Rattle.std.proofs.Common.{◌≡◌, ◌≢◌, ℕ, true, false, List, ◌++◌, length, take, Option, None, Some, IfSome, IsSome, MatchResult, Result, refl, sym, ap, subst, ◌∙◌, append-nil, arith, ◌≤◌, ◌<◌}
+use Rattle.std.proofs.Common.{◌≡◌, ◌≢◌, ℕ, Bool, true, false, List, ◌++◌, length, take, Option, None, Some, IfSome, IsSome, MatchResult, Result, refl, sym, ap, subst, ◌∙◌, append-nil, arith, ◌≤◌, ◌<◌}
 use Rattle.std.specs.Prelude.{replicate}
 use Rattle.std.proofs.lemmas.List.{length-append, length-take-le, take-append-le, take_all}
 use mathlib.Core.List.{IsPrefix}
@@ -7,6 +7,7 @@ use mathlib.Core.Logic.{dite}
 use native.Mathlib.Decide.{dec_le}
 use Rattle.hose_graph.specs.Amounts.{ReservedLink}
 use Rattle.hose_graph.specs.Hose.{Endpoint}
+use Rattle.hose_graph.specs.Name.{operator}
 use Rattle.hose_graph.specs.Naming.{NamesPlaces}
 use Rattle.hose_graph.specs.Network.{Network}
 use Rattle.hose_graph.specs.declared.command.Command.{Command}
@@ -15,17 +16,19 @@ use Rattle.hose_graph.specs.declared.entry.Entry.{Entry}
 use Rattle.hose_graph.specs.declared.entry.Entry.TheVariants.{Admit, Release}
 use Rattle.hose_graph.specs.declared.reply.Reply.{Reply}
 use Rattle.hose_graph.specs.declared.reply.Reply.TheVariants as reply
-use Rattle.hose_law.specs.Answer.{IsAdmitAnswer, IsAnswer, IsPlannedAnswer, IsReleaseAnswer, IsStepOf, IsTakeAnswer, IsTakingAnswer, with_entry}
+use Rattle.hose_law.specs.Answer.{IsAdmitAnswer, IsAnswer, IsOperatorAnswer, IsPlannedAnswer, IsReleaseAnswer, IsStepOf, IsTakeAnswer, IsTakingAnswer, with_entry}
 use Rattle.hose_law.specs.Book.{Book, loads_of}
 use Rattle.hose_law.specs.Decision.{HasFirstFit, HaveEqualGrounds, IsPlanned}
 use Rattle.hose_law.specs.History.{book_of}
 use Rattle.hose_law.specs.Plan.{AreNodes, plan_cost}
 use Rattle.hose_law.specs.Quotes.{Held, HeldQuote, at_number, free_number, with_number}
-use Rattle.hose_law.specs.Room.{room_of, safe_links}
+use Rattle.hose_law.specs.Room.{first_links, room_of, safe_links}
+use Rattle.hose_law.specs.Service.{service_entry}
 use Rattle.hose_book.specs.Ledger.{Ledger}
 use Rattle.hose_book.specs.declared.committed.Committed.{Committed}
 use Rattle.hose_book.specs.declared.committed.Committed.TheVariants.{Done, Disk}
 use Rattle.hose_core.specs.Holding.{AreHeld, IsMadeAt, IsQuoteOf}
+use Rattle.hose_core.specs.Serving.{service_command}
 use Rattle.hose_core.specs.Stepping.{TellsPlan, committed_of}
 use Rattle.hose_core.specs.declared.quotes.Quote.{Quote}
 use Rattle.hose_plan.specs.Planning.{allowed_links}
@@ -64,6 +67,35 @@ release_entry network history customer held id answer entry next after step = jo
     released (book_of 0 history) customer id answer one
     (answered network history customer held (command.Release id) answer one next after done (subst (λ (e : Option Entry). IsStepOf network 0 history customer held (command.Release id) answer e next after) is step)).0)
 
+-- ---- an order of the operator
+
+ordered : (network : Network) (book : Book) (customer : List ℕ) (down : Bool) (link : ℕ) (answer : Reply) (entry : Entry) → IsOperatorAnswer network book customer down link answer (Some entry) → entry ≡ service_entry down link
+ordered network book customer true link (reply.Down told at) entry is = is.1.4
+ordered network book customer false link (reply.Up told at) entry is = is.1.4
+ordered network book customer down link answer entry is = absurd is.1
+
+module _ (network : Network) (history : List Entry) (customer : List ℕ) (held : Held) where
+  answer_ordered : (down : Bool) (link : ℕ) (answer : Reply) (entry : Entry) (after : Held) → IsAnswer network 0 history customer held (service_command down link) answer (Some entry) after → entry ≡ service_entry down link
+  answer_ordered true link answer entry after is = ordered network (book_of 0 history) customer true link answer entry is.0
+  answer_ordered false link answer entry after is = ordered network (book_of 0 history) customer false link answer entry is.0
+
+  pub order_entry : (down : Bool) (link : ℕ) (answer : Reply) (entry : Option Entry) (next : List Entry) (after : Held) → IsStepOf network 0 history customer held (service_command down link) answer entry next after
+      → IfSome (joined_of entry (committed_of answer)) (λ one. one ≡ service_entry down link)
+  order_entry down link answer entry next after step = joined_is (λ one. one ≡ service_entry down link) entry (committed_of answer) (λ one is done.
+      answer_ordered down link answer one after
+      (answered network history customer held (service_command down link) answer one next after done
+      (subst (λ (e : Option Entry). IsStepOf network 0 history customer held (service_command down link) answer e next after) is step)))
+
+  -- a customer who is not the operator is denied
+  pub order_denied : (down : Bool) (link at : ℕ) → at ≡ (book_of 0 history).epoch → customer ≢ operator → IsStepOf network 0 history customer held (service_command down link) (reply.Denied at) None history held
+  order_denied true link at here other = (((here, other), refl), refl)
+  order_denied false link at here other = (((here, other), refl), refl)
+
+  -- and where this is the operator, memory may be wanting
+  pub order_starved : (down : Bool) (link : ℕ) → customer ≡ operator → IsStepOf network 0 history customer held (service_command down link) reply.Memory None history held
+  order_starved true link is = (is, refl, refl, refl)
+  order_starved false link is = (is, refl, refl, refl)
+
 -- ---- a take
 
 module _ (network : Network) (earlier book : Book) (customer : List ℕ) (hose : List Endpoint) where
@@ -92,8 +124,10 @@ module _ (network : Network) (earlier book : Book) (customer : List ℕ) (hose :
 -- the decisions on a hose at one book cannot but have the same grounds
 grounds_same : (network : Network) (book : Book) (hose : List Endpoint) → (HaveEqualGrounds network book book hose → ⊥) → ⊥
 grounds_same network book hose differ =
-    let no_fit : HasFirstFit network (room_of network book) hose → ⊥ = λ fit. differ (record { fits = true; safe = replicate (length network.links) false; here = (fit, refl); there = (fit, refl) }) in
-    differ (record { fits = false; safe = safe_links (room_of network book) hose; here = (no_fit, refl); there = (no_fit, refl) })
+    let service = first_links network book in
+    let no_fit : HasFirstFit network (room_of network book) hose → ⊥ =
+    λ fit. differ (record { service = service; fits = true; safe = replicate (length network.links) false; here = (refl, fit, refl); there = (refl, fit, refl) }) in
+    differ (record { service = service; fits = false; safe = safe_links (room_of network book) hose; here = (refl, no_fit, refl); there = (refl, no_fit, refl) })
 
 module _ (network : Network) (history : List Entry) (customer : List ℕ) (held : Held) (number : ℕ) (one : HeldQuote) (there : at_number held number ≡ Some one) where
   abbrev Taken : Reply → Option Entry → List Entry → Held → Type 0
@@ -277,11 +311,12 @@ seen_quote network seen later one quote (rest, same) of = record {
 pub nodes_here : (hose : List Endpoint) (network top : Network) → top ≡ network → AreNodes network hose → AreNodes top hose
 nodes_here hose network top same are = subst (λ (n : Network). AreNodes n hose) (sym same) are
 
--- What comes of planning beside the loads of a book is so at all that was seen, where the book is that of it.
-pub planned_here : (here : Ledger) (network : Network) (seen : List Entry) (top : Network) (loads : List ℕ) (epoch : ℕ) (hose : List Endpoint) (result : Result Quote Reply) → top ≡ here.network → top ≡ network → here.book ≡ book_of 0 seen
-    → loads ≡ loads_of here.network here.book → epoch ≡ here.book.epoch
-    → ((book : Book) → loads ≡ loads_of top book → epoch ≡ book.epoch → MatchResult result (IsPlannedFor top book hose) (IsNotPlanned top book hose))
+-- What comes of planning over the links in service of a book and beside its loads is so at all that was seen, where the book is that of it.
+pub planned_here : (here : Ledger) (network : Network) (seen : List Entry) (top : Network) (service : List Bool) (loads : List ℕ) (epoch : ℕ) (hose : List Endpoint) (result : Result Quote Reply) → top ≡ here.network → top ≡ network
+    → here.book ≡ book_of 0 seen → service ≡ first_links here.network here.book → loads ≡ loads_of here.network here.book → epoch ≡ here.book.epoch
+    → ((book : Book) → service ≡ first_links top book → loads ≡ loads_of top book → epoch ≡ book.epoch → MatchResult result (IsPlannedFor top book hose) (IsNotPlanned top book hose))
     → MatchResult result (IsPlannedFor network (book_of 0 seen) hose) (IsNotPlanned network (book_of 0 seen) hose)
-planned_here here network seen top loads epoch hose result is_here same is_book is_loads is_epoch plans =
+planned_here here network seen top service loads epoch hose result is_here same is_book is_service is_loads is_epoch plans =
+    let served = is_service ∙ ap (first_links here.network) is_book ∙ ap (λ (n : Network). first_links n (book_of 0 seen)) (sym is_here) in
     let there = is_loads ∙ ap (loads_of here.network) is_book ∙ ap (λ (n : Network). loads_of n (book_of 0 seen)) (sym is_here) in
-    subst (λ (n : Network). MatchResult result (IsPlannedFor n (book_of 0 seen) hose) (IsNotPlanned n (book_of 0 seen) hose)) same (plans (book_of 0 seen) there (is_epoch ∙ ap (λ (b : Book). b.epoch) is_book))
+    subst (λ (n : Network). MatchResult result (IsPlannedFor n (book_of 0 seen) hose) (IsNotPlanned n (book_of 0 seen) hose)) same (plans (book_of 0 seen) served there (is_epoch ∙ ap (λ (b : Book). b.epoch) is_book))

@@ -5,7 +5,7 @@ use mathlib.Core.List.{IsPrefix}
 use Rattle.hose_graph.specs.Network.{IsNetwork, Network}
 use Rattle.hose_graph.specs.declared.command.Command.{Command}
 use Rattle.hose_graph.specs.declared.entry.Entry.{Entry}
-use Rattle.hose_graph.specs.declared.entry.Entry.TheVariants.{Admit, Release}
+use Rattle.hose_graph.specs.declared.entry.Entry.TheVariants.{Admit, Release, Down, Up}
 use Rattle.hose_graph.specs.declared.reply.Reply.{Reply}
 use Rattle.hose_law.specs.Answer.{IsStepOf, with_entry}
 use Rattle.hose_law.specs.Book.{Book}
@@ -53,6 +53,8 @@ if_joined P entry Disk is = tt
 cheapest_of : (network : Network) → IsNetwork network → (book : Book) (entry : Entry) → IsDecidedAt network book entry → IsCheapestEntry network book entry
 cheapest_of network is book (Admit customer hose amounts) (sound, planned) = (planned.0, planned.1.allowed, canonical_cheapest network is planned.0 hose amounts planned.1.is_plan)
 cheapest_of network is book (Release customer id) decided = tt
+cheapest_of network is book (Down link) decided = tt
+cheapest_of network is book (Up link) decided = tt
 
 if_cheapest : (network : Network) → IsNetwork network → (book : Book) (joined : Option Entry) → IfSome joined (IsDecidedAt network book) → IfSome joined (IsCheapestEntry network book)
 if_cheapest network is book None decided = tt

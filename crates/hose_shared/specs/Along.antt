@@ -6,7 +6,7 @@ use Rattle.hose_graph.specs.Naming.{NamesPlaces}
 use Rattle.hose_graph.specs.declared.command.Command.{Command}
 use Rattle.hose_graph.specs.declared.command.Command.TheVariants.{Admit as AdmitHose}
 use Rattle.hose_graph.specs.declared.entry.Entry.{Entry}
-use Rattle.hose_graph.specs.declared.entry.Entry.TheVariants.{Admit, Release}
+use Rattle.hose_graph.specs.declared.entry.Entry.TheVariants.{Admit, Release, Down, Up}
 use Rattle.hose_graph.specs.declared.reply.Reply.{Reply}
 use Rattle.hose_law.specs.Book.{Book}
 use Rattle.hose_law.specs.Cheapest.{IsCheapest}
@@ -28,6 +28,8 @@ IsCheapestEntry network book (Admit customer hose amounts) =
     (set : List Bool) × IsAllowed network (room_of network book) hose set
     × IsCheapest network set hose amounts
 IsCheapestEntry network book (Release customer id) = ⊤
+IsCheapestEntry network book (Down link) = ⊤
+IsCheapestEntry network book (Up link) = ⊤
 
 -- An entry stands at this place of a history. It was decided there, and costs least where it is an
 -- admission.

@@ -1,8 +1,9 @@
 //! One book on a disk for many callers at once: each quotes, takes, admits, releases and asks along
-//! a pass of its own, and what all of them are told is one history.
+//! a pass of its own, and what all of them are told is one history. The operator takes links out of
+//! service and puts them back in the same way.
 //!
-//! A plan is made outside of the lock, beside a copy of the loads; what joins the book is decided
-//! under it, where nothing is planned and no memory is taken.
+//! A plan is made outside of the lock, over a copy of the links in service and beside one of the
+//! loads; what joins the book is decided under it, where nothing is planned and no memory is taken.
 //!
 //! ```
 //! let (shared, mut pass) = Shared::<_, AnyStore>::new(alloc, store)?;
@@ -19,6 +20,7 @@ mod asking;
 mod entering;
 mod kept;
 mod laws;
+mod operating;
 mod planning;
 mod quoting;
 mod shared;

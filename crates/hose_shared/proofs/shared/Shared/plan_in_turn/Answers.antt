@@ -11,5 +11,5 @@ plan_at-requires-clause-nodes g c =
 pub returns : goal.returns
 returns g c =
     let ledger = c.book-book.ensures ∙ ap (λ (k : _). k.store.ledger) c.value.ensures in
-    planned_here c.book-book.result.now c.args.self.now.network (holder c.args.held.now).seen c.topology.result.now c.loads.result.now c.epoch.result c.args.hose c.plan_at.result c.topology.ensures.value
-    (c.topology.ensures.value ∙ ap (λ (l : _). l.network) ledger ∙ c.requires.stands.network ∙ c.requires.network) (ap (λ (l : _). l.book) ledger ∙ c.requires.stands.book) c.loads.ensures.value c.epoch.ensures.value c.plan_at.ensures
+    planned_here c.book-book.result.now c.args.self.now.network (holder c.args.held.now).seen c.topology.result.now c.service.result.now c.loads.result.now c.epoch.result c.args.hose c.plan_at.result c.topology.ensures.value
+    (c.topology.ensures.value ∙ ap (λ (l : _). l.network) ledger ∙ c.requires.stands.network ∙ c.requires.network) (ap (λ (l : _). l.book) ledger ∙ c.requires.stands.book) c.service.ensures.value c.loads.ensures.value c.epoch.ensures.value c.plan_at.ensures

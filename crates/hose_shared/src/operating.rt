@@ -1,0 +1,57 @@
+// Orders of the operator.
+ghost use Rattle.hose_graph.specs.Naming.{NamesPlaces};
+ghost use Rattle.hose_graph.specs.Network.{IsLinkOf};
+ghost use Rattle.hose_law.specs.Quotes.{Held as HeldQuotes};
+ghost use Rattle.hose_core.specs.Serving.{service_command};
+ghost use Rattle.hose_shared.specs.Along.{StepsAlong};
+ghost use Rattle.hose_shared.specs.Sharing.{IsPassOf};
+
+use crate::kept::Begun;
+use crate::shared::Shared;
+use hose_core::{claim_service, law_step, service_now};
+use hose_disk::Disk;
+use hose_graph::{Name, Reply};
+use hose_store::Store;
+use hose_turn::{Pass, Stands};
+use std::alloc::Global;
+use std::snapshot::Snapshot;
+use std::sync::Wait;
+
+impl<D: Disk, B: Begun<D>> Shared<D, B> {
+    /// Takes a link of the network out of service, where `down` is true, or puts it back: `Down`,
+    /// `Up`, `Denied`, `Already`, `Spent`, `Disk` or `Memory`. Any customer but the operator is
+    /// denied. What was planned beside it is planned anew where its grounds are others then.
+    pub fn operate<W: Wait>(
+        &self,
+        rt: &W,
+        alloc: Global,
+        pass: Pass,
+        customer: &Name,
+        link: u32,
+        down: bool,
+    ) -> (Reply, Pass)
+        requires of { IsPassOf self.now pass }
+        requires link { IsLinkOf self.now.network link }
+        ensures steps { (held : HeldQuotes) → StepsAlong self.now.network customer.now held
+            (service_command down link) result.0 pass result.1 }
+        ensures names { NamesPlaces self.now.network result.0 }
+    {
+        law_step::<Store<D>>();
+        pass.law_places();
+        let is_operator = customer.is_operator();
+        if !is_operator {
+            let (at, pass) = self.now(rt, pass);
+            return (Reply::Denied { at }, pass);
+        }
+        // What holds of the network is told with it: how many links there can be.
+        let _topology = self.topology();
+        let Ok(claim) = claim_service(alloc, link, down) else {
+            return (Reply::Memory, pass);
+        };
+        let entry = Snapshot::of(claim.entry());
+        let mut held = self.turn.lock(rt, pass);
+        let epoch = held.value().epoch();
+        let reply = service_now(&mut held.value_mut().store, claim);
+        (reply, self.end_turn(held, epoch, entry))
+    }
+}
