@@ -8,7 +8,7 @@ use Rattle.hose_words.specs.declared.lines.Line.TheVariants.{Text}
 use Rattle.hose_graph.specs.Network.{Network}
 use Rattle.hose_graph.specs.declared.command.Command.{Command}
 use Rattle.hose_graph.specs.declared.reply.Reply.{Reply}
-use Rattle.hose_graph.specs.declared.reply.Reply.TheVariants.{Welcome, Admitted, Quoted, Refused, Stale, Released, NoVpn, NoQuote, TooMany, Shown, LinkState, Full, Spent, Disk, Memory, Bad, Long, Bye}
+use Rattle.hose_graph.specs.declared.reply.Reply.TheVariants.{Welcome, Admitted, Quoted, Refused, Stale, Released, NoVpn, NoQuote, TooMany, Shown, LinkState, Down, Up, Already, Denied, Full, Spent, Disk, Memory, Bad, Long, Bye}
 use Rattle.hose_book.specs.declared.committed.Committed.TheVariants.{Disk as Failing}
 use Rattle.hose_law.specs.Answer.{ChangesHeld}
 use Rattle.hose_law.specs.Quotes.{Held, none_held}
@@ -45,7 +45,11 @@ told_faults old new (NoVpn id at) failed more = omega (arith, more)
 told_faults old new (NoQuote quote at) failed more = omega (arith, more)
 told_faults old new (TooMany at) failed more = omega (arith, more)
 told_faults old new (Shown id cost at hose amounts) failed more = omega (arith, more)
-told_faults old new (LinkState link load at) failed more = omega (arith, more)
+told_faults old new (LinkState link load out at) failed more = omega (arith, more)
+told_faults old new (Down link at) failed more = omega (arith, more)
+told_faults old new (Up link at) failed more = omega (arith, more)
+told_faults old new (Already link at) failed more = omega (arith, more)
+told_faults old new (Denied at) failed more = omega (arith, more)
 told_faults old new (Full at) failed more = omega (arith, more)
 told_faults old new (Spent at) failed more = omega (arith, more)
 told_faults old new Memory failed more = omega (arith, more)

@@ -111,6 +111,8 @@ impl<'a, D: Disk, B: Begun<D>, G: Gate> Session<'a, D, B, G> {
             Command::Release(id) => shared.release(rt, alloc, pass, &customer, id),
             Command::Show(id) => shared.show(rt, alloc, pass, &customer, id),
             Command::Link(link) => shared.link(rt, pass, link),
+            Command::Down(link) => shared.operate(rt, alloc, pass, &customer, link, true),
+            Command::Up(link) => shared.operate(rt, alloc, pass, &customer, link, false),
         }
     }
 

@@ -32,3 +32,15 @@ returns-in-Quote-clause-turns g c = λ held are.
 pub returns-in-Take-clause-turns : goal.returns-in-Take-clause-turns
 returns-in-Take-clause-turns g c = λ held are.
     turn_holding c.args.self.now.shared.now.network c.args.pass c.take.result.1 c.args.client.now c.take.new.quotes held c.args.command _ c.take.result.0 c.in-Take.is (c.take.ensures.steps held are)
+
+pub returns-in-Down-clause-turns : goal.returns-in-Down-clause-turns
+returns-in-Down-clause-turns g c = λ held are.
+    let along = c.operate.ensures.steps held in
+    turn_keeping c.args.self.now.shared.now.network c.args.pass c.operate.result.1 c.args.client.now held c.args.command _ c.operate.result.0 c.in-Down.is (λ other. other) along
+    (c.law_quotes.ensures.longer c.args.self.now.shared.now.network 0 c.args.pass.seen c.operate.result.1.seen held c.args.client.now.quotes along.same.seen are)
+
+pub returns-in-Up-clause-turns : goal.returns-in-Up-clause-turns
+returns-in-Up-clause-turns g c = λ held are.
+    let along = c.operate-in-Up.ensures.steps held in
+    turn_keeping c.args.self.now.shared.now.network c.args.pass c.operate-in-Up.result.1 c.args.client.now held c.args.command _ c.operate-in-Up.result.0 c.in-Up.is (λ other. other) along
+    (c.law_quotes.ensures.longer c.args.self.now.shared.now.network 0 c.args.pass.seen c.operate-in-Up.result.1.seen held c.args.client.now.quotes along.same.seen are)
