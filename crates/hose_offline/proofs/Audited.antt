@@ -24,7 +24,7 @@ use Rattle.hose_offline.specs.OnDisk.{CabinetFailed}
 use Rattle.hose_offline.specs.Run.{IsRefusedText, IsServable}
 use Rattle.hose_offline.specs.TopologyTold.{limit_of, notation_of}
 use Rattle.hose_offline.specs.declared.fault.Fault.{Fault}
-use Rattle.hose_offline.specs.declared.fault.Fault.TheVariants.{Words, Topology, Read, Write, Other, Damaged, Cabinet, Memory, TooLong, Door}
+use Rattle.hose_offline.specs.declared.fault.Fault.TheVariants.{Words, Topology, Read, Write, Other, Damaged, Cabinet, Memory, TooLong, Door, Packet}
 use Rattle.hose_offline.proofs.Outcomes.{clash, no_network_read, no_text, not_long, not_refused, of_read}
 
 -- ---- what is out
@@ -61,6 +61,7 @@ too_long_8 Cabinet is = absurd (omega (arith, is))
 too_long_8 Memory is = absurd (omega (arith, is))
 too_long_8 TooLong is = refl
 too_long_8 Door is = absurd (omega (arith, is))
+too_long_8 (Packet byte) is = absurd (omega (arith, is))
 
 module _ (prices : Network → Network → Type 0) {O C E : Type 0} (sink : SinkGhosts O) (cabinet : CabinetGhosts C E) (disk : DiskGhosts E) (topology journal : List ℕ) (output output' : O) (place place' : C) where
   abbrev Outcome : ℕ → Type 0
@@ -151,6 +152,7 @@ module _ (prices : Network → Network → Type 0) {O C E : Type 0} (sink : Sink
       refused_by (Other kept given) refused (inl text) = absurd text.0
       refused_by (Damaged at) refused (inl text) = absurd text.0
       refused_by Door refused (inl text) = absurd text.0
+      refused_by (Packet byte) refused (inl text) = absurd text.0
 
       complete_by : (one : Fault) → IsServable (notation_of topology) (whole_text cabinet place topology) → Is (λ network bytes. (history : List Entry) × IsHistoryOf network history bytes) → Failing OthersHeld
           → IsNotAudited prices cabinet disk topology journal place place' reads.left one → (one ≡ TooLong → limit_of (notation_of topology) < length reads.taken) → (status_of one ≡ 0) ⊎ (status_of one ≡ 7)
@@ -164,6 +166,7 @@ module _ (prices : Network → Network → Type 0) {O C E : Type 0} (sink : Sink
       complete_by (Other kept given) servable told held (inl text) long = absurd text.0
       complete_by (Damaged at) servable told held (inl text) long = absurd text.0
       complete_by Door servable told held (inl text) long = absurd text.0
+      complete_by (Packet byte) servable told held (inl text) long = absurd text.0
       complete_by Memory servable told held (inr served) long = inr refl
       complete_by Cabinet servable told held (inr served) long = absurd (held.keeping_it served.is.1)
       complete_by (Other kept given) servable told held (inr served) long = absurd (clash cabinet disk place place' journal _ _ (λ image none history. none history.0 history.1) served.is.1.none
@@ -176,6 +179,7 @@ module _ (prices : Network → Network → Type 0) {O C E : Type 0} (sink : Sink
       complete_by Read servable told held (inr served) long = absurd served.is
       complete_by Write servable told held (inr served) long = absurd served.is
       complete_by Door servable told held (inr served) long = absurd served.is
+      complete_by (Packet byte) servable told held (inr served) long = absurd served.is
 
       journal_by : (one : Fault) → IsServable (notation_of topology) (whole_text cabinet place topology) → Failing OthersHeld
           → IsNotAudited prices cabinet disk topology journal place place' reads.left one → (one ≡ TooLong → limit_of (notation_of topology) < length reads.taken) → (status_of one ≡ 5) ⊎ (status_of one ≡ 7)
@@ -187,6 +191,7 @@ module _ (prices : Network → Network → Type 0) {O C E : Type 0} (sink : Sink
       journal_by Read servable held (inl text) long = absurd text.0
       journal_by Write servable held (inl text) long = absurd text.0
       journal_by Door servable held (inl text) long = absurd text.0
+      journal_by (Packet byte) servable held (inl text) long = absurd text.0
       journal_by (Other kept given) servable held (inl text) long = inl refl
       journal_by (Damaged at) servable held (inl text) long = inl refl
       journal_by Memory servable held (inr served) long = inr refl
@@ -199,6 +204,7 @@ module _ (prices : Network → Network → Type 0) {O C E : Type 0} (sink : Sink
       journal_by Read servable held (inr served) long = absurd served.is
       journal_by Write servable held (inr served) long = absurd served.is
       journal_by Door servable held (inr served) long = absurd served.is
+      journal_by (Packet byte) servable held (inr served) long = absurd served.is
 
   -- the words are not what is wrong
   pub named_not_1 : (Tells : ℕ → Network → Type 0) (Untouched OthersHeld : Type 0) (status : ℕ) → ((network : Network) → Tells status network → status ≡ 1 → ⊥) → NamedOutcome prices sink cabinet disk topology journal output output' place place' Tells Untouched OthersHeld status
@@ -217,6 +223,7 @@ module _ (prices : Network → Network → Type 0) {O C E : Type 0} (sink : Sink
       by Memory not one = omega (arith, one)
       by TooLong not one = omega (arith, one)
       by Door not one = omega (arith, one)
+      by (Packet byte) not one = omega (arith, one)
 
       at : EndsNamed prices sink cabinet disk topology journal output output' place place' (Tells status) Untouched outcome.left status → ⊥
       at (inl told) = never told.network told.is is

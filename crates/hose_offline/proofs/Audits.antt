@@ -194,6 +194,7 @@ module _ {C E : Type 0} (cabinet : CabinetGhosts C E) (source : SourceGhosts (Te
       at (Err fault.Read) is rose same = absurd is
       at (Err fault.Write) is rose same = absurd is
       at (Err fault.Door) is rose same = absurd is
+      at (Err (fault.Packet byte)) is rose same = absurd is
       at (Err (fault.Other kept digest)) is rose same = absurd is
       at (Err (fault.Damaged at_byte)) is rose same = absurd is
 
@@ -250,6 +251,7 @@ module _ {C E : Type 0} (cabinet : CabinetGhosts C E) (old mid : C) (name : List
     text_too written left (Err fault.Read) is = absurd is
     text_too written left (Err fault.Write) is = absurd is
     text_too written left (Err fault.Door) is = absurd is
+    text_too written left (Err (fault.Packet byte)) is = absurd is
     text_too written left (Err (fault.Other kept digest)) is = absurd is
     text_too written left (Err (fault.Damaged at)) is = absurd is
 
@@ -333,6 +335,7 @@ never_long cabinet disk name old new network (Err (fault.Topology refusal)) read
 never_long cabinet disk name old new network (Err fault.Read) reads long = reads
 never_long cabinet disk name old new network (Err fault.Write) reads long = reads
 never_long cabinet disk name old new network (Err fault.Door) reads long = reads
+never_long cabinet disk name old new network (Err (fault.Packet byte)) reads long = reads
 never_long cabinet disk name old new network (Err (fault.Other kept digest)) reads long = cc long
 never_long cabinet disk name old new network (Err (fault.Damaged at)) reads long = cc long
 
@@ -345,7 +348,7 @@ module _ {C E : Type 0} (cabinet : CabinetGhosts C E) (disk : DiskGhosts E) (old
   pub held_before : (name : List ℕ) (P : List ℕ → Type 0) → Held cabinet disk mid new name P → Held cabinet disk old new name P
   held_before name P held = has_before name (λ was. IfSome (disk.content was) P) held
 
-  unopened_before : (network : Network) (name : List ℕ) → IsUnopened cabinet disk mid new network name → IsUnopened cabinet disk old new network name
+  pub unopened_before : (network : Network) (name : List ℕ) → IsUnopened cabinet disk mid new network name → IsUnopened cabinet disk old new network name
   unopened_before network name (inl same) = inl (same ∙ only.disks)
   unopened_before network name (inr has) = inr (has_before name _ has)
 
@@ -366,7 +369,7 @@ module _ {C E : Type 0} (cabinet : CabinetGhosts C E) (disk : DiskGhosts E) (old
       left = has_before name _ has.left;
     }
 
-    not_served_before : (why : Fault) → IsNotServed cabinet disk name mid new network (Err why) → IsNotServed cabinet disk name old new network (Err why)
+    pub not_served_before : (why : Fault) → IsNotServed cabinet disk name mid new network (Err why) → IsNotServed cabinet disk name old new network (Err why)
     not_served_before fault.Cabinet not = (unopened_before network name not.0, subst (λ (f : Frame). Rose f (object_of (cabinet.frame new))) same not.1)
     not_served_before (fault.Other kept given) not = (not.0, refused_before network name (other kept) not.1)
     not_served_before (fault.Damaged at) not = refused_before network name (damaged at) not
@@ -377,6 +380,7 @@ module _ {C E : Type 0} (cabinet : CabinetGhosts C E) (disk : DiskGhosts E) (old
     not_served_before fault.Write not = absurd not
     not_served_before fault.TooLong not = absurd not
     not_served_before fault.Door not = absurd not
+    not_served_before (fault.Packet byte) not = absurd not
 
 module _ (prices : Network → Network → Type 0) {C E : Type 0} (cabinet : CabinetGhosts C E) (disk : DiskGhosts E) (topology journal : List ℕ) (old : C) where
   -- no topology was read

@@ -10,7 +10,7 @@ use Rattle.hose_offline.specs.Ending.{IsLastLine, IsOut, status_of_done}
 use Rattle.hose_offline.specs.Fault.{last_line}
 use Rattle.hose_offline.specs.GenOutcome.{GenLeaves, GenOutcome, IsCutOff}
 use Rattle.hose_offline.specs.declared.fault.Fault.{Fault}
-use Rattle.hose_offline.specs.declared.fault.Fault.TheVariants.{Words, Topology, Read, Write, Other, Damaged, Cabinet, Memory, TooLong, Door}
+use Rattle.hose_offline.specs.declared.fault.Fault.TheVariants.{Words, Topology, Read, Write, Other, Damaged, Cabinet, Memory, TooLong, Door, Packet}
 
 -- a part that is out, and nothing after it
 part_then_none : (old mid new : Option (List ℕ)) (text : List ℕ) → GrowsInPart old mid text → Grows mid new [] → GrowsInPart old new text
@@ -45,6 +45,7 @@ module _ (seed nodes links hoses : ℕ) {O : Type 0} (sink : SinkGhosts O) (outp
   gen_outcome (Err Memory) leaves last = inr (inr (refl, subst (λ (o : O). IsOut sink o output' (last_line Memory)) leaves last))
   gen_outcome (Err TooLong) leaves last = absurd leaves
   gen_outcome (Err Door) leaves last = absurd leaves
+  gen_outcome (Err (Packet byte)) leaves last = absurd leaves
 
 -- the status tells no wrong word
 pub gen_not_1 : (seed nodes links hoses : ℕ) {O : Type 0} (sink : SinkGhosts O) (output output' : O) (status : ℕ) → GenOutcome seed nodes links hoses sink output output' status → status ≢ 1

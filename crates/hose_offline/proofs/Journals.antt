@@ -1,5 +1,5 @@
 -- A run over a journal: on its disk, and in the cabinet that holds the disk.
-use Rattle.std.proofs.Common.{◌≡◌, inl, inr, ℕ, ◌≤◌, List, Option, Some, None, IfSome, Result, Ok, Err, sym, ap, subst, arith}
+use Rattle.std.proofs.Common.{◌≡◌, ◌↔◌, inl, inr, ℕ, ◌≤◌, List, Option, Some, None, IfSome, Result, Ok, Err, sym, ap, subst, arith}
 use Rattle.std.specs.Prelude.{⊤}
 use Rattle.hose_io.specs.declared.Failed.{Failed}
 use Rattle.hose_io.specs.declared.source.Source.{Ghosts as SourceGhosts}
@@ -28,11 +28,19 @@ use Rattle.hose_offline.specs.Auditing.{AuditsBook, HasReadBook, IsLeftWith, Rea
 use Rattle.hose_offline.specs.Fault.{of_store}
 use Rattle.hose_offline.specs.OnDisk.{opening_of}
 use Rattle.hose_offline.specs.Serving.{Serves, TellsDisks}
-use Rattle.hose_offline.specs.ServingOnDisk.{HasServedInCabinet, HasServedOnDisk, IsNotOpened, ServesInCabinet, ServesOnDisk}
+use Rattle.hose_offline.specs.ServingOnDisk.{HasServedInCabinet, HasServedOnDisk, IsNotOpened, ServesInCabinet, ServesOnDisk, first_of}
 use Rattle.hose_offline.specs.declared.fault.Fault.{Fault}
+use Rattle.hose_offline.specs.declared.fault.Fault.TheVariants.{TooLong}
 use Rattle.hose_offline.proofs.PutBack.{IsPutBack, TakenFrom, at_opening, counts, held_as, left_as, left_in, not_served}
 
 -- ---- on a disk
+
+-- closing does not change whether the input was too long
+pub first_long : (served : Result ⊤ Fault) (closing : Result ⊤ Failed) → (first_of served closing ≡ Err TooLong) ↔ (served ≡ Err TooLong)
+first_long (Ok done) (Ok closed) = ((λ is. is), (λ is. is))
+first_long (Err why) (Ok closed) = ((λ is. is), (λ is. is))
+first_long (Ok done) (Err failed) = ((λ is. cc is), (λ is. cc is))
+first_long (Err why) (Err failed) = ((λ is. is), (λ is. is))
 
 -- what is other or damaged is no list
 not_listed : (network : Network) (meaning : Meaning Entry) → ((history : List Entry) → listed history ≡ meaning → ⊥) → ((image : List ℕ) (one two : Meaning Entry) → IsRecoveredAs network image one → IsRecoveredAs network image two → one ≡ two)

@@ -32,6 +32,7 @@ piece_takes old new (fault.Topology refusal) is = absurd is
 piece_takes old new fault.Read is = absurd is
 piece_takes old new fault.Write is = absurd is
 piece_takes old new fault.Door is = absurd is
+piece_takes old new (fault.Packet byte) is = absurd is
 piece_takes old new (fault.Other kept given) is = absurd is
 piece_takes old new (fault.Damaged at) is = absurd is
 
@@ -44,6 +45,7 @@ piece_json old new (fault.Topology refusal) is = absurd is
 piece_json old new fault.Read is = absurd is
 piece_json old new fault.Write is = absurd is
 piece_json old new fault.Door is = absurd is
+piece_json old new (fault.Packet byte) is = absurd is
 piece_json old new (fault.Other kept given) is = absurd is
 piece_json old new (fault.Damaged at) is = absurd is
 

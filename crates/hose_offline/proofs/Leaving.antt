@@ -91,6 +91,7 @@ module _ (prices : Network → Network → Type 0) {S O C E : Type 0} (source : 
     not_served (Err fault.Write) stays same why = absurd why
     not_served (Err fault.TooLong) stays same why = absurd why
     not_served (Err fault.Door) stays same why = absurd why
+    not_served (Err (fault.Packet byte)) stays same why = absurd why
     not_served (Err (fault.Other kept given)) stays same why = (has_read _ stays why, input_held stays, same)
     not_served (Err (fault.Damaged at)) stays same why = (has_read _ stays why, input_held stays, same)
     not_served (Err fault.Cabinet) stays same why = (inl (has_read _ stays why.0, input_held stays, same), why.1)
@@ -148,6 +149,7 @@ module _ (prices : Network → Network → Type 0) {T O C E : Type 0} (other : G
   left_behind (Err fault.Memory) leaves = (moved_starved leaves.0, held leaves.1, leaves.2)
   left_behind (Err fault.TooLong) leaves = (moved_broken line.TooLong leaves.0, held leaves.1)
   left_behind (Err fault.Door) leaves = absurd leaves
+  left_behind (Err (fault.Packet byte)) leaves = absurd leaves
 
   -- what is left of the borrow is left of what is behind it
   pub leaves_behind : (before : T) → input.now ≡ before → (done : Result ⊤ Fault) → RunLeaves prices source sink cabinet disk journal input input' output output' place place' done → RunLeaves prices other sink cabinet disk journal before behind output output' place place' done

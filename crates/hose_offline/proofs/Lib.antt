@@ -1,6 +1,9 @@
+mod Answered
 pub mod Audited
 pub mod Audits
 mod EndsFound
+mod FollowEnds
+mod Followed
 mod GenOutcomes
 pub mod Journals
 pub mod JsonLemmas
@@ -10,11 +13,13 @@ pub mod OneReading
 pub mod OneRun
 mod OrdersAnswered
 pub mod Outcomes
+mod Packets
 mod Priced
 mod Proved
 pub mod PutBack
 pub mod Running
 mod Sheets
+mod ShipEnds
 mod Tallies
 pub mod Texts
 pub mod Turns

@@ -31,7 +31,7 @@ use Rattle.hose_offline.specs.declared.fault.Fault.{Fault}
 use Rattle.hose_offline.specs.declared.notation.Notation.{Notation}
 use Rattle.hose_offline.specs.declared.notation.Notation.TheVariants.{Lines}
 use Rattle.hose_offline.specs.declared.notation.Refusal.{Refusal}
-use Rattle.hose_offline.specs.declared.fault.Fault.TheVariants.{Words, Topology, Read, Write, Other, Damaged, Cabinet, Memory, TooLong, Door}
+use Rattle.hose_offline.specs.declared.fault.Fault.TheVariants.{Words, Topology, Read, Write, Other, Damaged, Cabinet, Memory, TooLong, Door, Packet}
 
 -- a text that was put is out, or a part of it
 pub out_from_put : {O T : Type 0} (sink : SinkGhosts O) (was now : O) (text : List ℕ) (result : Result T Failed) → IsPut sink was now text result → IsOut sink was now text
@@ -51,6 +51,7 @@ too_long_at_8 (Err Cabinet) is = absurd (omega (arith, is))
 too_long_at_8 (Err Memory) is = absurd (omega (arith, is))
 too_long_at_8 (Err TooLong) is = refl
 too_long_at_8 (Err Door) is = absurd (omega (arith, is))
+too_long_at_8 (Err (Packet byte)) is = absurd (omega (arith, is))
 
 -- ---- a command is not refused for its words
 
@@ -67,6 +68,7 @@ run_not_1 prices source sink cabinet disk journal input input' output left place
 run_not_1 prices source sink cabinet disk journal input input' output left place place' (Err Memory) leaves is = omega (arith, is)
 run_not_1 prices source sink cabinet disk journal input input' output left place place' (Err TooLong) leaves is = omega (arith, is)
 run_not_1 prices source sink cabinet disk journal input input' output left place place' (Err Door) leaves is = leaves
+run_not_1 prices source sink cabinet disk journal input input' output left place place' (Err (Packet byte)) leaves is = leaves
 
 -- ---- an input that can be served
 
@@ -158,6 +160,7 @@ module _ (prices : Network → Network → Type 0) {I O C E : Type 0} (source : 
   refused_ends (Err Read) leaves refused = inr (inr (inl (refl, stops_refused line.Read refused leaves.0)))
   refused_ends (Err TooLong) leaves refused = inr (inr (inr (refl, stops_refused line.TooLong refused leaves.0)))
   refused_ends (Err Door) leaves refused = absurd leaves
+  refused_ends (Err (Packet byte)) leaves refused = absurd leaves
 
   module _ (stays : Stays (sink.frame left) (sink.frame output')) (bytes : List ℕ) (gives : Gives (source.content input) (source.content input') bytes)
       (servable : IsServable Lines (source.content input)) (held : NoneFailed prices source sink cabinet disk journal input input' output output' place place') where
@@ -187,6 +190,7 @@ module _ (prices : Network → Network → Type 0) {I O C E : Type 0} (source : 
     completes (Err Memory) leaves long told = inr refl
     completes (Err TooLong) leaves long told = absurd (not_long Lines _ _ bytes gives servable (long refl))
     completes (Err Door) leaves long told = absurd leaves
+    completes (Err (Packet byte)) leaves long told = absurd leaves
 
     -- no run is over a journal that stands for no history
     no_such_run : (closing : Result ⊤ Failed) → IsSome journal → IsRun prices (keeping_of cabinet disk place place' journal closing) (source.content input) (source.content input') (sink.content output) (sink.content left)
@@ -210,3 +214,4 @@ module _ (prices : Network → Network → Type 0) {I O C E : Type 0} (source : 
     refuses (Err Memory) leaves long some told = inr refl
     refuses (Err TooLong) leaves long some told = absurd (not_long Lines _ _ bytes gives servable (long refl))
     refuses (Err Door) leaves long some told = absurd leaves
+    refuses (Err (Packet byte)) leaves long some told = absurd leaves

@@ -105,6 +105,7 @@ module _ (makes : Network → Sheet → Type 0) (names : List (List ℕ)) {I O :
         by (Err (fault.Damaged at)) is leaves = omega (arith, is)
         by (Err fault.Cabinet) is leaves = omega (arith, is)
         by (Err fault.Door) is leaves = omega (arith, is)
+        by (Err (fault.Packet byte)) is leaves = omega (arith, is)
         by (Err fault.Read) is leaves = omega (arith, is)
         by (Err fault.TooLong) is leaves = omega (arith, is)
         by (Err fault.Write) is leaves = omega (arith, is)

@@ -21,6 +21,7 @@ module _ (words : List (List ℕ)) (first : ℕ) (network : Network) {O : Type 0
   no_hose_long fault.Cabinet none is = none
   no_hose_long fault.TooLong none is = none
   no_hose_long fault.Door none is = none
+  no_hose_long (fault.Packet byte) none is = none
 
   -- on a network nothing is told to be too long
   never_long : (result : Result ⊤ Fault) → ProvesWords words first network sink output output' result → result ≡ Err fault.TooLong → ⊥
@@ -35,6 +36,7 @@ module _ (words : List (List ℕ)) (first : ℕ) (network : Network) {O : Type 0
   never_long (Err (fault.Damaged at)) (inl (hose, are, puts)) is = cc is
   never_long (Err fault.Cabinet) (inl (hose, are, puts)) is = cc is
   never_long (Err fault.Door) (inl (hose, are, puts)) is = cc is
+  never_long (Err (fault.Packet byte)) (inl (hose, are, puts)) is = cc is
   never_long (Err why) (inr (other, same, none, held)) is = no_hose_long other none (cc (same, is))
 
 module _ (prices : Network → Network → Type 0) (words : List (List ℕ)) (first : ℕ) {O C E : Type 0} (sink : SinkGhosts O) (cabinet : CabinetGhosts C E) (topology : List ℕ) (output : O) (old new : C) where

@@ -7,7 +7,7 @@ use Rattle.hose_io.specs.Frame.{Frame, Met, Rose}
 use Rattle.hose_io.specs.declared.Failed.{Failed}
 use Rattle.hose_graph.specs.Network.{Network}
 use Rattle.hose_graph.specs.declared.entry.Entry.{Entry}
-use Rattle.hose_law.specs.History.{IsDecidedAt}
+use Rattle.hose_law.specs.History.{EntryKind, IsDecidedAt}
 use Rattle.hose_disk.specs.Cabinet.{CabinetFrame, Has, IsDiskCall, after_back, object_of, where_told}
 use Rattle.hose_disk.specs.Disk.{NoneNew}
 use Rattle.hose_disk.specs.declared.cabinet.Cabinet.{Ghosts as CabinetGhosts}
@@ -145,15 +145,16 @@ module _ {C E : Type 0} (cabinet : CabinetGhosts C E) (disk : DiskGhosts E) (nam
   not_served (Err fault.Write) not = absurd not.why
   not_served (Err fault.TooLong) not = absurd not.why
   not_served (Err fault.Door) not = absurd not.why
+  not_served (Err (fault.Packet byte)) not = absurd not.why
   not_served (Err (fault.Other old_one given)) not = (not.why.0, refuses (other old_one) (unopened not.images) not.why.1)
   not_served (Err (fault.Damaged at)) not = refuses (damaged at) (unopened not.images) not.why
   not_served (Err fault.Cabinet) not = (unopened not.images, risen not.why)
   not_served (Err fault.Memory) not = unopened not.images
 
   -- what was so of the disk when it was opened was so when the cabinet held it
-  had_before : (since history : List Entry) (closing : Result ⊤ Failed) (was : E) → TakenFrom was → HasLeft disk IsDecidedAt (disk.may_leave opened) (opening_of disk network since opened) history left closing
-      → HasLeft disk IsDecidedAt (disk.may_leave was) (opening_of disk network since was) history left closing
-  had_before since history closing was is one = record {
+  had_before : (Kind : EntryKind) (since history : List Entry) (closing : Result ⊤ Failed) (was : E) → TakenFrom was → HasLeft disk Kind (disk.may_leave opened) (opening_of disk network since opened) history left closing
+      → HasLeft disk Kind (disk.may_leave was) (opening_of disk network since was) history left closing
+  had_before Kind since history closing was is one = record {
     doubt = one.doubt;
     doubtful = one.doubtful;
     now = one.now;
@@ -162,6 +163,10 @@ module _ {C E : Type 0} (cabinet : CabinetGhosts C E) (disk : DiskGhosts E) (nam
   }
 
   -- what closing the disk left is what the cabinet has
+  pub left_as_kind : (Kind : EntryKind) (since history : List Entry) (closing : Result ⊤ Failed) → HasLeft disk Kind (disk.may_leave opened) (opening_of disk network since opened) history left closing
+      → Has was_tells (cabinet.held old name) (λ was. Has (cabinet.frame new).tells (cabinet.held new name) (λ now. HasLeft disk Kind (disk.may_leave was) (opening_of disk network since was) history now closing))
+  left_as_kind Kind since history closing one = left_as (λ was now. HasLeft disk Kind (disk.may_leave was) (opening_of disk network since was) history now closing) (λ was from. had_before Kind since history closing was from one)
+
   pub left_in : (since history : List Entry) (closing : Result ⊤ Failed) → HasLeft disk IsDecidedAt (disk.may_leave opened) (opening_of disk network since opened) history left closing
       → Has was_tells (cabinet.held old name) (λ was. Has (cabinet.frame new).tells (cabinet.held new name) (λ now. HasLeft disk IsDecidedAt (disk.may_leave was) (opening_of disk network since was) history now closing))
-  left_in since history closing one = left_as (λ was now. HasLeft disk IsDecidedAt (disk.may_leave was) (opening_of disk network since was) history now closing) (λ was from. had_before since history closing was from one)
+  left_in since history closing one = left_as_kind IsDecidedAt since history closing one

@@ -12,7 +12,7 @@ use Rattle.hose_words.proofs.OnReading.{IsAfterLines-then, WhereTold-both, Where
 use Rattle.hose_graph.specs.Network.{Network, IsNetwork}
 use Rattle.hose_graph.specs.declared.entry.Entry.{Entry}
 use Rattle.hose_graph.specs.declared.reply.Reply.{Reply}
-use Rattle.hose_graph.specs.declared.reply.Reply.TheVariants.{Welcome, Admitted, Quoted, Refused, Stale, Released, NoVpn, NoQuote, TooMany, Shown, LinkState, Full, Spent, Disk, Memory, Bad, Long, Bye}
+use Rattle.hose_graph.specs.declared.reply.Reply.TheVariants.{Welcome, Admitted, Quoted, Refused, Stale, Released, NoVpn, NoQuote, TooMany, Shown, LinkState, Down, Up, Already, Denied, Full, Spent, Disk, Memory, Bad, Long, Bye}
 use Rattle.hose_law.specs.History.{IsDecidedAt}
 use Rattle.hose_law.specs.Script.{IsForDisk, ReadLine, WithoutDisk, one_if_disk}
 use Rattle.hose_law.proofs.Cheapest.{decided_cheapest}
@@ -149,7 +149,11 @@ never_told (reply ∷ replies) (inl told) = All-cons (λ r. ¬ IsForDisk r) repl
     is_none (NoQuote quote at) none disk = disk
     is_none (TooMany at) none disk = disk
     is_none (Shown id cost at hose amounts) none disk = disk
-    is_none (LinkState link load at) none disk = disk
+    is_none (LinkState link load out at) none disk = disk
+    is_none (Down link at) none disk = disk
+    is_none (Up link at) none disk = disk
+    is_none (Already link at) none disk = disk
+    is_none (Denied at) none disk = disk
     is_none (Full at) none disk = disk
     is_none (Spent at) none disk = disk
     is_none Memory none disk = disk
@@ -244,6 +248,7 @@ module _ (prices : Network → Network → Type 0) {S O : Type 0} (source : Ghos
     ran P to_end at_read at_too_long at_write (Err (fault.Damaged at)) served = absurd served
     ran P to_end at_read at_too_long at_write (Err fault.Cabinet) served = absurd served
     ran P to_end at_read at_too_long at_write (Err fault.Door) served = absurd served
+    ran P to_end at_read at_too_long at_write (Err (fault.Packet byte)) served = absurd served
     ran P to_end at_read at_too_long at_write (Err fault.Read) served = at_read (run_until line.Read served.0) served.0.held (rw held_before at served.1)
     ran P to_end at_read at_too_long at_write (Err fault.TooLong) served = at_too_long (run_until line.TooLong served) served.held (held_over (λ read. absurd (cc (served.kept, read))))
     ran P to_end at_read at_too_long at_write (Err fault.Write) served = at_write

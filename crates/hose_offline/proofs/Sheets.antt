@@ -143,6 +143,7 @@ module _ (sheet : Sheet) (names : List (List ℕ)) {S O : Type 0} (source : Ghos
       prices_fault T (fault.Damaged at) line = absurd line
       prices_fault T fault.Cabinet line = absurd line
       prices_fault T fault.Door line = absurd line
+      prices_fault T (fault.Packet byte) line = absurd line
       prices_fault T fault.Read line = (until line_fault.Read line.0 line.2, rw source_held at line.1)
       prices_fault T fault.TooLong line = until line_fault.TooLong line.0 line.1
       prices_fault T fault.Write line = (priced_cut line.0, line.1, rw held at line.2)
@@ -179,6 +180,7 @@ module _ (sheet : Sheet) (names : List (List ℕ)) {S O : Type 0} (source : Ghos
     answers_input T (Err (fault.Damaged at)) all = absurd all
     answers_input T (Err fault.Cabinet) all = absurd all
     answers_input T (Err fault.Door) all = absurd all
+    answers_input T (Err (fault.Packet byte)) all = absurd all
     answers_input T (Err fault.Read) all = (answered_from (StopsAfterLines line_fault.Read) (AllOut names sink first last) all.0.prices, all.1, all.0.held)
     answers_input T (Err fault.TooLong) all = (answered_from (StopsAfterLines line_fault.TooLong) (AllOut names sink first last) all.prices, reads.unfailed (λ read. absurd (cc (all.kept, read))), all.held)
     answers_input T (Err fault.Write) all = (answered_from IsLeftOver (LastCut names sink first last) all.0, reads.unfailed (λ read. absurd (cc (all.1, read))), all.2)
@@ -221,6 +223,7 @@ module _ (sheet : Sheet) (names : List (List ℕ)) {T O : Type 0} (other : Ghost
   answers_there T' (Err (fault.Damaged at)) is = absurd is
   answers_there T' (Err fault.Cabinet) is = absurd is
   answers_there T' (Err fault.Door) is = absurd is
+  answers_there T' (Err (fault.Packet byte)) is = absurd is
   answers_there T' (Err fault.Read) is = (moved_answers (StopsAfterLines line_fault.Read) (AllOut names sink output output') is.0, rose is.1, is.2)
   answers_there T' (Err fault.TooLong) is = (moved_answers (StopsAfterLines line_fault.TooLong) (AllOut names sink output output') is.0, held is.1, is.2)
   answers_there T' (Err fault.Write) is = (moved_answers IsLeftOver (LastCut names sink output output') is.0, held is.1, is.2)

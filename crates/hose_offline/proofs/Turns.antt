@@ -20,7 +20,7 @@ use Rattle.hose_words.specs.declared.lines.Line.TheVariants as line
 use Rattle.hose_graph.specs.declared.entry.Entry.{Entry}
 use Rattle.hose_graph.specs.declared.command.Command.{Command}
 use Rattle.hose_graph.specs.declared.reply.Reply.{Reply}
-use Rattle.hose_graph.specs.declared.reply.Reply.TheVariants.{Welcome, Admitted, Quoted, Refused, Stale, Released, NoVpn, NoQuote, TooMany, Shown, LinkState, Full, Spent, Disk, Memory, Bad, Long, Bye}
+use Rattle.hose_graph.specs.declared.reply.Reply.TheVariants.{Welcome, Admitted, Quoted, Refused, Stale, Released, NoVpn, NoQuote, TooMany, Shown, LinkState, Down, Up, Already, Denied, Full, Spent, Disk, Memory, Bad, Long, Bye}
 use Rattle.hose_graph.specs.Network.{Network}
 use Rattle.hose_law.specs.History.{book_of, IsDecided, IsDecidedAt, IsSound, IsSoundAt, IsSoundWith}
 use Rattle.hose_law.specs.Answer.{IsStepOf}
@@ -103,7 +103,11 @@ kept before after (NoVpn id at) met = (Stays-same met, told_none before after me
 kept before after (NoQuote quote at) met = (Stays-same met, told_none before after met)
 kept before after (TooMany at) met = (Stays-same met, told_none before after met)
 kept before after (Shown id cost at hose amounts) met = (Stays-same met, told_none before after met)
-kept before after (LinkState link load at) met = (Stays-same met, told_none before after met)
+kept before after (LinkState link load out at) met = (Stays-same met, told_none before after met)
+kept before after (Down link at) met = (Stays-same met, told_none before after met)
+kept before after (Up link at) met = (Stays-same met, told_none before after met)
+kept before after (Already link at) met = (Stays-same met, told_none before after met)
+kept before after (Denied at) met = (Stays-same met, told_none before after met)
 kept before after (Full at) met = (Stays-same met, told_none before after met)
 kept before after (Spent at) met = (Stays-same met, told_none before after met)
 kept before after Memory met = (Stays-same met, told_none before after met)
@@ -338,6 +342,7 @@ module _ {S O K R : Type 0} (source : Ghosts S) (sink : SinkGhosts O) (books : B
   serves_fault T (fault.Damaged at) line = absurd line
   serves_fault T fault.Cabinet line = absurd line
   serves_fault T fault.Door line = absurd line
+  serves_fault T (fault.Packet byte) line = absurd line
   serves_fault T fault.Read line = (until line_fault.Read line.0 line.2 line.3, rw source_held at line.1)
   serves_fault T fault.TooLong line = until line_fault.TooLong line.0 line.1 line.2
   serves_fault T fault.Write line =

@@ -5,6 +5,8 @@ use Rattle.hose_cert.specs.declared.fault.CertFault.{CertFault}
 use Rattle.hose_cert.specs.declared.fault.CertFault.TheVariants as certificate
 use Rattle.hose_cert.specs.declared.fault.ProveFault.{ProveFault}
 use Rattle.hose_cert.specs.declared.fault.ProveFault.TheVariants as proof
+use Rattle.hose_follow.specs.declared.shipping.ShipFault.{ShipFault}
+use Rattle.hose_follow.specs.declared.shipping.ShipFault.TheVariants as shipping
 use Rattle.hose_words.specs.declared.lines.LineFault.{LineFault}
 use Rattle.hose_words.specs.declared.lines.LineFault.TheVariants as line
 use Rattle.hose_topo.specs.declared.fault.TopoFault.{TopoFault}
@@ -17,7 +19,7 @@ use Rattle.hose_proto.specs.ReplyText.{line_of}
 use Rattle.hose_offline.specs.declared.fault.Fault.{Fault}
 use Rattle.hose_offline.specs.declared.notation.Refusal.{Refusal}
 use Rattle.hose_offline.specs.declared.notation.Refusal.TheVariants.{Word, Json, Nodes, Node, Links, Link}
-use Rattle.hose_offline.specs.declared.fault.Fault.TheVariants.{Words, Topology, Read, Write, Other, Damaged, Cabinet, Memory, TooLong, Door}
+use Rattle.hose_offline.specs.declared.fault.Fault.TheVariants.{Words, Topology, Read, Write, Other, Damaged, Cabinet, Memory, TooLong, Door, Packet}
 
 -- the status
 abbrev pub status_of : Fault → ℕ
@@ -31,6 +33,7 @@ status_of Cabinet = 6
 status_of Memory = 7
 status_of TooLong = 8
 status_of Door = 9
+status_of (Packet at) = 11
 
 -- where a topology is wrong
 abbrev pub refusal_words : Refusal → List ℕ
@@ -54,6 +57,7 @@ last_line Cabinet = line_of (codes "cabinet")
 last_line Memory = line_of (codes "no memory")
 last_line TooLong = line_of (codes "too long")
 last_line Door = line_of (codes "door")
+last_line (Packet at) = line_of (codes "packet " ++ decimal at)
 
 -- what a fault of reading lines is for a run
 abbrev pub of_line : LineFault → Fault
@@ -100,3 +104,8 @@ of_store store.Disk = Cabinet
 of_store (store.Other kept given) = Other kept given
 of_store (store.Damaged at) = Damaged at
 of_store store.Memory = Memory
+
+-- what a fault of shipping a journal is
+abbrev pub of_shipping : ShipFault → Fault
+of_shipping (shipping.Store fault) = of_store fault
+of_shipping shipping.Write = Write

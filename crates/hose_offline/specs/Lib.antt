@@ -5,6 +5,8 @@ pub mod CheckOutcome
 pub mod Ending
 pub mod EndsFound
 pub mod Fault
+pub mod FollowOutcome
+pub mod Following
 pub mod GenOutcome
 pub mod Generating
 pub mod JsonRead
@@ -18,5 +20,6 @@ pub mod ScriptLine
 pub mod Serving
 pub mod ServingOnDisk
 pub mod SheetLine
+pub mod ShipOutcome
 pub mod Tally
 pub mod TopologyTold

@@ -19,7 +19,7 @@ use Rattle.hose_offline.specs.OnDisk.{CabinetFailed, IsRefused, IsToldAs, IsUnop
 use Rattle.hose_offline.specs.Run.{HasRead, HasText, IsCutOff, IsFor, IsRefusedText, IsRun, IsRunUpTo, IsServable, Keeping, TellsNoNetwork}
 use Rattle.hose_offline.specs.declared.fault.Fault.{Fault}
 use Rattle.hose_offline.specs.declared.notation.Notation.TheVariants.{Lines}
-use Rattle.hose_offline.specs.declared.fault.Fault.TheVariants.{Words, Topology, Read, Write, Other, Damaged, Cabinet, Memory, TooLong, Door}
+use Rattle.hose_offline.specs.declared.fault.Fault.TheVariants.{Words, Topology, Read, Write, Other, Damaged, Cabinet, Memory, TooLong, Door, Packet}
 
 module _ (prices : Network → Network → Type 0) {I O C E : Type 0} (source : SourceGhosts I)
     (sink : SinkGhosts O) (cabinet : CabinetGhosts C E) (disk : DiskGhosts E)
@@ -93,6 +93,7 @@ module _ (prices : Network → Network → Type 0) {I O C E : Type 0} (source : 
   RunLeaves (Err Memory) = IsStarved × InputHeld × (output' ≡ output)
   RunLeaves (Err TooLong) = IsBroken line.TooLong × InputHeld
   RunLeaves (Err Door) = ⊥
+  RunLeaves (Err (Packet at)) = ⊥
 
   -- A topology that is refused gives 2, but for want of memory and an input that stopped inside it.
   abbrev pub EndsRefused : ℕ → Type 0

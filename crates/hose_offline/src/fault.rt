@@ -7,10 +7,11 @@ ghost use Rattle.hose_io.specs.Writing.{IsPut};
 ghost use Rattle.hose_proto.specs.ReplyText.{line_of};
 ghost use Rattle.hose_offline.specs.declared.fault.Fault.TheVariants.{Memory, Write};
 ghost use Rattle.hose_offline.specs.Ending.{IsLastLine, status_of_done};
-ghost use Rattle.hose_offline.specs.Fault.{status_of, last_line, of_certificate, of_json, of_line, of_proof, of_store, of_text, of_topology, refusal_words};
+ghost use Rattle.hose_offline.specs.Fault.{status_of, last_line, of_certificate, of_json, of_line, of_proof, of_shipping, of_store, of_text, of_topology, refusal_words};
 
 use crate::notation::Refusal;
 use hose_cert::{CertFault, ProveFault};
+use hose_follow::ShipFault;
 use hose_io::{Failed, Gather, Sink, write_all};
 use hose_store::StoreFault;
 use hose_topo::TopoFault;
@@ -42,6 +43,8 @@ pub enum Fault {
     TooLong,
     /// The door could not be opened, or it failed.
     Door,
+    /// At this byte of the input no packet begins, or one that is not there whole.
+    Packet { at: u64 },
 }
 
 impl Fault {
@@ -71,6 +74,7 @@ impl Fault {
             Fault::Memory => 7,
             Fault::TooLong => 8,
             Fault::Door => 9,
+            Fault::Packet { .. } => 11,
         }
     }
 
@@ -90,6 +94,7 @@ impl Fault {
             Fault::Memory => write_all(output, b"no memory\n"),
             Fault::TooLong => write_all(output, b"too long\n"),
             Fault::Door => write_all(output, b"door\n"),
+            Fault::Packet { at } => put_numbered(output, b"packet ", at),
         }
     }
 }
@@ -176,6 +181,17 @@ impl From<ProveFault> for Fault {
         match fault {
             ProveFault::Write => Fault::Write,
             ProveFault::Memory => Fault::Memory,
+        }
+    }
+}
+
+impl From<ShipFault> for Fault {
+    ghost from_gives = { λ shipping fault. fault ≡ of_shipping shipping };
+
+    fn from(fault: ShipFault) -> Fault {
+        match fault {
+            ShipFault::Store(fault) => Fault::from(fault),
+            ShipFault::Write => Fault::Write,
         }
     }
 }

@@ -85,8 +85,8 @@ fn answer_on_disk<S: Source, O: Sink, D: Disk>(
     (first_fault(served, closed.0), closed.1)
 }
 
-// What came of answering lines and then closing.
-fn first_fault(served: Result<(), Fault>, closing: Result<(), Failed>) -> Result<(), Fault>
+/// What came of serving a journal and then closing it.
+pub fn first_fault(served: Result<(), Fault>, closing: Result<(), Failed>) -> Result<(), Fault>
     ensures { result ≡ first_of served closing }
 {
     match closing {

@@ -1,8 +1,9 @@
 //! What the program does without waiting for anybody: `run` answers the lines of an input by a
 //! book in memory or in a journal, `audit` tells the book of a journal as a text, `run_generated`
 //! sums up the script of a seed, `prove` writes a certificate of least cost, `check` judges one,
-//! and `price` prices hoses under all tariffs. `hosed` chooses between them by the program's words,
-//! and reads topologies and tells books as they do where it serves customers:
+//! and `price` prices hoses under all tariffs; `ship` writes the entries of a journal as packets,
+//! and `follow` takes packets into a journal that follows it. `hosed` chooses between them by the
+//! program's words, and reads topologies and tells books as they do where it serves customers:
 //!
 //! ```
 //! let status = run(alloc, &OwnCosts, Some("orders.journal"), input, output, cabinet);
@@ -11,6 +12,8 @@
 //! let status = prove(alloc, &OwnCosts, "star.txt", &ends, 3, output, cabinet);
 //! let status = check(alloc, &OwnCosts, "star.txt", input, output, cabinet);
 //! let status = price(alloc, &tariffs, "star.txt", input, output, cabinet);
+//! let status = ship(alloc, &OwnCosts, "star.txt", "orders.journal", 1, output, cabinet);
+//! let status = follow(alloc, &OwnCosts, "star.txt", "copy.journal", input, output, cabinet);
 //! ```
 #![tactic(auto)]
 
@@ -19,6 +22,7 @@ mod auditing;
 mod cabinet_text;
 mod checking;
 mod fault;
+mod following;
 mod generating;
 mod journal;
 mod json_text;
@@ -29,14 +33,17 @@ mod proving;
 mod script_line;
 mod sheet_answer;
 mod sheet_line;
+mod shipping;
 mod tally;
 
 pub use answering::run;
 pub use auditing::{audit, read_topology, tell};
 pub use checking::check;
 pub use fault::{Fault, end};
+pub use following::follow;
 pub use generating::run_generated;
 pub use limits::JSON_LIMIT;
 pub use notation::{Notation, Refusal};
 pub use pricing::price;
 pub use proving::prove;
+pub use shipping::ship;

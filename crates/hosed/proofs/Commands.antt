@@ -16,9 +16,9 @@ use Rattle.hose_words.proofs.Forms.{AreApart, Misses-stronger, after_place, fron
 use Rattle.hose_words.proofs.Passing.{Passes, pass_branch, pass_finish, pass_list, pass_maybe, pass_nothing, pass_place}
 use Rattle.hose_proto.specs.EndWords.{end_words_form}
 use Rattle.hose_proto.proofs.EndWords.{end_words_closed}
-use Rattle.hosed.specs.ProgramWords.{AreAuditWords, AreCheckWords, AreGenerateWords, ArePriceWords, ArePriceable, AreProveWords, AreRunWords, AreServeWords, AsksFor, IsChosen, IsFileName, IsFirstNamed, IsFirstWrong, IsNodeCount, IsOffered, IsStart, IsTariffName, Start, Verb, at_word, first_end, name_words, costs_at, named_form, numbers_form, sizes_form, start_word, tariff_option, tariff_words, verb_form, verb_word, with_tariff, words_form}
+use Rattle.hosed.specs.ProgramWords.{AreAuditWords, AreCheckWords, AreFollowWords, AreGenerateWords, ArePriceWords, ArePriceable, AreProveWords, AreRunWords, AreServeWords, AreShipWords, AsksFor, IsChosen, IsFileName, IsFirstNamed, IsFirstWrong, IsNodeCount, IsOffered, IsStart, IsTariffName, Start, Verb, at_word, first_end, from_form, name_words, costs_at, named_form, numbers_form, sizes_form, start_word, tariff_option, tariff_words, verb_form, verb_word, with_tariff, words_form}
 use Rattle.hosed.specs.ProgramWords.Start.{named, option}
-use Rattle.hosed.specs.ProgramWords.Verb.{audit, check, generate, price, prove, run, serve}
+use Rattle.hosed.specs.ProgramWords.Verb.{audit, check, follow, generate, price, prove, run, serve, ship}
 use Rattle.hosed.specs.Reading.{Chooses}
 
 -- ---- words of a slice
@@ -70,7 +70,7 @@ seed_none most bytes word None all same none = λ tells. none tells.0 (all tells
 
 -- each command has a word of its own, by which it is found again
 abbrev verb_of : List ℕ → Verb
-verb_of word = choice_of verb_word (run ∷ audit ∷ generate ∷ prove ∷ check ∷ price ∷ serve ∷ []) run word
+verb_of word = choice_of verb_word (run ∷ audit ∷ generate ∷ prove ∷ check ∷ price ∷ ship ∷ follow ∷ serve ∷ []) run word
 
 verb_back : (verb : Verb) → verb_of (verb_word verb) ≡ verb
 verb_back run = refl
@@ -79,6 +79,8 @@ verb_back generate = refl
 verb_back prove = refl
 verb_back check = refl
 verb_back price = refl
+verb_back ship = refl
+verb_back follow = refl
 verb_back serve = refl
 
 verb_apart : (one other : Verb) → verb_word one ≡ verb_word other → one ≡ other
@@ -276,6 +278,24 @@ pub price_right : (names words : List (List ℕ)) (topology : List ℕ) (number 
 price_right names words topology number are wrong =
     (subst (Passes (words_form names)) (sym are.are) (pass_branch price are.tariffs (verbs_apart names) (pass_place are.is_topology pass_finish))).none number wrong
 
+-- nor of those of a shipping
+pub ship_right : (names words : List (List ℕ)) (tariff : Option ℕ) (topology journal : List ℕ) (from number : ℕ) → AreShipWords names words tariff topology journal from → IsFirstWrong names words number → ⊥
+ship_right names words tariff topology journal from number are wrong =
+    (subst (Passes (words_form names)) (sym are.are) (pass_branch ship tt (verbs_apart names)
+    (passes_with names tariff (named_form (named_form from_form)) (named_form from_form) topology (journal ∷ decimal from ∷ []) are.is_tariff are.is_topology (pass_place are.is_topology rest) rest))).none number wrong
+  where
+    rest : Passes (named_form from_form) (journal ∷ decimal from ∷ [])
+    rest = pass_place are.is_journal (pass_place (from, refl, are.is_from) pass_finish)
+
+-- nor of those of a following
+pub follow_right : (names words : List (List ℕ)) (tariff : Option ℕ) (topology journal : List ℕ) (number : ℕ) → AreFollowWords names words tariff topology journal → IsFirstWrong names words number → ⊥
+follow_right names words tariff topology journal number are wrong =
+    (subst (Passes (words_form names)) (sym are.are) (pass_branch follow tt (verbs_apart names)
+    (passes_with names tariff (named_form (named_form finish)) (named_form finish) topology (journal ∷ []) are.is_tariff are.is_topology (pass_place are.is_topology rest) rest))).none number wrong
+  where
+    rest : Passes (named_form finish) (journal ∷ [])
+    rest = pass_place are.is_journal pass_finish
+
 -- nor of those of a server
 pub serve_right : (names words : List (List ℕ)) (tariff : Option ℕ) (topology journal : List ℕ) (port connections workers number : ℕ) → AreServeWords names words tariff topology journal port connections workers → IsFirstWrong names words number → ⊥
 serve_right names words tariff topology journal port connections workers number are wrong =
@@ -303,6 +323,12 @@ check_asks names words tariff topology are = subst (AsksFor check) (sym are.are)
 
 pub price_asks : (names words : List (List ℕ)) (topology : List ℕ) → ArePriceWords names words topology → AsksFor price words
 price_asks names words topology are = subst (AsksFor price) (sym are.are) refl
+
+pub ship_asks : (names words : List (List ℕ)) (tariff : Option ℕ) (topology journal : List ℕ) (from : ℕ) → AreShipWords names words tariff topology journal from → AsksFor ship words
+ship_asks names words tariff topology journal from are = subst (AsksFor ship) (sym are.are) refl
+
+pub follow_asks : (names words : List (List ℕ)) (tariff : Option ℕ) (topology journal : List ℕ) → AreFollowWords names words tariff topology journal → AsksFor follow words
+follow_asks names words tariff topology journal are = subst (AsksFor follow) (sym are.are) refl
 
 -- ---- words tell one thing
 
@@ -413,6 +439,32 @@ one_check names words tariff tariff' topology topology' are are' =
 -- words tell one sheet of prices
 pub one_priced : (names words : List (List ℕ)) (topology topology' : List ℕ) → ArePriceWords names words topology → ArePriceWords names words topology' → topology ≡ topology'
 one_priced names words topology topology' are are' = ap (λ (w : List (List ℕ)). get_or w 1 []) (sym are.are ∙ are'.are)
+
+-- words tell one shipping
+pub record IsSameShipping (tariff tariff' : Option ℕ) (topology topology' journal journal' : List ℕ) (from from' : ℕ) : Type 0 where
+  pub tariffs : tariff ≡ tariff'
+  pub topologies : topology ≡ topology'
+  pub journals : journal ≡ journal'
+  pub epochs : from ≡ from'
+
+pub one_shipping : (names words : List (List ℕ)) (tariff tariff' : Option ℕ) (topology topology' journal journal' : List ℕ) (from from' : ℕ) → AreShipWords names words tariff topology journal from → AreShipWords names words tariff' topology' journal' from'
+    → IsSameShipping tariff tariff' topology topology' journal journal' from from'
+one_shipping names words tariff tariff' topology topology' journal journal' from from' are are' =
+    let same = one_tariff names tariff tariff' (topology ∷ journal ∷ decimal from ∷ []) (topology' ∷ journal' ∷ decimal from' ∷ []) are.is_tariff are'.is_tariff
+    (file_first topology (journal ∷ decimal from ∷ []) are.is_topology) (file_first topology' (journal' ∷ decimal from' ∷ []) are'.is_topology) (ap (drop 1) (sym are.are ∙ are'.are)) in record {
+      tariffs = same.tariffs;
+      topologies = ap (λ (w : List (List ℕ)). get_or w 0 []) same.rests;
+      journals = ap (λ (w : List (List ℕ)). get_or w 1 []) same.rests;
+      epochs = decimal_injective from from' (omega (arith, are.is_from)) (omega (arith, are'.is_from)) (ap (λ (w : List (List ℕ)). get_or w 2 []) same.rests);
+    }
+
+-- words tell one following
+pub one_following : (names words : List (List ℕ)) (tariff tariff' : Option ℕ) (topology topology' journal journal' : List ℕ) → AreFollowWords names words tariff topology journal → AreFollowWords names words tariff' topology' journal'
+    → IsSameAudit tariff tariff' topology topology' journal journal'
+one_following names words tariff tariff' topology topology' journal journal' are are' =
+    let same = one_tariff names tariff tariff' (topology ∷ journal ∷ []) (topology' ∷ journal' ∷ []) are.is_tariff are'.is_tariff (file_first topology (journal ∷ []) are.is_topology) (file_first topology' (journal' ∷ []) are'.is_topology)
+    (ap (drop 1) (sym are.are ∙ are'.are)) in
+    record { tariffs = same.tariffs; topologies = ap (λ (w : List (List ℕ)). get_or w 0 []) same.rests; journals = ap (λ (w : List (List ℕ)). get_or w 1 []) same.rests }
 
 -- words tell one server
 pub record IsSameService (tariff tariff' : Option ℕ) (topology topology' journal journal' : List ℕ) (connections connections' : ℕ) : Type 0 where

@@ -10,12 +10,14 @@ use Rattle.hose_offline.specs.AuditOutcome.{AuditOutcome}
 use Rattle.hose_offline.specs.CheckOutcome.{CheckOutcome}
 use Rattle.hose_offline.specs.Ending.{IsOut}
 use Rattle.hose_offline.specs.Fault.{last_line}
+use Rattle.hose_offline.specs.FollowOutcome.{FollowOutcome}
 use Rattle.hose_offline.specs.GenOutcome.{GenOutcome}
 use Rattle.hose_offline.specs.PriceOutcome.{PriceOutcome}
 use Rattle.hose_offline.specs.ProveOutcome.{ProveOutcome}
 use Rattle.hose_offline.specs.RunOutcome.{RunOutcome}
+use Rattle.hose_offline.specs.ShipOutcome.{ShipOutcome}
 use Rattle.hose_offline.specs.declared.fault.Fault.TheVariants.{Words}
-use Rattle.hosed.specs.ProgramWords.{AreAuditWords, AreCheckWords, AreGenerateWords, ArePriceWords, AreProveWords, AreRunWords, AreWrongWords, IsFirstWrong, first_end}
+use Rattle.hosed.specs.ProgramWords.{AreAuditWords, AreCheckWords, AreFollowWords, AreGenerateWords, ArePriceWords, AreProveWords, AreRunWords, AreShipWords, AreWrongWords, IsFirstWrong, first_end}
 
 -- Words that are wrong end with the status 1 and take nothing of the input and of the cabinet; the
 -- last line tells the first of them that is not allowed. Other words do what their command says, at
@@ -55,3 +57,11 @@ pub record OfflineOutcome {I O C E : Type 0} (source : SourceGhosts I) (sink : S
   pub price : (topology : List ℕ) → ArePriceWords names words topology
       → PriceOutcome makes names source sink cabinet topology input input' output output'
       place place' status
+  pub ship : (tariff : Option ℕ) (topology journal : List ℕ) (from : ℕ)
+      → AreShipWords names words tariff topology journal from
+      → (input' ≡ input) × ShipOutcome (prices tariff) sink cabinet disk topology journal from
+      output output' place place' status
+  pub follow : (tariff : Option ℕ) (topology journal : List ℕ)
+      → AreFollowWords names words tariff topology journal
+      → FollowOutcome (prices tariff) source sink cabinet disk topology journal
+      input input' output output' place place' status

@@ -6,14 +6,14 @@ use Rattle.hose_words.specs.Form.{Fits64, Form, IsWithin, TellsNumber, branch, f
 use Rattle.hose_words.specs.Grammar.{IsFirst, IsFirstNotAllowed}
 use Rattle.hose_gen.specs.declared.limits.TheConstants.{LEAST_NODES, MOST_HOSES}
 use Rattle.hose_graph.specs.Network.{Network}
-use Rattle.hose_graph.specs.declared.limits.TheConstants.{MOST_LINKS, MOST_NODES}
+use Rattle.hose_graph.specs.declared.limits.TheConstants.{MOST_EPOCH, MOST_LINKS, MOST_NODES}
 use Rattle.hose_offline.specs.TopologyTold.{own_costs}
 use Rattle.hose_proto.specs.EndWords.{AreEndWords, end_words_form}
 use Rattle.std.specs.String.{string_bytes}
 use Rattle.hose_pool.specs.declared.rows.TheConstants.{MOST_WORKERS}
 use Rattle.hose_price.specs.declared.sheet.TheConstants.{MOST_TARIFFS}
 use Rattle.hosed.specs.declared.words.Command.{Command}
-use Rattle.hosed.specs.declared.words.Command.TheVariants.{Audit, Check, Generate, Price, Prove, Run}
+use Rattle.hosed.specs.declared.words.Command.TheVariants.{Audit, Check, Follow, Generate, Price, Prove, Run, Ship}
 use Rattle.hosed.specs.declared.words.Service.{Service}
 use Rattle.hosed.specs.declared.words.TheConstants.{MOST_CONNECTIONS}
 
@@ -133,6 +133,30 @@ pub record ArePriceWords (names words : List (List ℕ)) (topology : List ℕ) :
   pub tariffs : ArePriceable names
   pub is_topology : IsFileName topology
 
+-- entries may be shipped from this epoch on: the first one's is 1
+abbrev pub IsFrom : ℕ → Type 0
+IsFrom = IsWithin 1 MOST_EPOCH
+
+-- the words are `ship`, those of a tariff if one is chosen, the names of a topology and of a
+-- journal, and the number of an epoch
+pub record AreShipWords (names words : List (List ℕ)) (tariff : Option ℕ)
+    (topology journal : List ℕ) (from : ℕ) : Type 0 where
+  pub are : words
+      ≡ codes "ship" ∷ tariff_words names tariff ++ topology ∷ journal ∷ decimal from ∷ []
+  pub is_tariff : IsChosen names tariff
+  pub is_topology : IsFileName topology
+  pub is_journal : IsFileName journal
+  pub is_from : IsFrom from
+
+-- the words are `follow`, those of a tariff if one is chosen, and the names of a topology and of a
+-- journal
+pub record AreFollowWords (names words : List (List ℕ)) (tariff : Option ℕ)
+    (topology journal : List ℕ) : Type 0 where
+  pub are : words ≡ codes "follow" ∷ tariff_words names tariff ++ topology ∷ journal ∷ []
+  pub is_tariff : IsChosen names tariff
+  pub is_topology : IsFileName topology
+  pub is_journal : IsFileName journal
+
 -- a number may be that of a port: 16 bits hold it, and it is not 0
 abbrev pub IsPort : ℕ → Type 0
 IsPort = IsWithin 1 65535
@@ -162,6 +186,10 @@ pub record AreWrongWords (names words : List (List ℕ)) : Type 0 where
   pub no_check : (tariff : Option ℕ) (topology : List ℕ)
       → ¬ AreCheckWords names words tariff topology
   pub no_price : (topology : List ℕ) → ¬ ArePriceWords names words topology
+  pub no_ship : (tariff : Option ℕ) (topology journal : List ℕ) (from : ℕ)
+      → ¬ AreShipWords names words tariff topology journal from
+  pub no_follow : (tariff : Option ℕ) (topology journal : List ℕ)
+      → ¬ AreFollowWords names words tariff topology journal
   pub no_serve : (tariff : Option ℕ) (topology journal : List ℕ) (port connections workers : ℕ)
       → ¬ AreServeWords names words tariff topology journal port connections workers
 
@@ -178,6 +206,10 @@ AreWordsOf names words (Prove tariff topology ends first) =
     × (first ≡ first_end tariff)
 AreWordsOf names words (Check tariff topology) = AreCheckWords names words tariff topology.now
 AreWordsOf names words (Price topology) = ArePriceWords names words topology.now
+AreWordsOf names words (Ship tariff topology journal from) =
+    AreShipWords names words tariff topology.now journal.now from
+AreWordsOf names words (Follow tariff topology journal) =
+    AreFollowWords names words tariff topology.now journal.now
 
 -- the words are those of a server
 abbrev pub AreServiceWords : List (List ℕ) → List (List ℕ) → Service → Type 0
@@ -195,6 +227,8 @@ pub data Verb : Type 0 where
   prove : Verb
   check : Verb
   price : Verb
+  ship : Verb
+  follow : Verb
   serve : Verb
 
 -- the word that a command begins with
@@ -205,6 +239,8 @@ verb_word generate = codes "gen"
 verb_word prove = codes "prove"
 verb_word check = codes "check"
 verb_word price = codes "price"
+verb_word ship = codes "ship"
+verb_word follow = codes "follow"
 verb_word serve = codes "serve"
 
 -- the command is one of a program that has tariffs with these names
@@ -215,6 +251,8 @@ IsOffered names generate = ⊤
 IsOffered names prove = ⊤
 IsOffered names check = ⊤
 IsOffered names price = ArePriceable names
+IsOffered names ship = ⊤
+IsOffered names follow = ⊤
 IsOffered names serve = ⊤
 
 -- the first word is that of the command, whatever follows it
@@ -256,6 +294,10 @@ abbrev pub numbers_form : Form
 numbers_form = place (TellsNumber IsPort) (place (TellsNumber (IsWithin 1 MOST_CONNECTIONS))
     (place (TellsNumber (IsWithin 1 MOST_WORKERS)) finish))
 
+-- the epoch from which on a journal is shipped
+abbrev pub from_form : Form
+from_form = place (TellsNumber IsFrom) finish
+
 -- the numbers of links and of hoses, after that of nodes
 abbrev pub sizes_form : ℕ → Form
 sizes_form nodes =
@@ -264,7 +306,7 @@ sizes_form nodes =
 -- What may stand after the word of a command: a tariff or none, and then a journal or none; the
 -- names of a topology and of a journal; four numbers; the name of a topology and endpoints, after a
 -- tariff or none; the name of a topology, after a tariff or none, or alone; or those of a topology
--- and of a journal, and the numbers of a server.
+-- and of a journal, and an epoch, nothing more, or the numbers of a server.
 abbrev pub verb_form : List (List ℕ) → Verb → Form
 verb_form names run = maybe (with_tariff names (maybe (named_form finish)) finish)
 verb_form names audit = with_tariff names (named_form (named_form finish)) (named_form finish)
@@ -272,6 +314,9 @@ verb_form names generate = number (branch IsNodeCount decimal sizes_form)
 verb_form names prove = with_tariff names (named_form end_words_form) end_words_form
 verb_form names check = with_tariff names (named_form finish) finish
 verb_form names price = named_form finish
+verb_form names ship =
+    with_tariff names (named_form (named_form from_form)) (named_form from_form)
+verb_form names follow = with_tariff names (named_form (named_form finish)) (named_form finish)
 verb_form names serve =
     with_tariff names (named_form (named_form numbers_form)) (named_form numbers_form)
 

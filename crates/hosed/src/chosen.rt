@@ -5,8 +5,10 @@ ghost use Rattle.hose_io.specs.Frame.{Stays};
 ghost use Rattle.hose_disk.specs.Cabinet.{object_of};
 ghost use Rattle.hose_offline.specs.AuditOutcome.{AuditOutcome};
 ghost use Rattle.hose_offline.specs.CheckOutcome.{CheckOutcome};
+ghost use Rattle.hose_offline.specs.FollowOutcome.{FollowOutcome};
 ghost use Rattle.hose_offline.specs.ProveOutcome.{ProveOutcome};
 ghost use Rattle.hose_offline.specs.RunOutcome.{RunOutcome};
+ghost use Rattle.hose_offline.specs.ShipOutcome.{ShipOutcome};
 ghost use Rattle.hose_proto.specs.EndWords.{AreEndWords};
 ghost use Rattle.hosed.specs.ProgramWords.{costs_at};
 ghost use Rattle.hosed.specs.ServeOutcome.{ServeOutcome};
@@ -16,7 +18,7 @@ use crate::serving::serve;
 use crate::words::Service;
 use hose_disk::Cabinet;
 use hose_io::{Door, Sink, Source};
-use hose_offline::{audit, check, prove, run};
+use hose_offline::{audit, check, follow, prove, run, ship};
 use hose_pool::{Gate, MOST_WORKERS};
 use hose_tariff::{OwnCosts, Prices, Tariff};
 use std::alloc::Global;
@@ -135,6 +137,77 @@ pub fn check_by<I: Source, O: Sink, C: Cabinet>(
     match tariff {
         Some(place) => check(alloc, &tariffs[place], topology, input, output, cabinet),
         None => check(alloc, &OwnCosts, topology, input, output, cabinet),
+    }
+}
+
+/// A shipping.
+pub fn ship_by<O: Sink, C: Cabinet>(
+    alloc: Global,
+    tariffs: &[Tariff],
+    tariff: Option<usize>,
+    topology: &str,
+    journal: &str,
+    from: u64,
+    output: &mut O,
+    cabinet: &mut C,
+) -> u8
+    requires none_out { (C.frame cabinet.old).out ≡ None }
+    requires tariff { MatchOption tariff ⊤ (λ which. which < length tariffs.now) }
+    ensures outcome { ShipOutcome (costs_at ⟦<Tariff as Prices>⟧.prices tariffs.now tariff)
+        O.Sink C.Cabinet C.Disk.Disk topology.now journal.now from
+        output.old output.new cabinet.old cabinet.new result }
+    ensures not_words { result ≢ 1 }
+    ensures back { (C.frame cabinet.new).out ≡ None }
+    ensures output { Stays (O.frame output.old) (O.frame output.new) }
+    ensures cabinet { Stays (object_of (C.frame cabinet.old)) (object_of (C.frame cabinet.new)) }
+{
+    match tariff {
+        Some(place) => ship(
+            alloc,
+            &tariffs[place],
+            topology,
+            journal,
+            from,
+            output,
+            cabinet,
+        ),
+        None => ship(alloc, &OwnCosts, topology, journal, from, output, cabinet),
+    }
+}
+
+/// A following.
+pub fn follow_by<I: Source, O: Sink, C: Cabinet>(
+    alloc: Global,
+    tariffs: &[Tariff],
+    tariff: Option<usize>,
+    topology: &str,
+    journal: &str,
+    input: &mut I,
+    output: &mut O,
+    cabinet: &mut C,
+) -> u8
+    requires none_out { (C.frame cabinet.old).out ≡ None }
+    requires tariff { MatchOption tariff ⊤ (λ which. which < length tariffs.now) }
+    ensures outcome { FollowOutcome (costs_at ⟦<Tariff as Prices>⟧.prices tariffs.now tariff)
+        I.Source O.Sink C.Cabinet C.Disk.Disk topology.now journal.now
+        input.old input.new output.old output.new cabinet.old cabinet.new result }
+    ensures not_words { result ≢ 1 }
+    ensures back { (C.frame cabinet.new).out ≡ None }
+    ensures input { Stays (I.frame input.old) (I.frame input.new) }
+    ensures output { Stays (O.frame output.old) (O.frame output.new) }
+    ensures cabinet { Stays (object_of (C.frame cabinet.old)) (object_of (C.frame cabinet.new)) }
+{
+    match tariff {
+        Some(place) => follow(
+            alloc,
+            &tariffs[place],
+            topology,
+            journal,
+            input,
+            output,
+            cabinet,
+        ),
+        None => follow(alloc, &OwnCosts, topology, journal, input, output, cabinet),
     }
 }
 

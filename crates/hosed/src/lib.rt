@@ -8,7 +8,9 @@
 //! `--tariff` each plans by the costs that a tariff makes of the lengths of links. Beside them
 //! `prove TOPOLOGY NAME:RATE ..` writes a certificate of least cost, `check TOPOLOGY` judges one,
 //! `price TOPOLOGY` prices hoses under all tariffs, and `gen SEED NODES LINKS HOSES` runs a script
-//! that it makes of four numbers:
+//! that it makes of four numbers. A standby is kept by `ship TOPOLOGY JOURNAL FROM`, which writes
+//! the entries of a journal as packets, and `follow TOPOLOGY JOURNAL`, which takes packets into
+//! another one:
 //!
 //! ```
 //! let input = &mut StdSource::new(stdin);
@@ -38,7 +40,7 @@ mod end_words;
 mod serving;
 mod words;
 
-use chosen::{audit_by, check_by, prove_by, run_by, serve_by};
+use chosen::{audit_by, check_by, follow_by, prove_by, run_by, serve_by, ship_by};
 use hose_disk::Cabinet;
 use hose_io::{Door, Sink, Source};
 use hose_offline::{Fault, end, price, run_generated};
@@ -55,10 +57,11 @@ use words::{Command, asks_to_serve, command_of, service_of};
 /// the name of a text in the cabinet with a topology, and that of a journal of it; `serve`, the
 /// same names, a port, how many connections are to be served, and by how many workers; `prove`, the
 /// name of a text with a topology, and the endpoints of a hose; `check` or `price`, and the name of
-/// a text with a topology; or `gen`, and four numbers. After the first of
-/// them, but for `price` and `gen`, `--tariff` may stand, and the name of one of the tariffs, of
-/// which the first with that name is meant. `price` takes all tariffs, of which there have to be 1
-/// to 16. A text whose name ends in `.json` is JSON.
+/// a text with a topology; `ship`, the names of `audit`, and an epoch; `follow`, and the names of
+/// `audit`; or `gen`, and four numbers. After the first of them, but for `price` and `gen`,
+/// `--tariff` may stand, and the name of one of the tariffs, of which the first with that name is
+/// meant. `price` takes all tariffs, of which there have to be 1 to 16. A text whose name ends in
+/// `.json` is JSON.
 ///
 /// The status is 0 where all was read to its end, and the journal closed. Else it tells the first
 /// fault, and the last line of the output tells it too: 1 `words K`, the number of the first word
@@ -68,7 +71,8 @@ use words::{Command, asks_to_serve, command_of, service_of};
 /// `journal damaged at P`, at this byte; 6 `cabinet`, a text that could not be read, or a journal
 /// that could not be opened or closed; 7 `no memory`; 8 `too long`, an input or a topology of more
 /// than 1 GiB, or JSON of more than 16 MiB; 9 `door`, a port that could not be opened, or a
-/// connection that could not be accepted; 10 `no K`, a certificate whose rule K fails.
+/// connection that could not be accepted; 10 `no K`, a certificate whose rule K fails; 11
+/// `packet P`, an input in which no whole packet begins at byte P.
 ///
 /// With `serve` it waits for customers, and for threads of its own: what it promises it keeps if it
 /// returns. It writes `ready` once the port is open, and what the book holds once all is closed.
@@ -179,6 +183,25 @@ pub fn offline<I: Source, O: Sink, C: Cabinet>(
         Ok(Command::Price { topology }) => {
             price(alloc, tariffs, topology, input, output, cabinet)
         }
+        Ok(
+            Command::Ship {
+                tariff,
+                topology,
+                journal,
+                from,
+            },
+        ) => ship_by(
+            alloc, tariffs, tariff, topology, journal, from, output, cabinet,
+        ),
+        Ok(
+            Command::Follow {
+                tariff,
+                topology,
+                journal,
+            },
+        ) => follow_by(
+            alloc, tariffs, tariff, topology, journal, input, output, cabinet,
+        ),
         Err(wrong) => end(Err(Fault::Words(wrong)), output),
     }
 }

@@ -6,11 +6,11 @@ ghost use Rattle.hose_words.specs.Form.{Fits64, IsWithin, TellsNumber};
 ghost use Rattle.hose_words.specs.Grammar.{IsFirst};
 ghost use Rattle.hosed.specs.ProgramWords.{ArePriceable, AreServiceWords, AreWordsOf, AsksFor, AsksToServe, IsFileName, IsFirstNamed, IsFirstWrong, IsTariffName, at_word, tariff_option};
 ghost use Rattle.hosed.specs.Reading.{Chooses};
-ghost use Rattle.hosed.specs.ProgramWords.Verb.{audit, check, generate, price, prove, run};
+ghost use Rattle.hosed.specs.ProgramWords.Verb.{audit, check, follow, generate, price, prove, run, ship};
 
 use crate::end_words::ends_at;
 use hose_gen::{LEAST_NODES, MOST_HOSES};
-use hose_graph::{MOST_LINKS, MOST_NODES};
+use hose_graph::{MOST_EPOCH, MOST_LINKS, MOST_NODES};
 use hose_pool::MOST_WORKERS;
 use hose_price::MOST_TARIFFS;
 use hose_tariff::{Tariff, find};
@@ -56,6 +56,19 @@ pub enum Command<'w> {
     /// Prices a sheet of hoses under all tariffs.
     Price {
         topology: &'w str,
+    },
+    /// Writes the entries of a journal as packets, from the one of an epoch on.
+    Ship {
+        tariff: Option<usize>,
+        topology: &'w str,
+        journal: &'w str,
+        from: u64,
+    },
+    /// Answers packets by a journal that follows the one that they come from.
+    Follow {
+        tariff: Option<usize>,
+        topology: &'w str,
+        journal: &'w str,
     },
 }
 
@@ -103,6 +116,10 @@ pub fn command_of<'w>(words: &'w [String], tariffs: &[Tariff]) -> Result<Command
         check_of(words, tariffs)
     } else if begin_with(words, "price") {
         price_of(words, tariffs)
+    } else if begin_with(words, "ship") {
+        ship_of(words, tariffs)
+    } else if begin_with(words, "follow") {
+        follow_of(words, tariffs)
     } else {
         Err(1)
     }
@@ -242,6 +259,48 @@ fn are_priceable(tariffs: &[Tariff]) -> bool
     ensures { IsTrue result ↔ ArePriceable (map (λ tariff. tariff.name) tariffs.now) }
 {
     (1..=MOST_TARIFFS).contains(&tariffs.len())
+}
+
+// The shipping that the words ask for: a tariff may follow, the names of a topology and of a journal
+// and an epoch have to, and nothing else.
+fn ship_of<'w>(words: &'w [String], tariffs: &[Tariff]) -> Result<Command<'w>, u64>
+    requires { AsksFor ship (map string_bytes words.now) }
+    ensures ok { IfOk result (AreWordsOf (map (λ tariff. tariff.name) tariffs.now)
+        (map string_bytes words.now)) }
+    ensures wrong { IfErr result (IsFirstWrong (map (λ tariff. tariff.name) tariffs.now)
+        (map string_bytes words.now)) }
+{
+    let (tariff, at) = tariff_at(words, tariffs)?;
+    let topology = name_at(words, at)?;
+    let journal = name_at(words, at + 1)?;
+    let from = number_at(words, at + 2, 1, MOST_EPOCH as u32)?;
+    none_at(words, at + 3)?;
+    Ok(Command::Ship {
+        tariff,
+        topology,
+        journal,
+        from: u64::from(from),
+    })
+}
+
+// The following that the words ask for: a tariff may follow, the names of a topology and of a
+// journal have to, and nothing else.
+fn follow_of<'w>(words: &'w [String], tariffs: &[Tariff]) -> Result<Command<'w>, u64>
+    requires { AsksFor follow (map string_bytes words.now) }
+    ensures ok { IfOk result (AreWordsOf (map (λ tariff. tariff.name) tariffs.now)
+        (map string_bytes words.now)) }
+    ensures wrong { IfErr result (IsFirstWrong (map (λ tariff. tariff.name) tariffs.now)
+        (map string_bytes words.now)) }
+{
+    let (tariff, at) = tariff_at(words, tariffs)?;
+    let topology = name_at(words, at)?;
+    let journal = name_at(words, at + 1)?;
+    none_at(words, at + 2)?;
+    Ok(Command::Follow {
+        tariff,
+        topology,
+        journal,
+    })
 }
 
 /// The server that the words ask for, or the first of them that is not allowed.

@@ -8,6 +8,8 @@ usage: hosed run [--tariff NAME] [JOURNAL] < FILE
        hosed prove [--tariff NAME] TOPOLOGY NAME:RATE ..
        hosed check [--tariff NAME] TOPOLOGY < CERTIFICATE
        hosed price TOPOLOGY < SHEET
+       hosed ship [--tariff NAME] TOPOLOGY JOURNAL FROM > PACKETS
+       hosed follow [--tariff NAME] TOPOLOGY JOURNAL < PACKETS
        hosed gen SEED NODES LINKS HOSES
        hosed --help | --version
 
@@ -23,10 +25,12 @@ each command of a customer:
     CUSTOMER release ID
     CUSTOMER show ID
     CUSTOMER link L
+    operator down L                     takes the link out of service: no new tree uses it
+    operator up L                       puts it back into service
 
-and writes one line for each of the last six. JOURNAL is a file that keeps the book: an admission
-or a release is in it before its line is written, and a later run with it goes on from there. It
-is begun where it is not there. Without it the book is gone at the end.
+and writes one line for each of the last eight. JOURNAL is a file that keeps the book: an order is
+in it before its line is written, and a later run with it goes on from there. It is begun where it
+is not there. Without it the book is gone at the end.
 
     admitted ID cost C at N links L:R ..
     quoted Q cost C at N links L:R ..
@@ -38,6 +42,10 @@ is begun where it is not there. Without it the book is gone at the end.
     no vpn ID at N
     vpn ID cost C at N ends NAME:RATE .. links L:R ..
     link L A B capacity C cost K load X at N
+    link L A B capacity C cost K load X out at N            it is out of service
+    down L at N, up L at N
+    already L at N                      the link is so already
+    denied at N                         the customer is not operator
     full at N, spent at N
     disk at N                           the journal's disk failed, and nothing was entered
     bad W                               the line's first word that is not allowed
@@ -86,6 +94,18 @@ nothing were reserved, by each tariff below; LOW and HIGH bound C by the tariff'
     price CUSTOMER none                             no tree joins the hose
     bad W, long, memory                             as those of run
 
+hosed ship reads a topology from the file TOPOLOGY, as audit does, and writes the admissions,
+releases and changes of links of JOURNAL from the epoch FROM on, 1 to 4000000000, a packet each.
+hosed follow takes such packets, in whatever order and however often they come, into a JOURNAL of
+its own, which audit and serve read as any other, and writes one line for each:
+
+    have N                              the journal has all up to the epoch N
+    want N                              the packet is too far on; the one of the epoch N is next
+    differs at N OWN GIVEN              the next one, of another history; both chain values
+    unsound N                           no entry of the epoch N is in it that the book takes
+    disk at N                           the journal's disk failed, and nothing was entered
+    memory                              there was none, and nothing was done
+
 hosed gen makes a network of NODES nodes and LINKS links, and HOSES admissions with a release after
 each fifth, all by the number SEED. It runs them as run does without a journal, and writes how many
 were admitted, refused and released, the last epoch, and what the admitted cost together:
@@ -105,12 +125,13 @@ where it is not the length, `cost`.
     hops                                a link costs 1
     long                                5 and twice its length, 1,000,000 at most
 
-epoch   how many admissions and releases there have been
-N       the epoch at which the reply holds: after an admission or a release, its own
+order   an admission, a release, or a link that is taken out of service or put back
+epoch   how many orders there have been
+N       the epoch at which the reply holds: after an order, its own
 L       a link by its number; links and nodes count from 0, in the topology's order
 load    what is reserved on a link, of all VPNs together
 Q       a quote of the customer by its number, 1 to 16
-side    the nodes that the lowest endpoint reaches over links with half of the rates free
+side    the nodes that the lowest endpoint reaches over links in service with half of the rates free
 
 A name is 1 to 16 of a to z, 0 to 9 and -. A capacity is 1 to 1,000,000,000; a length, a cost and
 a rate are 1 to 1,000,000.
@@ -129,23 +150,27 @@ status  comes                           last line
         that another program holds,
         or a file that failed           cabinet
 7       no memory to begin,
-        or in prove, check or gen       no memory
+        or in prove, check, ship
+        or gen                          no memory
 8       input or TOPOLOGY longer
         than 1 GiB, in JSON than
         16 MiB                          too long
 9       the port could not be opened,
         or accepting failed             door
 10      the certificate is not valid    no K
+11      at this byte of the input no
+        whole packet begins             packet P
 ";
 
 /// What `--version` is answered with.
-pub const VERSION: &str = "hosed 0.1.0\n";
+pub const VERSION: &str = "hosed 0.2.0\n";
 
 /// What is said on standard error where the words are wrong.
 pub const USAGE: &str = "hosed takes `run`, which reads a topology and commands, and after it the \
     name of a journal if the book is to be kept; or `audit`, and after it the names of a topology \
     and of a journal; or `serve`, and after it these two names, a port, and how many connections \
     and workers; or `prove`, and after it the name of a topology and endpoints; or `check` or \
-    `price`, and after it the name of a topology; or `gen`, and after it a seed and how many \
-    nodes, links and hoses; `--tariff` and a name may stand after the first word, but for `price` \
-    and `gen`; or `--help`, which tells their forms, or `--version`.";
+    `price`, and after it the name of a topology; or `ship`, and after it the names of a topology \
+    and of a journal, and an epoch; or `follow`, and after it these two names; or `gen`, and after \
+    it a seed and how many nodes, links and hoses; `--tariff` and a name may stand after the first \
+    word, but for `price` and `gen`; or `--help`, which tells their forms, or `--version`.";

@@ -1,6 +1,6 @@
 use Rattle.std.proofs.Common.{◌≡◌, refl, map, rules}
 use Rattle.std.specs.String.{string_bytes}
-use Rattle.hosed.proofs.Commands.{audit_right, check_right, generate_right, one_service, price_right, prove_right, run_right, serve_right}
+use Rattle.hosed.proofs.Commands.{audit_right, check_right, follow_right, generate_right, one_service, price_right, prove_right, run_right, serve_right, ship_right}
 use Rattle.hosed.proofs.Served.{same_first}
 use Rattle.hosed.proofs.hosed.Goals as goal
 
@@ -39,6 +39,8 @@ returns-in-Err-clause-outcome g c =
           no_prove = λ tariff topology ends are. prove_right names words tariff topology ends _ are wrong;
           no_check = λ tariff topology are. check_right names words tariff topology _ are wrong;
           no_price = λ topology are. price_right names words topology _ are wrong;
+          no_ship = λ tariff topology journal from are. ship_right names words tariff topology journal from _ are wrong;
+          no_follow = λ tariff topology journal are. follow_right names words tariff topology journal _ are wrong;
           no_serve = λ tariff topology journal port connections workers are. serve_right names words tariff topology journal port connections workers _ are wrong;
         }),
         λ none. c.end.ensures.status,

@@ -3,8 +3,8 @@ use Rattle.std.proofs.Common.{None, refl, map, arith, subst}
 use Rattle.std.proofs.lemmas.List.{length-map}
 use Rattle.std.specs.String.{string_bytes}
 use Rattle.hosed.specs.ProgramWords.{AreWordsOf, AsksFor}
-use Rattle.hosed.specs.ProgramWords.Verb.{audit, check, generate, price, prove, run}
-use Rattle.hosed.proofs.Commands.{audit_asks, audit_right, check_asks, check_right, generate_asks, generate_right, first_small, none_named, one_audit, one_check, one_making, one_priced, one_proof, one_run, one_verb, price_asks, price_right, prove_asks, prove_right, run_asks, run_right, serve_right}
+use Rattle.hosed.specs.ProgramWords.Verb.{audit, check, follow, generate, price, prove, run, ship}
+use Rattle.hosed.proofs.Commands.{audit_asks, audit_right, check_asks, check_right, follow_asks, follow_right, generate_asks, generate_right, first_small, none_named, one_audit, one_check, one_following, one_making, one_priced, one_proof, one_run, one_shipping, one_verb, price_asks, price_right, prove_asks, prove_right, run_asks, run_right, serve_right, ship_asks, ship_right}
 use Rattle.hosed.proofs.offline.Goals as goal
 
 pub returns-in-Ok-Run-clause-outcome : goal.returns-in-Ok-Run-clause-outcome
@@ -27,6 +27,8 @@ returns-in-Ok-Run-clause-outcome g c =
       prove = λ tariff topology' ends is. absurd (cc (one_verb prove run words (prove_asks names words tariff topology' ends is) asks));
       check = λ tariff topology is. absurd (cc (one_verb run check words asks (check_asks names words tariff topology is)));
       price = λ topology is. absurd (cc (one_verb run price words asks (price_asks names words topology is)));
+      ship = λ tariff topology' journal' from is. absurd (cc (one_verb run ship words asks (ship_asks names words tariff topology' journal' from is)));
+      follow = λ tariff topology' journal' is. absurd (cc (one_verb run follow words asks (follow_asks names words tariff topology' journal' is)));
     }
 
 pub returns-in-Ok-Audit-clause-outcome : goal.returns-in-Ok-Audit-clause-outcome
@@ -50,6 +52,8 @@ returns-in-Ok-Audit-clause-outcome g c =
       prove = λ tariff topology' ends is. absurd (cc (one_verb prove audit words (prove_asks names words tariff topology' ends is) asks));
       check = λ tariff topology is. absurd (cc (one_verb audit check words asks (check_asks names words tariff topology is)));
       price = λ topology is. absurd (cc (one_verb audit price words asks (price_asks names words topology is)));
+      ship = λ tariff topology' journal' from is. absurd (cc (one_verb audit ship words asks (ship_asks names words tariff topology' journal' from is)));
+      follow = λ tariff topology' journal' is. absurd (cc (one_verb audit follow words asks (follow_asks names words tariff topology' journal' is)));
     }
 
 pub returns-in-Ok-Generate-clause-outcome : goal.returns-in-Ok-Generate-clause-outcome
@@ -75,6 +79,8 @@ returns-in-Ok-Generate-clause-outcome g c =
       prove = λ tariff topology' ends is. absurd (cc (one_verb prove generate words (prove_asks names words tariff topology' ends is) asks));
       check = λ tariff topology is. absurd (cc (one_verb generate check words asks (check_asks names words tariff topology is)));
       price = λ topology is. absurd (cc (one_verb generate price words asks (price_asks names words topology is)));
+      ship = λ tariff topology' journal' from is. absurd (cc (one_verb generate ship words asks (ship_asks names words tariff topology' journal' from is)));
+      follow = λ tariff topology' journal' is. absurd (cc (one_verb generate follow words asks (follow_asks names words tariff topology' journal' is)));
     }
 
 pub run_generated-requires-clause-enough_nodes : goal.run_generated-requires-clause-enough_nodes
@@ -123,6 +129,8 @@ returns-in-Ok-Prove-clause-outcome g c =
           (refl, rw (same.tariffs, same.topologies, same.all_ends) at (rw are.1 at proved.outcome));
       check = λ tariff topology' is. absurd (cc (one_verb check prove words (check_asks names words tariff topology' is) asks));
       price = λ topology' is. absurd (cc (one_verb price prove words (price_asks names words topology' is) asks));
+      ship = λ tariff topology' journal' from is. absurd (cc (one_verb prove ship words asks (ship_asks names words tariff topology' journal' from is)));
+      follow = λ tariff topology' journal' is. absurd (cc (one_verb prove follow words asks (follow_asks names words tariff topology' journal' is)));
     }
 
 pub prove_by-requires-clause-ends : goal.prove_by-requires-clause-ends
@@ -155,6 +163,8 @@ returns-in-Ok-Check-clause-outcome g c =
           let same = one_check names words c.in-Ok-Check.tariff tariff topology topology' are is in
           rw (same.tariffs, same.topologies) at judged.outcome;
       price = λ topology' is. absurd (cc (one_verb check price words asks (price_asks names words topology' is)));
+      ship = λ tariff topology' journal' from is. absurd (cc (one_verb check ship words asks (ship_asks names words tariff topology' journal' from is)));
+      follow = λ tariff topology' journal' is. absurd (cc (one_verb check follow words asks (follow_asks names words tariff topology' journal' is)));
     }
 
 pub price-requires-clause-some : goal.price-requires-clause-some
@@ -185,6 +195,59 @@ returns-in-Ok-Price-clause-outcome g c =
       prove = λ tariff topology' ends is. absurd (cc (one_verb prove price words (prove_asks names words tariff topology' ends is) asks));
       check = λ tariff topology' is. absurd (cc (one_verb check price words (check_asks names words tariff topology' is) asks));
       price = λ topology' is. rw (one_priced names words topology topology' are is) at priced.outcome;
+      ship = λ tariff topology' journal' from is. absurd (cc (one_verb price ship words asks (ship_asks names words tariff topology' journal' from is)));
+      follow = λ tariff topology' journal' is. absurd (cc (one_verb price follow words asks (follow_asks names words tariff topology' journal' is)));
+    }
+
+pub returns-in-Ok-Ship-clause-outcome : goal.returns-in-Ok-Ship-clause-outcome
+returns-in-Ok-Ship-clause-outcome g c =
+    let names = map (λ tariff. tariff.name) c.args.tariffs.now in
+    let words = map string_bytes c.args.words.now in
+    let topology = c.in-Ok-Ship.topology.now in
+    let journal = c.in-Ok-Ship.journal.now in
+    let from = c.in-Ok-Ship.from in
+    let are = subst (AreWordsOf names words) c.in-Ok-Ship.field-0-is c.in-Ok-Ship.ensures.ok in
+    let asks : AsksFor ship words = ship_asks names words c.in-Ok-Ship.tariff topology journal from are in
+    let shipped = c.ship_by.ensures in
+    record {
+      words_at_1 = λ none. ((λ one. absurd (shipped.not_words one)), λ wrong. absurd (wrong.no_ship c.in-Ok-Ship.tariff topology journal from are));
+      wrong_words = λ wrong. absurd (wrong.no_ship c.in-Ok-Ship.tariff topology journal from are);
+      run = λ tariff other is. absurd (cc (one_verb run ship words (run_asks names words tariff other is) asks));
+      in_memory = λ tariff is. absurd (cc (one_verb run ship words (run_asks names words tariff None is) asks));
+      audit = λ tariff topology' other is. absurd (cc (one_verb audit ship words (audit_asks names words tariff topology' other is) asks));
+      generated = λ seed nodes links hoses is. absurd (cc (one_verb generate ship words (generate_asks words seed nodes links hoses is) asks));
+      prove = λ tariff topology' ends is. absurd (cc (one_verb prove ship words (prove_asks names words tariff topology' ends is) asks));
+      check = λ tariff topology' is. absurd (cc (one_verb check ship words (check_asks names words tariff topology' is) asks));
+      price = λ topology' is. absurd (cc (one_verb price ship words (price_asks names words topology' is) asks));
+      ship = λ tariff topology' journal' from' is.
+          let same = one_shipping names words c.in-Ok-Ship.tariff tariff topology topology' journal journal' from from' are is in
+          (refl, rw (same.tariffs, same.topologies, same.journals, same.epochs) at shipped.outcome);
+      follow = λ tariff topology' journal' is. absurd (cc (one_verb ship follow words asks (follow_asks names words tariff topology' journal' is)));
+    }
+
+pub returns-in-Ok-Follow-clause-outcome : goal.returns-in-Ok-Follow-clause-outcome
+returns-in-Ok-Follow-clause-outcome g c =
+    let names = map (λ tariff. tariff.name) c.args.tariffs.now in
+    let words = map string_bytes c.args.words.now in
+    let topology = c.in-Ok-Follow.topology.now in
+    let journal = c.in-Ok-Follow.journal.now in
+    let are = subst (AreWordsOf names words) c.in-Ok-Follow.field-0-is c.in-Ok-Follow.ensures.ok in
+    let asks : AsksFor follow words = follow_asks names words c.in-Ok-Follow.tariff topology journal are in
+    let followed = c.follow_by.ensures in
+    record {
+      words_at_1 = λ none. ((λ one. absurd (followed.not_words one)), λ wrong. absurd (wrong.no_follow c.in-Ok-Follow.tariff topology journal are));
+      wrong_words = λ wrong. absurd (wrong.no_follow c.in-Ok-Follow.tariff topology journal are);
+      run = λ tariff other is. absurd (cc (one_verb run follow words (run_asks names words tariff other is) asks));
+      in_memory = λ tariff is. absurd (cc (one_verb run follow words (run_asks names words tariff None is) asks));
+      audit = λ tariff topology' other is. absurd (cc (one_verb audit follow words (audit_asks names words tariff topology' other is) asks));
+      generated = λ seed nodes links hoses is. absurd (cc (one_verb generate follow words (generate_asks words seed nodes links hoses is) asks));
+      prove = λ tariff topology' ends is. absurd (cc (one_verb prove follow words (prove_asks names words tariff topology' ends is) asks));
+      check = λ tariff topology' is. absurd (cc (one_verb check follow words (check_asks names words tariff topology' is) asks));
+      price = λ topology' is. absurd (cc (one_verb price follow words (price_asks names words topology' is) asks));
+      ship = λ tariff topology' journal' from is. absurd (cc (one_verb ship follow words (ship_asks names words tariff topology' journal' from is) asks));
+      follow = λ tariff topology' journal' is.
+          let same = one_following names words c.in-Ok-Follow.tariff tariff topology topology' journal journal' are is in
+          rw (same.tariffs, same.topologies, same.journals) at followed.outcome;
     }
 
 pub returns-in-Err-clause-outcome : goal.returns-in-Err-clause-outcome
@@ -201,6 +264,8 @@ returns-in-Err-clause-outcome g c =
           no_prove = λ tariff topology ends are. prove_right names words tariff topology ends _ are wrong;
           no_check = λ tariff topology are. check_right names words tariff topology _ are wrong;
           no_price = λ topology are. price_right names words topology _ are wrong;
+          no_ship = λ tariff topology journal from are. ship_right names words tariff topology journal from _ are wrong;
+          no_follow = λ tariff topology journal are. follow_right names words tariff topology journal _ are wrong;
           no_serve = λ tariff topology journal port connections workers are. serve_right names words tariff topology journal port connections workers _ are wrong;
         }),
         λ none. c.end.ensures.status,
@@ -213,4 +278,6 @@ returns-in-Err-clause-outcome g c =
       prove = λ tariff topology ends are. absurd (prove_right names words tariff topology ends _ are wrong);
       check = λ tariff topology are. absurd (check_right names words tariff topology _ are wrong);
       price = λ topology are. absurd (price_right names words topology _ are wrong);
+      ship = λ tariff topology journal from are. absurd (ship_right names words tariff topology journal from _ are wrong);
+      follow = λ tariff topology journal are. absurd (follow_right names words tariff topology journal _ are wrong);
     }

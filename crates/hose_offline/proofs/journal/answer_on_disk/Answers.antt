@@ -4,7 +4,7 @@ use Rattle.hose_store.specs.Store.{Kept}
 use Rattle.hose_offline.specs.ServingOnDisk.{ServesOnDisk}
 use Rattle.hose_offline.specs.declared.fault.Fault.{Fault}
 use Rattle.hose_offline.specs.OnDisk.{opening_of}
-use Rattle.hose_offline.proofs.Journals.{not_opened, served_on}
+use Rattle.hose_offline.proofs.Journals.{first_long, not_opened, served_on}
 use Rattle.hose_offline.proofs.Unused.{closed_unused}
 use Rattle.hose_offline.proofs.journal.answer_on_disk.Goals as goal
 
@@ -42,3 +42,9 @@ returns-clause-serves g c =
     (λ history kept stands closes. c.law_closed.ensures begins old left history kept closing stands closes)
     (c.answer_all-served.ensures.serves opened.history sound (c.new-core.ensures.fits 0 opened.history opened.has.book)) in
     inr (c.answer_all-served.result, closing, has, c.first_fault.ensures)
+
+pub returns-clause-too_long : goal.returns-clause-too_long
+returns-clause-too_long g c =
+    let long = first_long c.answer_all-served.result c.close-closed-2.result.0 in
+    let told = c.answer_all-served.ensures.too_long in
+    rw c.first_fault.ensures ((λ is. told.0 (long.0 is)), (λ more. long.1 (told.1 more)))

@@ -1,0 +1,156 @@
+-- What a follower's answers make of the history of its store.
+use Rattle.std.proofs.Common.{◌≡◌, ◌≢◌, ◌∙◌, ◌⊎◌, inl, inr, ℕ, ◌+◌, ◌<◌, ◌≤◌, List, [], ◌∷◌, ◌++◌, Option, None, Some, length, length-append, append_assoc, append-nil, refl, sym, ap, subst, arith}
+use mathlib.Core.List.{IsPrefix}
+use Rattle.hose_graph.specs.Network.{Network}
+use Rattle.hose_graph.specs.declared.entry.Entry.{Entry}
+use Rattle.hose_law.specs.Book.{Book}
+use Rattle.hose_law.specs.History.{IsSoundAt, book_after, book_of, next_book, opening_book}
+use Rattle.hose_law.proofs.LiveIds.{next_epoch}
+use Rattle.hose_book.specs.GoingOn.{GoesOn, entry_more, none_yet as nothing_yet}
+use Rattle.hose_book.specs.Ledger.{Ledger}
+use Rattle.hose_book.specs.declared.committed.Committed.TheVariants as committed
+use Rattle.hose_codec.specs.Spelling.{IsSpelling}
+use Rattle.hose_disk.specs.declared.disk.Disk.{Ghosts}
+use Rattle.hose_journal.specs.Chain.{chain}
+use Rattle.hose_store.specs.Commit.{IsLeft, store_books}
+use Rattle.hose_store.specs.Recovery.{digest_of}
+use Rattle.hose_store.specs.Store.{HasHistory, Kept}
+use Rattle.hose_follow.specs.Offering.{AreOffered, Brings, Enters, IsDue, IsOffered, none_yet as none_offered, packet_more as offered_more}
+use Rattle.hose_follow.specs.Packet.{Packet, packets_bytes}
+use Rattle.hose_follow.specs.declared.answers.Offered.{Offered}
+use Rattle.hose_follow.specs.declared.answers.Offered.TheVariants.{Have, Want, Differs, Memory, Unsound, Disk}
+use Rattle.hose_offline.specs.Following.{AnswersAt, AreAnswered, BringsAt, IsDueAt, none_yet, packet_more}
+use Rattle.hose_offline.proofs.Packets.{some_bytes}
+
+-- a book counts its entries
+epoch_after : (book : Book) (entries : List Entry) → (book_after book entries).epoch ≡ book.epoch + length entries
+epoch_after book [] = omega arith
+epoch_after book (entry ∷ entries) = omega (arith, epoch_after (next_book book entry) entries, next_epoch book entry)
+
+epoch_is : (book : Book) (history : List Entry) → book ≡ book_of 0 history → book.epoch ≡ length history
+epoch_is book history is = omega (arith, ap (λ (b : Book). b.epoch) is, epoch_after (opening_book 0) history)
+
+-- where no byte was taken no packet was answered
+pub none_answered : (network : Network) (since : List Entry) (packets : List Packet) (answers : List Offered) (history : List Entry) (rest : List ℕ) → AreAnswered network since packets answers history → packets_bytes packets ++ rest ≡ [] → history ≡ since
+none_answered network since packets answers history rest none_yet same = refl
+none_answered network since packets answers history rest (packet_more packet answer before at) same = absurd (some_bytes _ packet rest same)
+
+module _ {D : Type 0} (disk : Ghosts D) (first : Kept D) (since : List Entry) where
+  -- packets that were offered were answered so by a history, which the store has then
+  pub record Leads (packets : List Packet) (answers : List Offered) (now : Kept D) : Type 0 where
+    pub history : List Entry
+    pub doubt : Option Entry
+    pub same_network : now.ledger.network ≡ first.ledger.network
+    pub has : HasHistory disk now history doubt
+    pub goes_on : GoesOn (store_books disk) IsSoundAt first.ledger.network since first history now
+    pub answered : AreAnswered first.ledger.network since packets answers history
+    pub begins : IsPrefix since history
+
+  module _ (packets : List Packet) (answers : List Offered) (middle : Kept D) (on : Leads packets answers middle) where
+    epoch : middle.ledger.book.epoch ≡ length on.history
+    epoch = epoch_is middle.ledger.book on.history on.has.book
+
+    value : (given : List ℕ) → given ≡ chain (digest_of middle.ledger.network) on.history → given ≡ chain (digest_of first.ledger.network) on.history
+    value given is = subst (λ (n : Network). given ≡ chain (digest_of n) on.history) on.same_network is
+
+    due : (packet : Packet) → IsDue disk middle packet → IsDueAt first.ledger.network on.history packet
+    due packet is = record {
+      epoch = omega (arith, is.epoch, epoch);
+      value = value packet.chain (is.chain on.history on.doubt on.has);
+    }
+
+    brings : (packet : Packet) (entry : Entry) → Brings middle.ledger packet entry → BringsAt first.ledger.network on.history packet entry
+    brings packet entry is = record {
+      spells = is.spells;
+      sound = subst (λ (n : Network). IsSoundAt n (book_of 0 on.history) entry) on.same_network
+          (subst (λ (book : Book). IsSoundAt middle.ledger.network book entry) on.has.book is.sound);
+    }
+
+    brought : (packet : Packet) (entry : Entry) → BringsAt first.ledger.network on.history packet entry → Brings middle.ledger packet entry
+    brought packet entry is = record {
+      spells = is.spells;
+      sound = subst (λ (book : Book). IsSoundAt middle.ledger.network book entry) (sym on.has.book)
+          (subst (λ (n : Network). IsSoundAt n (book_of 0 on.history) entry) (sym on.same_network) is.sound);
+    }
+
+    -- the store was not touched
+    stays : (now : Kept D) (packet : Packet) (answer : Offered) → now ≡ middle → AnswersAt first.ledger.network on.history packet answer on.history → Leads (packets ++ packet ∷ []) (answers ++ answer ∷ []) now
+    stays now packet answer same at = subst (Leads (packets ++ packet ∷ []) (answers ++ answer ∷ [])) (sym same) (record {
+      history = on.history;
+      doubt = on.doubt;
+      same_network = on.same_network;
+      has = on.has;
+      goes_on = on.goes_on;
+      answered = packet_more packet answer on.answered at;
+      begins = on.begins;
+    })
+
+    -- an entry was committed
+    entered : (now : Kept D) (packet : Packet) (entry : Entry) (n : ℕ) → n ≡ packet.epoch → Enters disk middle packet entry committed.Done now → Leads (packets ++ packet ∷ []) (answers ++ Have n ∷ []) now
+    entered now packet entry n is enters =
+        let is_due = due packet enters.due in
+        let bring = brings packet entry enters.brings in
+        record {
+          history = on.history ++ entry ∷ [];
+          doubt = None;
+          same_network = ap (λ (l : Ledger). l.network) enters.went.commits ∙ on.same_network;
+          has = enters.went.left on.history on.doubt on.has;
+          goes_on = entry_more entry committed.Done on.goes_on bring.sound enters.went;
+          answered = packet_more packet (Have n) on.answered (inr (entry, is_due, bring, omega (arith, is, is_due.epoch, length-append on.history (entry ∷ [])), refl));
+          begins = (on.begins.0 ++ entry ∷ [], sym (append_assoc since on.begins.0 (entry ∷ [])) ∙ ap (λ (l : List Entry). l ++ entry ∷ []) on.begins.1);
+        }
+
+    -- the disk failed at it
+    with_doubt : (now : Kept D) (packet : Packet) (entry : Entry) (at : ℕ) (doubt : Option Entry) → at ≡ length on.history → Enters disk middle packet entry committed.Disk now → HasHistory disk now on.history doubt
+        → Leads (packets ++ packet ∷ []) (answers ++ Disk at ∷ []) now
+    with_doubt now packet entry at doubt is enters has =
+        let bring = brings packet entry enters.brings in
+        record {
+          history = on.history;
+          doubt = doubt;
+          same_network = ap (λ (l : Ledger). l.network) enters.went.commits ∙ on.same_network;
+          has = has;
+          goes_on = entry_more entry committed.Disk on.goes_on bring.sound enters.went;
+          answered = packet_more packet (Disk at) on.answered ((entry, due packet enters.due, bring), is, refl);
+          begins = on.begins;
+        }
+
+    failed : (now : Kept D) (packet : Packet) (entry : Entry) (at : ℕ) → at ≡ length on.history → Enters disk middle packet entry committed.Disk now → IsLeft disk on.history on.doubt entry committed.Disk now → Leads (packets ++ packet ∷ []) (answers ++ Disk at ∷ []) now
+    failed now packet entry at is enters (inl has) = with_doubt now packet entry at on.doubt is enters has
+    failed now packet entry at is enters (inr (inl has)) = with_doubt now packet entry at None is enters has
+    failed now packet entry at is enters (inr (inr has)) = with_doubt now packet entry at (Some entry) is enters has
+
+    one_more : (now : Kept D) (packet : Packet) (answer : Offered) → IsOffered disk middle packet answer now → Leads (packets ++ packet ∷ []) (answers ++ answer ∷ []) now
+    one_more now packet (Have n) (inl past) =
+        stays now packet (Have n) past.same (inl (omega (arith, past.past, epoch), omega (arith, past.own, epoch), refl))
+    one_more now packet (Have n) (inr (entry, is, enters)) = entered now packet entry n is enters
+    one_more now packet (Want n) offered =
+        stays now packet (Want n) offered.2 (omega (arith, offered.0, epoch), omega (arith, offered.1, epoch), refl)
+    one_more now packet (Differs at own given) (other, same) = stays now packet (Differs at own given) same (
+      record {
+        epoch = omega (arith, other.epoch, epoch);
+        own_value = value own (other.own on.history on.doubt on.has);
+        given_value = other.given;
+        differs = other.differs;
+      },
+      omega (arith, other.at, epoch),
+      refl,
+    )
+    one_more now packet Memory (is_due, some, same) = stays now packet Memory same (due packet is_due, some, refl)
+    one_more now packet (Unsound told) (is_due, none, is, same) =
+        stays now packet (Unsound told) same (due packet is_due, (λ entry bring. none entry (brought packet entry bring)), is, refl)
+    one_more now packet (Disk at) (entry, is, enters) =
+        failed now packet entry at (omega (arith, is, epoch)) enters (enters.went.left on.history on.doubt on.has)
+
+  pub leads : (doubt : Option Entry) (packets : List Packet) (answers : List Offered) (last : Kept D) → HasHistory disk first since doubt → AreOffered disk first packets answers last → Leads packets answers last
+  leads doubt packets answers last has none_offered = record {
+    history = since;
+    doubt = doubt;
+    same_network = refl;
+    has = has;
+    goes_on = nothing_yet;
+    answered = none_yet;
+    begins = ([], append-nil since);
+  }
+  leads doubt packets answers last has (offered_more packet answer before offered) =
+      one_more _ _ _ (leads doubt _ _ _ has before) last packet answer offered

@@ -1,0 +1,171 @@
+-- What the answers of a follower make of the history of its journal, and what following does to the
+-- journal's disk.
+use Rattle.std.specs.Prelude.{◌≡◌, ◌≢◌, ◌⊎◌, ◌↔◌, ℕ, ◌+◌, ◌<◌, ◌≤◌, List, [], ◌∷◌, ◌++◌, length, All, IfSome, Result, Ok, Err, is_err, ⊤}
+use mathlib.Core.List.{IsPrefix}
+use Rattle.hose_io.specs.Frame.{Met}
+use Rattle.hose_io.specs.Stream.{Gives}
+use Rattle.hose_io.specs.declared.Failed.{Failed}
+use Rattle.hose_io.specs.declared.source.Source.{Ghosts as SourceGhosts}
+use Rattle.hose_io.specs.declared.sink.Sink.{Ghosts as SinkGhosts}
+use Rattle.hose_graph.specs.Network.{Network}
+use Rattle.hose_graph.specs.declared.entry.Entry.{Entry}
+use Rattle.hose_law.specs.History.{IsSound, IsSoundAt, book_of}
+use Rattle.hose_codec.specs.Spelling.{IsSpelling}
+use Rattle.hose_disk.specs.Cabinet.{Has, object_of}
+use Rattle.hose_disk.specs.declared.cabinet.Cabinet.{Ghosts as CabinetGhosts}
+use Rattle.hose_disk.specs.declared.disk.Disk.{Ghosts as DiskGhosts}
+use Rattle.hose_journal.specs.Chain.{chain}
+use Rattle.hose_store.specs.Beginning.{HasLeft}
+use Rattle.hose_store.specs.Recovery.{IsHistoryOf, digest_of}
+use Rattle.hose_follow.specs.Answers.{TellsDisks}
+use Rattle.hose_follow.specs.Ends.{EndsSo}
+use Rattle.hose_follow.specs.Packet.{IsPacket, Packet, packets_bytes}
+use Rattle.hose_follow.specs.declared.answers.Offered.{Offered}
+use Rattle.hose_follow.specs.declared.answers.Offered.TheVariants.{Have, Want, Differs, Memory, Unsound, Disk}
+use Rattle.hose_follow.specs.declared.following.FollowEnd.{FollowEnd}
+use Rattle.hose_follow.specs.declared.following.FollowEnd.TheVariants as end
+use Rattle.hose_follow.specs.declared.limits.TheConstants.{INPUT_LIMIT}
+use Rattle.hose_offline.specs.OnDisk.{Held, opening_of}
+use Rattle.hose_offline.specs.ServingOnDisk.{IsNotOpened, IsNotServed, first_of}
+use Rattle.hose_offline.specs.declared.fault.Fault.{Fault}
+use Rattle.hose_offline.specs.declared.fault.Fault.TheVariants as fault
+
+-- ---- answers and the history
+
+-- The packet is due: its epoch is the next one, and its chain value is the history's.
+pub record IsDueAt (network : Network) (history : List Entry) (packet : Packet) : Type 0 where
+  pub epoch : packet.epoch ≡ length history + 1
+  pub value : packet.chain ≡ chain (digest_of network) history
+
+-- The packet's body spells this entry, which is sound at the book of the history.
+pub record BringsAt (network : Network) (history : List Entry) (packet : Packet) (entry : Entry) :
+    Type 0 where
+  pub spells : IsSpelling entry packet.body
+  pub sound : IsSoundAt network (book_of 0 history) entry
+
+-- the packet has the next epoch, and another chain value than the history
+pub record IsOtherAt (network : Network) (history : List Entry) (packet : Packet)
+    (own given : List ℕ) : Type 0 where
+  pub epoch : packet.epoch ≡ length history + 1
+  pub own_value : own ≡ chain (digest_of network) history
+  pub given_value : given ≡ packet.chain
+  pub differs : given ≢ own
+
+-- The answer to a packet by a journal of this history, and the history then. An entry is added
+-- where it was due, and committed; where the disk failed at that, it is not in the history.
+abbrev pub AnswersAt : Network → List Entry → Packet → Offered → List Entry → Type 0
+AnswersAt network old packet (Have n) new =
+    ((packet.epoch ≤ length old) × (n ≡ length old) × (new ≡ old))
+    ⊎ ((entry : Entry) × IsDueAt network old packet × BringsAt network old packet entry
+    × (n ≡ length new) × (new ≡ old ++ entry ∷ []))
+AnswersAt network old packet (Want n) new =
+    (length old + 1 < packet.epoch) × (n ≡ length old + 1) × (new ≡ old)
+AnswersAt network old packet (Differs at own given) new =
+    IsOtherAt network old packet own given × (at ≡ length old) × (new ≡ old)
+AnswersAt network old packet Memory new = IsDueAt network old packet
+    × ((entry : Entry) × IsSpelling entry packet.body) × (new ≡ old)
+AnswersAt network old packet (Unsound epoch) new = IsDueAt network old packet
+    × ((entry : Entry) → ¬ BringsAt network old packet entry)
+    × (epoch ≡ packet.epoch) × (new ≡ old)
+AnswersAt network old packet (Disk at) new =
+    ((entry : Entry) × IsDueAt network old packet × BringsAt network old packet entry)
+    × (at ≡ length old) × (new ≡ old)
+
+-- Packets were answered one after another, each by the history that the one before it left, which
+-- was this one at first: the answers, and the history that the last one leaves.
+pub data AreAnswered (network : Network) (since : List Entry) : List Packet → List Offered
+    → List Entry → Type 0 where
+  none_yet : AreAnswered network since [] [] since
+  packet_more : {packets : List Packet} {answers : List Offered} {middle history : List Entry}
+      (packet : Packet) (answer : Offered) → AreAnswered network since packets answers middle
+      → AnswersAt network middle packet answer history
+      → AreAnswered network since (packets ++ packet ∷ []) (answers ++ answer ∷ []) history
+
+-- ---- an input
+
+module _ {I O : Type 0} (source : SourceGhosts I) (sink : SinkGhosts O) (input input' : I)
+    (output output' : O) where
+  -- What following the input comes to for a journal that had a history: its whole packets are
+  -- answered one after another, which leads to this history. The history goes on from the first one
+  -- and is sound. `EndsSo` says how the input stands to what comes after the packets, and what is
+  -- out.
+  pub record FollowsFrom (network : Network) (since history : List Entry) (ended : FollowEnd) :
+      Type 0 where
+    pub packets : List Packet
+    pub rest : List ℕ
+    pub answers : List Offered
+    pub gives : Gives (source.content input) (source.content input') (packets_bytes packets ++ rest)
+    pub are : All IsPacket packets
+    pub answered : AreAnswered network since packets answers history
+    pub begins : IsPrefix since history
+    pub sound : IsSound network 0 history
+    pub ends : EndsSo source sink input input' output output' packets answers rest ended
+    pub limit : length (packets_bytes packets ++ rest) ≤ INPUT_LIMIT + 1
+    pub too_long : (ended ≡ end.TooLong) ↔ (INPUT_LIMIT < length (packets_bytes packets ++ rest))
+    -- without memory to begin with nothing was taken
+    pub memory : ended ≡ end.Memory → history ≡ since
+
+-- what ended following, as a fault of the program
+abbrev pub following_fault : FollowEnd → Result ⊤ Fault
+following_fault end.End = Ok tt
+following_fault (end.Packet at) = Err (fault.Packet at)
+following_fault end.Read = Err fault.Read
+following_fault end.Write = Err fault.Write
+following_fault end.TooLong = Err fault.TooLong
+following_fault end.Memory = Err fault.Memory
+
+-- ---- on a disk
+
+-- The input was followed by the store of a disk, which was closed then. What is left of the disk
+-- stands for the history, as `HasLeft` says.
+pub record HasFollowedOnDisk {I O E : Type 0} (source : SourceGhosts I) (sink : SinkGhosts O)
+    (disk : DiskGhosts E) (input input' : I) (output output' : O) (network : Network)
+    (old left : E) (ended : FollowEnd) (closing : Result ⊤ Failed) : Type 0 where
+  pub since : List Entry
+  pub history : List Entry
+  pub read : IfSome (disk.content old) (IsHistoryOf network since)
+  pub follows : FollowsFrom source sink input input' output output' network since history ended
+  pub disks : TellsDisks (disk.frame old).faults follows.answers (disk.frame left).faults
+  pub told : (disk.frame left).has_failed ≡ is_err closing
+  pub leaves : HasLeft disk IsSoundAt (disk.may_leave old) (opening_of disk network since old)
+      history left closing
+
+-- no store was opened, or the input was followed by it, and the first fault is told
+abbrev pub FollowsOnDisk : {I O E : Type 0} → SourceGhosts I → SinkGhosts O → DiskGhosts E → I → I
+    → O → O → Network → E → E → Result ⊤ Fault → Type 0
+FollowsOnDisk source sink disk input input' output output' network old left result =
+    (IsNotOpened disk old left network result × (input' ≡ input) × (output' ≡ output))
+    ⊎ ((ended : FollowEnd) × (closing : Result ⊤ Failed)
+    × HasFollowedOnDisk source sink disk input input' output output' network old left ended closing
+    × (result ≡ first_of (following_fault ended) closing))
+
+-- ---- in a cabinet
+
+-- The input was followed by the journal of a name, which was closed and put back then. It stood for
+-- a history, as it was read at its opening. Failures of the disk were told no more often than the
+-- disk has failed, and the cabinet failed where closing did.
+pub record HasFollowed {I O C E : Type 0} (source : SourceGhosts I) (sink : SinkGhosts O)
+    (cabinet : CabinetGhosts C E) (disk : DiskGhosts E) (name : List ℕ) (input input' : I)
+    (output output' : O) (old new : C) (network : Network) (ended : FollowEnd)
+    (closing : Result ⊤ Failed) : Type 0 where
+  pub since : List Entry
+  pub history : List Entry
+  pub begun : Held cabinet disk old new name (IsHistoryOf network since)
+  pub follows : FollowsFrom source sink input input' output output' network since history ended
+  pub disks : TellsDisks 0 follows.answers (cabinet.frame new).returned
+  pub met : Met (object_of (cabinet.frame old)) (object_of (cabinet.frame new)) closing
+  pub left : Has (cabinet.frame old).tells (cabinet.held old name) (λ was.
+      Has (cabinet.frame new).tells (cabinet.held new name) (λ left.
+      HasLeft disk IsSoundAt (disk.may_leave was) (opening_of disk network since was) history
+      left closing))
+
+-- no packet was answered, and why; or the input was followed, and the first fault is told
+abbrev pub FollowsInCabinet : {I O C E : Type 0} → SourceGhosts I → SinkGhosts O
+    → CabinetGhosts C E → DiskGhosts E → List ℕ → I → I → O → O → C → C → Network → Result ⊤ Fault
+    → Type 0
+FollowsInCabinet source sink cabinet disk name input input' output output' old new network result =
+    (IsNotServed cabinet disk name old new network result × (input' ≡ input)
+    × (output' ≡ output))
+    ⊎ ((ended : FollowEnd) × (closing : Result ⊤ Failed)
+    × HasFollowed source sink cabinet disk name input input' output output' old new network
+    ended closing × (result ≡ first_of (following_fault ended) closing))

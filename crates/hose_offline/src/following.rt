@@ -1,0 +1,114 @@
+// Following: packets of an input, answered by the book of a journal.
+ghost use Rattle.std.specs.Prelude.{◌≡◌, ◌≢◌, None};
+ghost use Rattle.hose_io.specs.Frame.{Stays};
+ghost use Rattle.hose_disk.specs.Cabinet.{object_of};
+ghost use Rattle.hose_offline.specs.FollowOutcome.{FollowOutcome};
+ghost use Rattle.hose_offline.specs.Following.{FollowsInCabinet, FollowsOnDisk, following_fault};
+
+use crate::auditing::read_topology;
+use crate::fault::{Fault, end};
+use crate::journal::first_fault;
+use hose_disk::{Cabinet, Disk};
+use hose_follow::{FollowEnd, Sound};
+use hose_graph::Topology;
+use hose_io::{Sink, Source};
+use hose_store::{Store, law_closed, law_one_meaning, law_opened, law_run};
+use hose_tariff::Prices;
+use std::alloc::Global;
+
+/// Reads the topology of a text, answers the packets of the input by the journal of a name, which
+/// follows the one that they come from, and gives the exit status. The network has these costs.
+pub fn follow<P: Prices, I: Source, O: Sink, C: Cabinet>(
+    alloc: Global,
+    costs: &P,
+    topology: &str,
+    journal: &str,
+    input: &mut I,
+    output: &mut O,
+    cabinet: &mut C,
+) -> u8
+    requires { (C.frame cabinet.old).out ≡ None }
+    ensures outcome { FollowOutcome (P.prices costs.now) I.Source O.Sink C.Cabinet C.Disk.Disk
+        topology.now journal.now input.old input.new output.old output.new
+        cabinet.old cabinet.new result }
+    ensures not_words { result ≢ 1 }
+    ensures back { (C.frame cabinet.new).out ≡ None }
+    ensures input { Stays (I.frame input.old) (I.frame input.new) }
+    ensures output { Stays (O.frame output.old) (O.frame output.new) }
+    ensures cabinet { Stays (object_of (C.frame cabinet.old)) (object_of (C.frame cabinet.new)) }
+{
+    match read_topology(alloc, costs, topology, cabinet) {
+        Ok(top) => {
+            let done = follow_in_cabinet(alloc, journal, top, input, output, cabinet);
+            end(done, output)
+        }
+        Err(why) => end(Err(why), output),
+    }
+}
+
+// Answers all packets by the journal of a name. The disk is back in the cabinet then.
+fn follow_in_cabinet<I: Source, O: Sink, C: Cabinet>(
+    alloc: Global,
+    name: &str,
+    topology: Topology,
+    input: &mut I,
+    output: &mut O,
+    cabinet: &mut C,
+) -> Result<(), Fault>
+    requires { (C.frame cabinet.old).out ≡ None }
+    ensures follows { FollowsInCabinet I.Source O.Sink C.Cabinet C.Disk.Disk name.now
+        input.old input.new output.old output.new cabinet.old cabinet.new topology result }
+    ensures absent { (C.frame cabinet.new).absent ≡ (C.frame cabinet.old).absent }
+    ensures back { (C.frame cabinet.new).out ≡ None }
+    ensures input { Stays (I.frame input.old) (I.frame input.new) }
+    ensures output { Stays (O.frame output.old) (O.frame output.new) }
+    ensures cabinet { Stays (object_of (C.frame cabinet.old)) (object_of (C.frame cabinet.new)) }
+{
+    let Ok(disk) = cabinet.disk(name) else {
+        return Err(Fault::Cabinet);
+    };
+    let followed = follow_on_disk(alloc, topology, disk, input, output);
+    cabinet.back(followed.1);
+    followed.0
+}
+
+// Answers all packets by the journal on a disk, which comes back. The first fault is told.
+fn follow_on_disk<I: Source, O: Sink, D: Disk>(
+    alloc: Global,
+    topology: Topology,
+    disk: D,
+    input: &mut I,
+    output: &mut O,
+) -> (Result<(), Fault>, D)
+    ensures follows { FollowsOnDisk I.Source O.Sink D.Disk input.old input.new
+        output.old output.new topology disk result.1 result.0 }
+    ensures input { Stays (I.frame input.old) (I.frame input.new) }
+    ensures output { Stays (O.frame output.old) (O.frame output.new) }
+{
+    // What is known of each image of the disk comes from the laws of stores.
+    law_one_meaning(&topology);
+    let mut store = match Store::open(alloc, disk, topology) {
+        Ok(store) => store,
+        Err(refused) => return (Err(Fault::from(refused.0)), refused.1),
+    };
+    law_opened::<D, Sound>();
+    law_run::<D, Sound>();
+    law_closed::<D, Sound>();
+    let ended = hose_follow::follow(alloc, input, output, &mut store);
+    let closed = store.close();
+    (first_fault(as_fault(ended), closed.0), closed.1)
+}
+
+// What ended following, as a fault of the program.
+fn as_fault(ended: FollowEnd) -> Result<(), Fault>
+    ensures { result ≡ following_fault ended }
+{
+    match ended {
+        FollowEnd::End => Ok(()),
+        FollowEnd::Packet { at } => Err(Fault::Packet { at }),
+        FollowEnd::Read => Err(Fault::Read),
+        FollowEnd::Write => Err(Fault::Write),
+        FollowEnd::TooLong => Err(Fault::TooLong),
+        FollowEnd::Memory => Err(Fault::Memory),
+    }
+}
