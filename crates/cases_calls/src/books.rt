@@ -28,8 +28,8 @@ pub fn stepped(alloc: Global, top: Topology, line: &str) -> Result<String, Troub
 }
 
 // What comes of a step: an entry that is judged, and entered where it is sound; one that is
-// committed then; the epoch, as how many VPNs are live, and the loads; what changed of late; the
-// audit.
+// committed then; the epoch, as how many VPNs are live, and the loads; the links in service; what
+// changed of late; the audit.
 fn step_told(alloc: Global, plain: &mut Plain, step: &str) -> Result<String, Trouble> {
     let (word, rest) = first(step);
     match word {
@@ -38,6 +38,7 @@ fn step_told(alloc: Global, plain: &mut Plain, step: &str) -> Result<String, Tro
         "turns" => turns(alloc, &mut plain.book, rest),
         "recent" => Ok(recent(alloc, &plain.book, number(rest)?)?),
         "stands" => Ok(standing(alloc, &plain.book)?),
+        "serves" => Ok(debugged(alloc, plain.book.service())?),
         "commit" => {
             let entry = entry_of(alloc, plain.book.topology(), rest)?;
             Ok(committed(alloc, plain, entry)?)
@@ -49,16 +50,31 @@ fn step_told(alloc: Global, plain: &mut Plain, step: &str) -> Result<String, Tro
     }
 }
 
-// The admission for acme of the ends and links of a reply, or a release.
+// The entry of some words: a release, a link that is taken out of service or put back, or an
+// admission.
 fn entry_of(alloc: Global, top: &Topology, words: &str) -> Result<Entry, Trouble> {
     let (word, rest) = first(words);
-    if word == "release" {
-        let (customer, id) = first(rest);
-        return Ok(Entry::Release {
-            customer: name(customer)?,
-            id: number(id)?,
-        });
+    match word {
+        "release" => {
+            let (customer, id) = first(rest);
+            Ok(Entry::Release {
+                customer: name(customer)?,
+                id: number(id)?,
+            })
+        }
+        "down" => Ok(Entry::Down { link: link(rest)? }),
+        "up" => Ok(Entry::Up { link: link(rest)? }),
+        _ => admission(alloc, top, words),
     }
+}
+
+// A link by its number, which is below 2,048.
+fn link(word: &str) -> Result<u32, Trouble> {
+    Ok(number(word)?.min(2047) as u32)
+}
+
+// The admission for acme of the ends and links of a reply.
+fn admission(alloc: Global, top: &Topology, words: &str) -> Result<Entry, Trouble> {
     let line = format!(in alloc; "vpn 1 cost 1 at 1 {words}")?;
     match read_reply(alloc, top, line.as_bytes())? {
         Reply::Shown { hose, amounts, .. } => Ok(Entry::Admit {

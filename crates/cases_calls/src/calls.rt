@@ -12,10 +12,12 @@ pub fn told(alloc: Global, line: &str) -> Result<String, Trouble> {
     let (call, words) = first(call);
     match call {
         "book" => books::stepped(alloc, top, words),
-        "core" => cores::answered(alloc, top, words),
+        "core" => cores::answered(alloc, top, "acme", words),
+        "operator" => cores::answered(alloc, top, "operator", words),
         "admit" => cores::admitted(alloc, top, words),
         "take" => cores::taken(alloc, top, words),
         "release" => cores::released(alloc, top, words),
+        "service" => cores::served(alloc, top, words),
         _ => of_network(alloc, &top, call, words),
     }
 }
@@ -27,6 +29,7 @@ fn of_network(alloc: Global, top: &Topology, call: &str, words: &str) -> Result<
         "reply" => lines::reply(alloc, top, words),
         "judge" => judging::judged(alloc, top, words),
         "decide" => plans::decided(alloc, top, words),
+        "served" => plans::served(alloc, top, words),
         "fit" => of_loads(alloc, top, words),
         "reach" => plans::reaching(alloc, top),
         "copies" => values::copies(alloc, top),

@@ -8,8 +8,8 @@ use crate::networks::{debugged, first, hose, name, number};
 use crate::trouble::Trouble;
 use hose_book::{Book, Books, Plain};
 use hose_core::{
-    Core, Planned, Quote, Quotes, admit_now, claim_release, claim_take, plan_beside, release_now,
-    take_now,
+    Core, Planned, Quote, Quotes, admit_now, claim_release, claim_service, claim_take, plan_beside,
+    release_now, service_now, take_now,
 };
 use hose_graph::{Amounts, Hose, MOST_EPOCH, MOST_QUOTES, Topology};
 use hose_links::LinkSet;
@@ -18,26 +18,36 @@ use hose_plan::Grounds;
 use hose_proto::read_command;
 use std::alloc::{AllocError, Global};
 
-/// What acme's commands are answered by the core of a network's book, which begins at an epoch. The
-/// commands stand between semicolons.
-pub fn answered(alloc: Global, top: Topology, line: &str) -> Result<String, Trouble> {
+/// What a customer's commands are answered by the core of a network's book, which begins at an
+/// epoch. The commands stand between semicolons.
+pub fn answered(
+    alloc: Global,
+    top: Topology,
+    customer: &str,
+    line: &str,
+) -> Result<String, Trouble> {
     let (epoch, commands) = first(line);
     let epoch = number(epoch)?.min(MOST_EPOCH);
     let book = Book::at(alloc, top, epoch)?;
     let mut core = Core::new(alloc, Plain { book });
     let mut text = String::new(alloc);
     for command in commands.split(';') {
-        let told = answer(alloc, &mut core, command)?;
+        let told = answer(alloc, &mut core, customer, command)?;
         text.push_str(told.as_str())?;
         text.push('\n')?;
     }
     Ok(text)
 }
 
-fn answer(alloc: Global, core: &mut Core<Plain>, line: &str) -> Result<String, Trouble> {
+fn answer(
+    alloc: Global,
+    core: &mut Core<Plain>,
+    customer: &str,
+    line: &str,
+) -> Result<String, Trouble> {
     let top = core.books().book().topology();
     let command = read_command(alloc, top, line.as_bytes(), 0)?;
-    let reply = core.step(alloc, &name("acme")?, command, &mut PlainRows::new());
+    let reply = core.step(alloc, &name(customer)?, command, &mut PlainRows::new());
     Ok(debugged(alloc, &reply)?)
 }
 
@@ -74,9 +84,10 @@ pub fn taken(alloc: Global, top: Topology, line: &str) -> Result<String, Trouble
 fn planned(alloc: Global, book: &Book, line: &str) -> Result<Quote, Trouble>
     ensures { IfOk result (IsMadeAt book.now.network book.now.book) }
 {
-    let (top, loads, epoch) = (book.topology(), book.loads(), book.epoch());
+    let (top, service, loads) = (book.topology(), book.service(), book.loads());
     let hose = hose(alloc, top, line)?;
-    match plan_beside(alloc, top, loads, epoch, hose, &mut PlainRows::new())? {
+    let rows = &mut PlainRows::new();
+    match plan_beside(alloc, top, service, loads, book.epoch(), hose, rows)? {
         Planned::Quote(quote) => Ok(quote),
         Planned::Refused { .. } => Err(Trouble::Missing),
     }
@@ -103,6 +114,31 @@ fn release(alloc: Global, books: &mut Plain, id: u64) -> Result<String, Trouble>
 {
     let claim = claim_release(alloc, &name("acme")?, id)?;
     let reply = release_now(books, claim);
+    Ok(debugged(alloc, &reply)?)
+}
+
+/// What changes of links' service, as `down 2`, are answered one after another by a new book. They
+/// stand between semicolons.
+pub fn served(alloc: Global, top: Topology, line: &str) -> Result<String, Trouble> {
+    let mut books = Plain {
+        book: Book::new(alloc, top)?,
+    };
+    let mut text = String::new(alloc);
+    for change in line.split(';') {
+        let (word, link) = first(change);
+        let told = serve(alloc, &mut books, word == "down", number(link)?)?;
+        text.push_str(told.as_str())?;
+        text.push('\n')?;
+    }
+    Ok(text)
+}
+
+fn serve(alloc: Global, books: &mut Plain, down: bool, link: u64) -> Result<String, Trouble> {
+    if link >= u64::from(books.book.topology().links()) {
+        return Err(Trouble::Missing);
+    }
+    let claim = claim_service(alloc, link as u32, down)?;
+    let reply = service_now(books, claim);
     Ok(debugged(alloc, &reply)?)
 }
 
@@ -157,6 +193,7 @@ fn quote_of(alloc: Global, seen: u64) -> Result<Quote, Trouble> {
             half: 1,
             first_fits: false,
             safe: LinkSet::new(alloc, 3)?,
+            service: LinkSet::new(alloc, 3)?,
         },
     })
 }

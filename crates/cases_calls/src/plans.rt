@@ -156,9 +156,42 @@ fn is_carried(top: &Topology, loads: &[u64], link: u32) -> bool
     loads[link as usize] <= top.link(link).capacity
 }
 
-/// What is decided of a hose beside some loads, and whether the grounds of that hold beside others.
-/// The line has the loads, the others, and the hose.
+// The links in service where those of these numbers are out.
+fn service(alloc: Global, top: &Topology, out: &[u64]) -> Result<LinkSet, AllocError>
+    ensures { IfOk result (λ links. length links ≡ length top.now.links) }
+{
+    let mut links = LinkSet::new(alloc, top.links())?;
+    links.fill_where(|link| !out.contains(&u64::from(link)));
+    Ok(links)
+}
+
+/// What is decided of a hose beside some loads, and whether the grounds of that hold beside others,
+/// with all links in service. The line has the loads, the others, and the hose.
 pub fn decided(alloc: Global, top: &Topology, line: &str) -> Result<String, Trouble> {
+    let all = service(alloc, top, &[])?;
+    decided_over(alloc, top, &all, &all, line)
+}
+
+/// The same over the links in service, and others. The line has the numbers of the links that are
+/// out, of those that are out then, and what `decided` has.
+pub fn served(alloc: Global, top: &Topology, line: &str) -> Result<String, Trouble> {
+    let (out, rest) = first(line);
+    let (later, line) = first(rest);
+    let links = service(alloc, top, &numbers(alloc, out)?)?;
+    let others = service(alloc, top, &numbers(alloc, later)?)?;
+    decided_over(alloc, top, &links, &others, line)
+}
+
+fn decided_over(
+    alloc: Global,
+    top: &Topology,
+    links: &LinkSet,
+    other_links: &LinkSet,
+    line: &str,
+) -> Result<String, Trouble>
+    requires links { length links.now ≡ length top.now.links }
+    requires others { length other_links.now ≡ length top.now.links }
+{
     let (loads, rest) = first(line);
     let (others, line) = first(rest);
     let (loads, others) = (numbers(alloc, loads)?, numbers(alloc, others)?);
@@ -166,14 +199,15 @@ pub fn decided(alloc: Global, top: &Topology, line: &str) -> Result<String, Trou
         return Err(Trouble::Missing);
     }
     let hose = hose(alloc, top, line)?;
-    let decision = decide(alloc, top, &loads, &hose, &mut PlainRows::new())?;
+    let decision = decide(alloc, top, links, &loads, &hose, &mut PlainRows::new())?;
     match &decision {
         Decision::Plan {
             grounds,
             amounts,
             cost,
         } => {
-            let (fits, holds) = (grounds.first_fits, grounds_hold(top, &others, grounds));
+            let holds = grounds_hold(top, other_links, &others, grounds);
+            let fits = grounds.first_fits;
             Ok(format!(in alloc; "{amounts:?} cost {cost}, first fits {fits}, holds {holds}")?)
         }
         Decision::Refused { side } => Ok(format!(in alloc; "refused, {side:?}")?),

@@ -98,6 +98,15 @@ fn told_fault(alloc: Global, fault: &StoreFault, bytes: &[u8]) -> Result<String,
     }
 }
 
+/// The chain value of a store that is opened on a disk of these bytes, in digits.
+pub fn chain(alloc: Global, network: &str, bytes: &[u8]) -> Result<String, Trouble> {
+    let opened = open(alloc, disk_of(alloc, bytes)?, topology(alloc, network)?);
+    match opened {
+        Ok(store) => Ok(hex::encode(alloc, store.chain().as_slice())?),
+        Err(refused) => Ok(told_fault(alloc, &refused.0, bytes)?),
+    }
+}
+
 /// How long the disk is that comes back where a store of the first network is refused on a disk of
 /// these bytes, and what one of the second is opened as on it.
 pub fn again(alloc: Global, network: &str, second: &str, bytes: &[u8]) -> Result<String, Trouble> {
@@ -123,9 +132,9 @@ fn disk_in(refused: (StoreFault, MemDisk)) -> MemDisk {
     refused.1
 }
 
-/// What comes of entries that are committed to a new store, which is then closed. For `commits`
-/// that is how each of them went, the book, how long the disk is and how many calls were made on
-/// it; for `left` what is opened after a stop, whose words `BEFORE:PICK` come first.
+/// What comes of entries that are committed to a store, which is then closed. For `commits` that is
+/// how each of them went, the book, how long the disk is and how many calls were made on it; for
+/// `left` what is opened after a stop, whose words `BEFORE:PICK` come first.
 pub fn committed(
     alloc: Global,
     names: &Names,
@@ -188,39 +197,57 @@ fn first_left_of(
     Ok(None)
 }
 
-// How the commits and the closing went, and the book then, and the disk. A word `KIND:NTH` has a
-// call of the disk fail; all others name entries.
+// How the commits and the closing went, and the book then, or why no store was opened; and the
+// disk. A word `on:NAME` has the disk hold the bytes of that name at first, and a word `KIND:NTH`
+// has a call of it fail; all others name entries.
 fn run(
     alloc: Global,
     names: &Names,
     network: &str,
     words: &str,
 ) -> Result<(String, MemDisk), Trouble> {
-    let mut store = begun(alloc, failing(alloc, words)?, topology(alloc, network)?)?;
+    let mut disk = first_disk(alloc, names, words)?;
+    fail_all(alloc, &mut disk, words)?;
+    match open(alloc, disk, topology(alloc, network)?) {
+        Ok(store) => went(alloc, names, store, words),
+        Err(refused) => Ok((told_fault(alloc, &refused.0, &[])?, disk_in(refused))),
+    }
+}
+
+fn went(
+    alloc: Global,
+    names: &Names,
+    store: Store<MemDisk>,
+    words: &str,
+) -> Result<(String, MemDisk), Trouble> {
+    let mut store = store;
     let mut told = String::new(alloc);
     commit_all(alloc, names, &mut store, words, &mut told)?;
     closed(alloc, store, told)
 }
 
-// An empty disk whose calls fail as the words say.
-fn failing(alloc: Global, words: &str) -> Result<MemDisk, Trouble> {
-    let mut disk = MemDisk::new(alloc)?;
-    fail_all(alloc, &mut disk, words)?;
-    Ok(disk)
+// A disk on which no call was made yet.
+fn first_disk(alloc: Global, names: &Names, words: &str) -> Result<MemDisk, Trouble> {
+    for word in words.split_whitespace() {
+        if let Some(name) = word.strip_prefix("on:") {
+            let written = disk_of(alloc, names.get(name).ok_or(Trouble::Word)?)?;
+            return stopped(alloc, &written, written.calls(), Pick::Kept);
+        }
+    }
+    Ok(MemDisk::new(alloc)?)
 }
 
 fn fail_all(alloc: Global, disk: &mut MemDisk, words: &str) -> Result<(), Trouble> {
     for word in words.split_whitespace() {
-        if names_call(word) {
+        if !names_entry(word) && !word.starts_with("on:") {
             fail(alloc, disk, word)?;
         }
     }
     Ok(())
 }
 
-// Whether a word has a call of the disk fail.
-fn names_call(word: &str) -> bool {
-    word.split_once(':').is_some()
+fn names_entry(word: &str) -> bool {
+    word.split_once(':').is_none()
 }
 
 fn commit_all(
@@ -231,19 +258,12 @@ fn commit_all(
     told: &mut String,
 ) -> Result<(), Trouble> {
     for word in words.split_whitespace() {
-        if !names_call(word) {
+        if names_entry(word) {
             let spelling = names.get(word).ok_or(Trouble::Word)?;
             told.push_str(commit(alloc, store, spelling)?)?;
         }
     }
     Ok(())
-}
-
-fn begun(alloc: Global, disk: MemDisk, top: Topology) -> Result<Store<MemDisk>, Trouble> {
-    match open(alloc, disk, top) {
-        Ok(store) => Ok(store),
-        Err(_) => Err(Trouble::Disk),
-    }
 }
 
 fn commit(

@@ -18,7 +18,7 @@ pub fn first_other<R: Files + AllocGlobal>(
     match word {
         "cut" => first_other_of(rt, names, Change::Cut, rest, wanted),
         "turn" => first_other_of(rt, names, Change::Turn, rest, wanted),
-        "entry" | "text" | "store" => {
+        "entry" | "text" | "store" | "chain" => {
             let network = network_of(rt, word, rest)?;
             let bytes = names.bytes(rt.alloc(), words_of(word, rest))?;
             let got = outcome(rt.alloc(), word, network.as_str(), &bytes)?;
@@ -95,9 +95,14 @@ fn changed(
     outcome(alloc, given.word, given.network, &bytes)
 }
 
-// The text of the network of a case on a store, whose file is its first word. Others have none.
+// Whether the bytes of a case are those of a journal.
+fn is_journal(word: &str) -> bool {
+    word == "store" || word == "chain"
+}
+
+// The text of the network of a case on a journal, whose file is its first word. Others have none.
 fn network_of<R: Files + AllocGlobal>(rt: &R, word: &str, rest: &str) -> Result<String, Trouble> {
-    if word != "store" {
+    if !is_journal(word) {
         return Ok(String::new(rt.alloc()));
     }
     let (file, _) = rest.split_once(' ').ok_or(Trouble::Word)?;
@@ -106,7 +111,7 @@ fn network_of<R: Files + AllocGlobal>(rt: &R, word: &str, rest: &str) -> Result<
 
 // The words that stand for the bytes of a case.
 fn words_of<'a>(word: &str, rest: &'a str) -> &'a str {
-    if word != "store" {
+    if !is_journal(word) {
         return rest;
     }
     match rest.split_once(' ') {
@@ -121,6 +126,7 @@ fn outcome(alloc: Global, word: &str, network: &str, bytes: &[u8]) -> Result<Str
         "entry" => Ok(String::from_str(alloc, entries::verdict(alloc, bytes)?)?),
         "text" => entries::text(alloc, bytes),
         "store" => stores::found(alloc, network, bytes),
+        "chain" => stores::chain(alloc, network, bytes),
         _ => Err(Trouble::Word),
     }
 }

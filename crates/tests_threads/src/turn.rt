@@ -113,14 +113,14 @@ fn counts_up(log: &Log, len: usize, customer: &[u8], count: u64) -> bool {
 fn is_of(entry: &Entry, wanted: &[u8]) -> bool {
     match entry {
         Entry::Release { customer, .. } => customer.bytes() == wanted,
-        Entry::Admit { .. } => false,
+        Entry::Admit { .. } | Entry::Down { .. } | Entry::Up { .. } => false,
     }
 }
 
 fn is_number(entry: &Entry, wanted: u64) -> bool {
     match entry {
         Entry::Release { id, .. } => *id == wanted,
-        Entry::Admit { .. } => false,
+        Entry::Admit { .. } | Entry::Down { .. } | Entry::Up { .. } => false,
     }
 }
 
