@@ -102,6 +102,20 @@ class LinkState(Reply):
 
 
 @dataclass
+class Down(Reply):
+    form = "down <link> at <epoch>"
+    link: int
+    epoch: int
+
+
+@dataclass
+class Up(Reply):
+    form = "up <link> at <epoch>"
+    link: int
+    epoch: int
+
+
+@dataclass
 class Bye(Reply):
     form = "bye"
 
@@ -138,6 +152,23 @@ class NoQuote(Refusal):
 @dataclass(eq=False)
 class TooManyQuotes(Refusal):
     form = "too many quotes at <epoch>"
+    epoch: int
+
+
+@dataclass(eq=False)
+class Already(Refusal):
+    """The link is out of service, or in service, as was asked for."""
+
+    form = "already <link> at <epoch>"
+    link: int
+    epoch: int
+
+
+@dataclass(eq=False)
+class Denied(Refusal):
+    """Only the customer `operator` may ask for this."""
+
+    form = "denied at <epoch>"
     epoch: int
 
 
@@ -248,7 +279,9 @@ def reader_of(kind):
     return kind, re.compile(pattern), [VALUES.get(name, int) for name in FIELD.findall(kind.form)]
 
 
-KINDS = [Welcome, Admitted, Quoted, Released, Vpn, LinkState, Bye, *Refusal.__subclasses__()]
+KINDS = [
+    Welcome, Admitted, Quoted, Released, Vpn, LinkState, Down, Up, Bye, *Refusal.__subclasses__(),
+]
 READERS = {}  # by the first word
 for _kind in KINDS:
     READERS.setdefault(_kind.form.split(" ")[0], []).append(reader_of(_kind))
@@ -345,9 +378,13 @@ class Lines:
 # The reply to each command where it is not refused, and the field that repeats a reply's number.
 DONE = {
     "hello": Welcome, "admit": Admitted, "quote": Quoted, "take": Admitted, "release": Released,
-    "show": Vpn, "link": LinkState, "bye": Bye,
+    "show": Vpn, "link": LinkState, "down": Down, "up": Up, "bye": Bye,
 }
-REPEATS = {Released: "id", Vpn: "id", NoVpn: "id", NoQuote: "quote", LinkState: "link"}
+REPEATS = {
+    Released: "id", Vpn: "id", NoVpn: "id", NoQuote: "quote",
+    LinkState: "link", Down: "link", Up: "link", Already: "link",
+}
+ORDERS = ("admit", "take", "release", "down", "up")
 
 
 def answers(reply: Reply, line: str) -> bool:
@@ -402,6 +439,14 @@ class Session:
 
     def link(self, link: int) -> LinkState:
         return self._do("link", link)
+
+    def down(self, link: int) -> Down:
+        """Takes a link out of service, so that no new tree uses it; for `operator` alone."""
+        return self._do("down", link)
+
+    def up(self, link: int) -> Up:
+        """Puts a link back into service; for `operator` alone."""
+        return self._do("up", link)
 
     def bye(self) -> None:
         """Ends the session; where it is over already, nothing."""
@@ -463,6 +508,7 @@ line of standard input up to `bye`, all in one session, as a `take` needs after 
 EPILOG = """\
 commands:
   admit NAME:RATE ..    quote NAME:RATE ..    take Q    release ID    show ID    link L
+  down L    up L    (these two as the customer operator)
 
 examples, with a server that was started by `./hosed serve demo/star.txt port.journal 7000 9 2`:
   python3 tools/client.py 7000 acme admit a:3 b:4
@@ -541,7 +587,7 @@ def talk(given) -> bool:
 
 def doubt_of(line: Optional[str]) -> str:
     """What is to be said of a line without a reply."""
-    is_order = (line or "").split(" ")[0] in ("admit", "take", "release")
+    is_order = (line or "").split(" ")[0] in ORDERS
     return f"; {networks.shown(line)} may have been done" if is_order else ""
 
 

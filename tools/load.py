@@ -5,6 +5,7 @@ Each customer is a process with one session, who waits for each reply before the
 Which commands come how often is told by `--mix`; hoses are random ones of the network, which is
 learned from the server by `link`, with a connection more. The VPNs are real orders of the customers
 load-1, load-2 and so on: each holds 100 at most, and gives up all at the end, or at an interrupt.
+No customer asks for `down` or `up`, which take links of the real network out of service and back.
 
 Printed are, for each kind of command and for all, the replies, how many came a second and how many
 refused, and the median, the 99th percentile and the worst of the times to a reply, in microseconds.

@@ -30,12 +30,16 @@ REPLIES = [
         "link 0 a h capacity 10 cost 1 load 0 out at 1",
         LinkState(0, "a", "h", 10, 1, 0, True, 1),
     ),
+    ("down 3 at 7", client.Down(3, 7)),
+    ("up 0 at 8", client.Up(0, 8)),
     ("bye", client.Bye()),
     ("refused at 1 side a b", client.Refused(1, ("a", "b"))),
     ("stale 3 4", client.Stale(3, 4)),
     ("no vpn 9 at 4000000000", client.NoVpn(9, 4_000_000_000)),
     ("no quote 1 at 2", client.NoQuote(1, 2)),
     ("too many quotes at 2", client.TooManyQuotes(2)),
+    ("already 3 at 7", client.Already(3, 7)),
+    ("denied at 2", client.Denied(2)),
     ("full at 2", client.Full(2)),
     ("spent at 2", client.Spent(2)),
     ("disk at 2", client.DiskFailed(2)),
@@ -47,7 +51,7 @@ NO_REPLIES = [
     "", "welcome", "welcome at 01", "welcome at -1", "welcome at 0 ", "welcome  at 0", "bye bye",
     "admitted 1 cost 1 at 1 links", "admitted 1 cost 1 at 1 links 0:1 0:1",
     "admitted 1 cost 1 at 1 links 0", "refused at 1 side",
-    "link 0 a h capacity 10 cost 1 load 3 down at 1", "bad x", "HTTP/1.1 400 Bad Request\r",
+    "link 0 a h capacity 10 cost 1 load 3 down at 1", "down at 1", "up 1 2", "already 3", "denied", "bad x", "HTTP/1.1 400 Bad Request\r",
 ]
 WELCOME, BYE = b"welcome at 0\n", b"bye\n"
 
@@ -91,6 +95,24 @@ class Sessions(unittest.TestCase):
         self.assertEqual(server.lines, [
             "hello acme", "admit a:3 b:4", "quote a:2 b:2", "take 1", "show 2", "release 2",
             "link 1", "bye",
+        ])
+
+    def test_a_link_out_of_service_and_back(self):
+        texts = [WELCOME, b"down 1 at 1\n", b"already 1 at 1\n", b"up 1 at 2\n", BYE]
+        with FakeServer(texts, [WELCOME, b"denied at 2\n", b"up 2 at 3\n"]) as server:
+            with Session("127.0.0.1", server.port, "operator") as session:
+                self.assertEqual(vars(session.down(1)), {"link": 1, "epoch": 1})
+                with self.assertRaises(client.Already) as refused:
+                    session.down(1)
+                self.assertEqual((refused.exception.link, refused.exception.epoch), (1, 1))
+                self.assertEqual(session.up(1).epoch, 2)
+            session = Session("127.0.0.1", server.port, "acme")
+            with self.assertRaises(client.Denied):
+                session.down(1)
+            with self.assertRaisesRegex(MalformedReply, "'up 2 at 3'"):
+                session.up(1)
+        self.assertEqual(server.lines, [
+            "hello operator", "down 1", "down 1", "up 1", "bye", "hello acme", "down 1", "up 1",
         ])
 
     def test_a_session_goes_on_after_a_refusal(self):
@@ -216,6 +238,12 @@ class Program(unittest.TestCase):
         self.assertEqual((status, output), (2, ""))
         self.assertIn("closed the connection in mid-line, after 'released 1 a'; "
                       "'release 1' may have been done\n", error)
+
+    def test_a_change_of_service_without_a_reply(self):
+        with FakeServer([WELCOME, b"down 0 at"]) as server:
+            status, output, error = run(server.port, "operator", "down", "0")
+        self.assertEqual((status, output), (2, ""))
+        self.assertIn("'down 0' may have been done\n", error)
 
     def test_usage(self):
         for words in ([], ["acme", "--timeout", "0"]):
