@@ -4,10 +4,11 @@
 The networks have up to 9 nodes. The planner here shares no code with the crates and follows the
 rules word by word; it is tried on rows worked out by hand first. On a third as many smaller
 networks the cost of an admission is that of a search by force: the least over all trees of the
-links allowed, with the least amounts that carry each matrix within the rates. In some scripts
-quotes are asked for and seldom taken, so that a customer comes to hold as many as one may. Prints
-how many networks, commands and replies of each kind agreed, and the seconds of both; or the first
-difference, with the input up to it, and ends with status 1.
+links allowed, with the least amounts that carry each matrix within the rates. Links are taken out
+of service and put back meanwhile. In some scripts quotes are asked for and seldom taken, so that a
+customer comes to hold as many as one may. Prints how many networks, commands and replies of each
+kind agreed, and the seconds of both; or the first difference, with the input up to it, and ends
+with status 1.
 
 usage: bench/compare_planner.py [PROGRAM [NETWORKS [SEED]]]
 The PROGRAM (./hosed) is seen from the top of the repository.
@@ -23,7 +24,8 @@ from itertools import combinations, product, zip_longest
 from typing import NamedTuple
 
 COMMANDS = 80  # of each network
-CUSTOMERS = ("acme", "zeta")
+OPERATOR = "operator"  # who may take links out of service and put them back
+CUSTOMERS = ("acme", "zeta", OPERATOR)
 QUOTES = 16  # that a customer holds at most
 SECONDS = 60  # that the program has for one network
 
@@ -161,24 +163,27 @@ def plan_cost(network, plan):
     return sum(network.links[number].cost * amount for number, amount in plan)
 
 
-def safe_links(network, loads, hose):
+def in_service(network, out):
+    """The links that are not out of service."""
+    return frozenset(range(len(network.links))) - frozenset(out)
+
+
+def safe_links(network, service, loads, hose):
     half = sum(rate for _, rate in hose) // 2
-    links = range(len(network.links))
-    return {number for number in links if free_rate(network, loads, number) >= half}
+    return {number for number in service if free_rate(network, loads, number) >= half}
 
 
-def allowed_links(network, loads, hose, kind):
+def allowed_links(network, service, loads, hose, kind):
     """The links over which a plan of this kind was made."""
-    return set(range(len(network.links))) if kind == "first" else safe_links(network, loads, hose)
+    return service if kind == "first" else safe_links(network, service, loads, hose)
 
 
-def decide(network, loads, hose):
+def decide(network, service, loads, hose):
     """`first` or `second` and the plan to admit the hose with; or `refused` and the side."""
-    everything = set(range(len(network.links)))
-    first = canonical_plan(network, everything, hose)
+    first = canonical_plan(network, service, hose)
     if first is not None and fits(network, loads, first):
         return "first", first
-    safe = safe_links(network, loads, hose)
+    safe = safe_links(network, service, loads, hose)
     second = canonical_plan(network, safe, hose)
     if second is None:
         return "refused", reached(network, safe, hose[0][0])
@@ -186,12 +191,13 @@ def decide(network, loads, hose):
     return "second", second
 
 
-def grounds(network, loads, hose):
-    """Whether the first plan exists and fits, and the safe links where it does not."""
-    first = canonical_plan(network, set(range(len(network.links))), hose)
+def grounds(network, service, loads, hose):
+    """The links in service, whether the first plan exists and fits, and the safe links where it
+    does not."""
+    first = canonical_plan(network, service, hose)
     if first is not None and fits(network, loads, first):
-        return True, None
-    return False, safe_links(network, loads, hose)
+        return service, True, None
+    return service, False, safe_links(network, service, loads, hose)
 
 
 # ---- The search by force.
@@ -250,8 +256,12 @@ class Server:
         self.by_force = by_force
         self.epoch = 0
         self.live = {}  # VPNs by their numbers
+        self.out = set()  # the links that are out of service
         self.quotes = {customer: {} for customer in CUSTOMERS}  # those held, by their numbers
         self.kinds = Counter()
+
+    def service(self):
+        return in_service(self.network, self.out)
 
     def loads(self):
         loads = [0] * len(self.network.links)
@@ -273,7 +283,7 @@ class Server:
         if not self.by_force:
             return plan_cost(self.network, plan)
         self.kinds["least cost by force"] += 1
-        over = allowed_links(self.network, self.loads(), hose, kind)
+        over = allowed_links(self.network, self.service(), self.loads(), hose, kind)
         return least_cost(self.network, over, hose)
 
     def enter(self, customer, hose, plan, cost):
@@ -283,7 +293,7 @@ class Server:
 
     def admit(self, customer, hose):
         hose = sorted(hose)
-        kind, found = decide(self.network, self.loads(), hose)
+        kind, found = decide(self.network, self.service(), self.loads(), hose)
         if kind == "refused":
             return self.refused("admit", found)
         self.kinds[f"admit, admitted with the {kind} plan"] += 1
@@ -296,11 +306,12 @@ class Server:
         if not free:
             self.kinds["quote, too many quotes"] += 1
             return f"too many quotes at {self.epoch}"
-        kind, found = decide(self.network, loads, hose)
+        service = self.service()
+        kind, found = decide(self.network, service, loads, hose)
         if kind == "refused":
             return self.refused("quote", found)
         self.kinds[f"quote, quoted with the {kind} plan"] += 1
-        cost, rests_on = self.cost(hose, kind, found), grounds(self.network, loads, hose)
+        cost, rests_on = self.cost(hose, kind, found), grounds(self.network, service, loads, hose)
         held[free[0]] = Quote(hose, self.epoch, kind, found, cost, rests_on)
         return f"quoted {free[0]} cost {cost} at {self.epoch} links {pairs_text(found)}"
 
@@ -310,11 +321,13 @@ class Server:
             self.kinds["take, no quote"] += 1
             return f"no quote {number} at {self.epoch}"
         later = "" if quote.epoch == self.epoch else " after other entries"
-        loads = self.loads()
-        if grounds(self.network, loads, quote.hose) != quote.grounds:
-            self.kinds["take, stale"] += 1
+        service, loads = self.service(), self.loads()
+        rests_on = grounds(self.network, service, loads, quote.hose)
+        if rests_on != quote.grounds:
+            why = " by links in service alone" if rests_on[1:] == quote.grounds[1:] else ""
+            self.kinds[f"take, stale{why}"] += 1
             return f"stale {quote.epoch} {self.epoch}"
-        decision = decide(self.network, loads, quote.hose)
+        decision = decide(self.network, service, loads, quote.hose)
         assert decision == (quote.kind, quote.plan), "equal grounds, and another decision"
         self.kinds[f"take, admitted with the {quote.kind} plan{later}"] += 1
         return self.enter(customer, quote.hose, quote.plan, quote.cost)
@@ -343,15 +356,38 @@ class Server:
         ends, links = self.ends_text(vpn.hose), pairs_text(vpn.plan)
         return f"vpn {number} cost {vpn.cost} at {self.epoch} ends {ends} links {links}"
 
+    def change(self, command, customer, number):
+        """Takes a link out of service, `down`, or puts it back, `up`."""
+        if number >= len(self.network.links):
+            self.kinds[f"{command}, bad"] += 1
+            return "bad 3"
+        if customer != OPERATOR:
+            self.kinds[f"{command}, denied"] += 1
+            return f"denied at {self.epoch}"
+        if (number in self.out) == (command == "down"):
+            self.kinds[f"{command}, already"] += 1
+            return f"already {number} at {self.epoch}"
+        self.kinds[f"{command}, {command}"] += 1
+        self.epoch += 1
+        self.out ^= {number}
+        return f"{command} {number} at {self.epoch}"
+
+    def down(self, customer, number):
+        return self.change("down", customer, number)
+
+    def up(self, customer, number):
+        return self.change("up", customer, number)
+
     def link(self, number):
         if number >= len(self.network.links):
             self.kinds["link, bad"] += 1
             return "bad 3"
-        self.kinds["link, link"] += 1
+        out = " out" if number in self.out else ""
+        self.kinds[f"link, link{out}"] += 1
         link = self.network.links[number]
         a, b = self.network.nodes[link.a], self.network.nodes[link.b]
         load = self.loads()[number]
-        told = f"capacity {link.capacity} cost {link.cost} load {load} at {self.epoch}"
+        told = f"capacity {link.capacity} cost {link.cost} load {load}{out} at {self.epoch}"
         return f"link {number} {a} {b} {told}"
 
 
@@ -418,9 +454,23 @@ def random_quote(draw, server):
     return draw.choice(CUSTOMERS), draw.randint(0, QUOTES + 1)
 
 
+def random_change(draw, server, kind):
+    """A customer and a link for `down` or `up`, mostly the operator and one that is not so yet."""
+    customer = OPERATOR if draw.random() < 0.85 else draw.choice(CUSTOMERS)
+    links = {"up": sorted(server.out), "down": sorted(server.service())}
+    wanted = kind if draw.random() < 0.9 else draw.choice(("up", "down"))
+    if links[wanted] and draw.random() < 0.9:
+        return customer, draw.choice(links[wanted])
+    return customer, draw.randint(0, len(server.network.links))
+
+
 # How often each command comes beside the others.
-WEIGHTS = {"admit": 10, "quote": 9, "take": 9, "release": 6, "show": 2, "link": 3}
-HOARDING = {"admit": 2, "quote": 40, "take": 2, "release": 2, "show": 1, "link": 1}
+WEIGHTS = {
+    "admit": 10, "quote": 9, "take": 9, "release": 6, "show": 2, "link": 3, "down": 2, "up": 4,
+}
+HOARDING = {
+    "admit": 2, "quote": 40, "take": 2, "release": 2, "show": 1, "link": 1, "down": 1, "up": 1,
+}
 
 
 def random_weights(draw):
@@ -438,6 +488,9 @@ def random_command(draw, server, size, weights):
     if kind == "link":
         number = draw.randint(0, len(server.network.links))
         return f"{customer} link {number}", server.link(number)
+    if kind in ("down", "up"):
+        customer, number = random_change(draw, server, kind)
+        return f"{customer} {kind} {number}", server.change(kind, customer, number)
     if kind == "take":
         customer, number = random_quote(draw, server)
         return f"{customer} take {number}", server.take(customer, number)
@@ -510,12 +563,31 @@ SCRIPTS = [
         ("zeta", "quote", ABOVE, "refused at 0 side a"),
         ("zeta", "quote", AB, "quoted 1 cost 3 at 0 links 0:1 1:1"),
     ]),
+    (STAR, [
+        ("operator", "down", 0, "down 0 at 1"),
+        ("acme", "admit", AB, "refused at 1 side a"),
+        ("acme", "down", 1, "denied at 1"),
+        ("operator", "down", 0, "already 0 at 1"),
+        ("operator", "down", 3, "bad 3"),
+        ("operator", "up", 0, "up 0 at 2"),
+        ("operator", "up", 0, "already 0 at 2"),
+        ("acme", "admit", AB, "admitted 3 cost 3 at 3 links 0:1 1:1"),
+    ]),
+    (detour(10), [
+        ("acme", "admit", [(0, 3), (1, 3)], "admitted 1 cost 3 at 1 links 0:3"),
+        ("operator", "down", 0, "down 0 at 2"),
+        ("acme", "admit", [(0, 3), (1, 3)], "admitted 3 cost 12 at 3 links 1:3 2:3"),
+        ("acme", "show", 1, "vpn 1 cost 3 at 3 ends a:3 b:3 links 0:3"),
+        ("zeta", "quote", AB, "quoted 1 cost 4 at 3 links 1:1 2:1"),
+        ("operator", "up", 0, "up 0 at 4"),
+        ("zeta", "take", 1, "stale 3 4"),
+    ]),
 ]
 
 
 def check_by_hand():
     for network, loads, hose, kind, found, cost in HAND:
-        decision = decide(network, loads, hose)
+        decision = decide(network, in_service(network, ()), loads, hose)
         assert decision == (kind, found), f"{hose} on {network}: {decision}"
         assert kind == "refused" or plan_cost(network, found) == cost, f"the cost of {found}"
     for network, commands in SCRIPTS:

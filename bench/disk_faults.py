@@ -11,7 +11,7 @@ usage: bench/disk_faults.py run | diff - crates/cases_program/data/disk_faults_r
 
 import sys
 
-from star_model import EMPTY, STAR, Disk, Failed, Journal, Server, audit, hose_of, journal_of
+from star_model import EMPTY, PLAIN, STAR, Disk, Failed, Journal, Server, audit, hose_of, journal_of
 
 ORDERS = ("admit a:3 b:4 c:5", "admit a:1 b:1")
 # What a customer says, with a question after each order.
@@ -71,7 +71,8 @@ WAYS = {
     "serve": (serve, "words serve t j 7000 1 1", "="),
 }
 BASES = {b"": "a new journal", EMPTY: "a journal without an entry",
-         journal_of(ONE): "a journal of one order"}
+         journal_of(ONE): "a journal of one order",
+         journal_of(ONE, PLAIN): "a journal of version 1 of one order"}
 
 
 def case(way, held, entries, failing):
@@ -101,11 +102,13 @@ def main():
     way = sys.argv[1]
     _, words, mark = WAYS[way]
     print(f"# Written by bench/disk_faults.py {way}: a call of the journal's disk fails, and in a")
-    print("# run two do, on an empty disk, on a journal without an entry, and on one of one order.")
+    print("# run two do, on an empty disk, on a journal without an entry, on one of one order, and")
+    print("# on one of one order in version 1, which is sealed first.")
     print(words)
     for line in STAR:
         print(f"{mark} {line}")
-    for held, entries in ((b"", ()), (EMPTY, ()), (journal_of(ONE), ONE)):
+    for held in BASES:
+        entries = ONE if len(held) > len(EMPTY) else ()
         for lines in cases(way, held, entries):
             print()
             print("\n".join(lines))

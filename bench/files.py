@@ -30,10 +30,13 @@ HANGS = 120  # seconds
 with open("demo/star.txt", encoding="ascii") as star:
     STAR = star.read()
 
-# An order, its reply, and how many bytes its record has with the gate after it: a length, a kind, a
-# name after its length, two endpoints, two links, a gate.
+# An order, its reply, and how many bytes its record has with the gate after it: a length, a chain
+# value, a kind, a name after its length, two endpoints, two links, a gate. A seal's has a length, a
+# kind, a chain value and a gate.
 ORDER, REPLY = "acme admit a:1 b:1\n", "admitted 1 cost 3 at 1 links 0:1 1:1\n"
-RECORD = 4 + 1 + (1 + 4) + (1 + 2 * (2 + 4)) + (2 + 2 * (2 + 4)) + 1
+VALUE = 32
+RECORD = 4 + VALUE + 1 + (1 + 4) + (1 + 2 * (2 + 4)) + (2 + 2 * (2 + 4)) + 1
+SEAL = 4 + 1 + VALUE + 1
 HEAD = 39  # bytes of a journal that was begun
 JSON_LIMIT = 16_777_216  # bytes of a topology in JSON
 
@@ -84,6 +87,14 @@ class Place:
                 return file.read()
         except FileNotFoundError:
             return None
+
+    def order_in_version_1(self):
+        """An order, whose journal is then put into version 1: its record has no chain value."""
+        self.order()
+        held = self.bytes()
+        length = HEAD + 4
+        with open(self.journal, "wb") as file:
+            file.write(held[:5] + b"\1" + held[6:length] + held[length + VALUE:])
 
 
 # Calls that change nothing and are no part of a promise.
@@ -152,10 +163,10 @@ def reads(size):
     return [f"pread journal at 0: {size}"]
 
 
-def enters(end):
-    """An entry after this many bytes: the record, and then the gate before it."""
+def enters(end, record=RECORD):
+    """An entry, or a seal, after this many bytes: the record, and then the gate before it."""
     return [
-        f"pwrite journal at {end}: {RECORD}",
+        f"pwrite journal at {end}: {record}",
         "fdatasync journal",
         f"pwrite journal at {end - 1}: 1",
         "fdatasync journal",
@@ -177,6 +188,20 @@ def trial_of_the_calls(work):
     size = HEAD + RECORD
     wanted = OPENS + ["fdatasync journal"] + reads(size) + CLOSES
     yield "a journal that is there, by a link", found, ((0, ""), wanted)
+
+
+def trial_of_a_seal(work):
+    """The calls of a journal of version 1 that is opened, and of the same once it is sealed."""
+    place = Place(work, "seal")
+    place.order_in_version_1()
+    size = HEAD + RECORD - VALUE
+    act = partial(place.run, ["run", "journal"], STAR)
+    for name, size, seals in (
+        ("a journal of version 1", size, enters(size, SEAL)),
+        ("one that is sealed", size + SEAL, []),
+    ):
+        wanted = OPENS + ["fdatasync journal"] + reads(size) + seals + CLOSES
+        yield name, calls_of(place, act), ((0, ""), wanted)
 
 
 # ---- Calls that fail, do less than they were asked for, or find another file.
@@ -213,6 +238,21 @@ def trial_of_failing_calls(work):
         act = partial(place.order, SECOND)
         found, _ = calls_of(place, act, fails(call, nth, error))
         yield f"{error} at call {nth} of {call}", (found, place.audit()), (wanted, kept)
+
+
+FAILING_SEAL = ("pwrite64", 1), ("fdatasync", 2), ("pwrite64", 2), ("fdatasync", 3)
+
+
+def trial_of_failing_seals(work):
+    """Each call of a seal fails once, upon which no journal is opened. The order stays."""
+    whole = Place(work, "not sealed")
+    whole.order()
+    kept = whole.audit()
+    for call, nth in FAILING_SEAL:
+        place = Place(work, f"seal {call} {nth}")
+        place.order_in_version_1()
+        found, _ = calls_of(place, partial(place.order, SECOND), fails(call, nth))
+        yield f"call {nth} of {call} in a seal", (found, place.audit()), (REFUSED, kept)
 
 
 def trial_of_pieces(work):
@@ -347,7 +387,9 @@ def library_of(folder):
 
 def all_trials(work):
     yield from trial_of_the_calls(work)
+    yield from trial_of_a_seal(work)
     yield from trial_of_failing_calls(work)
+    yield from trial_of_failing_seals(work)
     yield from trial_of_pieces(work)
     yield from trial_of_another_file(work)
     yield from trial_of_a_text(work)

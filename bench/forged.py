@@ -8,8 +8,10 @@ EDITS random edits by a rule with a SEED: bytes that are set, turned, added, lef
 elsewhere, numbers that are one more or less, records that are doubled, left out or exchanged, and
 other names. For each the reader here, which follows docs/GUIDE.md and shares no code with the
 crates, says what must be told: the book, the place of the damage, or that the journal is another
-network's. Prints how many of each there were, or the first that differs, with its bytes, and ends
-with status 1.
+network's; and how an audit must leave it: sealed where it is a sound one of version 1, and else as
+it was. Of each, before and after, tools/read_journal.py must list the entries with the same chain
+value, or the same damage, unless that is an entry which is not sound. Prints how many of each there
+were, or the first that differs, with its bytes, and ends with status 1.
 
 usage: bench/forged.py [PROGRAM [EDITS [SEED]]]     EDITS of each of the three
 The PROGRAM (./hosed) is seen from the top of the repository.
@@ -21,16 +23,20 @@ import random
 import subprocess
 import sys
 import tempfile
-from collections import Counter
+from collections import Counter, namedtuple
 from concurrent.futures import ThreadPoolExecutor
 
 from compare_planner import Server, Vpn, pairs_text, plan_cost, random_command, random_network
 from compare_planner import FORCED, WEIGHTS
 
+sys.path.insert(0, os.path.join(os.path.dirname(os.path.abspath(__file__)), "..", "tools"))
+import read_journal
+
 ORDERS = 8
 EMPTY = 39  # bytes of a journal without an entry
 MARK = b"HOSE"
 PLAIN, CHAINED, SEAL = 1, 2, b"\5"
+CHANGES = {"down": b"\3", "up": b"\4"}  # the first byte of each
 VALUE = 32  # bytes of a chain value
 MOST_BODY = 3_471
 MOST = {"rate": 1_000_000, "amount": 32_000_000, "id": 4_000_000_000}
@@ -59,12 +65,20 @@ def spelled_pairs(pairs):
 
 
 def spelled(entry):
-    kind, customer, *rest = entry
+    kind, *rest = entry
+    if kind in CHANGES:
+        return CHANGES[kind] + rest[0].to_bytes(2, "big")
+    customer, *rest = rest
     if kind == "release":
         return b"\2" + spelled_name(customer) + rest[0].to_bytes(4, "big")
     hose, plan = rest
     counted = bytes([len(hose)]) + spelled_pairs(hose) + len(plan).to_bytes(2, "big")
     return b"\1" + spelled_name(customer) + counted + spelled_pairs(plan)
+
+
+def seal_of(value):
+    """The record of a seal, with the gate before it."""
+    return b"\1" + (1 + VALUE).to_bytes(4, "big") + SEAL + value
 
 
 def journal_of(network, entries, version, sealed_after=None):
@@ -73,7 +87,7 @@ def journal_of(network, entries, version, sealed_after=None):
     held, chained = b"\1" + MARK + bytes([version]) + value, version == CHAINED
     for at, body in enumerate(map(spelled, entries)):
         if at == sealed_after:
-            held += b"\1" + (1 + VALUE).to_bytes(4, "big") + SEAL + value
+            held += seal_of(value)
             chained = True
         value = hashlib.sha256(value + body).digest()
         held += b"\1" + len(body).to_bytes(4, "big") + (value if chained else b"") + body
@@ -123,22 +137,24 @@ class Body:
 
 def entry_of(held):
     body = Body(held)
-    kind = body.number(1, 1, 2)
-    customer = body.name()
-    if kind == 2:
-        entry = ("release", customer, body.number(4, 0, MOST["id"]))
-    else:
+    kind = body.number(1, 1, 4)
+    customer = body.name() if kind < 3 else None
+    if kind == 1:
         hose = body.pairs(body.number(1, 2, 64), 511, MOST["rate"])
         entry = ("admit", customer, hose, body.pairs(body.number(2, 1, 511), 2_047, MOST["amount"]))
+    elif kind == 2:
+        entry = ("release", customer, body.number(4, 0, MOST["id"]))
+    else:
+        entry = ("down" if kind == 3 else "up", body.number(2, 0, 2_047))
     body.end()
     return entry
 
 
 class Book:
-    """The live VPNs of a network, by the epochs after their admissions."""
+    """The live VPNs of a network, by the epochs after their admissions, and the links out."""
 
     def __init__(self, network):
-        self.network, self.epoch, self.live = network, 0, {}
+        self.network, self.epoch, self.live, self.out = network, 0, {}, set()
 
     def loads(self):
         loads = [0] * len(self.network.links)
@@ -182,15 +198,20 @@ class Book:
 
     def enters(self, entry):
         """Enters an entry if it is sound."""
-        kind, customer, *rest = entry
-        if kind == "release":
-            vpn = self.live.get(rest[0])
+        kind, *rest = entry
+        if kind in CHANGES:
+            if rest[0] >= len(self.network.links) or (rest[0] in self.out) == (kind == "down"):
+                return False
+            self.out ^= {rest[0]}
+        elif kind == "release":
+            customer, number = rest
+            vpn = self.live.get(number)
             if vpn is None or vpn.customer != customer:
                 return False
-            del self.live[rest[0]]
+            del self.live[number]
         else:
-            hose, plan = rest
-            if not self.is_tree_of(hose, plan):
+            customer, hose, plan = rest
+            if not self.is_tree_of(hose, plan) or any(n in self.out for n, _ in plan):
                 return False
             loads = self.loads()
             if any(loads[n] + amount > self.network.links[n].capacity for n, amount in plan):
@@ -215,18 +236,27 @@ class Book:
         return lines + [f"live {len(self.live)} cost {total}"]
 
 
+# What an audit of some bytes must tell, its status, the bytes that it must leave, and the last line
+# that a reader of journals must tell of them, which is free where an entry is not sound.
+Judged = namedtuple("Judged", "lines status left last")
+
+
 def judged(network, held):
-    """The lines and the status that an audit of these bytes must have."""
     book = Book(network)
     if len(held) < EMPTY or len(held) == EMPTY and held[0] != 1:
-        return book.audit(), 0
+        return Judged(book.audit(), 0, journal_of(network, [], CHAINED), "not begun")
+
+    def damaged(place, last=()):
+        line = f"damaged at {place}"
+        return Judged([f"journal {line}"], 5, held, *last or (line,))
+
     if held[0] != 1:
-        return ["journal damaged at 0"], 5
+        return damaged(0)
     if held[1:5] != MARK or held[5] not in (PLAIN, CHAINED):
-        return ["journal damaged at 1"], 5
+        return damaged(1)
     digest = hashlib.sha256(canonical(network).encode()).hexdigest()
     if held[6:38].hex() != digest:
-        return [f"journal other {held[6:38].hex()} {digest}"], 5
+        return Judged([f"journal other {held[6:38].hex()} {digest}"], 5, held, None)
     gate, chained, value = 38, held[5] == CHAINED, held[6:38]
     while held[gate] == 1:
         size = int.from_bytes(held[gate + 1:gate + 5], "big")
@@ -242,18 +272,34 @@ def judged(network, held):
             if chained and held[gate + 5:begin] != value:
                 raise Wrong
             if not book.enters(entry_of(body)):
-                raise Wrong
+                return damaged(gate, (None,))
         except Wrong:
-            return [f"journal damaged at {gate}"], 5
+            return damaged(gate)
         gate = after
-    return book.audit(), 0
+    seal = b"" if chained else seal_of(value) + b"\0"
+    left = held[:gate] + seal + held[gate + len(seal):]
+    return Judged(book.audit(), 0, left, f"at {gate} end, chain {value.hex()}")
+
+
+def listed(wanted, held):
+    """Whether the reader in tools/ tells of these bytes, and of those left, what it must."""
+    before, after = (list(read_journal.lines(one)) for one in (held, wanted.left))
+    if wanted.last is not None and before[-1] != wanted.last:
+        return False
+    if wanted.status != 0 or wanted.last == "not begun":
+        return True
+    entries = [[line.split(" ", 2)[2] for line in lines[1:-1] if not line.endswith(" seal")]
+               for lines in (before, after)]
+    chains = [lines[-1].split(" ")[-1] for lines in (before, after)]
+    epoch = int(wanted.lines[0].split(" ")[1])
+    return entries[0] == entries[1] and chains[0] == chains[1] and len(entries[0]) == epoch
 
 
 # ---- Forging.
 
 
 def orders(seed):
-    """A network, and the entries of eight orders on it."""
+    """A network, and the entries of eight orders on it, some of each kind."""
     draw = random.Random(seed)
     while True:
         server, entries = Server(random_network(draw, FORCED)), []
@@ -266,8 +312,10 @@ def orders(seed):
                 entries.append(("admit", vpn.customer, vpn.hose, vpn.plan))
             elif kind == "released":
                 entries.append(("release", before[int(number)].customer, int(number)))
+            elif kind in CHANGES:
+                entries.append((kind, int(number)))
             if len(entries) == ORDERS:
-                if any(entry[0] == "release" for entry in entries):
+                if {entry[0] for entry in entries} == {"admit", "release", *CHANGES}:
                     return server.network, entries
                 break
 
@@ -359,10 +407,12 @@ def told(program, topology, journal, held):
         file.write(held)
     words = [program, "audit", topology, journal]
     done = subprocess.run(words, stdout=subprocess.PIPE, stdin=subprocess.DEVNULL, timeout=HANGS)
-    return done.stdout.decode("ascii", "replace").splitlines(), done.returncode
+    with open(journal, "rb") as file:
+        left = file.read()
+    return done.stdout.decode("ascii", "replace").splitlines(), done.returncode, left
 
 
-def kind_of(lines, status):
+def kind_of(lines, status, left):
     return "a sound book" if status == 0 else " ".join(lines[0].split()[:2])
 
 
@@ -374,7 +424,8 @@ def compare(program, work, edits, seed):
     with open(topology, "w", encoding="ascii") as file:
         file.write(canonical(network))
     right = [judged(network, held) for held in journals]
-    assert right[0][1] == 0 and right[1:] == right[:-1], "the reader refuses what is not forged"
+    same = [one[:2] for one in right]
+    assert right[0].status == 0 and same[1:] == same[:-1], "the reader refuses what is not forged"
 
     def differs(numbered):
         number, (name, changed) = numbered
@@ -388,8 +439,10 @@ def compare(program, work, edits, seed):
         for name, changed, wanted, found in pool.map(
             differs, enumerate(one for held in journals for one in forged(held, edits, Draws(seed)))
         ):
-            if wanted != found:
+            if wanted[:3] != found:
                 sys.exit(f"forged: {name}\n{changed.hex()}\nexpected: {wanted}\ntold:     {found}")
+            if not listed(wanted, changed):
+                sys.exit(f"forged: {name}, as tools/read_journal.py lists it\n{changed.hex()}")
             kinds[kind_of(*found)] += 1
     return [len(held) for held in journals], kinds
 

@@ -2,11 +2,11 @@
 """Judges concurrent random sessions of `hosed serve` from outside.
 
 Each run serves some customers at once over a random network of up to 9 nodes. Its history is read
-off the replies: each epoch is that of one admission or release, which the slow planner of
-compare_planner.py then makes again. The book of each epoch has to explain each reply that tells
-that epoch, the places of a session may not go back, and the audit has to be that of the last book.
-Prints how many runs, sessions and replies of each kind there were; or the first difference, and
-ends with status 1.
+off the replies: each epoch is that of one admission, release or change of a link's service, which
+the slow planner of compare_planner.py then makes again. The book of each epoch has to explain each
+reply that tells that epoch, the places of a session may not go back, and the audit has to be that
+of the last book. Prints how many runs, sessions and replies of each kind there were; or the first
+difference, and ends with status 1.
 
 usage: bench/histories.py [PROGRAM [RUNS [SEED]]]
 The PROGRAM (./hosed) is seen from the top of the repository.
@@ -20,15 +20,19 @@ import sys
 import tempfile
 import threading
 from collections import Counter
+from typing import NamedTuple
 
-from compare_planner import COMPARED, QUOTES, Vpn, decide, grounds, pairs_text, plan_cost
-from compare_planner import random_hose, random_network, topology_lines
+from compare_planner import COMPARED, OPERATOR, QUOTES, Vpn, decide, grounds, in_service
+from compare_planner import pairs_text, plan_cost, random_hose, random_network, topology_lines
 
 sys.path.insert(0, os.path.join(os.path.dirname(os.path.abspath(__file__)), "..", "tools"))
 import client
 
 SESSIONS, WORKERS, COMMANDS = 12, 6, 40
-NAMES = ("acme", "beta", "zeta")  # some sessions have one customer
+NAMES = ("acme", "beta", "zeta", OPERATOR)  # some sessions have one customer
+KINDS = {
+    "admit": 16, "quote": 16, "take": 14, "release": 12, "show": 4, "link": 4, "down": 2, "up": 6,
+}
 TRIES = 10  # at ports that another program may take meanwhile
 HANGS = 60  # seconds
 
@@ -53,14 +57,17 @@ class Session(threading.Thread):
         self.port, self.network, self.draw = port, network, random.Random(seed)
         self.customer = self.draw.choice(NAMES)
         self.said, self.fault = [], None  # pairs of a command and its reply
+        self.out = set()  # the links that it took out of service and has not put back
 
     def line(self, own):
         draw = self.draw
-        kind = draw.choices(("admit", "quote", "take", "release", "show", "link"), (8, 8, 7, 6, 2, 2))[0]
+        kind = draw.choices(list(KINDS), list(KINDS.values()))[0]
         if kind in ("admit", "quote"):
             hose = random_hose(draw, self.network, COMPARED)
             return kind, hose, " ".join(f"{self.network.nodes[n]}:{rate}" for n, rate in hose)
-        if kind == "link":
+        if kind == "up" and self.out and draw.random() < 0.8:
+            number = draw.choice(sorted(self.out))
+        elif kind in ("link", "down", "up"):
             number = draw.randrange(len(self.network.links))
         elif kind == "take":
             number = draw.randint(1, 4)
@@ -87,6 +94,10 @@ class Session(threading.Thread):
         self.said.append((kind, value, ""))
         reply = session.reply_to(f"{kind} {text}")
         self.said[-1] = (kind, value, str(reply))
+        if isinstance(reply, client.Down):
+            self.out.add(value)
+        elif isinstance(reply, client.Up):
+            self.out.discard(value)
         return reply
 
 
@@ -101,43 +112,59 @@ def place_of(reply):
     return int(words[words.index("at") + 1]) if "at" in words else None
 
 
-def loads_of(network, live):
-    loads = [0] * len(network.links)
-    for vpn in live.values():
-        for number, amount in vpn.plan:
-            loads[number] += amount
-    return loads
+class Book(NamedTuple):
+    live: dict  # of VPNs by their numbers
+    out: frozenset  # of links
 
 
 class History:
     """The book of each epoch."""
 
     def __init__(self, network):
-        self.network, self.books = network, [{}]
+        self.network, self.books = network, [Book({}, frozenset())]
 
     def loads(self, epoch):
-        return loads_of(self.network, self.books[epoch])
+        loads = [0] * len(self.network.links)
+        for vpn in self.books[epoch].live.values():
+            for number, amount in vpn.plan:
+                loads[number] += amount
+        return loads
+
+    def decided(self, epoch, hose):
+        service = in_service(self.network, self.books[epoch].out)
+        return decide(self.network, service, self.loads(epoch), sorted(hose))
+
+    def grounds(self, epoch, hose):
+        service = in_service(self.network, self.books[epoch].out)
+        return grounds(self.network, service, self.loads(epoch), hose)
 
     def ends(self, hose):
         return " ".join(f"{self.network.nodes[node]}:{rate}" for node, rate in hose)
 
     def admit(self, customer, hose, plan):
-        book = dict(self.books[-1])
+        live = dict(self.books[-1].live)
         number, cost = len(self.books), plan_cost(self.network, plan)
-        book[number] = Vpn(customer, hose, plan, cost)
-        self.books.append(book)
+        live[number] = Vpn(customer, hose, plan, cost)
+        self.books.append(self.books[-1]._replace(live=live))
         return f"admitted {number} cost {cost} at {number} links {pairs_text(plan)}"
 
     def release(self, customer, number):
-        book = dict(self.books[-1])
-        vpn = book.pop(number, None)
+        live = dict(self.books[-1].live)
+        vpn = live.pop(number, None)
         if vpn is None or vpn.customer != customer:
             raise Differs(f"{customer} released {number}, which is not theirs")
-        self.books.append(book)
+        self.books.append(self.books[-1]._replace(live=live))
         return f"released {number} at {len(self.books) - 1}"
 
+    def change(self, customer, command, number):
+        out = self.books[-1].out
+        if customer != OPERATOR or (number in out) == (command == "down"):
+            raise Differs(f"{customer} had link {number} {command}, where {sorted(out)} were out")
+        self.books.append(self.books[-1]._replace(out=out ^ {number}))
+        return f"{command} {number} at {len(self.books) - 1}"
+
     def audit(self):
-        network, live, epoch = self.network, self.books[-1], len(self.books) - 1
+        network, live, epoch = self.network, self.books[-1].live, len(self.books) - 1
         loads, lines = self.loads(epoch), [f"epoch {epoch}"]
         for number, link in enumerate(network.links):
             a, b = network.nodes[link.a], network.nodes[link.b]
@@ -150,23 +177,23 @@ class History:
         return lines + [f"live {len(live)} cost {total}"]
 
 
+ENTERED = ("admitted", "released", "down", "up")  # the first words of what an entry is told by
+
+
 class Judge:
     """One session against the books."""
 
     def __init__(self, history, session):
         self.history, self.session, self.last, self.held = history, session, 0, {}
 
-    def decided(self, epoch, hose):
-        return decide(self.history.network, self.history.loads(epoch), sorted(hose))
-
     def refused(self, epoch, hose):
-        kind, side = self.decided(epoch, hose)
+        kind, side = self.history.decided(epoch, hose)
         if kind != "refused":
             return None
         return f"refused at {epoch} side {' '.join(self.history.network.nodes[n] for n in side)}"
 
     def expected(self, kind, value, reply, epoch):
-        network, book = self.history.network, self.history.books[epoch]
+        network, (live, out) = self.history.network, self.history.books[epoch]
         customer = self.session.customer
         if kind == "hello":
             return f"welcome at {epoch}"
@@ -178,7 +205,7 @@ class Judge:
                 return f"too many quotes at {epoch}"
             if self.refused(epoch, value):
                 return self.refused(epoch, value)
-            plan = self.decided(epoch, value)[1]
+            plan = self.history.decided(epoch, value)[1]
             self.held[free[0]] = (sorted(value), epoch)
             cost = plan_cost(network, plan)
             return f"quoted {free[0]} cost {cost} at {epoch} links {pairs_text(plan)}"
@@ -186,17 +213,20 @@ class Judge:
             if value not in self.held:
                 return f"no quote {value} at {epoch}"
             hose, seen = self.held.pop(value)
-            if grounds(network, self.history.loads(seen), hose) == grounds(
-                network, self.history.loads(epoch), hose
-            ):
+            if self.history.grounds(seen, hose) == self.history.grounds(epoch, hose):
                 return None
             return f"stale {seen} {epoch}"
+        if kind in ("down", "up"):
+            if customer != OPERATOR:
+                return f"denied at {epoch}"
+            is_so = (value in out) == (kind == "down")
+            return f"already {value} at {epoch}" if is_so else None
         if kind == "link":
             link, load = network.links[value], self.history.loads(epoch)[value]
             a, b = network.nodes[link.a], network.nodes[link.b]
-            told = f"capacity {link.capacity} cost {link.cost} load {load} at {epoch}"
-            return f"link {value} {a} {b} {told}"
-        vpn = book.get(value)
+            told = f"capacity {link.capacity} cost {link.cost} load {load}"
+            return f"link {value} {a} {b} {told}{' out' if value in out else ''} at {epoch}"
+        vpn = live.get(value)
         if vpn is None or vpn.customer != customer:
             return f"no vpn {value} at {epoch}"
         if kind == "release":
@@ -211,7 +241,7 @@ class Judge:
                 same(reply, "bye", where)
                 continue
             place = place_of(reply)
-            entered = reply.split()[0] in ("admitted", "released")
+            entered = reply.split()[0] in ENTERED
             before = place - 1 if entered else place
             if before < self.last:
                 raise Differs(f"{where}\nwent back: {reply}")
@@ -225,7 +255,7 @@ class Judge:
 
 
 def entries(sessions):
-    """The admissions and releases of all sessions by their epochs."""
+    """The entries of all sessions by their epochs."""
     found = {}
     for session in sessions:
         quoted = {}
@@ -233,7 +263,7 @@ def entries(sessions):
             words = reply.split()
             if words[0] == "quoted":
                 quoted[int(words[1])] = value
-            if words[0] in ("admitted", "released"):
+            if words[0] in ENTERED:
                 hose = quoted[value] if kind == "take" else value
                 if place_of(reply) in found:
                     raise Differs(f"two entries at one epoch: {reply}")
@@ -249,8 +279,11 @@ def judge(network, sessions, audit, kinds):
         if what == "released":
             same(reply, history.release(session.customer, value), f"epoch {epoch}")
             continue
+        if what in ("down", "up"):
+            same(reply, history.change(session.customer, what, value), f"epoch {epoch}")
+            continue
         hose = sorted(value)
-        kind, plan = decide(network, history.loads(epoch - 1), hose)
+        kind, plan = history.decided(epoch - 1, hose)
         if kind == "refused":
             raise Differs(f"epoch {epoch}: {reply}\nwhere the planner refuses")
         same(reply, history.admit(session.customer, hose, plan), f"epoch {epoch}")

@@ -97,6 +97,9 @@ class Desk(Server):
             return (self.admit if word == b"admit" else self.quote)(customer, hose)
         if word == b"link":
             return self.link(self.one_number(rest, before + 1, len(self.network.links) - 1))
+        if word in (b"down", b"up"):
+            link = self.one_number(rest, before + 1, len(self.network.links) - 1)
+            return self.change(word.decode(), customer, link)
         if word not in (b"take", b"release", b"show"):
             raise Refused(before + 1)
         number = self.one_number(rest, before + 1, MOST)
@@ -151,10 +154,13 @@ class Desk(Server):
         except Refused as refused:
             return f"bad {refused}"
 
-    # A session's quotes are its own, and its VPNs are its customer's.
+    # A session's quotes are its own, and its VPNs and its right to change links its customer's.
 
     def enter(self, customer, hose, plan, cost):
         return super().enter(self.customer_of.get(customer, customer), hose, plan, cost)
+
+    def change(self, command, customer, number):
+        return super().change(command, self.customer_of.get(customer, customer), number)
 
     def of_customer(self, customer, number):
         return super().of_customer(self.customer_of.get(customer, customer), number)
@@ -307,7 +313,7 @@ def converse(port, text, breaks_off):
 def session_text(draw, good):
     """What a session says: mostly a greeting, then lines, of which the last may be cut."""
     kind = draw.random()
-    lines = [draw.choice((b"hello acme", b"hello zeta"))]
+    lines = [draw.choice((b"hello acme", b"hello zeta", b"hello operator"))]
     if kind < 0.15:
         lines = [hostile(draw, lines[0])]
     for _ in range(draw.randint(0, 6)):

@@ -12,7 +12,7 @@ import subprocess
 import sys
 import time
 
-BYTES, TIMES, RUNS = 39 + 50 * 20_000, 2_000, 3
+BYTES, TIMES, RUNS = 39 + 82 * 20_000, 2_000, 3
 
 
 def least_seconds(word, bytes):

@@ -1,10 +1,10 @@
 #!/usr/bin/env bash
-# Kills a run with a journal N times (100), each at a random moment of a stream of admissions and
-# releases: in its opening, or after some replies. A later run with the journal must then show each
-# order whose reply line was written, in order, and at most the one sent next; before some of these
-# another run is killed in its opening. Several runs go on from one journal in a row. Prints how
-# many were killed and how many differed; ends with status 1 where one differed, or where no order
-# was acknowledged.
+# Kills a run with a journal N times (100), each at a random moment of a stream of admissions,
+# releases and links that go out of service and back: in its opening, or after some replies. A
+# later run with the journal must then show each order whose reply line was written, in order, and
+# at most the one sent next; before some of these another run is killed in its opening. Several
+# runs go on from one journal in a row. Prints how many were killed and how many differed; ends
+# with status 1 where one differed, or where no order was acknowledged.
 # usage: bench/kill.sh [N [SEED]]     TMPDIR: where the journals are made
 set -euo pipefail
 export LC_ALL=C
@@ -34,14 +34,18 @@ LINES_MORE = 1_000  # than have replies when a run is killed
 MOST_ON_ONE_JOURNAL = 12  # kills
 HANGS = 60  # seconds
 OPEN, ADMIT, RELEASE = b"\1", b"\1", b"\2"
+CHANGES = {"down": b"\3", "up": b"\4"}
 
-# ---- The network is a star, in which each leaf's link carries the smaller side of its rate.
+# ---- The network is a star, in which each leaf's link carries the smaller side of its rate. Beside
+# ---- some of them is a dearer link, which no tree uses, and which goes out of service and back.
 
+SPARES = 4
 NAMES = [f"n{leaf}" for leaf in range(LEAVES)] + ["h"]
-COSTS = [1 + leaf % 7 for leaf in range(LEAVES)]
+COSTS = [1 + leaf % 7 for leaf in range(LEAVES)] + [100] * SPARES
+LINKS = range(len(COSTS))
 TOPOLOGY = "".join(
     [f"node {name}\n" for name in NAMES]
-    + [f"link {NAMES[i]} h {CAPACITY} {cost} {cost}\n" for i, cost in enumerate(COSTS)]
+    + [f"link {NAMES[i % LEAVES]} h {CAPACITY} {cost} {cost}\n" for i, cost in enumerate(COSTS)]
     + ["end\n"]
 )
 
@@ -66,10 +70,13 @@ def ends_text(hose):
 
 class Entry(NamedTuple):
     customer: str
-    hose: tuple  # of (node, rate), ascending; none in a release
-    id: int  # of the VPN that is released
+    hose: tuple  # of (node, rate), ascending; none but in an admission
+    id: int  # of the VPN that is released, or of the link that changes
+    change: str = ""  # `down` or `up`
 
     def spelling(self):
+        if self.change:
+            return CHANGES[self.change] + self.id.to_bytes(2, "big")
         name = bytes([len(self.customer)]) + self.customer.encode()
         if self.hose is None:
             return RELEASE + name + self.id.to_bytes(4, "big")
@@ -96,13 +103,15 @@ def image_of(entries):
 
 class Book:
     def __init__(self, entries):
-        self.entries, self.live = [], {}
+        self.entries, self.live, self.out = [], {}, set()
         for entry in entries:
             self.enter(entry)
 
     def enter(self, entry):
         self.entries.append(entry)
-        if entry.hose is None:
+        if entry.change:
+            self.out ^= {entry.id}
+        elif entry.hose is None:
             del self.live[entry.id]
         else:
             self.live[len(self.entries)] = entry
@@ -120,8 +129,9 @@ class Book:
         for vpn in self.live.values():
             loads.update(dict(amounts_of(vpn.hose)))
         for link, cost in enumerate(COSTS):
-            told = f"capacity {CAPACITY} cost {cost} load {loads[link]} at {len(self.entries)}"
-            yield f"link {link} {NAMES[link]} h {told}"
+            out = " out" if link in self.out else ""
+            told = f"capacity {CAPACITY} cost {cost} load {loads[link]}{out} at {len(self.entries)}"
+            yield f"link {link} {NAMES[link % LEAVES]} h {told}"
 
 
 # ---- Commands, each as its line, its reply, and its entry if it has one.
@@ -151,7 +161,12 @@ def commands(draw, book):
     if kind < 0.1:
         customer, id = draw.choice(CUSTOMERS), draw.randint(0, len(book.entries) + 1)
         return [(f"{customer} show {id}", book.show(customer, id), None)]
-    if not book.live or (kind < 0.55 and len(book.live) < MOST_LIVE):
+    if kind < 0.2:
+        link = draw.choice(LINKS[LEAVES:])
+        change = "up" if link in book.out else "down"
+        entry = book.enter(Entry("operator", None, link, change))
+        return [(f"operator {change} {link}", f"{change} {link} at {len(book.entries)}", entry)]
+    if not book.live or (kind < 0.6 and len(book.live) < MOST_LIVE):
         return admission(draw, book)
     id = draw.choice(list(book.live))
     customer = book.live[id].customer
@@ -300,7 +315,7 @@ def recovered(journal, entries, next_entry):
     owners = [entry.customer for entry in may_be[-1]] + [CUSTOMERS[0]]
     asked = [(customer, id) for id, customer in enumerate(owners, 1)]
     questions = [f"{customer} show {id}" for customer, id in asked]
-    found = shown(journal, questions + [f"x link {link}" for link in range(LEAVES)])
+    found = shown(journal, questions + [f"x link {link}" for link in LINKS])
     for right in may_be:
         if found == wanted(Book(right), asked):
             return right, None if holds(journal, right) else "the file has other entries"

@@ -25,8 +25,9 @@ LONGEST = 0.12  # seconds until a server is killed, from its first line
 
 
 def told_by(sessions):
-    """Admissions by their numbers, what was released, and what may have been."""
-    admitted, released, asked, waiting = {}, set(), set(), 0
+    """Admissions by their numbers, what was released, what may have been, and how many times links
+    went out of service or back."""
+    admitted, released, asked, changes, waiting = {}, set(), set(), 0, 0
     for session in sessions:
         for kind, value, reply in session.said:
             words = reply.split()
@@ -38,11 +39,13 @@ def told_by(sessions):
                 admitted[int(words[1])] = (session.customer, words[3], " ".join(words[6:]))
             elif words[0] == "released":
                 released.add(int(words[1]))
-    return admitted, released, asked, waiting
+            elif words[0] in ("down", "up"):
+                changes += 1
+    return admitted, released, asked, changes, waiting
 
 
 def judge(sessions, audit):
-    admitted, released, asked, waiting = told_by(sessions)
+    admitted, released, asked, changes, waiting = told_by(sessions)
     epoch = int(audit[0].split()[1])
     live = {int(line.split()[1]): line for line in audit if line.startswith("vpn ")}
     for number, (customer, cost, links) in admitted.items():
@@ -53,7 +56,7 @@ def judge(sessions, audit):
             raise Differs(f"admitted {number} of {customer}, and then: {line}")
     for number in released:
         same(number in live, False, f"released {number}, and live")
-    told = len(admitted) + len(released)
+    told = len(admitted) + len(released) + changes
     if not told <= epoch <= told + waiting:
         raise Differs(f"{told} entries were told, {waiting} replies waited for, epoch {epoch}")
     return told

@@ -10,6 +10,7 @@
 . "$(dirname "$0")/place.sh"
 
 python3 - "$program" "$place" <<'END'
+import hashlib
 import os
 import statistics
 import subprocess
@@ -22,6 +23,7 @@ VPNS, RUNS = 20_000, 5
 JOURNAL, LOOP = f"{PLACE}/journal", f"{PLACE}/loop"
 TOPOLOGY, AUDIT = f"{PLACE}/topology", f"{PLACE}/audit"
 HEAD = 39  # bytes of a journal without an entry, with its last gate
+DIGEST, VALUE = slice(6, 38), 32  # the digest in it, and the bytes of a chain value
 OPEN, CLOSED = b"\1", b"\0"
 
 # ---- Records, as the journal's format has them.
@@ -31,20 +33,20 @@ def pair(first, second):
     return first.to_bytes(2, "big") + second.to_bytes(4, "big")
 
 
-def record(spelling):
-    """What an append writes first: a record with a closed gate after it."""
-    return len(spelling).to_bytes(4, "big") + spelling + CLOSED
+def record(spelling, value=bytes(VALUE)):
+    """What an append writes first: a record with a chain value, and a closed gate after it."""
+    return len(spelling).to_bytes(4, "big") + value + spelling + CLOSED
 
 
 def admission(ends, links):
     """That of acme, with a rate of 1 at each of the first nodes, and these amounts."""
     ends = bytes([ends]) + b"".join(pair(node, 1) for node in range(ends))
     amounts = b"".join(pair(link, amount) for link, amount in links)
-    return record(b"\1\4acme" + ends + len(links).to_bytes(2, "big") + amounts)
+    return b"\1\4acme" + ends + len(links).to_bytes(2, "big") + amounts
 
 
 def release(id):
-    return record(b"\2\4acme" + id.to_bytes(4, "big"))
+    return b"\2\4acme" + id.to_bytes(4, "big")
 
 
 # ---- Orders.
@@ -102,13 +104,14 @@ class Loop:
 
 def measure_orders():
     """The seconds of each turn of the program, and of each of the loop."""
-    admit, admitted = "acme admit a:1 b:1\n", admission(2, [(0, 1)])
+    admit, admitted = "acme admit a:1 b:1\n", record(admission(2, [(0, 1)]))
     served, loop, program, plain = Served(admit), Loop(admitted), [], []
     for begin in range(1, TURNS * IN_A_TURN, IN_A_TURN):
         ids = range(begin, begin + IN_A_TURN, 2)
         text = "".join(f"acme release {id}\n{admit}" for id in ids)
         program.append(served.turn(text, IN_A_TURN))
-        plain.append(loop.turn([written for id in ids for written in (release(id), admitted)]))
+        records = [written for id in ids for written in (record(release(id)), admitted)]
+        plain.append(loop.turn(records))
     served.end()
     last = TURNS * IN_A_TURN + 1
     assert served.replies[-1] == f"admitted {last} cost 1 at {last} links 0:1\n", served.replies
@@ -146,18 +149,18 @@ def make_journal(ends):
     with open(JOURNAL, "rb") as file:
         head = file.read()
     assert len(head) == HEAD, len(head)
-    records = admission(ends, [(link, 1) for link in range(ends)]) * VPNS
-    size = len(records) // VPNS
-    opened = bytearray(head + records)
-    for gate in range(HEAD - 1, len(opened) - 1, size):
-        opened[gate] = OPEN[0]
+    spelling = admission(ends, [(link, 1) for link in range(ends)])
+    value, records = head[DIGEST], []
+    for _ in range(VPNS):
+        value = hashlib.sha256(value + spelling).digest()
+        records.append(OPEN + record(spelling, value)[:-1])
     with open(JOURNAL, "wb") as file:
-        file.write(opened)
+        size = file.write(head[:-1] + b"".join(records) + CLOSED)
         file.flush()
         os.fsync(file.fileno())
     reply = run(JOURNAL, star(ends) + "x link 0\n")
     assert reply.endswith(f" load {VPNS} at {VPNS}\n"), reply
-    return len(opened)
+    return size
 
 
 def least_seconds(words, text):

@@ -1,8 +1,9 @@
 """A plain model of a server on a star, whose journal is on a disk that fails where it is told to.
 
 It follows docs/GUIDE.md: a disk that is a text of bytes, of which a failed call changes nothing; a
-journal of version 2, whose entry counts once its gate is written and synced, and whose entry in
-doubt is revoked before the next one and at the end; replies, and what an audit tells. It knows no
+journal of version 2, or one of version 1 that is sealed when it is opened, whose entry counts once
+its gate is written and synced, and whose entry in doubt is revoked before the next one and at the
+end; replies, and what an audit tells. It knows no
 plans but those of a star, where each endpoint is at the end of a link, and shares no code with the
 crates.
 """
@@ -15,8 +16,14 @@ STAR = ("node a", "node b", "node c", "node h", "link a h 10 1", "link b h 10 2"
 NAMES, COSTS = "abch", (1, 2, 3)
 # What `sha256sum` gives for the canonical text.
 DIGEST = "24fcb75877abb3e7844a793bdf784d862da4700e66d9e0ec6fbcf8c50249eda4"
-HEAD = bytes.fromhex("484f534502" + DIGEST + "00")  # what follows the first gate
-EMPTY = b"\1" + HEAD
+PLAIN, CHAINED = 1, 2  # versions of a journal
+
+
+def head(version):
+    return b"\1HOSE" + bytes([version]) + bytes.fromhex(DIGEST)
+
+
+EMPTY = head(CHAINED) + b"\0"
 
 
 class Failed(Exception):
@@ -123,16 +130,23 @@ def chain(entries):
     return value
 
 
-def record(entries, entry):
+def record(entries, entry, version=CHAINED):
     """What follows the gate of an entry that comes after these."""
     body = spelled(entry)
-    return len(body).to_bytes(4, "big") + chain((*entries, entry)) + body + b"\0"
+    value = chain((*entries, entry)) if version == CHAINED else b""
+    return len(body).to_bytes(4, "big") + value + body + b"\0"
 
 
-def journal_of(entries):
-    """The bytes of a journal that has these entries."""
-    records = (b"\1" + record(entries[:at], entry)[:-1] for at, entry in enumerate(entries))
-    return EMPTY[:-1] + b"".join(records) + b"\0"
+def seal(entries):
+    """What follows the gate of a seal that comes after these entries."""
+    body = b"\5" + chain(entries)
+    return len(body).to_bytes(4, "big") + body + b"\0"
+
+
+def journal_of(entries, version=CHAINED):
+    """The bytes of a journal of this version that has these entries, and no seal."""
+    records = (record(entries[:at], entry, version) for at, entry in enumerate(entries))
+    return head(version) + b"".join(b"\1" + written[:-1] for written in records) + b"\0"
 
 
 # ---- The journal.
@@ -146,6 +160,7 @@ class Journal:
 
     def __init__(self, disk, entries=()):
         self.disk, self.entries, self.doubted = disk, entries, None
+        self.gate = max(len(disk.held), len(EMPTY)) - 1  # the place of the last gate
         self.since = [(0, (entries,))]
         disk.call("sync")
         self.load()
@@ -153,17 +168,21 @@ class Journal:
             disk.cut(0)
             disk.call("sync")
             disk.put(0, b"\0")
-            disk.put(1, HEAD)
+            disk.put(1, EMPTY[1:])
             disk.put(0, b"\1")
             self.load()
+        elif disk.held == journal_of(entries, PLAIN):
+            self.seal()
 
     def load(self):
         self.disk.call("len")
         self.disk.call("read")
 
-    def gate(self):
-        """The place of the last gate."""
-        return len(journal_of(self.entries)) - 1
+    def seal(self):
+        written = seal(self.entries)
+        self.disk.put(self.gate + 1, written)
+        self.disk.put(self.gate, b"\1")
+        self.gate += len(written)
 
     def note(self, more=0):
         found = (self.entries,) if self.doubted is None else (self.entries, self.doubted)
@@ -171,18 +190,20 @@ class Journal:
 
     def settle(self):
         if self.doubted is not None:
-            self.disk.put(self.gate(), b"\0")
+            self.disk.put(self.gate, b"\0")
             self.doubted = None
             self.note()
 
     def enter(self, entry):
         self.settle()
-        self.disk.put(self.gate() + 1, record(self.entries, entry))
+        written = record(self.entries, entry)
+        self.disk.put(self.gate + 1, written)
         # The entry is in doubt as soon as its gate is written.
         self.doubted = self.entries + (entry,)
         self.note(1)
-        self.disk.put(self.gate(), b"\1")
+        self.disk.put(self.gate, b"\1")
         self.entries, self.doubted = self.doubted, None
+        self.gate += len(written)
         self.note()
 
     def close(self):

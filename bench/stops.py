@@ -1,36 +1,38 @@
 #!/usr/bin/env python3
 """Writes crates/cases_program/data/stops.cases: what is found after a stop at each call of a disk.
 
-Four orders are made in a new journal, and one in a journal that has none, and each call of the disk
-fails once before the stop. After so many calls, and with five ways in which bytes that no sync made
-durable may be left, an audit of the journal must tell the entries that were acknowledged, or these
-and the one that is in doubt: that whose gate was written and is neither synced nor closed again.
+Four orders are made in a new journal, one in a journal that has none, and one in a journal of
+version 1 that has one and is sealed first, and each call of the disk fails once before the stop.
+After so many calls, and with five ways in which bytes that no sync made durable may be left, an
+audit of the journal must tell the entries that were acknowledged, or these and the one that is in
+doubt: that whose gate was written and is neither synced nor closed again.
 The texts come of the plain model of star_model.py.
 
 usage: bench/stops.py | diff - crates/cases_program/data/stops.cases
 """
 
-from star_model import EMPTY, STAR, Disk, Failed, Journal, Server, audit
+from star_model import EMPTY, PLAIN, STAR, Disk, Failed, Journal, Server, audit, hose_of, journal_of
 
 FOUR = ("acme admit a:3 b:4 c:5", "acme quote a:1 b:1", "acme take 1", "acme release 1")
 SIX = (
     "acme admit a:1 b:1", "beta admit b:2 c:2", "acme release 1", "acme quote a:6 b:6",
     "acme take 1", "beta release 2",
 )
+ONE = (("admit", "acme", hose_of(FOUR[0].split()[2:])),)
 # The sync of an open gate fails, and then a call that closes it again.
 TWICE = (("sync", 3), ("write", 3)), (("sync", 3), ("sync", 4))
 # What a journal that a case begins with is written by: a write and a sync.
 WRITTEN = 2
 
 
-def stopped(held, failing, lines):
+def stopped(held, entries, failing, lines):
     """Lines and replies, status and disk, and from which calls on which books may be found."""
     disk = Disk(held, failing)
     told, status = [], 0
     try:
-        journal = Journal(disk)
+        journal = Journal(disk, entries)
     except Failed:
-        return [f"< {line}" for line in lines] + ["> cabinet"], 6, disk, [(0, ((),))]
+        return [f"< {line}" for line in lines] + ["> cabinet"], 6, disk, [(0, (entries,))]
     server = Server(journal)
     for line in lines:
         told += [f"< {line}", f"> {server.reply(line)}"]
@@ -47,8 +49,8 @@ def name(name, failing):
     return f"{name}, stopped after each call of the disk: {told}"
 
 
-def case(base, held, failing, lines):
-    told, status, disk, since = stopped(held, failing, lines)
+def case(base, held, entries, failing, lines):
+    told, status, disk, since = stopped(held, entries, failing, lines)
     before = WRITTEN if held else 0
     last = len(disk.calls)
     books, stops = [], []
@@ -64,18 +66,23 @@ def case(base, held, failing, lines):
 
 
 def cases():
-    for base, held, lines in (("four orders", b"", FOUR), ("an order", EMPTY, FOUR[:1])):
-        yield case(base, held, (), lines)
-        for call in stopped(held, (), lines)[2].calls:
-            yield case(base, held, (call,), lines)
+    for base, held, entries, lines in (
+        ("four orders", b"", (), FOUR),
+        ("an order", EMPTY, (), FOUR[:1]),
+        ("an order after one of version 1", journal_of(ONE, PLAIN), ONE, FOUR[:1]),
+    ):
+        yield case(base, held, entries, (), lines)
+        for call in stopped(held, entries, (), lines)[2].calls:
+            yield case(base, held, entries, (call,), lines)
     for failing in TWICE:
-        yield case("an order", EMPTY, failing, FOUR[:1])
-    yield case("six orders", b"", (), SIX)
+        yield case("an order", EMPTY, (), failing, FOUR[:1])
+    yield case("six orders", b"", (), (), SIX)
 
 
 def main():
     print("# Written by bench/stops.py: stops after each call of the disk, of four orders,")
-    print("# of one in a journal that was begun before, whose calls fail in turn, and of six.")
+    print("# of one in a journal that was begun before, of one in a journal of version 1, which is")
+    print("# sealed first, whose calls fail in turn, and of six.")
     print("words run j")
     for line in STAR:
         print(f"< {line}")

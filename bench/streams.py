@@ -38,8 +38,8 @@ HANGS = 60  # seconds
 # Words, the input, the status, the output.
 WORDS = [
     ([], b"", 1, b"words 1\n"),
-    (["--version"], b"", 0, b"hosed 0.1.0\n"),
-    (["--version"], STAR, 0, b"hosed 0.1.0\n"),
+    (["--version"], b"", 0, b"hosed 0.2.0\n"),
+    (["--version"], STAR, 0, b"hosed 0.2.0\n"),
     (["--help", "x"], b"", 1, b"words 1\n"),
     (["--version", "run"], b"", 1, b"words 1\n"),
     (["run", "x", "run"], STAR, 1, b"words 3\n"),

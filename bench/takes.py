@@ -4,11 +4,14 @@ book keeps the links of recent entries alone: up to 65,536 changes, after which 
 before.
 
 The networks have a side that hoses are led round where a short way has no room, so that a quote
-rests on which links are safe. The rows are: 65,530 entries, a quote, ten more entries and its take;
-512 nodes in a line, whose 511 links one admission touches, at 65,024 to 65,027 changes, with quotes
-from before and after that; and random orders of as many links on such a line, with quotes from long
-before to just now. The model plans by rules of these networks alone, and keeps no changes. Prints
-how many replies of each kind agreed; or the first difference, and ends with status 1.
+rests on which links are safe, and a spare link that no tree uses, of which only the service
+changes. The rows are: 65,530 entries, a quote, ten more entries and its take, where the entries
+are hoses and where they take a link out of service and put it back; 512 nodes in a line, whose 511
+links one admission touches, at 65,024 to 65,027 changes, with quotes from before and after that,
+some made while the spare link was out; and random orders of as many links on such a line, with
+quotes from long before to just now, while links go out of service and back. The model plans by
+rules of these networks alone, and keeps no changes. Prints how many replies of each kind agreed;
+or the first difference, and ends with status 1.
 
 usage: bench/takes.py [PROGRAM [RUNS [SEED]]]
 The PROGRAM (./hosed) is seen from the top of the repository; RUNS (10) are those of random orders.
@@ -25,40 +28,49 @@ MOST = 65_536  # changes that a book keeps
 
 
 class Line:
-    """Nodes in a line, where each link costs 1, and a dear link past the first two."""
+    """Nodes in a line, where each link costs 1, a dear link past the first two, and a spare link
+    that is too dear and too narrow for any tree."""
 
     def __init__(self, capacities, beside):
-        self.capacities = [*capacities, beside]
-        self.beside = len(capacities)
+        self.capacities = [*capacities, beside, 1]
+        self.beside, self.spare = len(capacities), len(capacities) + 1
         self.loads = [0] * len(self.capacities)
-        self.live, self.quotes, self.epoch = {}, {}, 0
+        self.live, self.quotes, self.epoch, self.out = {}, {}, 0, set()
         self.lines, self.replies = [], []
 
     def topology(self):
         nodes = [f"node p{number}" for number in range(self.beside + 1)]
         links = [f"link p{number} p{number + 1} {capacity} 1"
-                 for number, capacity in enumerate(self.capacities[:-1])]
-        return nodes + links + [f"link p0 p2 {self.capacities[-1]} 5", "end"]
+                 for number, capacity in enumerate(self.capacities[:-2])]
+        beside = f"link p0 p2 {self.capacities[self.beside]} 5"
+        return nodes + links + [beside, "link p0 p1 1 1000", "end"]
 
     def free(self, link):
         return self.capacities[link] - self.loads[link]
 
     def safe(self, rate):
-        return [link for link in range(len(self.loads)) if self.free(link) >= rate]
+        links = range(len(self.loads))
+        return [link for link in links if link not in self.out and self.free(link) >= rate]
 
     def first(self, a, b):
         return list(range(a, b))
 
     def grounds(self, a, b, rate):
-        """Whether the first plan fits, and else each link that has half of the rates free."""
+        """The links out of service, whether the first plan fits, and else each link in service that
+        has half of the rates free."""
         fits = all(self.free(link) >= rate for link in self.first(a, b))
-        return True if fits else self.safe(rate)
+        return sorted(self.out), fits, None if fits else self.safe(rate)
+
+    def has_plan(self, a, b, rate):
+        """Whether the dear link can serve where the short ones cannot."""
+        return self.grounds(a, b, rate)[1] or self.beside in self.safe(rate)
 
     def plan(self, a, b, rate):
         """The links of a hose of two nodes, and their cost: past p1 where a short one is full."""
-        if self.grounds(a, b, rate) is True:
+        assert not self.out.intersection(self.first(a, b)), (a, b, self.out)
+        if self.grounds(a, b, rate)[1]:
             return self.first(a, b), b - a
-        assert (a, b) == (0, 2) and self.free(self.beside) >= rate, (a, b, rate)
+        assert (a, b) == (0, 2) and self.has_plan(a, b, rate), (a, b, rate)
         return [self.beside], 5
 
     def say(self, line, reply):
@@ -85,6 +97,13 @@ class Line:
         for link in plan:
             self.loads[link] -= rate
         self.say(f"{customer} release {number}", f"released {number} at {self.epoch}")
+
+    def change(self, link):
+        """The operator takes a link out of service, or puts it back where it is out."""
+        command = "up" if link in self.out else "down"
+        self.out ^= {link}
+        self.epoch += 1
+        self.say(f"operator {command} {link}", f"{command} {link} at {self.epoch}")
 
     def quote(self, customer, a, b, rate):
         plan, cost = self.plan(a, b, rate)
@@ -119,9 +138,24 @@ def ten_more():
     return text, [*replies, "admitted 65541 cost 1 at 65541 links 0:1"]
 
 
-def whole_line(before, turns):
+def ten_changes_more():
+    """The same, where the entries take the dearer of two links out of service and put it back."""
+    pairs = ["operator down 1\noperator up 1\n"] * 32_770
+    text = "node a\nnode b\nlink a b 10 1\nlink a b 10 9\nend\n" + "".join(pairs[:32_765])
+    text += "acme quote a:1 b:1\n" + "".join(pairs[32_765:]) + "acme take 1\n"
+    replies = []
+    for number in range(1, 65_541, 2):
+        if number == 65_531:
+            replies.append("quoted 1 cost 1 at 65530 links 0:1")
+        replies.append(f"down 1 at {number}")
+        replies.append(f"up 1 at {number + 1}")
+    return text, [*replies, "admitted 65541 cost 1 at 65541 links 0:1"]
+
+
+def whole_line(before, turns, out):
     """At so many changes one entry touches 511 links. Quotes are from before and after it and its
-    neighbours, and in the end a short link becomes safe, or not."""
+    neighbours, in the end a short link becomes safe, or not, and the last quote is from while the
+    spare link was out, or not."""
     line = Line([1200, 1200] + [10_000] * (NODES - 3), 10_000)
     first = line.admit("beta", 0, 1, 400)
     line.admit("beta", 1, 2, 400)
@@ -135,7 +169,11 @@ def whole_line(before, turns):
         changes += 1
     line.quote("last", 0, 2, 900)
     line.admit("beta", 0, NODES - 1, 1)
+    if out:
+        line.change(line.spare)
     line.quote("after", 0, 2, 900)
+    if out:
+        line.change(line.spare)
     line.admit("beta", 3, 4, 1)
     if turns:
         line.release(first)
@@ -145,7 +183,8 @@ def whole_line(before, turns):
 
 
 def random_orders(seed):
-    """Orders of 1 to 400 links, at which customers hold a quote each from some time before."""
+    """Orders of 1 to 400 links, at which customers hold a quote each from some time before. The
+    spare link is out now and then, and more seldom the dear one."""
     draw = random.Random(seed)
     line = Line([1200, 1200] + [10_000] * (NODES - 3), 1_000_000)
     changes, own = 0, []
@@ -156,9 +195,12 @@ def random_orders(seed):
             if customer in line.quotes:
                 if line.take(customer):
                     own.append(line.epoch)
-            else:
+            elif line.has_plan(0, 2, 900):
                 line.quote(customer, 0, 2, 900)
-        elif step < 0.15:
+        elif step < 0.08:
+            line.change(line.spare if draw.random() < 0.9 else line.beside)
+            changes += 1
+        elif step < 0.18:
             side = draw.randrange(2)
             if own and draw.random() < 0.5:
                 line.release(own.pop(draw.randrange(len(own))))
@@ -183,10 +225,12 @@ def main():
     program = sys.argv[1] if len(sys.argv) > 1 else "./hosed"
     runs = int(sys.argv[2]) if len(sys.argv) > 2 else 10
     seed = int(sys.argv[3]) if len(sys.argv) > 3 else 1
-    scripts = [("ten more entries", ten_more())]
+    scripts = [("ten more entries", ten_more()), ("ten more changes", ten_changes_more())]
     for before in range(65_024, 65_028):
         for turns in (False, True):
-            scripts.append((f"{before} changes, {turns}", whole_line(before, turns)))
+            for out in (False, True):
+                name = f"{before} changes, {turns}, {out}"
+                scripts.append((name, whole_line(before, turns, out)))
     scripts += [(f"random orders {number}", random_orders(number))
                 for number in range(seed, seed + runs)]
     counts = Counter()
