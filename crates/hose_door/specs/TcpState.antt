@@ -1,5 +1,5 @@
 -- What contracts see of a door over a port: nothing of what comes and goes there.
-use Rattle.std.specs.Prelude.{ℕ, [], Bool, Option, None}
+use Rattle.std.specs.Prelude.{ℕ, [], Bool, Option, None, ⊤}
 use Rattle.hose_io.specs.Connections.{Connection, Connections}
 use Rattle.hose_io.specs.Frame.{Frame}
 use Rattle.hose_io.specs.StdState.{StdSinkState, StdSourceState, sink_frame, source_frame, untold_stream, untold_text}
@@ -12,8 +12,8 @@ pub record TcpState : Type 0 where
   pub listens : Bool
 
 -- its frame
-abbrev pub frame_of : TcpState → Frame
-frame_of door = record { faults = door.faults; number = 0; loan = [] }
+abbrev pub tcp_frame : TcpState → Frame
+tcp_frame door = record { faults = door.faults; number = 0; loan = [] }
 
 -- it tells no connections
 abbrev pub untold_connections : Option Connections
@@ -25,7 +25,11 @@ untold_connection = None
 
 -- a source over a reader of std, as a source
 abbrev pub std_source : {R : Type 0} → SourceGhosts (StdSourceState R)
-std_source = record { frame = source_frame; content = λ _. untold_stream }
+std_source = record {
+  frame = source_frame;
+  content = λ _. untold_stream;
+  went = λ _ _. ⊤;
+}
 
 -- a sink over a writer of std, as a sink
 abbrev pub std_sink : {W : Type 0} → SinkGhosts (StdSinkState W)

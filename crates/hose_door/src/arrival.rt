@@ -84,7 +84,7 @@ pub fn in_two<N: Clock>(rt: &N, stream: TcpStream) -> io::Result<(TcpStream, Tcp
     Ok((input, output))
 }
 
-// The same stream by another descriptor, which is above those of the standard streams.
+// Another descriptor of the stream, which is above those of the standard streams.
 fn second<N: Clock>(rt: &N, stream: &TcpStream) -> io::Result<TcpStream> {
     for _ in 0..MOST_PAUSES {
         match stream.try_clone() {

@@ -4,7 +4,7 @@ ghost use Rattle.hose_io.specs.Connections.{Accepts, AreAccounted, AreUsedUp, Is
 ghost use Rattle.hose_io.specs.Count.{one_more};
 ghost use Rattle.hose_io.specs.Frame.{Met, Rose};
 ghost use Rattle.hose_io.specs.StdState.{untold_stream, untold_text};
-ghost use Rattle.hose_door.specs.TcpState.{frame_of, std_sink, std_source, untold_connections};
+ghost use Rattle.hose_door.specs.TcpState.{tcp_frame, std_sink, std_source, untold_connections};
 
 use crate::arrival::{accept_from, in_two, listen};
 use hose_io::{Door, Failed, StdSink, StdSource};
@@ -58,7 +58,7 @@ impl<N: Net<Listener = TcpListener, Stream = TcpStream> + Send + Drop> TcpDoor<N
         TcpDoor::with_timeouts(rt, read_timeout, write_timeout)
     }
 
-    /// The same with other timeouts, of which neither may be zero.
+    /// A door as `new` makes it, but with these timeouts, of which neither may be zero.
     pub fn with_timeouts(rt: N, read_timeout: Duration, write_timeout: Duration) -> TcpDoor<N>
         ensures { result ≡ record { faults = 0; listens = false } }
     {
@@ -83,7 +83,7 @@ impl<N> TcpDoor<N> {
     // Counts a call that failed.
     fn fault(&mut self) -> Failed
         ensures after { self.new ≡ record self.old { faults = one_more self.old.faults } }
-        ensures rose { Rose (frame_of self.old) (frame_of self.new) }
+        ensures rose { Rose (tcp_frame self.old) (tcp_frame self.new) }
         ensures never_falls { self.old.faults ≤ self.new.faults }
     {
         self.faults = self.faults.saturating_add(1);
@@ -104,7 +104,7 @@ impl<N: Clock> TcpDoor<N> {
 }
 
 impl<N: Net<Listener = TcpListener, Stream = TcpStream> + Clock + Drop> Door for TcpDoor<N> {
-    ghost use Rattle.hose_door.specs.TcpState.{frame_of, untold_connection, untold_connections};
+    ghost use Rattle.hose_door.specs.TcpState.{tcp_frame, untold_connection, untold_connections};
 
     type In = StdSource<TcpStream>;
 
@@ -112,7 +112,7 @@ impl<N: Net<Listener = TcpListener, Stream = TcpStream> + Clock + Drop> Door for
 
     type Done = TcpDone;
 
-    ghost frame = { frame_of };
+    ghost frame = { tcp_frame };
 
     ghost told = { λ _. untold_connections };
 
@@ -121,7 +121,7 @@ impl<N: Net<Listener = TcpListener, Stream = TcpStream> + Clock + Drop> Door for
     fn open(&mut self, port: u16) -> Result<(), Failed>
         ensures told { untold_connections ≡ untold_connections }
         ensures accounted { AreAccounted untold_connections }
-        ensures met { Met (frame_of self.old) (frame_of self.new) result }
+        ensures met { Met (tcp_frame self.old) (tcp_frame self.new) result }
 
         ensures listens { MatchResult result
             (λ _. self.new.listens ≡ true)
@@ -142,7 +142,7 @@ impl<N: Net<Listener = TcpListener, Stream = TcpStream> + Clock + Drop> Door for
             × Accepts untold_connections untold_connections untold_stream untold_text 0))
             (λ _. untold_connections ≡ untold_connections) }
         ensures accounted { AreAccounted untold_connections }
-        ensures met { Met (frame_of self.old) (frame_of self.new) result }
+        ensures met { Met (tcp_frame self.old) (tcp_frame self.new) result }
 
         ensures never_ends { IfOk result (λ found. IsSome found) }
         ensures unopened { IsFalse self.old.listens → IsErr result }
@@ -157,7 +157,7 @@ impl<N: Net<Listener = TcpListener, Stream = TcpStream> + Clock + Drop> Door for
     // The system refuses whom it has not told of to an accept, and who comes later.
     fn close(&mut self)
         ensures told { untold_connections ≡ untold_connections }
-        ensures frame { frame_of self.new ≡ frame_of self.old }
+        ensures frame { tcp_frame self.new ≡ tcp_frame self.old }
 
         ensures after { self.new ≡ record self.old { listens = false } }
     {

@@ -1,3 +1,4 @@
+pub mod Calling
 pub mod Frames
 pub mod Gathering
 pub mod Lists

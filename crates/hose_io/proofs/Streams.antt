@@ -2,7 +2,7 @@
 use Rattle.std.proofs.Common.{◌≡◌, ℕ, ◌+◌, List, [], ◌++◌, length, take, drop, Option, None, Some, sym, ◌∙◌, ap, append_assoc, append-nil, length-append, arith}
 use Rattle.std.proofs.lemmas.List.{take_at, drop-drop, take-append-drop, take-append-le}
 use Rattle.std.proofs.Math.Seq.{take-add, take-append-add}
-use Rattle.hose_io.specs.Stream.{GoesOn, Grows}
+use Rattle.hose_io.specs.Stream.{GoesOnBy, Grows}
 use Rattle.hose_io.specs.Writing.{GrowsInPart}
 
 -- no byte
@@ -24,8 +24,8 @@ pub Grows-take : (old mid new : Option (List ℕ)) (bytes : List ℕ) (m n : ℕ
 Grows-take old mid new bytes m n p q = rw take-add (Grows-append old mid new _ _ p q)
 
 -- a source in memory gives the next `count` of its bytes, of which it gave `given` before, into the front of a buffer
-pub GoesOn-next : (bytes copied behind : List ℕ) (given count : ℕ) → length copied ≡ count → copied ≡ take count (drop given bytes) → GoesOn (record { taken = take given bytes; left = drop given bytes }) (record { taken = take (given + count) bytes; left = drop (given + count) bytes }) (take count (copied ++ behind))
-GoesOn-next bytes copied behind given count len is =
+pub GoesOnBy-next : (bytes copied behind : List ℕ) (given count : ℕ) → length copied ≡ count → copied ≡ take count (drop given bytes) → GoesOnBy (record { taken = take given bytes; left = drop given bytes }) (record { taken = take (given + count) bytes; left = drop (given + count) bytes }) (take count (copied ++ behind))
+GoesOnBy-next bytes copied behind given count len is =
     let same : take count (copied ++ behind) ≡ take count (drop given bytes) = take_at copied behind count len ∙ is in
     let split : take count (drop given bytes) ++ drop (given + count) bytes ≡ drop given bytes =
     rw (← drop-drop count given bytes) (take-append-drop count (drop given bytes)) in

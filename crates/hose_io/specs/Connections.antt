@@ -36,8 +36,8 @@ pub record IsConnection {S O : Type 0} (source : SourceGhosts S) (sink : SinkGho
 
 -- The next connection is accepted: its input has its bytes to give, its output was given nothing,
 -- and its number counts the connections from 1.
-pub record IsNext (old new : Connections) (input : Option Stream) (output : Option (List ℕ))
-    (number : ℕ) : Type 0 where
+pub record IsNextConnection (old new : Connections) (input : Option Stream)
+    (output : Option (List ℕ)) (number : ℕ) : Type 0 where
   pub bytes : List ℕ
   pub first : old.coming ≡ bytes ∷ new.coming
   pub accepted : new.accepted ≡ old.accepted + 1
@@ -46,13 +46,13 @@ pub record IsNext (old new : Connections) (input : Option Stream) (output : Opti
   pub empty : output ≡ Some []
   pub numbered : number ≡ new.accepted
 
--- The same where the door tells; whether it tells stays as it was.
+-- Where the door tells, the next connection is accepted; whether it tells stays as it was.
 abbrev pub Accepts : Option Connections → Option Connections → Option Stream → Option (List ℕ) → ℕ
     → Type 0
 Accepts None None input output number = ⊤
 Accepts None (Some new) input output number = ⊥
 Accepts (Some old) None input output number = ⊥
-Accepts (Some old) (Some new) input output number = IsNext old new input output number
+Accepts (Some old) (Some new) input output number = IsNextConnection old new input output number
 
 -- none is still to come
 abbrev pub AreUsedUp : Option Connections → Type 0

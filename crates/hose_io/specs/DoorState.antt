@@ -1,11 +1,11 @@
 -- What contracts see of a door in memory, and what each of its calls does to that.
-use Rattle.std.specs.Prelude.{◌≡◌, ℕ, ◌+◌, List, [], ◌∷◌, ◌++◌, map, Some}
+use Rattle.std.specs.Prelude.{◌≡◌, ℕ, ◌+◌, List, [], ◌∷◌, ◌++◌, map, Some, ⊤}
 use Rattle.hose_io.specs.Connections.{Connection, Connections}
 use Rattle.hose_io.specs.Count.{one_more}
 use Rattle.hose_io.specs.FailingCalls.{later_calls}
 use Rattle.hose_io.specs.Frame.{Frame}
-use Rattle.hose_io.specs.SinkState.{SinkState, frame_of as sink_frame}
-use Rattle.hose_io.specs.SourceState.{SourceState, frame_of as source_frame}
+use Rattle.hose_io.specs.SinkState.{SinkState, mem_sink_frame as sink_frame}
+use Rattle.hose_io.specs.SourceState.{SourceState, mem_source_frame as source_frame}
 use Rattle.hose_io.specs.declared.sink.Sink.{Ghosts as SinkGhosts}
 use Rattle.hose_io.specs.declared.source.Source.{Ghosts as SourceGhosts}
 
@@ -31,7 +31,11 @@ pub record IsFresh (source : SourceState) : Type 0 where
 
 -- a source in memory, as a source
 abbrev pub mem_source : SourceGhosts SourceState
-mem_source = record { frame = source_frame; content = λ source. Some source.content }
+mem_source = record {
+  frame = source_frame;
+  content = λ source. Some source.content;
+  went = λ _ _. ⊤;
+}
 
 -- a sink in memory, as a sink
 abbrev pub mem_sink : SinkGhosts SinkState
@@ -55,8 +59,8 @@ fresh_sink = record {
 -- ---- what a door tells
 
 -- its frame
-abbrev pub frame_of : DoorState → Frame
-frame_of door = record { faults = door.faults; number = 0; loan = [] }
+abbrev pub mem_door_frame : DoorState → Frame
+mem_door_frame door = record { faults = door.faults; number = 0; loan = [] }
 
 -- what a connection that ended came to
 abbrev pub outcome : DoneState → Connection
@@ -79,12 +83,12 @@ connections_of door = record {
 -- ---- what its calls do
 
 -- after a call of `open` or `accept` that succeeded and gave no connection
-abbrev pub after_call : DoorState → DoorState
-after_call door = record door { failing = later_calls door.failing }
+abbrev pub door_after_call : DoorState → DoorState
+door_after_call door = record door { failing = later_calls door.failing }
 
 -- after a call that failed
-abbrev pub after_fault : DoorState → DoorState
-after_fault door = record (after_call door) { faults = one_more door.faults }
+abbrev pub door_after_fault : DoorState → DoorState
+door_after_fault door = record (door_after_call door) { faults = one_more door.faults }
 
 -- A call of `accept` gave the next connection: its input and its output have its number.
 pub record IsHandedOut (old new : DoorState) (input : SourceState) (output : SinkState) :
@@ -93,11 +97,11 @@ pub record IsHandedOut (old new : DoorState) (input : SourceState) (output : Sin
   pub first : old.coming ≡ source ∷ new.coming
   pub reads : input ≡ record source { number = old.accepted + 1 }
   pub writes : output ≡ record fresh_sink { number = old.accepted + 1 }
-  pub after : new ≡ record (after_call old) {
+  pub after : new ≡ record (door_after_call old) {
     coming = new.coming;
     accepted = old.accepted + 1;
   }
 
 -- after a connection came back
-abbrev pub after_back : DoneState → DoorState → DoorState
-after_back done door = record door { ended = door.ended ++ done ∷ [] }
+abbrev pub door_after_return : DoneState → DoorState → DoorState
+door_after_return done door = record door { ended = door.ended ++ done ∷ [] }

@@ -15,27 +15,27 @@ pub record SinkState : Type 0 where
   pub number : ℕ
 
 -- its frame
-abbrev pub frame_of : SinkState → Frame
-frame_of sink = record { faults = sink.faults; number = sink.number; loan = [] }
+abbrev pub mem_sink_frame : SinkState → Frame
+mem_sink_frame sink = record { faults = sink.faults; number = sink.number; loan = [] }
 
 -- a sink after a call that appended these bytes
-abbrev pub after_putting : SinkState → List ℕ → SinkState
-after_putting sink bytes = record sink {
+abbrev pub sink_after_putting : SinkState → List ℕ → SinkState
+sink_after_putting sink bytes = record sink {
   given = sink.given ++ bytes;
   pieces = one_more sink.pieces;
   failing = later_calls sink.failing;
 }
 
 -- a sink after a call that was to fail
-abbrev pub after_fault : SinkState → SinkState
-after_fault sink = record sink {
+abbrev pub sink_after_fault : SinkState → SinkState
+sink_after_fault sink = record sink {
   faults = one_more sink.faults;
   failing = later_calls sink.failing;
 }
 
 -- a sink after a call that found no memory
-abbrev pub after_starving : SinkState → SinkState
-after_starving sink = record sink {
+abbrev pub sink_after_starving : SinkState → SinkState
+sink_after_starving sink = record sink {
   faults = one_more sink.faults;
   starved = one_more sink.starved;
   failing = later_calls sink.failing;

@@ -15,12 +15,12 @@ pub record SourceState : Type 0 where
   pub number : ℕ
 
 -- its frame
-abbrev pub frame_of : SourceState → Frame
-frame_of source = record { faults = source.faults; number = source.number; loan = [] }
+abbrev pub mem_source_frame : SourceState → Frame
+mem_source_frame source = record { faults = source.faults; number = source.number; loan = [] }
 
 -- a source after a call that gave the next `count` bytes
-abbrev pub after_taking : SourceState → ℕ → SourceState
-after_taking source count = record source {
+abbrev pub source_after_taking : SourceState → ℕ → SourceState
+source_after_taking source count = record source {
   content = record {
     taken = source.content.taken ++ take count source.content.left;
     left = drop count source.content.left;
@@ -29,8 +29,8 @@ after_taking source count = record source {
 }
 
 -- a source after a call that failed
-abbrev pub after_fault : SourceState → SourceState
-after_fault source = record source {
+abbrev pub source_after_fault : SourceState → SourceState
+source_after_fault source = record source {
   faults = one_more source.faults;
   failing = later_calls source.failing;
 }

@@ -7,7 +7,7 @@ pub record Stream : Type 0 where
   pub left : List ℕ
 
 -- a stream after its next bytes were given
-pub record GoesOn (old new : Stream) (bytes : List ℕ) : Type 0 where
+pub record GoesOnBy (old new : Stream) (bytes : List ℕ) : Type 0 where
   pub taken : new.taken ≡ old.taken ++ bytes
   pub left : old.left ≡ bytes ++ new.left
 
@@ -16,7 +16,7 @@ abbrev pub Gives : Option Stream → Option Stream → List ℕ → Type 0
 Gives None None bytes = ⊤
 Gives None (Some new) bytes = ⊥
 Gives (Some old) None bytes = ⊥
-Gives (Some old) (Some new) bytes = GoesOn old new bytes
+Gives (Some old) (Some new) bytes = GoesOnBy old new bytes
 
 -- a source has nothing left, where it tells
 abbrev pub IsAtEnd : Option Stream → Type 0

@@ -1,11 +1,11 @@
-// A text on its way to a sink, in few pieces.
+// A whole text on its way to a sink: at once, or gathered so that it goes out in few pieces.
 ghost use Rattle.std.specs.Prelude.{◌≡◌, ◌≢◌, ◌+◌, ◌≤◌, ℕ, IsFalse, List, [], ◌++◌, OnOk, IsOk, OnErr, decimal, false, length, take};
 ghost use Rattle.hose_io.specs.Count.{one_more};
 ghost use Rattle.hose_io.specs.Frame.{Met};
 ghost use Rattle.hose_io.specs.Gather.{GoesOut, IsAdded, IsFinished};
 ghost use Rattle.hose_io.specs.Writing.{GrowsInPart, IsPut};
 
-use crate::{Failed, Sink, write_all};
+use crate::{Failed, Sink};
 use itoa::Buffer;
 use std::marker::Model;
 
@@ -65,6 +65,14 @@ impl Gather {
         self.add(sink, buffer.format(number).as_bytes());
     }
 
+    /// Adds some words and the number after them.
+    pub fn add_numbered<S: Sink>(&mut self, sink: &mut S, words: &[u8], number: u64)
+        ensures { IsAdded S.Sink self.old sink.old self.new sink.new (words.now ++ decimal number) }
+    {
+        self.add(sink, words);
+        self.add_number(sink, number);
+    }
+
     /// Gives all that it holds to the sink. Fails where the sink fails, now or before.
     pub fn finish<S: Sink>(mut self, sink: &mut S) -> Result<(), Failed>
         ensures { IsFinished S.Sink self sink.old sink.new result }
@@ -121,4 +129,18 @@ impl Gather {
         self.buffer[self.len..end].copy_from_slice(bytes);
         self.len = end;
     }
+}
+
+/// Appends all of `bytes`, as one piece: each call of the sink is given all that is left.
+pub fn write_all<S: Sink>(sink: &mut S, bytes: &[u8]) -> Result<(), Failed>
+    ensures put { IsPut S.Sink sink.old sink.new bytes.now result }
+    ensures one_piece { bytes.now ≢ []
+        → OnOk result (S.pieces sink.new ≡ one_more (S.pieces sink.old)) }
+    ensures calls_none { bytes.now ≡ [] → sink.new ≡ sink.old }
+{
+    let mut written = 0;
+    while written < bytes.len() {
+        written += sink.put(&bytes[written..])?;
+    }
+    Ok(())
 }

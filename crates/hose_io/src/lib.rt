@@ -11,18 +11,16 @@ mod mem_source;
 mod sink;
 mod source;
 mod std_streams;
-mod writing;
 
 pub use door::Door;
 pub use failing::FailingCalls;
-pub use gather::{GATHER_LIMIT, Gather};
+pub use gather::{GATHER_LIMIT, Gather, write_all};
 pub use mem_door::{MemDone, MemDoor};
 pub use mem_sink::MemSink;
 pub use mem_source::MemSource;
 pub use sink::Sink;
 pub use source::Source;
 pub use std_streams::{StdSink, StdSource};
-pub use writing::write_all;
 
 /// A call of a source or a sink failed. The object's count of faults rose in that call.
 #[derive(Clone, Copy, Debug, PartialEq, Eq)]

@@ -2,7 +2,7 @@
 ghost use Rattle.std.specs.Prelude.{◌≡◌, ◌↔◌, ◌<◌, ◌+◌, Option, Some, List, [], ◌∷◌, ◌++◌, All, IfOk, IsErr, OnOk, OnErr, MatchOption, MatchResult, Contains, length};
 ghost use Rattle.hose_io.specs.Connections.{Accepts, AreAccounted, AreUsedUp, ComesBack, IsConnection, MayComeBack, connection_of};
 ghost use Rattle.hose_io.specs.Count.{one_more};
-ghost use Rattle.hose_io.specs.DoorState.{IsFresh, IsHandedOut, after_back, after_call, after_fault, connections_of, fresh_sink, frame_of, mem_sink, mem_source, outcome};
+ghost use Rattle.hose_io.specs.DoorState.{IsFresh, IsHandedOut, door_after_return, door_after_call, door_after_fault, connections_of, fresh_sink, mem_door_frame, mem_sink, mem_source, outcome};
 ghost use Rattle.hose_io.specs.Frame.{Frame, Met, Rose};
 
 use crate::{Door, Failed, FailingCalls, MemSink, MemSource};
@@ -10,8 +10,8 @@ use std::alloc::{AllocError, Global};
 use std::collections::VecDeque;
 use std::marker::Model;
 
-/// A connection of a door in memory that ended: its number, and what became of its input and its
-/// output.
+/// A connection of a door in memory, for tests and embeddings, that ended: its number, and what
+/// became of its input and its output.
 #[derive(Debug, Drop)]
 pub struct MemDone {
     pub number: u64,
@@ -74,8 +74,8 @@ impl Coming {
     }
 }
 
-/// A list of connections in memory. A call of `open` or `accept` fails exactly where it was told
-/// to, and no call of the trait takes memory.
+/// A list of connections in memory, for tests and embeddings. A call of `open` or `accept` fails
+/// exactly where it was told to, and no call of the trait takes memory.
 #[derive(Debug, Drop)]
 pub struct MemDoor {
     coming: VecDeque<Coming>,
@@ -157,11 +157,11 @@ impl MemDoor {
     // Counts a call of `open` or `accept`, which fails where it was told to.
     fn count_call(&mut self) -> Result<(), Failed>
         ensures accounted { AreAccounted (Some (connections_of self.new)) }
-        ensures met { Met (frame_of self.old) (frame_of self.new) result }
+        ensures met { Met (mem_door_frame self.old) (mem_door_frame self.new) result }
         ensures fails { IsErr result ↔ Contains self.old.failing 1 }
         ensures after { MatchResult result
-            (λ _. self.new ≡ after_call self.old)
-            (λ _. self.new ≡ after_fault self.old) }
+            (λ _. self.new ≡ door_after_call self.old)
+            (λ _. self.new ≡ door_after_fault self.old) }
     {
         if self.failing.next() {
             self.faults = self.faults.saturating_add(1);
@@ -173,7 +173,7 @@ impl MemDoor {
 
 impl Door for MemDoor {
     ghost use Rattle.std.specs.Prelude.{Some};
-    ghost use Rattle.hose_io.specs.DoorState.{connections_of, frame_of, outcome};
+    ghost use Rattle.hose_io.specs.DoorState.{connections_of, mem_door_frame, outcome};
 
     type In = MemSource;
 
@@ -181,7 +181,7 @@ impl Door for MemDoor {
 
     type Done = MemDone;
 
-    ghost frame = { frame_of };
+    ghost frame = { mem_door_frame };
 
     ghost told = { λ door. Some (connections_of door) };
 
@@ -190,12 +190,12 @@ impl Door for MemDoor {
     fn open(&mut self, _port: u16) -> Result<(), Failed>
         ensures told { Some (connections_of self.new) ≡ Some (connections_of self.old) }
         ensures accounted { AreAccounted (Some (connections_of self.new)) }
-        ensures met { Met (frame_of self.old) (frame_of self.new) result }
+        ensures met { Met (mem_door_frame self.old) (mem_door_frame self.new) result }
 
         ensures fails { IsErr result ↔ Contains self.old.failing 1 }
         ensures after { MatchResult result
-            (λ _. self.new ≡ after_call self.old)
-            (λ _. self.new ≡ after_fault self.old) }
+            (λ _. self.new ≡ door_after_call self.old)
+            (λ _. self.new ≡ door_after_fault self.old) }
     {
         self.count_call()
     }
@@ -210,14 +210,14 @@ impl Door for MemDoor {
             (Some ends.0.content) (Some ends.1.given) ends.0.number))
             (λ _. Some (connections_of self.new) ≡ Some (connections_of self.old)) }
         ensures accounted { AreAccounted (Some (connections_of self.new)) }
-        ensures met { Met (frame_of self.old) (frame_of self.new) result }
+        ensures met { Met (mem_door_frame self.old) (mem_door_frame self.new) result }
 
         ensures fails { IsErr result ↔ Contains self.old.failing 1 }
         ensures after { MatchResult result
             (λ found. MatchOption found
-            ((self.old.coming ≡ []) × (self.new ≡ after_call self.old))
+            ((self.old.coming ≡ []) × (self.new ≡ door_after_call self.old))
             (λ ends. IsHandedOut self.old self.new ends.0 ends.1))
-            (λ _. self.new ≡ after_fault self.old) }
+            (λ _. self.new ≡ door_after_fault self.old) }
     {
         self.count_call()?;
         let Some(next) = self.coming.pop_front() else {
@@ -249,9 +249,9 @@ impl Door for MemDoor {
         requires { MayComeBack (Some (connections_of self.old)) (Some (outcome done)) }
         ensures back { ComesBack (Some (connections_of self.old))
             (Some (connections_of self.new)) (Some (outcome done)) }
-        ensures frame { frame_of self.new ≡ frame_of self.old }
+        ensures frame { mem_door_frame self.new ≡ mem_door_frame self.old }
 
-        ensures after { self.new ≡ after_back done self.old }
+        ensures after { self.new ≡ door_after_return done self.old }
     {
         self.ended.push_reserved(done);
     }

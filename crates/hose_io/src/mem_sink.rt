@@ -2,15 +2,15 @@
 ghost use Rattle.std.specs.Prelude.{◌≡◌, ◌<◌, ◌≤◌, ℕ, Option, Some, List, [], ◌∷◌, ◌++◌, IfOk, IsErr, OnOk, OnErr, MatchResult, Contains, length, take};
 ghost use Rattle.hose_io.specs.Count.{pieces_after};
 ghost use Rattle.hose_io.specs.Frame.{Frame, Met};
-ghost use Rattle.hose_io.specs.SinkState.{SinkState, frame_of, after_putting, after_fault, after_starving};
+ghost use Rattle.hose_io.specs.SinkState.{SinkState, mem_sink_frame, sink_after_putting, sink_after_fault, sink_after_starving};
 ghost use Rattle.hose_io.specs.Stream.{Grows};
 
 use crate::{Failed, FailingCalls, Sink};
 use std::alloc::{AllocError, Global};
 use std::marker::Model;
 
-/// Bytes in memory that are written. A call fails where it was told to, and where no memory is left
-/// to grow.
+/// Bytes in memory that are written, for tests and embeddings. A call fails where it was told to,
+/// and where no memory is left to grow.
 #[derive(Debug, Drop)]
 pub struct MemSink {
     bytes: Vec<u8>,
@@ -58,7 +58,7 @@ impl MemSink {
         })
     }
 
-    /// The same sink, as that of the connection of this number.
+    /// This sink, as that of the connection of this number.
     pub(crate) fn with_number(mut self, number: u64) -> MemSink
         ensures { result ≡ record self { number = number } }
     {
@@ -99,9 +99,9 @@ impl MemSink {
 
 impl Sink for MemSink {
     ghost use Rattle.std.specs.Prelude.{Some};
-    ghost use Rattle.hose_io.specs.SinkState.{frame_of};
+    ghost use Rattle.hose_io.specs.SinkState.{mem_sink_frame};
 
-    ghost frame = { frame_of };
+    ghost frame = { mem_sink_frame };
 
     ghost content = { λ s. Some s.given };
 
@@ -117,16 +117,16 @@ impl Sink for MemSink {
         ensures pieces { MatchResult result
             (λ k. self.new.pieces ≡ pieces_after self.old.pieces k (length bytes.now))
             (λ _. self.new.pieces ≡ self.old.pieces) }
-        ensures met { Met (frame_of self.old) (frame_of self.new) result }
+        ensures met { Met (mem_sink_frame self.old) (mem_sink_frame self.new) result }
 
         ensures all { IfOk result (λ k. k ≡ length bytes.now) }
-        ensures given { OnOk result (self.new ≡ after_putting self.old bytes.now) }
+        ensures given { OnOk result (self.new ≡ sink_after_putting self.old bytes.now) }
 
         // On its list it fails for that reason, and else only for want of memory.
         ensures listed { Contains self.old.failing 1 → IsErr result }
-        ensures fault { Contains self.old.failing 1 → self.new ≡ after_fault self.old }
+        ensures fault { Contains self.old.failing 1 → self.new ≡ sink_after_fault self.old }
         ensures starved { ¬ Contains self.old.failing 1 →
-            OnErr result (self.new ≡ after_starving self.old) }
+            OnErr result (self.new ≡ sink_after_starving self.old) }
     {
         if self.failing.next() {
             self.faults = self.faults.saturating_add(1);

@@ -1,14 +1,15 @@
 // Bytes in memory that are read.
 ghost use Rattle.std.specs.Prelude.{◌≡◌, ◌↔◌, ◌<◌, ◌≤◌, ℕ, Option, Ok, List, [], ◌∷◌, ◌++◌, IfOk, IsErr, OnOk, OnErr, MatchResult, Contains, length, min, take};
 ghost use Rattle.hose_io.specs.Frame.{Frame, Met};
-ghost use Rattle.hose_io.specs.SourceState.{SourceState, frame_of, after_taking, after_fault};
+ghost use Rattle.hose_io.specs.SourceState.{SourceState, mem_source_frame, source_after_taking, source_after_fault};
 ghost use Rattle.hose_io.specs.Stream.{Stream, Gives, IsAtEnd};
 
 use crate::{Failed, FailingCalls, Source};
 use std::alloc::{AllocError, Global};
 use std::marker::Model;
 
-/// Bytes in memory that are read. A call fails exactly where it was told to.
+/// Bytes in memory that are read, for tests and embeddings. A call fails exactly where it was told
+/// to.
 #[derive(Debug, Drop)]
 pub struct MemSource {
     bytes: Vec<u8>,
@@ -58,7 +59,7 @@ impl MemSource {
         })
     }
 
-    /// The same source, as that of the connection of this number.
+    /// This source, as that of the connection of this number.
     pub(crate) fn with_number(mut self, number: u64) -> MemSource
         ensures { result ≡ record self { number = number } }
     {
@@ -105,9 +106,9 @@ impl MemSource {
 
 impl Source for MemSource {
     ghost use Rattle.std.specs.Prelude.{Some};
-    ghost use Rattle.hose_io.specs.SourceState.{frame_of};
+    ghost use Rattle.hose_io.specs.SourceState.{mem_source_frame};
 
-    ghost frame = { frame_of };
+    ghost frame = { mem_source_frame };
 
     ghost content = { λ s. Some s.content };
 
@@ -118,14 +119,14 @@ impl Source for MemSource {
             (λ k. Gives (Some self.old.content) (Some self.new.content) (take k into.new))
             (λ _. Some self.new.content ≡ Some self.old.content) }
         ensures none_only_at_end { result ≡ Ok 0 → IsAtEnd (Some self.old.content) }
-        ensures met { Met (frame_of self.old) (frame_of self.new) result }
+        ensures met { Met (mem_source_frame self.old) (mem_source_frame self.new) result }
 
         ensures fails { IsErr result ↔ Contains self.old.failing 1 }
         ensures amount { IfOk result
             (λ k. k ≡ min self.old.piece (min (length into.old) (length self.old.content.left))) }
         ensures after { MatchResult result
-            (λ k. self.new ≡ after_taking self.old k)
-            (λ _. self.new ≡ after_fault self.old) }
+            (λ k. self.new ≡ source_after_taking self.old k)
+            (λ _. self.new ≡ source_after_fault self.old) }
     {
         if self.failing.next() {
             self.faults = self.faults.saturating_add(1);

@@ -1,15 +1,17 @@
 -- How far a call of `next` has come, and what it answers from there.
-use Rattle.std.proofs.Common.{◌≡◌, ◌≢◌, ℕ, ◌+◌, ◌^◌, ◌<◌, ◌≤◌, Bool, true, false, IsTrue, nat_lt, eqb, cond, List, [], ◌∷◌, ◌++◌, length, sym, ap, ◌∙◌, refl, arith, inl, inr, ⊎_elim, Option, None, Some, IfSome, OnSome, Ok, Err, MatchBool, All, Contains}
+use Rattle.std.proofs.Common.{◌≡◌, ◌≢◌, ℕ, ◌+◌, ◌^◌, ◌<◌, ◌≤◌, Bool, true, false, IsTrue, IsFalse, nat_lt, eqb, cond, List, [], ◌∷◌, ◌++◌, length, sym, ap, ◌∙◌, refl, arith, inl, inr, ⊎_elim, Option, None, Some, IfSome, OnSome, Ok, Err, MatchBool, All, Contains}
 use Rattle.std.specs.Bool.{OnTrue}
 use Rattle.std.specs.List.{position_or_len}
 use Rattle.std.proofs.lemmas.List.{append-nil, append_assoc, length-append, length-drop, nil_from_length}
 use Rattle.std.proofs.lemmas.Bool.{ltb-true, ltb-false, eqb-true, eqb-false, cases_lt}
 use Rattle.std.proofs.lemmas.List.Elements.{All-contains, Contains-append_left}
+use Rattle.hose_io.proofs.Calling.{HasGone-once, HasGone-then}
 use Rattle.hose_io.proofs.Frames.{Stays-same}
+use Rattle.hose_io.specs.Calls.{HasGone, call_more, none_yet}
 use Rattle.hose_io.specs.Stream.{Stream, Gives, IsAtEnd}
 use Rattle.hose_io.specs.declared.source.Source.{Ghosts}
-use Rattle.hose_words.specs.Buffer.{CutsLine}
-use Rattle.hose_words.specs.Intake.{found_of, last_of, ShowsFound, TakesBytes, IsTurn}
+use Rattle.hose_words.specs.Buffer.{Appends, CutsLine}
+use Rattle.hose_words.specs.Intake.{found_of, found_at_end, ShowsFound, TakesBytes, MeetsEnd, IsIntake}
 use Rattle.hose_words.specs.Lines.{Reader, is_line_feed, GivesLine, IsAfterLines, IsDropped, StopsAt, IsNext}
 use Rattle.hose_words.specs.declared.intake.Found.TheVariants as found
 use Rattle.hose_words.specs.declared.lines.Line.{Line}
@@ -22,6 +24,12 @@ use Rattle.hose_words.proofs.FirstLine.{IsPlain, IsPlain-append, All-from_IsPlai
 pub Gives-nil : (o : Option Stream) → Gives o o []
 Gives-nil None = tt
 Gives-nil (Some s) = record { taken = sym (append-nil s.taken); left = refl }
+
+Gives-none : (o n : Option Stream) → Gives o n [] → n ≡ o
+Gives-none None None gives = refl
+Gives-none None (Some n) gives = absurd gives
+Gives-none (Some o) None gives = absurd gives
+Gives-none (Some o) (Some n) gives = λ i. Some (record { taken = (gives.taken ∙ append-nil o.taken) i; left = sym gives.left i })
 
 pub Gives-append : (o m n : Option Stream) (xs ys : List ℕ) → Gives o m xs → Gives m n ys → Gives o n (xs ++ ys)
 Gives-append None None None xs ys a b = tt
@@ -40,7 +48,7 @@ told None n bytes P gives holds = tt
 told (Some o) None bytes P gives holds = tt
 told (Some o) (Some n) bytes P gives holds = rw gives.left (holds n.left)
 
--- the same at the end of the source
+-- what holds of all that may be left holds of nothing, where a source met its end
 pub told_at_end : (o m n : Option Stream) (bytes : List ℕ) (P : List ℕ → List ℕ → Type 0) → Gives o m bytes → IsAtEnd m → n ≡ m → P (bytes ++ []) [] → IfSome o (λ before. IfSome n (λ after. P before.left after.left))
 told_at_end None m n bytes P gives end same holds = tt
 told_at_end (Some o) None n bytes P gives end same holds = absurd gives
@@ -55,7 +63,7 @@ last_by false pending shown none plain shows =
     let some : length pending ≡ 0 → ⊥ = eqb-false (length pending) 0 none in
     GivesLine-shown shown pending [] pending (shows_found false [] pending shown refl shows) (omega (arith, some)) (before_first-plain pending plain) (sym (after_first-plain pending plain))
 
-GivesLine-last : (is_long : Bool) (dropped pending : List ℕ) (shown : Option Line) → IsPlain (dropped ++ pending) → MatchBool is_long (4096 < length dropped) (dropped ≡ []) → ShowsFound (last_of is_long pending) pending shown → GivesLine shown (dropped ++ pending) []
+GivesLine-last : (is_long : Bool) (dropped pending : List ℕ) (shown : Option Line) → IsPlain (dropped ++ pending) → MatchBool is_long (4096 < length dropped) (dropped ≡ []) → ShowsFound (found_at_end is_long pending) pending shown → GivesLine shown (dropped ++ pending) []
 GivesLine-last true dropped pending shown plain long shows =
     let text = dropped ++ pending in
     GivesLine-shown shown text [] text (shows_found true dropped pending shown long shows) (omega (arith, length-append dropped pending)) (before_first-plain text plain) (sym (after_first-plain text plain))
@@ -90,9 +98,31 @@ module _ {S : Type 0} (source : Ghosts S) where
     pub ended : now.ended ≡ old.ended
     pub at_end : OnTrue now.ended (IsAtEnd (source.content now.source))
     pub frame : source.frame now.source ≡ source.frame old.source
+    pub gone : HasGone source old.source now.source
     -- nothing was asked for where a line was pending whole, or after the end
     pub whole_pending : Contains old.pending 10 → now.source ≡ old.source
     pub after_end : IsTrue old.ended → now.source ≡ old.source
+
+  -- a call begins
+  pub HasCome-none : (reader : Reader S) → reader.fault ≡ None → reader.taken ≤ 2 ^ 30 → OnTrue reader.ended (IsAtEnd (source.content reader.source)) → HasCome reader reader false
+  HasCome-none reader none limit at_end = record {
+    bytes = [];
+    dropped = [];
+    gives = Gives-nil (source.content reader.source);
+    taken = omega arith;
+    split = append-nil reader.pending;
+    plain = refl;
+    long = refl;
+    limit = limit;
+    was = none;
+    fault = none;
+    ended = refl;
+    at_end = at_end;
+    frame = refl;
+    gone = none_yet;
+    whole_pending = λ _. refl;
+    after_end = λ _. refl;
+  }
 
   -- no line is pending whole, and what was too long was dropped
   pub record HasPassed (old now : Reader S) (is_long : Bool) : Type 0 where
@@ -120,6 +150,7 @@ module _ {S : Type 0} (source : Ghosts S) where
           ended = ended ∙ h.ended;
           at_end = rw (source', ended) h.at_end;
           frame = rw source' h.frame;
+          gone = rw source' h.gone;
           whole_pending = λ line. source' ∙ h.whole_pending line;
           after_end = λ over. source' ∙ h.after_end over;
         };
@@ -143,6 +174,7 @@ module _ {S : Type 0} (source : Ghosts S) where
           ended = ended ∙ h.ended;
           at_end = rw (source', ended) h.at_end;
           frame = rw source' h.frame;
+          gone = rw source' h.gone;
           whole_pending = λ line. source' ∙ h.whole_pending line;
           after_end = λ over. source' ∙ h.after_end over;
         };
@@ -182,8 +214,26 @@ module _ {S : Type 0} (source : Ghosts S) where
         ended = t.before_end.1 ∙ (sym t.before_end.0 ∙ h.ended);
         at_end = rw t.before_end.1 tt;
         frame = t.frame ∙ h.frame;
+        gone = call_more h.gone t.went;
         whole_pending = λ line. absurd (none_whole old r is_long p line);
         after_end = λ over. absurd (cc (over, h.ended, t.before_end.0));
+      }
+
+  -- a source that was asked gave nothing
+  pub MeetsEnd-now : (old new : Reader S) (count : ℕ) → Appends (source.content old.source) (source.content new.source) old.pending new.pending count → count ≡ 0 → IsAtEnd (source.content old.source)
+      → new.taken ≡ old.taken → new.fault ≡ None → IsTrue new.ended → source.frame new.source ≡ source.frame old.source → source.went old.source new.source → IsFalse old.ended → MeetsEnd source old new
+  MeetsEnd-now old new count appends none at_end taken fault ended frame went before =
+      let empty : appends.0 ≡ [] = nil_from_length appends.0 (omega (arith, appends.3, none)) in
+      record {
+        content = Gives-none _ _ (rw empty at appends.1);
+        at_end = at_end;
+        pending = appends.2 ∙ (ap (λ l. old.pending ++ l) empty ∙ append-nil old.pending);
+        taken = taken;
+        fault = fault;
+        ended = ended;
+        frame = frame;
+        gone = HasGone-once source went;
+        not_asked = λ over. absurd (cc (over, before));
       }
 
   -- ---- what a call answers
@@ -226,10 +276,11 @@ module _ {S : Type 0} (source : Ghosts S) where
         progress = OnSome-from shown _ (omega (arith, cut.0, ap length cut.2, length-drop (n + 1) r.pending, ap length h.split, length-append old.pending h.bytes, length-append h.dropped r.pending, taken, h.taken));
         stays = Stays-same (rw source' h.frame);
         unfailed = λ _. rw source' h.frame;
+        gone = rw source' h.gone;
       }
 
-  pub IsNext-last : (old r m now : Reader S) (is_long : Bool) (shown : Option Line) → HasPassed old r is_long → IsTurn source r m (Ok false)
-      → now ≡ record { source = m.source; pending = []; taken = m.taken; fault = m.fault; ended = m.ended } → ShowsFound (last_of is_long m.pending) m.pending shown → IsNext source old now (Ok shown)
+  pub IsNext-last : (old r m now : Reader S) (is_long : Bool) (shown : Option Line) → HasPassed old r is_long → IsIntake source r m (Ok false)
+      → now ≡ record { source = m.source; pending = []; taken = m.taken; fault = m.fault; ended = m.ended } → ShowsFound (found_at_end is_long m.pending) m.pending shown → IsNext source old now (Ok shown)
   IsNext-last old r m now is_long shown p turn same shows =
       let h = p.come in
       let end = turn in
@@ -253,9 +304,10 @@ module _ {S : Type 0} (source : Ghosts S) where
         progress = OnSome-line shown (h.dropped ++ r.pending) [] _ all (λ some. omega (arith, some, ap length h.split, length-append old.pending h.bytes, length-append h.dropped r.pending, end.taken, h.taken));
         stays = Stays-same (end.frame ∙ h.frame);
         unfailed = λ _. end.frame ∙ h.frame;
+        gone = HasGone-then h.gone end.gone;
       })
 
-  pub IsNext-fault : (old r now : Reader S) (is_long : Bool) (fault : LineFault) → HasPassed old r is_long → IsTurn source r now (Err fault) → IsNext source old now (Err fault)
+  pub IsNext-fault : (old r now : Reader S) (is_long : Bool) (fault : LineFault) → HasPassed old r is_long → IsIntake source r now (Err fault) → IsNext source old now (Err fault)
   IsNext-fault old r now is_long Read p turn =
       let h = p.come in
       let met = turn in
@@ -277,6 +329,7 @@ module _ {S : Type 0} (source : Ghosts S) where
         progress = tt;
         stays = rw h.frame at met.4;
         unfailed = λ other. absurd (other refl);
+        gone = call_more h.gone met.7;
       }
   IsNext-fault old r now is_long TooLong p turn =
       let h = p.come in
@@ -311,4 +364,5 @@ module _ {S : Type 0} (source : Ghosts S) where
         progress = tt;
         stays = Stays-same (met.5 ∙ h.frame);
         unfailed = λ _. met.5 ∙ h.frame;
+        gone = call_more h.gone met.7;
       }

@@ -1,7 +1,9 @@
 -- Readings one behind the other, and what is told of them.
 use Rattle.std.proofs.Common.{◌∙◌, ℕ, List, [], ◌∷◌, ◌++◌, Option, None, Some, Result, Ok, Err, inl, inr, refl, sym, subst, ap, arith, append_assoc, length-append}
 use Rattle.hose_io.specs.Stream.{Stream, Gives}
+use Rattle.hose_io.proofs.Calling.{HasGone-then}
 use Rattle.hose_io.proofs.Frames.{Stays-none, Stays-next}
+use Rattle.hose_io.specs.Calls.{none_yet}
 use Rattle.hose_io.specs.declared.source.Source.{Ghosts}
 use Rattle.hose_words.specs.Lines.{Reader, IsAfterLines, IsNext}
 use Rattle.hose_words.specs.Reading.{ReadsOn, WhereTold}
@@ -55,6 +57,7 @@ module _ {S : Type 0} (source : Ghosts S) where
     ended = λ before. before;
     stays = Stays-none (source.frame reader.source);
     unfailed = λ _. refl;
+    gone = none_yet;
   }
 
   pub ReadsOn-then : (old mid new : Reader S) → ReadsOn source old mid → ReadsOn source mid new → ReadsOn source old new
@@ -72,6 +75,7 @@ module _ {S : Type 0} (source : Ghosts S) where
     ended = λ before. first.ended (second.ended before);
     stays = Stays-next first.stays second.stays;
     unfailed = λ other. second.unfailed other ∙ first.unfailed (λ read. other (second.read read));
+    gone = HasGone-then first.gone second.gone;
   }
 
   pub ReadsOn-next : (old new : Reader S) (read : Result (Option Line) LineFault) → IsNext source old new read → ReadsOn source old new
@@ -83,6 +87,7 @@ module _ {S : Type 0} (source : Ghosts S) where
     ended = next.ended;
     stays = next.stays;
     unfailed = λ _. next.unfailed (λ err. absurd (cc err));
+    gone = next.gone;
   }
   ReadsOn-next old new (Err fault) next = record {
     takes = (next.takes.0, next.takes.1, next.takes.2);
@@ -94,4 +99,5 @@ module _ {S : Type 0} (source : Ghosts S) where
     ended = next.ended;
     stays = next.stays;
     unfailed = λ other. next.unfailed (λ err. other (cc (err, next.fault)));
+    gone = next.gone;
   }

@@ -5,7 +5,7 @@ use Rattle.hose_io.specs.Stream.{Stream, Gives}
 use Rattle.hose_words.specs.Lines.{is_line_feed}
 
 -- the line that was cut off last, the bytes that are pending, and how many more fit after them
-pub record Held : Type 0 where
+pub record LineBuffer : Type 0 where
   pub line : List ℕ
   pub pending : List ℕ
   pub room : ℕ

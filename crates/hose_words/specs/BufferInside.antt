@@ -2,7 +2,7 @@
 use Rattle.std.specs.Prelude.{◌≤◌, ◌-◌, slice_range}
 use Rattle.std.specs.List.{position_or_len}
 use Rattle.hose_words.specs.Lines.{is_line_feed}
-use Rattle.hose_words.specs.declared.limits.TheConstants.{PENDING_LIMIT}
+use Rattle.hose_words.specs.declared.lines.TheConstants.{PENDING_LIMIT}
 use Rattle.hose_words.specs.declared.buffer.Buffer.TheInside.{Inside}
 
 pub record IsInOrder (buffer : Inside) : Type 0 where

@@ -1,21 +1,22 @@
 -- What a reader keeps beside its source, and what one turn of its loop does.
 use Rattle.std.specs.Prelude.{◌≡◌, ◌+◌, ◌<◌, ◌≤◌, ℕ, Bool, true, IsTrue, IsFalse, ◌||◌, not, ◌&&◌, ◌==◌, nat_lt, if◌then◌else◌, List, [], ◌∷◌, ◌++◌, length, Option, None, Some, Result, Ok, Err, MatchResult, ⊤}
 use Rattle.std.specs.Bool.{MatchBool}
+use Rattle.hose_io.specs.Calls.{HasGone}
 use Rattle.hose_io.specs.Frame.{Rose, Stays}
 use Rattle.hose_io.specs.Stream.{Gives, IsAtEnd}
 use Rattle.hose_io.specs.declared.source.Source.{Ghosts}
 use Rattle.hose_words.specs.declared.intake.Found.{Found}
 use Rattle.hose_words.specs.declared.intake.Found.TheVariants as found
-use Rattle.hose_words.specs.declared.limits.TheConstants.{INPUT_LIMIT, LINE_LIMIT}
+use Rattle.hose_words.specs.declared.lines.TheConstants.{INPUT_LIMIT, LINE_LIMIT}
 use Rattle.hose_words.specs.declared.lines.Line.{Line}
 use Rattle.hose_words.specs.declared.lines.Line.TheVariants.{Text, Long}
 use Rattle.hose_words.specs.declared.lines.LineFault.{LineFault}
 use Rattle.hose_words.specs.declared.lines.LineFault.TheVariants.{Read, TooLong}
 use Rattle.hose_words.specs.Lines.{Reader, IsNext}
-use Rattle.hose_words.specs.Kept.{Kept}
+use Rattle.hose_words.specs.Kept.{ReaderState}
 
 -- a reader, by its source and what it keeps beside it
-abbrev pub reader_of : {S : Type 0} → S → Kept → Reader S
+abbrev pub reader_of : {S : Type 0} → S → ReaderState → Reader S
 reader_of source kept = record {
   source = source;
   pending = kept.pending;
@@ -29,9 +30,9 @@ abbrev pub found_of : Bool → List ℕ → Found
 found_of is_long line =
     if is_long || nat_lt LINE_LIMIT (length line) then found.Long else found.Text
 
--- the same at the end of the text, where no bytes are no line
-abbrev pub last_of : Bool → List ℕ → Found
-last_of is_long line =
+-- how a line is found at the end of the text, where no bytes are no line
+abbrev pub found_at_end : Bool → List ℕ → Found
+found_at_end is_long line =
     if not is_long && (length line == 0) then found.End else found_of is_long line
 
 -- what is shown of the line that was cut off last
@@ -73,6 +74,7 @@ module _ {S : Type 0} (source : Ghosts S) (old new : Reader S) where
     pub fault : new.fault ≡ None
     pub before_end : IsBeforeEnd
     pub frame : source.frame new.source ≡ source.frame old.source
+    pub went : source.went old.source new.source
 
   -- the source met its end, now or before; where it did before, it was not asked
   pub record MeetsEnd : Type 0 where
@@ -83,6 +85,7 @@ module _ {S : Type 0} (source : Ghosts S) (old new : Reader S) where
     pub fault : new.fault ≡ None
     pub ended : IsTrue new.ended
     pub frame : source.frame new.source ≡ source.frame old.source
+    pub gone : HasGone source old.source new.source
     pub not_asked : IsTrue old.ended → new.source ≡ old.source
 
   -- a call failed, or the byte past the limit was taken
@@ -91,12 +94,13 @@ module _ {S : Type 0} (source : Ghosts S) (old new : Reader S) where
       × (new.taken ≡ old.taken) × (new.fault ≡ Some Read) × (new.pending ≡ old.pending)
       × Stays (source.frame old.source) (source.frame new.source)
       × Rose (source.frame old.source) (source.frame new.source) × IsBeforeEnd
+      × source.went old.source new.source
   MeetsFault TooLong =
       ((byte : ℕ) × Gives (source.content old.source) (source.content new.source) (byte ∷ []))
       × (old.taken ≡ INPUT_LIMIT) × (new.taken ≡ INPUT_LIMIT + 1) × (new.fault ≡ Some TooLong)
       × (new.pending ≡ old.pending) × (source.frame new.source ≡ source.frame old.source)
-      × IsBeforeEnd
+      × IsBeforeEnd × source.went old.source new.source
 
   -- a turn takes at least one byte, meets the end, or meets a fault
-  abbrev pub IsTurn : Result Bool LineFault → Type 0
-  IsTurn result = MatchResult result (λ more. MatchBool more TakesBytes MeetsEnd) MeetsFault
+  abbrev pub IsIntake : Result Bool LineFault → Type 0
+  IsIntake result = MatchResult result (λ more. MatchBool more TakesBytes MeetsEnd) MeetsFault

@@ -4,7 +4,7 @@ use Rattle.hose_words.specs.declared.lines.LineFault.{LineFault}
 
 -- the line that was cut off last, the bytes that are pending, how many were taken, the fault, and
 -- whether the source met its end
-pub record Kept : Type 0 where
+pub record ReaderState : Type 0 where
   pub line : List ℕ
   pub pending : List ℕ
   pub taken : ℕ

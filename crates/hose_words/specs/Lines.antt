@@ -1,10 +1,11 @@
 -- Lines of a source, as a reader gives them.
 use Rattle.std.specs.Prelude.{◌≡◌, ◌≢◌, ◌⊎◌, ◌↔◌, ◌+◌, ◌<◌, ◌≤◌, ℕ, Bool, IsTrue, IsFalse, ◌==◌, List, [], ◌∷◌, ◌++◌, length, All, Contains, ⊤, Option, None, Some, IfSome, OnSome, Result, Err, IsErr, IfOk, MatchResult}
 use Rattle.std.specs.List.{before_first, after_first}
+use Rattle.hose_io.specs.Calls.{HasGone}
 use Rattle.hose_io.specs.Frame.{Rose, Stays}
 use Rattle.hose_io.specs.Stream.{Gives}
 use Rattle.hose_io.specs.declared.source.Source.{Ghosts}
-use Rattle.hose_words.specs.declared.limits.TheConstants.{INPUT_LIMIT, LINE_LIMIT}
+use Rattle.hose_words.specs.declared.lines.TheConstants.{INPUT_LIMIT, LINE_LIMIT}
 use Rattle.hose_words.specs.declared.lines.Line.{Line}
 use Rattle.hose_words.specs.declared.lines.Line.TheVariants.{Text, Long}
 use Rattle.hose_words.specs.declared.lines.LineFault.{LineFault}
@@ -47,8 +48,8 @@ abbrev pub StopsAt : LineFault → List ℕ → List ℕ → Type 0
 StopsAt Read text rest = PassesOver text rest
 StopsAt TooLong text rest = (byte : ℕ) × PassesOver text (byte ∷ rest)
 
--- the same after lines of a text that were given: each of them ended with a line feed, so none of
--- them was cut off by the fault
+-- how far a text was taken at a fault, after lines that were given: each of them ended with a line
+-- feed, so none of them was cut off by the fault
 abbrev pub StopsAfterLines : LineFault → List ℕ → List ℕ → List ℕ → Type 0
 StopsAfterLines fault text partial rest = IsAfterLines text partial × StopsAt fault partial rest
 
@@ -105,3 +106,4 @@ pub record IsNext {S : Type 0} (source : Ghosts S) (old new : Reader S)
   pub stays : Stays (source.frame old.source) (source.frame new.source)
   -- only a call of the source that fails raises its count
   pub unfailed : result ≢ Err Read → source.frame new.source ≡ source.frame old.source
+  pub gone : HasGone source old.source new.source

@@ -1,5 +1,6 @@
 -- What reading lines does to a reader, whatever it reads.
 use Rattle.std.specs.Prelude.{◌≡◌, ◌≢◌, ℕ, ◌+◌, IsFalse, List, ◌++◌, length, Option, None, Some, IfSome}
+use Rattle.hose_io.specs.Calls.{HasGone}
 use Rattle.hose_io.specs.Frame.{Stays}
 use Rattle.hose_io.specs.Stream.{Stream, Gives}
 use Rattle.hose_io.specs.declared.source.Source.{Ghosts}
@@ -25,3 +26,5 @@ pub record ReadsOn {S : Type 0} (source : Ghosts S) (old new : Reader S) : Type 
   pub stays : Stays (source.frame old.source) (source.frame new.source)
   -- only a call of the source that fails raises its count
   pub unfailed : new.fault ≢ Some Read → source.frame new.source ≡ source.frame old.source
+  -- the source was called one time after the other, or not at all
+  pub gone : HasGone source old.source new.source

@@ -7,7 +7,7 @@ ghost use Rattle.hose_io.specs.Stream.{Gives, IsAtEnd};
 ghost use Rattle.hose_words.specs.Lines.{is_line_feed};
 ghost use Rattle.hose_words.specs.Buffer.{CutsLine, Appends};
 
-use crate::limits::PENDING_LIMIT;
+use crate::lines::PENDING_LIMIT;
 use hose_io::{Failed, Source};
 use std::marker::Model;
 
@@ -27,10 +27,10 @@ pub(crate) struct Buffer {
 
 impl Model for Buffer {
     ghost use Rattle.std.specs.Prelude.{◌-◌, slice_range};
-    ghost use Rattle.hose_words.specs.Buffer.{Held};
-    ghost use Rattle.hose_words.specs.declared.limits.TheConstants.{PENDING_LIMIT};
+    ghost use Rattle.hose_words.specs.Buffer.{LineBuffer};
+    ghost use Rattle.hose_words.specs.declared.lines.TheConstants.{PENDING_LIMIT};
 
-    ghost Value = { Held };
+    ghost Value = { LineBuffer };
 
     ghost use Rattle.hose_words.specs.BufferInside.{IsInOrder};
 
@@ -127,6 +127,7 @@ impl Buffer {
             × (self.new.pending ≡ self.old.pending)) }
         ensures none_only_at_end { result ≡ Ok 0 → IsAtEnd (S.content source.old) }
         ensures met { Met (S.frame source.old) (S.frame source.new) result }
+        ensures went { S.went source.old source.new }
     {
         let most = most.min(PENDING_LIMIT - self.end);
         let taken = take_after(source, &mut self.bytes, self.end, most);
@@ -161,6 +162,7 @@ fn take_after<S: Source>(
         (λ _. S.content source.new ≡ S.content source.old) }
     ensures none_only_at_end { result ≡ Ok 0 → IsAtEnd (S.content source.old) }
     ensures met { Met (S.frame source.old) (S.frame source.new) result }
+    ensures went { S.went source.old source.new }
 {
     source.take(&mut bytes[end..end + most])
 }

@@ -5,8 +5,7 @@ ghost use Rattle.hose_words.specs.Cursor.{Took, Misses, IsWrong};
 ghost use Rattle.hose_words.specs.Grammar.{IsFirst};
 ghost use Rattle.hose_words.specs.Form.{finish, IsChoice, Each, TellsNumber, Fits64, IsWithin};
 
-use crate::decimal::number;
-use crate::words::{Words, split};
+use crate::words::{Words, number, split};
 use std::marker::Model;
 
 /// A word of a line that is missing or not allowed, by its number in the line, counted from 1.

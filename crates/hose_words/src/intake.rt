@@ -3,11 +3,10 @@ ghost use Rattle.std.specs.Prelude.{◌≡◌, ◌^◌, ◌<◌, ◌≤◌, [], 
 ghost use Rattle.std.specs.Bool.{OnTrue};
 ghost use Rattle.hose_io.specs.Stream.{IsAtEnd};
 ghost use Rattle.hose_words.specs.Buffer.{CutsLine};
-ghost use Rattle.hose_words.specs.Intake.{reader_of, found_of, last_of, ShowsFound, FindsNext, DropsLong, IsTurn};
+ghost use Rattle.hose_words.specs.Intake.{reader_of, found_of, found_at_end, ShowsFound, FindsNext, DropsLong, IsIntake};
 
 use crate::buffer::Buffer;
-use crate::limits::{INPUT_LIMIT, LINE_LIMIT, PENDING_LIMIT};
-use crate::lines::{Line, LineFault};
+use crate::lines::{INPUT_LIMIT, LINE_LIMIT, Line, LineFault, PENDING_LIMIT};
 use hose_io::{Failed, Source};
 use std::marker::Model;
 
@@ -30,10 +29,10 @@ pub(crate) struct Intake {
 impl Model for Intake {
     ghost use Rattle.std.specs.Prelude.{◌≡◌, ◌+◌, ◌^◌, ◌<◌, ◌≤◌, ◌↔◌, Some};
     ghost use Rattle.hose_words.specs.declared.lines.LineFault.TheVariants.{TooLong};
-    ghost use Rattle.hose_words.specs.Kept.{Kept};
-    ghost use Rattle.hose_words.specs.declared.limits.TheConstants.{INPUT_LIMIT};
+    ghost use Rattle.hose_words.specs.Kept.{ReaderState};
+    ghost use Rattle.hose_words.specs.declared.lines.TheConstants.{INPUT_LIMIT};
 
-    ghost Value = { Kept };
+    ghost Value = { ReaderState };
 
     ghost view = { λ intake. record {
       line = intake.buffer.line;
@@ -143,7 +142,7 @@ impl Intake {
     }
 
     fn last(&self, is_long: bool) -> Found
-        ensures { result ≡ last_of is_long self.now.line }
+        ensures { result ≡ found_at_end is_long self.now.line }
     {
         if !is_long && self.buffer.line().is_empty() {
             Found::End
@@ -158,7 +157,7 @@ impl Intake {
         requires room { length self.old.pending ≤ LINE_LIMIT }
         requires fault { self.old.fault ≡ None }
         requires at_end { OnTrue self.old.ended (IsAtEnd (S.content source.old)) }
-        ensures { IsTurn S.Source (reader_of source.old self.old)
+        ensures { IsIntake S.Source (reader_of source.old self.old)
             (reader_of source.new self.new) result }
     {
         if self.is_ended {
@@ -192,7 +191,7 @@ impl Intake {
         requires limit { self.old.taken ≡ INPUT_LIMIT }
         requires fault { self.old.fault ≡ None }
         requires before_end { IsFalse self.old.ended }
-        ensures { IsTurn S.Source (reader_of source.old self.old)
+        ensures { IsIntake S.Source (reader_of source.old self.old)
             (reader_of source.new self.new) result }
     {
         let mut byte = [0];

@@ -20,14 +20,10 @@
 
 mod buffer;
 mod cursor;
-mod decimal;
 mod intake;
-mod limits;
 mod lines;
 mod words;
 
 pub use cursor::{Cursor, Keyword, WrongWord};
-pub use decimal::number;
-pub use limits::{INPUT_LIMIT, LINE_LIMIT, PENDING_LIMIT};
-pub use lines::{Line, LineFault, LineReader};
-pub use words::{Words, split};
+pub use lines::{INPUT_LIMIT, LINE_LIMIT, Line, LineFault, LineReader, PENDING_LIMIT};
+pub use words::{Words, number, split};

@@ -1,11 +1,13 @@
-// A line cut into words.
-ghost use Rattle.std.specs.Prelude.{◌≡◌, ◌==◌, ◌≤◌, [], ◌∷◌, length, IfSome, IfNone};
+// A line cut into words, and the numbers that words tell.
+ghost use Rattle.std.specs.Prelude.{◌≡◌, ◌==◌, ◌≤◌, ℕ, [], ◌∷◌, length, IfSome, IfNone};
 ghost use Rattle.std.specs.Iterator.{YieldsFirstRef, item_count};
 ghost use Rattle.std.specs.List.{prefix_len, position_or_len};
 ghost use Rattle.hose_words.specs.Grammar.{IsFirst};
+ghost use Rattle.hose_words.specs.Number.{IsNumber};
 ghost use Rattle.hose_words.specs.Words.{words_of};
 
 use std::marker::Model;
+use std::str;
 
 const SPACE: u8 = b' ';
 
@@ -88,4 +90,19 @@ fn word_len(bytes: &[u8]) -> usize
     ensures bound { result ≤ length bytes.now }
 {
     bytes.iter().take_while(|byte| **byte != SPACE).count()
+}
+
+/// The value of a decimal without a sign and without a zero in front, where it is at most `max`.
+pub fn number(bytes: &[u8], max: u64) -> Option<u64>
+    ensures value { IfSome result (λ n. IsNumber bytes.now n × n ≤ max) }
+    ensures none { IfNone result ((n : ℕ) → n ≤ max → IsNumber bytes.now n → ⊥) }
+{
+    if let [b'+', ..] | [b'0', _, ..] = bytes {
+        return None;
+    }
+    let Ok(text) = str::from_utf8(bytes) else {
+        return None;
+    };
+    let value = text.parse::<u64>().ok()?;
+    (value <= max).then_some(value)
 }

@@ -1,10 +1,23 @@
-use Rattle.std.proofs.Common.{◌∙◌, nat_lt, length, refl}
-use Rattle.std.proofs.lemmas.Bool.{MatchBool-at_true}
+use Rattle.std.proofs.Common.{◌≤◌, ◌∙◌, nat_lt, length, refl, sym, ap, arith, rules, ⊎_elim}
+use Rattle.std.proofs.lemmas.Bool.{MatchBool-at_true, cases_lt}
 use Rattle.std.proofs.lemmas.Result.{err_from_is_err_and}
+use Rattle.hose_io.specs.Calls.{none_yet}
 use Rattle.hose_words.specs.Intake.{reader_of, TakesBytes, MeetsEnd}
-use Rattle.hose_words.proofs.Coming.{HasPassed, HasPassed-from, HasCome-more, IsNext-line, IsNext-last, IsNext-fault}
+use Rattle.hose_words.specs.Kept.{ReaderState}
+use Rattle.hose_words.specs.declared.lines.TheConstants.{INPUT_LIMIT}
+use Rattle.hose_words.proofs.Coming.{HasPassed, HasPassed-from, HasCome-more, HasCome-none, IsNext-line, IsNext-last, IsNext-fault}
 use Rattle.hose_words.proofs.intake.Intake.advance.Goals.{After-drop_long-is_long}
 use Rattle.hose_words.proofs.intake.Intake.advance.Goals as goal
+
+pub returns-in-Some-clause-next : goal.returns-in-Some-clause-next
+returns-in-Some-clause-next g c = search (rules, none_yet)
+
+pub loop-self-init : goal.loop-self-init
+loop-self-init g c =
+    let none = c.in_default.is in
+    let few : c.self.inside.taken ≤ INPUT_LIMIT = ⊎_elim (λ more. absurd (cc (c.self.invariant.1.1 more, none))) (λ within. within) (cases_lt INPUT_LIMIT c.self.inside.taken) in
+    let kept = c.self.view_is in
+    HasCome-none g.S.Source (reader_of c.args.source.now c.args.self.now) (ap (λ (k : ReaderState). k.fault) (sym kept) ∙ none) (omega (arith, ap (λ (k : ReaderState). k.taken) kept, few)) c.requires.at_end
 
 pub returns-then-cut_line-clause-next : goal.returns-then-cut_line-clause-next
 returns-then-cut_line-clause-next g c = λ shown shows.

@@ -3,7 +3,7 @@ use Rattle.std.proofs.lemmas.List.{take_rest, length-drop}
 use Rattle.hose_io.specs.Count.{one_more}
 use Rattle.hose_io.proofs.Pieces.{short_of_piece, whole_piece}
 use Rattle.hose_io.proofs.Streams.{Grows-take}
-use Rattle.hose_io.proofs.writing.write_all.Goals as goal
+use Rattle.hose_io.proofs.gather.write_all.Goals as goal
 
 pub loop-written-preserved : goal.loop-written-preserved
 loop-written-preserved g c =

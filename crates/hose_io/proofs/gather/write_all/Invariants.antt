@@ -1,7 +1,7 @@
 use Rattle.std.proofs.Common.{length, ◌-◌, ◌<◌, ◌≡◌, ◌≢◌, ◌≤◌, take}
 use Rattle.hose_io.specs.Count.{one_more}
 use Rattle.hose_io.specs.Stream.{Grows}
-use Rattle.hose_io.proofs.writing.write_all.Given as goal
+use Rattle.hose_io.proofs.gather.write_all.Given as goal
 
 abbrev pub invariant-loop-written : goal.invariant-loop-written
 invariant-loop-written g l = record {
