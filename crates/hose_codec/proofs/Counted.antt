@@ -6,8 +6,8 @@ use Rattle.hose_graph.specs.Hose.{IsHose, IsEnd}
 use Rattle.hose_codec.specs.declared.limits.TheConstants.{MOST_PAIRS}
 use Rattle.hose_codec.specs.Fields.{pairs_field, ends_field, amounts_field, AreFormatAmounts}
 use Rattle.hose_graph.specs.Ranges.{IsAmount}
-use Rattle.hose_codec.specs.Reading.{Begins, BeginsNone, Reads, AreCountedPairs}
-use Rattle.hose_codec.specs.declared.fault.CodecFault.{CodecFault}
+use Rattle.hose_codec.specs.Reading.{Begins, BeginsNone, ReadsField, AreCountedPairs}
+use Rattle.hose_codec.specs.declared.limits.CodecFault.{CodecFault}
 use Rattle.hose_codec.proofs.Alone.{hose_pairs, amount_pairs}
 use Rattle.hose_codec.proofs.Numbers.{same_numbers}
 use Rattle.hose_codec.proofs.Pairs.{pairs_are}
@@ -34,7 +34,7 @@ no_ends_read count old now first none ends rest begins =
 
 -- where the pairs after the number are read, or cannot be, so are endpoints
 pub ends_are_read : {V : Type 0} (view : V → List (ℕ × ℕ)) (count : ℕ) (old now new : List ℕ) (result : Result V CodecFault) → LEAST_ENDS ≤ count → count ≤ MOST_ENDS → old ≡ count ∷ now
-    → Reads pairs_field (AreCountedPairs MOST_NODES MOST_RATE count) view now new result → Reads ends_field IsHose view old new result
+    → ReadsField pairs_field (AreCountedPairs MOST_NODES MOST_RATE count) view now new result → ReadsField ends_field IsHose view old new result
 ends_are_read view count old now new (Ok read) enough few first reads = ends_read count (view read) old now new enough few first reads
 ends_are_read view count old now new (Err fault) enough few first reads = (reads.0, no_ends_read count old now first reads.1)
 
@@ -60,6 +60,6 @@ no_amounts_read count old now small first none amounts rest begins =
 
 -- where the pairs after the number are read, or cannot be, so are amounts
 pub amounts_are_read : {V : Type 0} (view : V → List (ℕ × ℕ)) (count : ℕ) (old now new : List ℕ) (result : Result V CodecFault) → 1 ≤ count → count ≤ MOST_PAIRS → old ≡ big_bytes 2 count ++ now
-    → Reads pairs_field (AreCountedPairs MOST_LINKS MOST_AMOUNT count) view now new result → Reads amounts_field AreFormatAmounts view old new result
+    → ReadsField pairs_field (AreCountedPairs MOST_LINKS MOST_AMOUNT count) view now new result → ReadsField amounts_field AreFormatAmounts view old new result
 amounts_are_read view count old now new (Ok read) some few first reads = amounts_read count (view read) old now new some few first reads
 amounts_are_read view count old now new (Err fault) some few first reads = (reads.0, no_amounts_read count old now (omega arith) first reads.1)

@@ -3,7 +3,7 @@ use Rattle.std.proofs.Common.{◌≡◌, ℕ, List, [], ◌++◌, Result, Ok, Er
 use Rattle.std.specs.Prelude.{IfOk}
 use Rattle.hose_graph.specs.declared.entry.Entry.{Entry}
 use Rattle.hose_graph.specs.declared.entry.Entry.TheVariants.{Admit, Release, Down, Up}
-use Rattle.hose_codec.specs.declared.fault.CodecFault.{CodecFault}
+use Rattle.hose_codec.specs.declared.limits.CodecFault.{CodecFault}
 use Rattle.hose_codec.specs.Spelling.{spelling, IsEntry, IsSpelling, Decodes}
 use Rattle.hose_graph.specs.Ranges.{IsInRanges}
 use Rattle.hose_codec.proofs.Entries.{only_entry, same_entry}

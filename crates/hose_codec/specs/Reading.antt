@@ -4,8 +4,8 @@ use Rattle.byteorder.specs.Endian.{big_number}
 use Rattle.hose_graph.specs.Limit.{IsUpTo}
 use Rattle.hose_codec.specs.Fields.{FitsPair, pair_field}
 use Rattle.hose_codec.specs.declared.limits.TheConstants.{PAIR_BYTES}
-use Rattle.hose_codec.specs.declared.fault.CodecFault.{CodecFault}
-use Rattle.hose_codec.specs.declared.fault.CodecFault.TheVariants.{Bad}
+use Rattle.hose_codec.specs.declared.limits.CodecFault.{CodecFault}
+use Rattle.hose_codec.specs.declared.limits.CodecFault.TheVariants.{Bad}
 
 -- The bytes begin with the field of this value, which it may have, and the rest follows.
 pub record Begins {X : Type 0} (field : X → List ℕ) (MayBe : X → Type 0) (value : X)
@@ -20,17 +20,20 @@ BeginsNone {X} field MayBe bytes =
 
 -- What is read, as `view` sees it, is the value whose field begins the bytes `old`, and `new` is
 -- what follows; or the field of no value begins them.
-abbrev pub Reads : {V X : Type 0} → (X → List ℕ) → (X → Type 0) → (V → X) → List ℕ → List ℕ →
+abbrev pub ReadsField : {V X : Type 0} → (X → List ℕ) → (X → Type 0) → (V → X) → List ℕ → List ℕ →
     Result V CodecFault → Type 0
-Reads field MayBe view old new (Ok read) = Begins field MayBe (view read) old new
-Reads field MayBe view old new (Err fault) = (fault ≡ Bad) × BeginsNone field MayBe old
+ReadsField field MayBe view old new (Ok read) = Begins field MayBe (view read) old new
+ReadsField field MayBe view old new (Err fault) = (fault ≡ Bad) × BeginsNone field MayBe old
 
--- The same of a reader that tells no fault.
-abbrev pub Takes : {X : Type 0} → (X → List ℕ) → (X → Type 0) → List ℕ → List ℕ → Option X → Type 0
-Takes field MayBe old new (Some value) = Begins field MayBe value old new
-Takes field MayBe old new None = BeginsNone field MayBe old
+-- What a reader that tells no fault reads is the value whose field begins the bytes `old`, and
+-- `new` is what follows; or the field of no value begins them.
+abbrev pub TakesField : {X : Type 0} → (X → List ℕ) → (X → Type 0) → List ℕ → List ℕ → Option X
+    → Type 0
+TakesField field MayBe old new (Some value) = Begins field MayBe value old new
+TakesField field MayBe old new None = BeginsNone field MayBe old
 
--- The same of a reader that reads all that is left.
+-- What a reader of all that is left reads is the value whose field the bytes are; or they are the
+-- field of no value.
 abbrev pub ReadsWhole : {V X : Type 0} → (X → List ℕ) → (X → Type 0) → (V → X) → List ℕ →
     Result V CodecFault → Type 0
 ReadsWhole field MayBe view old (Ok read) = Begins field MayBe (view read) old []

@@ -8,8 +8,8 @@ use Rattle.hose_graph.specs.declared.entry.Entry.TheVariants.{Admit, Release, Do
 use Rattle.hose_graph.specs.declared.limits.TheConstants.{MOST_EPOCH, MOST_LINKS}
 use Rattle.hose_codec.specs.Fields.{name_field, ends_field, amounts_field, id_field, link_field, AreFormatAmounts}
 use Rattle.hose_codec.specs.declared.limits.TheConstants.{ADMIT, RELEASE, DOWN, UP}
-use Rattle.hose_codec.specs.declared.fault.CodecFault.{CodecFault}
-use Rattle.hose_codec.specs.declared.fault.CodecFault.TheVariants.{Bad, Memory}
+use Rattle.hose_codec.specs.declared.limits.CodecFault.{CodecFault}
+use Rattle.hose_codec.specs.declared.limits.CodecFault.TheVariants.{Bad, Memory}
 
 -- the bytes of an entry
 abbrev pub spelling : Entry → List ℕ

@@ -4,10 +4,9 @@ ghost use Rattle.byteorder.specs.Endian.{big_bytes};
 ghost use Rattle.hose_graph.specs.Name.{IsName};
 ghost use Rattle.hose_graph.specs.Hose.{IsHose};
 ghost use Rattle.hose_codec.specs.Fields.{name_field, pair_field, pairs_field, ends_field, amounts_field, id_field, link_field, AreFormatAmounts};
-ghost use Rattle.hose_codec.specs.Reading.{Reads, Takes, ArePairsFrom, AreCountedPairs, TakesPair, pairs_of};
+ghost use Rattle.hose_codec.specs.Reading.{ReadsField, TakesField, ArePairsFrom, AreCountedPairs, TakesPair, pairs_of};
 
-use crate::fault::CodecFault;
-use crate::limits::{MOST_PAIRS, PAIR_BYTES};
+use crate::limits::{CodecFault, MOST_PAIRS, PAIR_BYTES};
 use byteorder::{BigEndian, ByteOrder};
 use hose_graph::{
     LEAST_ENDS, MOST_AMOUNT, MOST_ENDS, MOST_EPOCH, MOST_LINKS, MOST_NODES, MOST_RATE, Name,
@@ -48,7 +47,7 @@ impl<'a> Fields<'a> {
     }
 
     pub fn byte(&mut self) -> Result<u8, CodecFault>
-        ensures { Reads (λ byte. byte ∷ []) (λ _. ⊤) (λ byte. byte) self.old self.new result }
+        ensures { ReadsField (λ byte. byte ∷ []) (λ _. ⊤) (λ byte. byte) self.old self.new result }
     {
         let [byte, rest @ ..] = self.rest else {
             return Err(CodecFault::Bad);
@@ -60,7 +59,7 @@ impl<'a> Fields<'a> {
     /// The name that is next, if there is one.
     // An option: a name that shares its bytes with a fault would be copied in pieces.
     pub fn name(&mut self) -> Option<Name>
-        ensures { Takes name_field IsName self.old self.new result }
+        ensures { TakesField name_field IsName self.old self.new result }
     {
         let Ok(len) = self.byte() else {
             return None;
@@ -73,7 +72,8 @@ impl<'a> Fields<'a> {
 
     /// The bytes of the endpoints of a hose.
     pub fn ends(&mut self) -> Result<&'a [u8], CodecFault>
-        ensures { Reads ends_field IsHose (λ ends. pairs_of ends.now) self.old self.new result }
+        ensures { ReadsField ends_field IsHose (λ ends. pairs_of ends.now) self.old self.new
+            result }
     {
         let count = usize::from(self.byte()?);
         if !(LEAST_ENDS..=MOST_ENDS).contains(&count) {
@@ -84,7 +84,7 @@ impl<'a> Fields<'a> {
 
     /// The bytes of amounts.
     pub fn amounts(&mut self) -> Result<&'a [u8], CodecFault>
-        ensures { Reads amounts_field AreFormatAmounts (λ amounts. pairs_of amounts.now)
+        ensures { ReadsField amounts_field AreFormatAmounts (λ amounts. pairs_of amounts.now)
             self.old self.new result }
     {
         let count = usize::from(self.two_bytes()?);
@@ -96,7 +96,7 @@ impl<'a> Fields<'a> {
 
     /// The number of a VPN.
     pub fn id(&mut self) -> Result<u64, CodecFault>
-        ensures { Reads id_field (λ id. id ≤ MOST_EPOCH) (λ id. id) self.old self.new result }
+        ensures { ReadsField id_field (λ id. id ≤ MOST_EPOCH) (λ id. id) self.old self.new result }
     {
         let id = u64::from(self.four_bytes()?);
         if id > MOST_EPOCH {
@@ -107,7 +107,7 @@ impl<'a> Fields<'a> {
 
     /// The number of a link.
     pub fn link(&mut self) -> Result<u32, CodecFault>
-        ensures { Reads link_field (λ link. link < MOST_LINKS) (λ link. link)
+        ensures { ReadsField link_field (λ link. link < MOST_LINKS) (λ link. link)
             self.old self.new result }
     {
         let link = u32::from(self.two_bytes()?);
@@ -123,8 +123,8 @@ impl<'a> Fields<'a> {
         requires count { count < 2 ^ 16 }
         requires bound { bound ≤ 2 ^ 16 }
         requires most { most < 2 ^ 32 }
-        ensures { Reads pairs_field (AreCountedPairs bound most count) (λ pairs. pairs_of pairs.now)
-            self.old self.new result }
+        ensures { ReadsField pairs_field (AreCountedPairs bound most count)
+            (λ pairs. pairs_of pairs.now) self.old self.new result }
     {
         let bytes = self.part(PAIR_BYTES * count)?;
         if !are_pairs(bytes, bound, most) {
@@ -148,14 +148,14 @@ impl<'a> Fields<'a> {
     }
 
     fn two_bytes(&mut self) -> Result<u16, CodecFault>
-        ensures { Reads (big_bytes 2) (λ number. number < 2 ^ 16) (λ number. number)
+        ensures { ReadsField (big_bytes 2) (λ number. number < 2 ^ 16) (λ number. number)
             self.old self.new result }
     {
         Ok(number_of_two(self.part(2)?))
     }
 
     fn four_bytes(&mut self) -> Result<u32, CodecFault>
-        ensures { Reads (big_bytes 4) (λ number. number < 2 ^ 32) (λ number. number)
+        ensures { ReadsField (big_bytes 4) (λ number. number < 2 ^ 32) (λ number. number)
             self.old self.new result }
     {
         Ok(number_of_four(self.part(4)?))
@@ -163,7 +163,7 @@ impl<'a> Fields<'a> {
 
     // The next bytes, so many of them.
     fn part(&mut self, len: usize) -> Result<&'a [u8], CodecFault>
-        ensures { Reads (λ part. part) (λ part. length part ≡ len) (λ part. part.now)
+        ensures { ReadsField (λ part. part) (λ part. length part ≡ len) (λ part. part.now)
             self.old self.new result }
     {
         if self.rest.len() < len {

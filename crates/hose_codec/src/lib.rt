@@ -7,13 +7,11 @@
 //! ```
 #![tactic(auto)]
 
-mod fault;
 mod fields;
 mod limits;
 mod reading;
 mod writing;
 
-pub use fault::CodecFault;
-pub use limits::{MOST_PAIRS, MOST_SPELLING};
+pub use limits::{CodecFault, MOST_PAIRS, MOST_SPELLING};
 pub use reading::decode;
 pub use writing::encode;

@@ -1,6 +1,11 @@
-// The limits of the format, beside those of networks and hoses, and the kinds of entries.
+// The limits of the format, beside those of networks and hoses, the kinds of entries, and why bytes
+// are the entry of none.
+ghost use Rattle.std.specs.Prelude.{◌≡◌};
+ghost use Rattle.hose_codec.specs.declared.limits.CodecFault.TheVariants.{Memory};
 
 use hose_graph::MOST_TREE_LINKS;
+use std::alloc::AllocError;
+use thiserror::Error;
 
 /// The greatest number of links with an amount.
 pub const MOST_PAIRS: usize = MOST_TREE_LINKS as usize;
@@ -23,3 +28,22 @@ pub const UP: u8 = 4;
 
 /// The number of bytes of a pair: two of a node or link, and four of its rate or amount.
 pub const PAIR_BYTES: usize = 6;
+
+/// Why bytes are not read as an entry.
+#[derive(Clone, Copy, Debug, Error, PartialEq, Eq)]
+pub enum CodecFault {
+    /// The bytes are the spelling of no entry.
+    #[error("the bytes are the spelling of no entry")]
+    Bad,
+    /// There was too little memory.
+    #[error("there is too little memory")]
+    Memory,
+}
+
+impl From<AllocError> for CodecFault {
+    ghost from_gives = { λ _ fault. fault ≡ Memory };
+
+    fn from(_error: AllocError) -> CodecFault {
+        CodecFault::Memory
+    }
+}

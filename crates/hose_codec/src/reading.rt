@@ -6,9 +6,8 @@ ghost use Rattle.hose_graph.specs.Ranges.{IsInRanges};
 ghost use Rattle.hose_codec.specs.Fields.{link_field};
 ghost use Rattle.hose_codec.specs.Reading.{ReadsWhole};
 
-use crate::fault::CodecFault;
 use crate::fields::{Fields, pairs_of};
-use crate::limits::{ADMIT, DOWN, RELEASE, UP};
+use crate::limits::{ADMIT, CodecFault, DOWN, RELEASE, UP};
 use hose_graph::{Amounts, Entry, Hose, MOST_LINKS};
 use std::alloc::Global;
 

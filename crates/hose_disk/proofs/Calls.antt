@@ -4,14 +4,14 @@ use Rattle.std.specs.Prelude.{Result, Ok, Err, OnOk, OnErr}
 use Rattle.hose_io.specs.declared.Failed.{Failed}
 use Rattle.hose_disk.specs.Disk.{Torn, IsCut, StepsTo, NoneNew, Elapses}
 use Rattle.hose_disk.specs.Images.{Step, idle, wrote, tried_write, cut_to, tried_cut, synced, IsImage, LeftSince}
-use Rattle.hose_disk.specs.Recording.{CallRecord, after_call, reads}
+use Rattle.hose_disk.specs.Recording.{CallRecord, with_call, reads}
 use Rattle.hose_disk.specs.MemState.{MemState, IsMemCall, content_of, moment_of, image_of, left_since_of}
 use Rattle.hose_disk.specs.declared.call.DiskCall.{DiskCall}
 use Rattle.hose_disk.proofs.Images.{torn_same, cut_same, elapses, elapses_same, steps_write, steps_tried_write, steps_cut, steps_tried_cut, none_new_synced, none_new_idle}
 
 -- what the record is after a call: no call more, one that was done, or one that was begun
 abbrev Made : CallRecord → Step → Step → CallRecord → Type 0
-Made old done begun new = (new ≡ old) ⊎ ((new ≡ after_call old done) ⊎ (new ≡ after_call old begun))
+Made old done begun new = (new ≡ old) ⊎ ((new ≡ with_call old done) ⊎ (new ≡ with_call old begun))
 
 made_is : {T : Type 0} (kind : DiskCall) (done begun : Step) (old new : MemState) (result : Result T Failed) → IsMemCall kind done begun old new result → Made old.made done begun new.made
 made_is kind done begun old new (Ok value) (listed, is) = inr (inl (ap (λ (disk : MemState). disk.made) is))
@@ -19,7 +19,7 @@ made_is kind done begun old new (Err failed) (inl is) = inl (ap (λ (disk : MemS
 made_is kind done begun old new (Err failed) (inr (listed, is)) = inr (inr (ap (λ (disk : MemState). disk.made) is))
 
 -- a fact of each record that there may be after a call
-of_made : (P : CallRecord → Type 0) (old new : CallRecord) (done begun : Step) → P old → P (after_call old done) → P (after_call old begun) → Made old done begun new → P new
+of_made : (P : CallRecord → Type 0) (old new : CallRecord) (done begun : Step) → P old → P (with_call old done) → P (with_call old begun) → Made old done begun new → P new
 of_made P old new done begun same ended tried (inl is) = subst P (sym is) same
 of_made P old new done begun same ended tried (inr (inl is)) = subst P (sym is) ended
 of_made P old new done begun same ended tried (inr (inr is)) = subst P (sym is) tried
@@ -71,12 +71,12 @@ module _ {T : Type 0} (kind : DiskCall) (old new : MemState) (result : Result T 
 
 -- what a call that was done leaves, and what one that failed does
 pub on_done : {T : Type 0} (kind : DiskCall) (done begun : Step) (old new : MemState) (result : Result T Failed) (P : CallRecord → Type 0)
-    → IsMemCall kind done begun old new result → P (after_call old.made done) → OnOk result (P new.made)
+    → IsMemCall kind done begun old new result → P (with_call old.made done) → OnOk result (P new.made)
 on_done kind done begun old new (Ok value) P (listed, is) p = subst (λ (disk : MemState). P disk.made) (sym is) p
 on_done kind done begun old new (Err failed) P is p = tt
 
 pub on_failed : {T : Type 0} (kind : DiskCall) (done begun : Step) (old new : MemState) (result : Result T Failed) (P : CallRecord → Type 0)
-    → IsMemCall kind done begun old new result → P old.made → P (after_call old.made begun) → OnErr result (P new.made)
+    → IsMemCall kind done begun old new result → P old.made → P (with_call old.made begun) → OnErr result (P new.made)
 on_failed kind done begun old new (Ok value) P is same p = tt
 on_failed kind done begun old new (Err failed) P (inl is) same p = subst (λ (disk : MemState). P disk.made) (sym is) same
 on_failed kind done begun old new (Err failed) P (inr (listed, is)) same p = subst (λ (disk : MemState). P disk.made) (sym is) p

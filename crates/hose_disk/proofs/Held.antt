@@ -2,7 +2,7 @@
 use Rattle.std.proofs.Common.{◌≡◌, ◌≢◌, ℕ, List, [], ◌∷◌, Option, None, Some, Bool, true, false, if◌then◌else◌, refl, sym, ◌∙◌, ap, subst}
 use Rattle.std.proofs.lemmas.Slice.Eq.{bytes_eq-Decides}
 use Rattle.std.specs.Str.{bytes_eq}
-use Rattle.hose_disk.specs.CabinetState.{NamedItem, ShelfState, item_of, without, held_where, after_taking}
+use Rattle.hose_disk.specs.CabinetState.{NamedItem, ShelfState, item_of, without, held_where, shelf_after_taking}
 
 not_true : (b : Bool) → (b ≡ true → ⊥) → b ≡ false
 not_true true never = absurd (never refl)
@@ -26,7 +26,7 @@ module _ {A : Type 0} (name other : List ℕ) (unlike : other ≢ name) where
   item_stays (first ∷ others) = one_item_more first others (item_stays others) (bytes_eq first.name name) refl
 
 -- what is held of another name stays where a disk is taken out
-pub held_stays : (name other : List ℕ) (old new : ShelfState) → other ≢ name → old.out ≡ None → new ≡ after_taking name old
+pub held_stays : (name other : List ℕ) (old new : ShelfState) → other ≢ name → old.out ≡ None → new ≡ shelf_after_taking name old
     → held_where new.out other (item_of other new.disks) ≡ held_where old.out other (item_of other old.disks)
 held_stays name other old new unlike none is =
     subst (λ (shelf : ShelfState). held_where shelf.out other (item_of other shelf.disks) ≡ held_where old.out other (item_of other old.disks)) (sym is)

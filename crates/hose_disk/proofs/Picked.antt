@@ -7,8 +7,8 @@ use Rattle.hose_disk.specs.Disk.{Torn}
 use Rattle.hose_disk.specs.Images.{Step, idle, wrote, tried_write, cut_to, tried_cut, synced, read_after, read_of, AreInRange, CallsMake, IsImage, WasImage, LeftSince, calls_at}
 use Rattle.hose_disk.specs.Picks.{filled, picked}
 use Rattle.hose_disk.specs.Recording.{CallRecord, step_of, steps_of}
-use Rattle.hose_disk.specs.declared.pick.Pick.{Pick}
-use Rattle.hose_disk.specs.declared.pick.Pick.TheVariants.{Kept, Lost, Fill}
+use Rattle.hose_disk.specs.declared.recording.Pick.{Pick}
+use Rattle.hose_disk.specs.declared.recording.Pick.TheVariants.{Kept, Lost, Fill}
 use Rattle.hose_disk.specs.declared.recording.Recorded.{Recorded}
 use Rattle.hose_disk.proofs.Images.{torn_same, torn_done, cut_same, length-overwritten}
 
@@ -96,7 +96,7 @@ was_at first (call ∷ earlier) k t c le from image = elim (cases_lt (length ear
     behind within (inl now) = inl (omega (arith, within, from), now)
     behind within (inr was) = inr was
 
--- the same of a record that contracts see
+-- so is the image of a record, as contracts see it
 pub picked_from : (pick : Pick) (first image : List ℕ) (calls : List Recorded) (value : CallRecord) (k : ℕ) → record { first = first; calls = steps_of calls } ≡ value → k ≤ length value.calls
     → image ≡ picked pick first (steps_of (take k calls)) → image ≡ picked pick value.first (calls_at value.calls k)
 picked_from pick first image calls value k view le is =

@@ -55,12 +55,12 @@ reopened disk = record disk {
 }
 
 -- the shelf after the disk of a name was taken out
-abbrev pub after_taking : List ℕ → ShelfState → ShelfState
-after_taking name shelf = record { disks = without name shelf.disks; out = Some name }
+abbrev pub shelf_after_taking : List ℕ → ShelfState → ShelfState
+shelf_after_taking name shelf = record { disks = without name shelf.disks; out = Some name }
 
 -- the shelf after the disk of a name was put back
-abbrev pub after_putting : List ℕ → MemState → ShelfState → ShelfState
-after_putting name disk shelf = record {
+abbrev pub shelf_after_putting : List ℕ → MemState → ShelfState → ShelfState
+shelf_after_putting name disk shelf = record {
   disks = record { name = name; item = disk } ∷ shelf.disks;
   out = None;
 }
@@ -104,20 +104,22 @@ held_of cabinet name = held_where cabinet.shelf.out name (item_of name cabinet.s
 -- ---- what its calls do
 
 -- after a call that was done
-abbrev pub after_done : CabinetState → CabinetState
-after_done cabinet = record cabinet { failing = later_calls cabinet.failing }
+abbrev pub cabinet_after_done : CabinetState → CabinetState
+cabinet_after_done cabinet = record cabinet { failing = later_calls cabinet.failing }
 
 -- after a call that failed: it was to fail, or asked for a text that is not there
-abbrev pub after_fault : CabinetState → CabinetState
-after_fault cabinet = record (after_done cabinet) { faults = one_more cabinet.faults }
+abbrev pub cabinet_after_fault : CabinetState → CabinetState
+cabinet_after_fault cabinet =
+    record (cabinet_after_done cabinet) { faults = one_more cabinet.faults }
 
 -- after a call that found no memory
-abbrev pub after_starving : CabinetState → CabinetState
-after_starving cabinet = record (after_fault cabinet) { starved = one_more cabinet.starved }
+abbrev pub cabinet_after_starving : CabinetState → CabinetState
+cabinet_after_starving cabinet =
+    record (cabinet_after_fault cabinet) { starved = one_more cabinet.starved }
 
 -- after a call of `text` that failed
-abbrev pub after_refusal : List ℕ → CabinetState → CabinetState
-after_refusal name cabinet = record (after_fault cabinet) {
+abbrev pub cabinet_after_refusal : List ℕ → CabinetState → CabinetState
+cabinet_after_refusal name cabinet = record (cabinet_after_fault cabinet) {
   absent = absent_after (text_of cabinet name) cabinet.absent;
 }
 
@@ -127,15 +129,15 @@ abbrev pub IsMemOpening : List ℕ → CabinetState → CabinetState → Result 
 IsMemOpening name old new (Ok disk) =
     (¬ Contains old.failing 1)
     × (disk ≡ reopened (or_empty (item_of name old.shelf.disks)))
-    × (new ≡ record (after_done old) { shelf = after_taking name old.shelf })
+    × (new ≡ record (cabinet_after_done old) { shelf = shelf_after_taking name old.shelf })
 IsMemOpening name old new (Err failed) =
-    ((¬ Contains old.failing 1) × (new ≡ after_starving old))
-    ⊎ (Contains old.failing 1 × (new ≡ after_fault old))
+    ((¬ Contains old.failing 1) × (new ≡ cabinet_after_starving old))
+    ⊎ (Contains old.failing 1 × (new ≡ cabinet_after_fault old))
 
 -- after a disk was put back under a name
-abbrev pub after_return : List ℕ → MemState → CabinetState → CabinetState
-after_return name disk cabinet = record cabinet {
-  shelf = after_putting name disk cabinet.shelf;
+abbrev pub cabinet_after_return : List ℕ → MemState → CabinetState → CabinetState
+cabinet_after_return name disk cabinet = record cabinet {
+  shelf = shelf_after_putting name disk cabinet.shelf;
   faults = if disk.has_failed then one_more cabinet.faults else cabinet.faults;
   returned = disk.faults;
 }

@@ -30,8 +30,8 @@ abbrev pub IsOverwritten : ℕ → List ℕ → List ℕ → List ℕ → Type 0
 IsOverwritten at bytes old new = new ≡ take at old ++ bytes ++ drop (at + length bytes) old
 
 -- new is the front of old, of this length
-abbrev pub IsTaken : ℕ → List ℕ → List ℕ → Type 0
-IsTaken len old new = new ≡ take len old
+abbrev pub IsTruncated : ℕ → List ℕ → List ℕ → Type 0
+IsTruncated len old new = new ≡ take len old
 
 -- A write of so many bytes was begun: any bytes may be in its range and past the old end, and the
 -- others are as before.

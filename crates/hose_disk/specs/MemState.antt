@@ -6,7 +6,7 @@ use Rattle.hose_io.specs.FailingCalls.{later_calls}
 use Rattle.hose_io.specs.declared.Failed.{Failed}
 use Rattle.hose_disk.specs.Disk.{DiskFrame}
 use Rattle.hose_disk.specs.Images.{Step, IsImage, LeftSince}
-use Rattle.hose_disk.specs.Recording.{CallRecord, after_call, reads}
+use Rattle.hose_disk.specs.Recording.{CallRecord, with_call, reads}
 use Rattle.hose_disk.specs.declared.call.DiskCall.{DiskCall}
 use Rattle.hose_disk.specs.declared.call.DiskCall.TheVariants.{Len, Read, Write, Cut, Sync}
 
@@ -66,8 +66,9 @@ fresh_disk bytes = record {
 -- ---- what it tells
 
 -- its frame
-abbrev pub frame_of : MemState → DiskFrame
-frame_of disk = record { faults = disk.faults; opened = disk.opened; has_failed = disk.has_failed }
+abbrev pub mem_disk_frame : MemState → DiskFrame
+mem_disk_frame disk =
+    record { faults = disk.faults; opened = disk.opened; has_failed = disk.has_failed }
 
 -- what a read gives
 abbrev pub content_of : MemState → Option (List ℕ)
@@ -92,25 +93,25 @@ some_is_told same = subst (λ (told : Option (List ℕ)). MatchOption told ⊥ (
 -- ---- what its calls do
 
 -- after a call that was done
-abbrev pub after_done : DiskCall → MemState → Step → MemState
-after_done kind disk done = record disk {
-  made = after_call disk.made done;
+abbrev pub disk_after_done : DiskCall → MemState → Step → MemState
+disk_after_done kind disk done = record disk {
+  made = with_call disk.made done;
   failing = after_kind kind disk.failing;
   has_failed = false;
 }
 
 -- after a call that was to fail, and was begun
-abbrev pub after_fault : DiskCall → MemState → Step → MemState
-after_fault kind disk begun = record disk {
-  made = after_call disk.made begun;
+abbrev pub disk_after_fault : DiskCall → MemState → Step → MemState
+disk_after_fault kind disk begun = record disk {
+  made = with_call disk.made begun;
   failing = after_kind kind disk.failing;
   faults = one_more disk.faults;
   has_failed = true;
 }
 
 -- after a call that found no memory for its record; it was not begun
-abbrev pub after_starving : DiskCall → MemState → MemState
-after_starving kind disk = record disk {
+abbrev pub disk_after_starving : DiskCall → MemState → MemState
+disk_after_starving kind disk = record disk {
   failing = after_kind kind disk.failing;
   faults = one_more disk.faults;
   starved = one_more disk.starved;
@@ -122,7 +123,7 @@ after_starving kind disk = record disk {
 abbrev pub IsMemCall : {T : Type 0} → DiskCall → Step → Step → MemState → MemState →
     Result T Failed → Type 0
 IsMemCall kind done begun old new (Ok value) =
-    (¬ Contains (of_kind kind old.failing) 1) × (new ≡ after_done kind old done)
+    (¬ Contains (of_kind kind old.failing) 1) × (new ≡ disk_after_done kind old done)
 IsMemCall kind done begun old new (Err failed) =
-    (new ≡ after_starving kind old)
-    ⊎ (Contains (of_kind kind old.failing) 1 × (new ≡ after_fault kind old begun))
+    (new ≡ disk_after_starving kind old)
+    ⊎ (Contains (of_kind kind old.failing) 1 × (new ≡ disk_after_fault kind old begun))

@@ -1,8 +1,8 @@
 -- Which image is picked after a row of calls.
 use Rattle.std.specs.Prelude.{ℕ, ◌+◌, List, [], ◌∷◌, ◌++◌, length, take, drop, replicate}
 use Rattle.hose_disk.specs.Images.{Step, idle, wrote, tried_write, cut_to, tried_cut, synced, read_after, read_of}
-use Rattle.hose_disk.specs.declared.pick.Pick.{Pick}
-use Rattle.hose_disk.specs.declared.pick.Pick.TheVariants.{Kept, Lost, Fill}
+use Rattle.hose_disk.specs.declared.recording.Pick.{Pick}
+use Rattle.hose_disk.specs.declared.recording.Pick.TheVariants.{Kept, Lost, Fill}
 
 -- one byte all over a range
 abbrev pub filled : ℕ → ℕ → ℕ → List ℕ → List ℕ

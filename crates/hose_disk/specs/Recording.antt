@@ -23,8 +23,8 @@ abbrev pub steps_of : List Recorded → List Step
 steps_of calls = reverse (map step_of calls)
 
 -- with one call more
-abbrev pub after_call : CallRecord → Step → CallRecord
-after_call made call = record made { calls = call ∷ made.calls }
+abbrev pub with_call : CallRecord → Step → CallRecord
+with_call made call = record made { calls = call ∷ made.calls }
 
 -- what a read gives
 abbrev pub reads : CallRecord → List ℕ

@@ -1,6 +1,6 @@
 // What is read, written and made durable: its contract.
 ghost use Rattle.std.specs.Prelude.{◌≡◌, ◌+◌, ◌<◌, ◌≤◌, ◌^◌, ℕ, List, Option, None, IfOk, IfSome, OnOk, OnErr, length, take};
-ghost use Rattle.hose_disk.specs.Disk.{DiskFrame, IsCalled, IsOverwritten, Torn, IsCut, IsTaken, IsReadAt, Told, StepsTo, NoneNew, Only, Elapses};
+ghost use Rattle.hose_disk.specs.Disk.{DiskFrame, IsCalled, IsOverwritten, Torn, IsCut, IsTruncated, IsReadAt, Told, StepsTo, NoneNew, Only, Elapses};
 
 use hose_io::Failed;
 
@@ -67,7 +67,7 @@ pub trait Disk: Drop {
     fn cut(&mut self, len: u64) -> Result<(), Failed>
         requires small { len < 2 ^ 62 }
         requires within { IfSome (content self.old) (λ old. len ≤ length old) }
-        ensures cut { OnOk result (Told (IsTaken len) (content self.old) (content self.new)) }
+        ensures cut { OnOk result (Told (IsTruncated len) (content self.old) (content self.new)) }
         ensures begun { OnErr result (Told (IsCut len) (content self.old) (content self.new)) }
         ensures images { StepsTo (IsCut len) (may_leave self.old) (may_leave self.new) }
         ensures time { Elapses (moment self.old) (moment self.new)

@@ -29,7 +29,6 @@ mod files;
 mod mem_cabinet;
 mod mem_disk;
 mod named;
-mod pick;
 mod recording;
 mod shelf;
 
@@ -41,4 +40,4 @@ pub use file_disk::FileDisk;
 pub use hose_io::Failed;
 pub use mem_cabinet::MemCabinet;
 pub use mem_disk::MemDisk;
-pub use pick::Pick;
+pub use recording::Pick;

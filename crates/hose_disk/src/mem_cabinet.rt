@@ -3,9 +3,9 @@ ghost use Rattle.std.specs.Prelude.{◌≡◌, ◌≢◌, ◌⊎◌, ◌↔◌, 
 ghost use Rattle.hose_io.specs.Count.{one_more};
 ghost use Rattle.hose_io.specs.Frame.{Rose};
 ghost use Rattle.hose_disk.specs.Cabinet.{Has, IsDiskCall, IsTextAt, IsTextCall, absent_after, after_back, object_of, opened_at, where_told};
-ghost use Rattle.hose_disk.specs.CabinetState.{IsMemOpening, after_done, after_refusal, after_return, cabinet_frame, held_of, item_of, text_of};
+ghost use Rattle.hose_disk.specs.CabinetState.{IsMemOpening, cabinet_after_done, cabinet_after_refusal, cabinet_after_return, cabinet_frame, held_of, item_of, text_of};
 ghost use Rattle.hose_disk.specs.Disk.{NoneNew};
-ghost use Rattle.hose_disk.specs.MemState.{content_of, frame_of, image_of, moment_of};
+ghost use Rattle.hose_disk.specs.MemState.{content_of, mem_disk_frame, image_of, moment_of};
 
 use crate::cabinet::Cabinet;
 use crate::mem_disk::{MemDisk, read};
@@ -28,8 +28,8 @@ impl Model for Text {
     ghost view = { λ text. text.bytes.items };
 }
 
-/// A cabinet in memory. A call of `text` or `disk` fails where it was told to, where it asks for a
-/// text that is not there, and where no memory is left.
+/// A cabinet in memory, which only an embedding or a test uses. A call of `text` or `disk` fails
+/// where it was told to, where it asks for a text that is not there, and where no memory is left.
 #[derive(Debug, Drop)]
 pub struct MemCabinet {
     texts: Vec<Named<Text>>,
@@ -181,8 +181,8 @@ impl Cabinet for MemCabinet {
         ensures amount { IfOk result (λ count. Has true (text_of self.old name.now)
             (λ bytes. count ≡ min (length into.old) (length bytes - from))) }
         ensures after { MatchResult result
-            (λ _. self.new ≡ after_done self.old)
-            (λ _. self.new ≡ after_refusal name.now self.old) }
+            (λ _. self.new ≡ cabinet_after_done self.old)
+            (λ _. self.new ≡ cabinet_after_refusal name.now self.old) }
     {
         let read = read_text(&self.texts, name.as_bytes(), from as usize, into);
         let fails = self.failing.next();
@@ -198,7 +198,7 @@ impl Cabinet for MemCabinet {
 
     fn disk(&mut self, name: &str) -> Result<MemDisk, Failed>
         requires { self.old.shelf.out ≡ None }
-        ensures opened { IfOk result (λ disk. frame_of disk ≡ opened_at (moment_of disk)) }
+        ensures opened { IfOk result (λ disk. mem_disk_frame disk ≡ opened_at (moment_of disk)) }
         ensures content { IfOk result (λ disk. Has true (held_of self.old name.now)
             (λ was. content_of disk ≡ content_of was)) }
         ensures images { IfOk result (λ disk. Has true (held_of self.old name.now)
@@ -231,10 +231,10 @@ impl Cabinet for MemCabinet {
         ensures texts { text_of self.new ≡ text_of self.old }
         ensures never_falls { self.old.faults ≤ self.new.faults }
         ensures call { cabinet_frame self.new
-            ≡ after_back (frame_of disk) (cabinet_frame self.old) }
+            ≡ after_back (mem_disk_frame disk) (cabinet_frame self.old) }
 
         ensures exact { IfSome self.old.shelf.out
-            (λ name. self.new ≡ after_return name disk self.old) }
+            (λ name. self.new ≡ cabinet_after_return name disk self.old) }
     {
         self.returned = disk.faults();
         if disk.has_failed() {

@@ -3,23 +3,22 @@ ghost use Rattle.std.specs.Prelude.{◌≡◌, ◌+◌, ◌<◌, ◌≤◌, ◌^
 ghost use Rattle.hose_io.specs.Count.{one_more};
 ghost use Rattle.hose_io.specs.Frame.{Rose};
 ghost use Rattle.hose_disk.specs.CabinetState.{reopened};
-ghost use Rattle.hose_disk.specs.Disk.{IsCalled, IsOverwritten, Torn, IsCut, IsTaken, IsReadAt, Told, StepsTo, NoneNew, Only, Elapses, object_frame};
+ghost use Rattle.hose_disk.specs.Disk.{IsCalled, IsOverwritten, Torn, IsCut, IsTruncated, IsReadAt, Told, StepsTo, NoneNew, Only, Elapses, object_frame};
 ghost use Rattle.hose_disk.specs.Images.{IsImage, calls_at, idle, wrote, tried_write, cut_to, tried_cut, synced};
-ghost use Rattle.hose_disk.specs.MemState.{of_kind, with_kind, fresh_disk, frame_of, content_of, moment_of, image_of, left_since_of, IsMemCall};
+ghost use Rattle.hose_disk.specs.MemState.{of_kind, with_kind, fresh_disk, mem_disk_frame, content_of, moment_of, image_of, left_since_of, IsMemCall};
 ghost use Rattle.hose_disk.specs.Picks.{picked};
 ghost use Rattle.hose_disk.specs.Recording.{reads};
 ghost use Rattle.hose_disk.specs.declared.call.DiskCall.TheVariants.{Len, Read, Write, Cut, Sync};
 
 use crate::call::{DiskCall, FailingByKind};
 use crate::disk::Disk;
-use crate::pick::Pick;
-use crate::recording::Recording;
+use crate::recording::{Pick, Recording};
 use hose_io::Failed;
 use std::alloc::{AllocError, Global};
 use std::marker::Model;
 
-/// A disk in memory. A call fails where it was told to, and where no memory is left for its record;
-/// such a call is not begun and not recorded.
+/// A disk in memory, which only an embedding or a test uses. A call fails where it was told to, and
+/// where no memory is left for its record; such a call is not begun and not recorded.
 #[derive(Debug, Drop)]
 pub struct MemDisk {
     made: Recording,
@@ -123,7 +122,7 @@ impl MemDisk {
         self.has_failed
     }
 
-    /// The same disk, opened now: it has failed in no call yet.
+    /// This disk as one that is opened now: it has failed in no call yet.
     pub(crate) fn opened_again(mut self) -> MemDisk
         ensures { result ≡ reopened self }
     {
@@ -140,7 +139,8 @@ impl MemDisk {
           faults = one_more self.old.faults;
           has_failed = true;
         } }
-        ensures rose { Rose (object_frame (frame_of self.old)) (object_frame (frame_of self.new)) }
+        ensures rose { Rose (object_frame (mem_disk_frame self.old))
+            (object_frame (mem_disk_frame self.new)) }
         ensures never_falls { self.old.faults ≤ self.new.faults }
     {
         self.faults = self.faults.saturating_add(1);
@@ -155,7 +155,8 @@ impl MemDisk {
           starved = one_more self.old.starved;
           has_failed = true;
         } }
-        ensures rose { Rose (object_frame (frame_of self.old)) (object_frame (frame_of self.new)) }
+        ensures rose { Rose (object_frame (mem_disk_frame self.old))
+            (object_frame (mem_disk_frame self.new)) }
         ensures never_falls { self.old.faults ≤ self.new.faults }
     {
         self.starved = self.starved.saturating_add(1);
@@ -165,7 +166,7 @@ impl MemDisk {
     // A call that changes nothing.
     fn make_idle(&mut self, kind: DiskCall) -> Result<(), Failed>
         ensures exact { IsMemCall kind idle idle self.old self.new result }
-        ensures call { IsCalled (frame_of self.old) (frame_of self.new) result }
+        ensures call { IsCalled (mem_disk_frame self.old) (mem_disk_frame self.new) result }
     {
         let fails = self.failing.next(kind);
         if self.made.idle().is_err() {
@@ -183,7 +184,7 @@ impl MemDisk {
         requires within { at ≤ length (reads self.old.made) }
         ensures exact { IsMemCall Write (wrote at bytes.now) (tried_write at (length bytes.now))
             self.old self.new result }
-        ensures call { IsCalled (frame_of self.old) (frame_of self.new) result }
+        ensures call { IsCalled (mem_disk_frame self.old) (mem_disk_frame self.new) result }
     {
         if self.failing.next(DiskCall::Write) {
             if self.made.try_write(at as usize, bytes.len()).is_err() {
@@ -200,7 +201,7 @@ impl MemDisk {
 
     fn make_cut(&mut self, len: u64) -> Result<(), Failed>
         ensures exact { IsMemCall Cut (cut_to len) (tried_cut len) self.old self.new result }
-        ensures call { IsCalled (frame_of self.old) (frame_of self.new) result }
+        ensures call { IsCalled (mem_disk_frame self.old) (mem_disk_frame self.new) result }
     {
         if self.failing.next(DiskCall::Cut) {
             if self.made.try_cut(len as usize).is_err() {
@@ -217,7 +218,7 @@ impl MemDisk {
 
     fn make_sync(&mut self) -> Result<(), Failed>
         ensures exact { IsMemCall Sync synced idle self.old self.new result }
-        ensures call { IsCalled (frame_of self.old) (frame_of self.new) result }
+        ensures call { IsCalled (mem_disk_frame self.old) (mem_disk_frame self.new) result }
     {
         if self.failing.next(DiskCall::Sync) {
             if self.made.idle().is_err() {
@@ -237,9 +238,9 @@ impl Disk for MemDisk {
     ghost use Rattle.std.specs.Prelude.{refl};
     ghost use Rattle.std.proofs.Common.{inl};
     ghost use Rattle.hose_disk.specs.Images.{only_now};
-    ghost use Rattle.hose_disk.specs.MemState.{frame_of, content_of, moment_of, image_of, left_since_of, some_is_told};
+    ghost use Rattle.hose_disk.specs.MemState.{mem_disk_frame, content_of, moment_of, image_of, left_since_of, some_is_told};
 
-    ghost frame = { frame_of };
+    ghost frame = { mem_disk_frame };
 
     ghost content = { content_of };
 
@@ -264,7 +265,7 @@ impl Disk for MemDisk {
         ensures images { NoneNew (image_of self.old) (image_of self.new) }
         ensures time { Elapses (moment_of self.old) (moment_of self.new)
             (left_since_of self.old) (left_since_of self.new) (image_of self.new) }
-        ensures call { IsCalled (frame_of self.old) (frame_of self.new) result }
+        ensures call { IsCalled (mem_disk_frame self.old) (mem_disk_frame self.new) result }
         ensures exact { IsMemCall Len idle idle self.old self.new result }
     {
         let len = self.made.bytes().len() as u64;
@@ -281,7 +282,7 @@ impl Disk for MemDisk {
         ensures images { NoneNew (image_of self.old) (image_of self.new) }
         ensures time { Elapses (moment_of self.old) (moment_of self.new)
             (left_since_of self.old) (left_since_of self.new) (image_of self.new) }
-        ensures call { IsCalled (frame_of self.old) (frame_of self.new) result }
+        ensures call { IsCalled (mem_disk_frame self.old) (mem_disk_frame self.new) result }
         ensures exact { IsMemCall Read idle idle self.old self.new result }
     {
         let count = read(self.made.bytes(), at as usize, into);
@@ -300,7 +301,7 @@ impl Disk for MemDisk {
             (image_of self.old) (image_of self.new) }
         ensures time { Elapses (moment_of self.old) (moment_of self.new)
             (left_since_of self.old) (left_since_of self.new) (image_of self.new) }
-        ensures call { IsCalled (frame_of self.old) (frame_of self.new) result }
+        ensures call { IsCalled (mem_disk_frame self.old) (mem_disk_frame self.new) result }
         ensures exact { IsMemCall Write (wrote at bytes.now) (tried_write at (length bytes.now))
             self.old self.new result }
     {
@@ -310,13 +311,14 @@ impl Disk for MemDisk {
     fn cut(&mut self, len: u64) -> Result<(), Failed>
         requires small { len < 2 ^ 62 }
         requires within { len ≤ length (reads self.old.made) }
-        ensures cut { OnOk result (Told (IsTaken len) (content_of self.old) (content_of self.new)) }
+        ensures cut { OnOk result
+            (Told (IsTruncated len) (content_of self.old) (content_of self.new)) }
         ensures begun { OnErr result
             (Told (IsCut len) (content_of self.old) (content_of self.new)) }
         ensures images { StepsTo (IsCut len) (image_of self.old) (image_of self.new) }
         ensures time { Elapses (moment_of self.old) (moment_of self.new)
             (left_since_of self.old) (left_since_of self.new) (image_of self.new) }
-        ensures call { IsCalled (frame_of self.old) (frame_of self.new) result }
+        ensures call { IsCalled (mem_disk_frame self.old) (mem_disk_frame self.new) result }
         ensures exact { IsMemCall Cut (cut_to len) (tried_cut len) self.old self.new result }
     {
         self.make_cut(len)
@@ -328,7 +330,7 @@ impl Disk for MemDisk {
         ensures images { NoneNew (image_of self.old) (image_of self.new) }
         ensures time { Elapses (moment_of self.old) (moment_of self.new)
             (left_since_of self.old) (left_since_of self.new) (image_of self.new) }
-        ensures call { IsCalled (frame_of self.old) (frame_of self.new) result }
+        ensures call { IsCalled (mem_disk_frame self.old) (mem_disk_frame self.new) result }
         ensures exact { IsMemCall Sync synced idle self.old self.new result }
     {
         self.make_sync()

@@ -1,14 +1,24 @@
-// What a disk in memory held at first, and a record of its calls.
+// What a disk in memory held at first, a record of its calls, and which images a stop may leave.
 ghost use Rattle.std.specs.Prelude.{◌≡◌, ◌≤◌, ◌+◌, ◌^◌, ◌<◌, [], ◌∷◌, length, OnOk, OnErr, IfOk};
 ghost use Rattle.hose_disk.specs.Disk.{IsOverwritten};
 ghost use Rattle.hose_disk.specs.Picks.{filled, pick_after, picked};
 ghost use Rattle.hose_disk.specs.Images as images;
 ghost use Rattle.hose_disk.specs.Images.{idle, wrote, tried_write, cut_to, tried_cut, synced, IsImage, calls_at};
-ghost use Rattle.hose_disk.specs.Recording.{after_call, reads, step_of, steps_of};
+ghost use Rattle.hose_disk.specs.Recording.{with_call, reads, step_of, steps_of};
 
-use crate::pick::Pick;
 use std::alloc::{AllocError, Global};
 use std::marker::Model;
+
+/// Which image a stop leaves.
+#[derive(Clone, Copy, Debug, PartialEq, Eq)]
+pub enum Pick {
+    /// What a read would have given.
+    Kept,
+    /// As at the last sync that succeeded.
+    Lost,
+    /// The greatest length, and this value in each byte that is not synced.
+    Fill(u8),
+}
 
 /// A call, as far as it changes what a read gives or what a stop may leave.
 #[derive(Debug, Drop)]
@@ -76,7 +86,7 @@ impl Recording {
 
     /// A call that changes nothing.
     pub fn idle(&mut self) -> Result<(), AllocError>
-        ensures ok { OnOk result (self.new ≡ after_call self.old idle) }
+        ensures ok { OnOk result (self.new ≡ with_call self.old idle) }
         ensures err { OnErr result (self.new ≡ self.old) }
     {
         note(&mut self.calls, Recorded::Idle)
@@ -86,7 +96,7 @@ impl Recording {
     pub fn write(&mut self, at: usize, bytes: &[u8]) -> Result<(), AllocError>
         requires small { at + length bytes.now < 2 ^ 62 }
         requires within { at ≤ length (reads self.old) }
-        ensures ok { OnOk result (self.new ≡ after_call self.old (wrote at bytes.now)) }
+        ensures ok { OnOk result (self.new ≡ with_call self.old (wrote at bytes.now)) }
         ensures err { OnErr result (self.new ≡ self.old) }
     {
         let next = overwrite(self.alloc, &self.bytes, at, bytes)?;
@@ -100,7 +110,7 @@ impl Recording {
     pub fn try_write(&mut self, at: usize, count: usize) -> Result<(), AllocError>
         requires small { at + count < 2 ^ 62 }
         requires within { at ≤ length (reads self.old) }
-        ensures ok { OnOk result (self.new ≡ after_call self.old (tried_write at count)) }
+        ensures ok { OnOk result (self.new ≡ with_call self.old (tried_write at count)) }
         ensures err { OnErr result (self.new ≡ self.old) }
     {
         note(&mut self.calls, Recorded::TriedWrite(at, count))
@@ -108,7 +118,7 @@ impl Recording {
 
     /// A cut that is done.
     pub fn cut(&mut self, len: usize) -> Result<(), AllocError>
-        ensures ok { OnOk result (self.new ≡ after_call self.old (cut_to len)) }
+        ensures ok { OnOk result (self.new ≡ with_call self.old (cut_to len)) }
         ensures err { OnErr result (self.new ≡ self.old) }
     {
         note(&mut self.calls, Recorded::CutTo(len))?;
@@ -118,7 +128,7 @@ impl Recording {
 
     /// A cut that is begun and fails.
     pub fn try_cut(&mut self, len: usize) -> Result<(), AllocError>
-        ensures ok { OnOk result (self.new ≡ after_call self.old (tried_cut len)) }
+        ensures ok { OnOk result (self.new ≡ with_call self.old (tried_cut len)) }
         ensures err { OnErr result (self.new ≡ self.old) }
     {
         note(&mut self.calls, Recorded::TriedCut(len))
@@ -126,7 +136,7 @@ impl Recording {
 
     /// A sync that is done.
     pub fn sync(&mut self) -> Result<(), AllocError>
-        ensures ok { OnOk result (self.new ≡ after_call self.old synced) }
+        ensures ok { OnOk result (self.new ≡ with_call self.old synced) }
         ensures err { OnErr result (self.new ≡ self.old) }
     {
         note(&mut self.calls, Recorded::Synced)

@@ -1,6 +1,6 @@
 // The disks of a cabinet in memory, of which one may be out.
 ghost use Rattle.std.specs.Prelude.{◌≡◌, ◌<◌, None, IfOk, IfSome, IsSome, OnErr, OnOk, [], ◌∷◌, vec_capacity, vec_len};
-ghost use Rattle.hose_disk.specs.CabinetState.{after_putting, after_taking, item_of, or_empty, without};
+ghost use Rattle.hose_disk.specs.CabinetState.{shelf_after_putting, shelf_after_taking, item_of, or_empty, without};
 
 use crate::mem_disk::MemDisk;
 use crate::named::{Named, place_of};
@@ -52,7 +52,7 @@ impl Shelf {
     pub fn take_out(&mut self, name: &[u8]) -> Result<MemDisk, AllocError>
         requires { self.old.out ≡ None }
         ensures disk { IfOk result (λ disk. disk ≡ or_empty (item_of name.now self.old.disks)) }
-        ensures ok { OnOk result (self.new ≡ after_taking name.now self.old) }
+        ensures ok { OnOk result (self.new ≡ shelf_after_taking name.now self.old) }
         ensures err { OnErr result (self.new ≡ self.old) }
     {
         let out = Vec::from_slice(self.alloc, name)?;
@@ -64,7 +64,7 @@ impl Shelf {
     /// Puts a disk under the name of the one that is out. It takes no memory.
     pub fn put_back(&mut self, disk: MemDisk)
         requires { IsSome self.old.out }
-        ensures { IfSome self.old.out (λ name. self.new ≡ after_putting name disk self.old) }
+        ensures { IfSome self.old.out (λ name. self.new ≡ shelf_after_putting name disk self.old) }
     {
         if let Some(name) = self.out.take() {
             let _ = self.disks.insert(0, Named { name, item: disk });

@@ -6,7 +6,7 @@ use Rattle.hose_graph.specs.Hose.{Endpoint, node_of}
 use Rattle.hose_graph.specs.Network.{Network}
 use Rattle.hose_graph.specs.declared.command.Command.{Command}
 use Rattle.hose_graph.specs.declared.command.Command.TheVariants.{Admit, Release}
-use Rattle.hose_graph.specs.declared.link.Link.{Link}
+use Rattle.hose_graph.specs.declared.topology.Link.{Link}
 use Rattle.hose_gen.specs.Draws.{drawn, next_state}
 
 -- ---- nodes
@@ -67,16 +67,16 @@ after_links nodes seed zero = seed
 after_links nodes seed (suc link) = after_link nodes (after_links nodes seed link) link
 
 -- the first links
-abbrev pub first_links : ℕ → ℕ → ℕ → List Link
-first_links nodes seed zero = []
-first_links nodes seed (suc link) =
-    first_links nodes seed link ++ link_at nodes (after_links nodes seed link) link ∷ []
+abbrev pub links_below : ℕ → ℕ → ℕ → List Link
+links_below nodes seed zero = []
+links_below nodes seed (suc link) =
+    links_below nodes seed link ++ link_at nodes (after_links nodes seed link) link ∷ []
 
 -- the network of a seed, with so many nodes and links
 abbrev pub generated_network : ℕ → ℕ → ℕ → Network
 generated_network seed nodes links = record {
   nodes = node_names nodes;
-  links = first_links nodes seed links;
+  links = links_below nodes seed links;
 }
 
 -- ---- hoses

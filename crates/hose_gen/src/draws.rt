@@ -1,6 +1,11 @@
-// Numbers that follow one from another, from a seed on.
-ghost use Rattle.std.specs.Prelude.{◌≡◌, ◌<◌};
+// What networks and scripts are made of: numbers that follow one from another, from a seed on, and
+// names that are a letter and a number.
+ghost use Rattle.std.specs.Prelude.{◌≡◌, ◌<◌, ◌∷◌, IsTrue, decimal};
+ghost use Rattle.std.specs.Char.{is_ascii_lowercase};
 ghost use Rattle.hose_gen.specs.Draws.{drawn, next_state};
+
+use hose_graph::{MOST_NAME_BYTES, Name};
+use itoa::Buffer;
 
 // Those of a linear congruential generator over 64 bits.
 const MULTIPLIER: u64 = 6_364_136_223_846_793_005;
@@ -24,4 +29,17 @@ impl Draws {
         self.state = self.state.wrapping_mul(MULTIPLIER).wrapping_add(INCREMENT);
         ((self.state >> 33) % u64::from(limit)) as u32
     }
+}
+
+/// The name of a letter and a number.
+pub fn numbered(letter: u8, number: u32) -> Name
+    requires { IsTrue (is_ascii_lowercase letter) }
+    ensures { result ≡ letter ∷ decimal number }
+{
+    let mut buffer = Buffer::new();
+    let digits = buffer.format(number).as_bytes();
+    let mut bytes = [letter; MOST_NAME_BYTES];
+    let end = 1 + digits.len();
+    bytes[1..end].copy_from_slice(digits);
+    Name::read(&bytes[..end]).unwrap()
 }

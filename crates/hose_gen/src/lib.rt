@@ -13,16 +13,14 @@ ghost use Rattle.hose_graph.specs.Naming.{AsksOf};
 ghost use Rattle.hose_gen.specs.Generated.{generated_network, generated_script};
 
 mod draws;
-mod limits;
 mod links;
-mod names;
 mod orders;
 
 use draws::Draws;
 use hose_graph::{Command, MOST_LINKS, MOST_NODES, Name, Topology};
-pub use limits::{LEAST_NODES, MOST_HOSES};
 use links::{add_links, add_nodes};
 use orders::orders;
+pub use orders::{LEAST_NODES, MOST_HOSES};
 use std::alloc::{AllocError, Global};
 
 /// What was generated.

@@ -2,11 +2,10 @@
 ghost use Rattle.std.specs.Prelude.{◌≡◌, ◌≢◌, ◌+◌, ◌≤◌, ◌<◌, [], length};
 ghost use Rattle.hose_graph.specs.Network.{IsLink, Network};
 ghost use Rattle.hose_gen.specs.Draws.{next_state};
-ghost use Rattle.hose_gen.specs.Generated.{after_link, after_link_of_two, after_links, first_links, link_at, node_names, link_of_two, joining_link, further_link};
+ghost use Rattle.hose_gen.specs.Generated.{after_link, after_link_of_two, after_links, links_below, link_at, node_names, link_of_two, joining_link, further_link};
 
-use crate::draws::Draws;
-use crate::limits::LEAST_NODES;
-use crate::names::numbered;
+use crate::draws::{Draws, numbered};
+use crate::orders::LEAST_NODES;
 use hose_graph::{Link, MOST_LINKS, MOST_NODES, Topology};
 
 /// Adds so many nodes to an empty network.
@@ -28,7 +27,7 @@ pub fn add_links(top: &mut Topology, draws: &mut Draws, nodes: u32, links: u32)
     requires few_links { links ≤ MOST_LINKS }
     ensures added { top.new ≡ record {
       nodes = node_names nodes;
-      links = first_links nodes draws.old.state links;
+      links = links_below nodes draws.old.state links;
     } }
     ensures state { draws.new.state ≡ after_links nodes draws.old.state links }
 {

@@ -1,4 +1,4 @@
-// The orders of customers.
+// The orders of customers, and their limits beside those of all networks.
 ghost use Rattle.std.specs.Prelude.{◌≡◌, ◌++◌, ◌≤◌, ◌<◌, IfOk, OnOk, false, length};
 ghost use Rattle.std.specs.List.{All};
 ghost use Rattle.hose_graph.specs.Hose.{IsEnd, MakesHose, node_of};
@@ -7,11 +7,15 @@ ghost use Rattle.hose_graph.specs.Network.{Network};
 ghost use Rattle.hose_gen.specs.Draws.{next_state};
 ghost use Rattle.hose_gen.specs.Generated.{admission_at, after_admission, after_ends, after_orders, after_hoses, customer_at, end_at, first_ends, first_orders, free_node, has_node, orders_at, release_at};
 
-use crate::draws::Draws;
-use crate::limits::{LEAST_NODES, MOST_HOSES};
-use crate::names::numbered;
+use crate::draws::{Draws, numbered};
 use hose_graph::{Command, Endpoint, Hose, LEAST_ENDS, MOST_NODES, Name};
 use std::alloc::{AllocError, Global};
+
+/// The least number of nodes: more than the five endpoints that a hose can have.
+pub const LEAST_NODES: u32 = 6;
+
+/// The greatest number of hoses.
+pub const MOST_HOSES: u32 = 20_000;
 
 /// What is ordered for so many hoses on a network of so many nodes.
 pub fn orders(

@@ -6,7 +6,7 @@ use Rattle.std.proofs.lemmas.List.Elements.{All-push, All-weaker}
 use Rattle.std.proofs.lemmas.List.Quantifiers.{all_pairs_push}
 use Rattle.hose_graph.specs.Name.{IsName}
 use Rattle.hose_graph.specs.Network.{IsNetwork, IsLink}
-use Rattle.hose_graph.specs.declared.link.Link.{Link}
+use Rattle.hose_graph.specs.declared.topology.Link.{Link}
 use Rattle.hose_graph.specs.declared.limits.TheConstants.{MOST_NODES}
 
 -- no element of a list is one that the list does not have

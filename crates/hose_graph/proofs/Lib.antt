@@ -1,6 +1,5 @@
 -- what is public is for the crates above too
 pub mod Endpoints
-mod Fronts
 mod Growth
 pub mod Members
 pub mod NodesByName

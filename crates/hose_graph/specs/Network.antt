@@ -3,7 +3,7 @@
 use Rattle.std.specs.Prelude.{◌≢◌, ℕ, ◌<◌, ◌≤◌, List, [], length, All, AllPairs, slice_index_or}
 use Rattle.hose_graph.specs.Limit.{IsUpTo}
 use Rattle.hose_graph.specs.Name.{IsName}
-use Rattle.hose_graph.specs.declared.link.Link.{Link}
+use Rattle.hose_graph.specs.declared.topology.Link.{Link}
 use Rattle.hose_graph.specs.declared.limits.TheConstants.{MOST_NODES, MOST_LINKS, MOST_CAPACITY, MOST_LENGTH, MOST_COST}
 
 -- the names of the nodes, and the links; nodes and links are numbered by their places

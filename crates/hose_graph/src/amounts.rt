@@ -52,7 +52,7 @@ impl Amounts {
         &self.pairs
     }
 
-    /// The same amounts once more.
+    /// A copy of the amounts.
     pub fn copy(&self, alloc: Global) -> Result<Amounts, AllocError>
         ensures { IfOk result (λ amounts. amounts ≡ self.now) }
     {

@@ -1,4 +1,4 @@
-// Entries of a book, as they are accepted one after another.
+// Entries of a book, as they are accepted one after another, and what an admission leaves there.
 ghost use Rattle.std.specs.Prelude.{◌≡◌, IfOk};
 
 use crate::amounts::Amounts;
@@ -31,7 +31,7 @@ pub enum Entry {
 }
 
 impl Entry {
-    /// The same entry once more.
+    /// A copy of the entry.
     pub fn copy(&self, alloc: Global) -> Result<Entry, AllocError>
         ensures { IfOk result (λ entry. entry ≡ self.now) }
     {
@@ -53,4 +53,14 @@ impl Entry {
             Entry::Up { link } => Ok(Entry::Up { link: *link }),
         }
     }
+}
+
+/// An admitted hose, with what is reserved for it.
+#[derive(Debug, Drop)]
+pub struct Vpn {
+    /// The epoch after its admission.
+    pub id: u64,
+    pub customer: Name,
+    pub hose: Hose,
+    pub amounts: Amounts,
 }

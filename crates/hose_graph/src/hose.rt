@@ -91,15 +91,8 @@ impl Hose {
         self.ends.iter().map(|end| end.1).sum()
     }
 
-    /// The hose of these endpoints, where they are known to be a hose's and in order.
-    pub fn from_sorted(alloc: Global, ends: &[(u32, u64)]) -> Result<Hose, AllocError>
-        requires { IsHose ends.now }
-        ensures { IfOk result (λ hose. hose ≡ ends.now) }
-    {
-        Ok(Hose::from_vec(Vec::from_slice(alloc, ends)?))
-    }
-
-    /// The hose of these endpoints, as `from_sorted` makes it, which takes no memory.
+    /// The hose of these endpoints, where they are known to be a hose's and in order. It takes no
+    /// memory.
     pub fn from_vec(ends: Vec<Endpoint>) -> Hose
         requires { IsHose ends.items }
         ensures { result ≡ ends.items }
@@ -107,11 +100,11 @@ impl Hose {
         Hose { ends }
     }
 
-    /// The same hose once more.
+    /// A copy of the hose.
     pub fn copy(&self, alloc: Global) -> Result<Hose, AllocError>
         ensures { IfOk result (λ hose. hose ≡ self.now) }
     {
-        Hose::from_sorted(alloc, self.ends())
+        Ok(Hose::from_vec(Vec::from_slice(alloc, self.ends())?))
     }
 }
 

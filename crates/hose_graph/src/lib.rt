@@ -16,31 +16,21 @@ mod command;
 mod entry;
 mod hose;
 mod limits;
-mod link;
 mod name;
 mod node_list;
-mod reply;
 mod row;
-mod row_copy;
-mod same_topology;
-mod step;
 mod topology;
-mod vpn;
 
 pub use amounts::{Amounts, ReservedLink};
-pub use command::Command;
-pub use entry::Entry;
+pub use command::{Command, Reply};
+pub use entry::{Entry, Vpn};
 pub use hose::{Endpoint, Hose, HoseFault};
 pub use limits::{
     LEAST_ENDS, MOST_AMOUNT, MOST_CAPACITY, MOST_COST, MOST_DISTANCE, MOST_ENDS, MOST_EPOCH,
     MOST_LENGTH, MOST_LINKS, MOST_LIVE, MOST_NAME_BYTES, MOST_NODES, MOST_QUOTES, MOST_RATE,
     MOST_TREE_LINKS,
 };
-pub use link::Link;
 pub use name::{Name, OPERATOR};
 pub use node_list::NodeList;
-pub use reply::Reply;
 pub use row::Row;
-pub use step::Step;
-pub use topology::{Topology, TopologyFault};
-pub use vpn::Vpn;
+pub use topology::{Link, Step, Topology, TopologyFault};

@@ -43,7 +43,7 @@ impl NodeList {
         &self.nodes
     }
 
-    /// The same list once more.
+    /// A copy of the list.
     pub fn copy(&self, alloc: Global) -> Result<NodeList, AllocError>
         ensures { IfOk result (λ list. list ≡ self.now) }
     {

@@ -1,4 +1,7 @@
 // Rows: the distances of all nodes from one of them.
+ghost use Rattle.std.specs.Prelude.{◌≡◌, IfOk};
+
+use std::alloc::{AllocError, Global};
 use std::marker::Model;
 
 /// The distances of all nodes from a root over a set of links, with a place for each node.
@@ -23,4 +26,17 @@ impl Model for Row {
 
     ghost view = { λ row.
         record { root = row.root; dist = row.dist.items; tight = row.tight.items } };
+}
+
+impl Row {
+    /// A copy of the row.
+    pub fn copy(&self, alloc: Global) -> Result<Row, AllocError>
+        ensures { IfOk result (λ row. row ≡ self.now) }
+    {
+        Ok(Row {
+            root: self.root,
+            dist: Vec::from_slice(alloc, &self.dist)?,
+            tight: Vec::from_slice(alloc, &self.tight)?,
+        })
+    }
 }

@@ -1,13 +1,40 @@
-// Topologies: networks that grow, node by node and link by link, within the limits.
+// Topologies: networks that grow, node by node and link by link, within the limits. Their links,
+// and the steps of trees of these.
 ghost use Rattle.std.specs.Prelude.{◌≡◌, ℕ, ◌<◌, ◌≤◌, ◌↔◌, List, [], ◌∷◌, ◌++◌, length, vec_capacity, Some, IsOk, IsErrOf, IsTrue, IsSome, IfSome, IfOk, OnOk, OnErr, Contains, slice_get};
 ghost use Rattle.hose_graph.specs.Name.{IsName};
 ghost use Rattle.hose_graph.specs.Network.{Network, IsInRange, IsLink, IsNetwork, HasNodeRoom, HasLinkRoom};
 
 use crate::limits::{MOST_CAPACITY, MOST_COST, MOST_LENGTH, MOST_LINKS, MOST_NODES};
-use crate::link::Link;
 use crate::name::Name;
 use std::alloc::{AllocError, Global};
 use std::marker::Model;
+
+/// A link of a network, which joins two nodes in both directions.
+#[derive(Clone, Copy, Debug, PartialEq, Eq)]
+pub struct Link {
+    /// One of its nodes, by its number.
+    pub a: u32,
+    /// Its other node, by its number.
+    pub b: u32,
+    /// What may be reserved on it, for both directions together, in the customer's unit of
+    /// bandwidth.
+    pub capacity: u64,
+    /// How long it is, in whatever unit the network is measured in. A tariff may make a cost of it.
+    pub length: u64,
+    /// What one reserved unit of bandwidth costs on it.
+    pub cost: u64,
+}
+
+/// A step of a tree: a link that joins a node of the tree to one that it did not have.
+#[derive(Clone, Copy, Debug, PartialEq, Eq)]
+pub struct Step {
+    /// The link's number.
+    pub link: u32,
+    /// The node that was there.
+    pub old: u32,
+    /// The node that the link leads to.
+    pub new: u32,
+}
 
 /// Why a node or a link was not added to a topology.
 #[derive(Clone, Copy, Debug, PartialEq, Eq)]
@@ -72,7 +99,8 @@ impl Topology {
         node
     }
 
-    /// Adds a node, after the tests that `push_node` leaves to its caller.
+    /// Adds a node as embeddings and tests do, which leave the tests that `push_node` asks of its
+    /// caller to this call.
     pub fn add_node(&mut self, name: Name) -> Result<u32, TopologyFault>
         ensures number { IfOk result (λ node. node ≡ length self.old.nodes) }
         ensures added { OnOk result
@@ -106,11 +134,14 @@ impl Topology {
         number
     }
 
-    /// Adds a link, after the tests that `push_link` leaves to its caller.
+    /// Adds a link as embeddings and tests do, which leave the tests that `push_link` asks of its
+    /// caller to this call.
     pub fn add_link(&mut self, link: Link) -> Result<u32, TopologyFault>
         ensures number { IfOk result (λ number. number ≡ length self.old.links) }
         ensures added { OnOk result
             (self.new ≡ record self.old { links = self.old.links ++ link ∷ [] }) }
+        ensures ok { IsOk result ↔ (HasLinkRoom self.old × IsLink self.old link) }
+        ensures err { OnErr result (self.new ≡ self.old) }
 
         // Each refusal comes only where those before it do not.
         ensures many { IsErrOf result TopologyFault.Many ↔ (¬ HasLinkRoom self.old) }
@@ -118,8 +149,6 @@ impl Topology {
             ↔ (HasLinkRoom self.old × (¬ IsInRange self.old link)) }
         ensures loops { IsErrOf result TopologyFault.Loop
             ↔ (HasLinkRoom self.old × IsInRange self.old link × (link.a ≡ link.b)) }
-        ensures ok { IsOk result ↔ (HasLinkRoom self.old × IsLink self.old link) }
-        ensures err { OnErr result (self.new ≡ self.old) }
     {
         if self.links() == MOST_LINKS {
             return Err(TopologyFault::Many);
@@ -178,7 +207,7 @@ impl Topology {
         Some(place as u32)
     }
 
-    /// The same topology once more.
+    /// A copy of the topology.
     pub fn copy(&self, alloc: Global) -> Result<Topology, AllocError>
         ensures { IfOk result (λ top. top ≡ self.now) }
     {
@@ -186,6 +215,13 @@ impl Topology {
         top.names.extend_from_slice(&self.names)?;
         top.links.extend_from_slice(&self.links)?;
         Ok(top)
+    }
+
+    /// Whether both have the same nodes and the same links, under the same numbers.
+    pub fn same(&self, other: &Topology) -> bool
+        ensures { IsTrue result ↔ (self.now ≡ other.now) }
+    {
+        self.names == other.names && self.links == other.links
     }
 
     // Whether the link's nodes are there and its numbers within the limits.

@@ -9,12 +9,8 @@
 //! ```
 #![tactic(auto)]
 
-mod finding;
 mod prices;
-mod pricing;
 mod tariff;
 
-pub use finding::find;
-pub use prices::{OwnCosts, Prices};
-pub use pricing::price;
-pub use tariff::{Rule, Tariff};
+pub use prices::{OwnCosts, Prices, price};
+pub use tariff::{Rule, Tariff, find};

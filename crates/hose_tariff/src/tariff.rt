@@ -1,5 +1,5 @@
-// What a tariff is.
-ghost use Rattle.std.specs.Prelude.{◌≡◌, ◌≤◌};
+// What a tariff is, and which one of several has a name.
+ghost use Rattle.std.specs.Prelude.{◌≡◌, ◌≢◌, ◌↔◌, ℕ, ◌<◌, ◌≤◌, IfNone, IfSome, length, slice_index_or};
 ghost use Rattle.hose_graph.specs.Limit.{IsUpTo};
 ghost use Rattle.hose_graph.specs.declared.limits.TheConstants.{MOST_COST, MOST_LENGTH};
 ghost use Rattle.hose_tariff.specs.Fact.{KeepsFact, IsPrice};
@@ -80,4 +80,20 @@ impl Tariff {
     {
         (self.rule)(length)
     }
+}
+
+/// The place of the first tariff with the name that these bytes are; none where no tariff has it.
+pub fn find(tariffs: &[Tariff], name: &[u8]) -> Option<usize>
+    ensures none { IfNone result ((k : ℕ) (d : _) → k < length tariffs.now
+        → (slice_index_or tariffs.now k d).name ≢ name.now) }
+    ensures first { IfSome result (λ place. (place < length tariffs.now)
+        × ((d : _) → (slice_index_or tariffs.now place d).name ≡ name.now)
+        × ((k : ℕ) (d : _) → k < place → (slice_index_or tariffs.now k d).name ≢ name.now)) }
+{
+    for place in 0..tariffs.len() {
+        if tariffs[place].name().bytes() == name {
+            return Some(place);
+        }
+    }
+    None
 }

@@ -8,8 +8,8 @@ use lib.ListN.{get_elem?}
 use Rattle.atomic_table.specs.Table.{State}
 use Rattle.atomic_table.proofs.Lists.{set_else, at_snoc}
 use Rattle.hose_turn.specs.declared.view.View.{View}
-use Rattle.hose_turn.specs.declared.shares.TheConstants.{ALL_SHARES}
-use Rattle.hose_turn.specs.Line.{share_of, one_if, holding, bit, turning, IsQueued, IsLine}
+use Rattle.hose_turn.specs.declared.pass.TheConstants.{ALL_SHARES}
+use Rattle.hose_turn.specs.Line.{share_of, one_if, holding, bit, turning, HasOwnTicket, IsTicketQueue}
 use Rattle.hose_turn.proofs.Sums.{sum_set, sum_below, sum_none, sum_has}
 use Rattle.hose_turn.proofs.Seats.{seats_stay, only, only_seat, was_theirs, no_some, not_on, num}
 
@@ -42,18 +42,18 @@ given_else owner ticket seat other differ = ap (λ b. cond b seat (owner other))
 
 module _ {serving drawn : ℕ} {owner : ℕ → ℕ} {seat : ℕ} where
   -- a pass with no ticket does not have the turn
-  pub turning-none : {view : View} → IsQueued serving drawn owner seat view → view.ticket ≡ None → turning view ≡ 0
+  pub turning-none : {view : View} → HasOwnTicket serving drawn owner seat view → view.ticket ≡ None → turning view ≡ 0
   turning-none {view = view} queued bare = bit_off view.has_turn (λ on. no_some (sym bare ∙ queued.called on))
 
-  bare_queued : (view : View) → view.ticket ≡ None → view.has_turn ≡ false → IsQueued serving drawn owner seat view
+  bare_queued : (view : View) → view.ticket ≡ None → view.has_turn ≡ false → HasOwnTicket serving drawn owner seat view
   bare_queued view bare off = record {
     spent = λ _. bare;
     waits = λ ticket is. absurd (no_some (sym bare ∙ is));
     called = λ on. absurd (not_on (sym off ∙ on));
   }
 
-  same_queued : {old new : View} → IsQueued serving drawn owner seat old → (new.share ≡ 0 → old.share ≡ 0) → new.ticket ≡ old.ticket → new.has_turn ≡ old.has_turn
-      → IsQueued serving drawn owner seat new
+  same_queued : {old new : View} → HasOwnTicket serving drawn owner seat old → (new.share ≡ 0 → old.share ≡ 0) → new.ticket ≡ old.ticket → new.has_turn ≡ old.has_turn
+      → HasOwnTicket serving drawn owner seat new
   same_queued queued shares tickets turns = record {
     spent = λ none_left. tickets ∙ queued.spent (shares none_left);
     waits = λ ticket is. queued.waits ticket (sym tickets ∙ is);
@@ -65,9 +65,9 @@ module _ {S : Type 0} (R : S → Type 0) where
   Table = State (Option S) View
 
   -- a share goes to a new seat
-  pub line_splits : (s : Table) (line : IsLine R s) (seat : ℕ) (old new branch : View) → get_elem? s.views seat ≡ some old → 0 < new.share → new.share + branch.share ≡ old.share
+  pub line_splits : (s : Table) (line : IsTicketQueue R s) (seat : ℕ) (old new branch : View) → get_elem? s.views seat ≡ some old → 0 < new.share → new.share + branch.share ≡ old.share
       → new.ticket ≡ old.ticket → new.has_turn ≡ old.has_turn → branch.ticket ≡ None → branch.has_turn ≡ false
-      → IsLine R record { words = s.words; homes = s.homes; views = set s.views seat new ++ branch ∷ [] }
+      → IsTicketQueue R record { words = s.words; homes = s.homes; views = set s.views seat new ++ branch ∷ [] }
   line_splits s line seat old new branch at some_left parts tickets turns bare off =
       let views : List View = set s.views seat new in
       let held : one_if new.ticket ≡ one_if old.ticket = ap one_if tickets in
@@ -83,17 +83,17 @@ module _ {S : Type 0} (R : S → Type 0) where
         shares = let a = sum_set share_of s.views seat old new at in let b = sum_by_push share_of views branch in let c = line.shares in omega arith;
         holders = let a = sum_set holding s.views seat old new at in let b = sum_by_push holding views branch in let c = line.holders in omega arith;
         each = λ other view is.
-            ⊎_elim (seats_stay (IsQueued line.serving line.drawn line.owner) s.views seat new (same_queued (line.each seat old at) (λ none_left. absurd (omega arith)) tickets turns) (λ i d _. line.each i d) other view)
-            (λ (same : branch ≡ view). subst (IsQueued line.serving line.drawn line.owner other) same (bare_queued branch bare off)) (at_snoc views branch view other is);
+            ⊎_elim (seats_stay (HasOwnTicket line.serving line.drawn line.owner) s.views seat new (same_queued (line.each seat old at) (λ none_left. absurd (omega arith)) tickets turns) (λ i d _. line.each i d) other view)
+            (λ (same : branch ≡ view). subst (HasOwnTicket line.serving line.drawn line.owner other) same (bare_queued branch bare off)) (at_snoc views branch view other is);
         one_slot = line.one_slot;
         home = λ none_turns. let a = sum_set turning s.views seat old new at in let b = sum_by_push turning views branch in line.home (omega arith);
       }
 
   -- a seat takes in another one's share, and the other is left with nothing
-  pub line_joins : (s : Table) (line : IsLine R s) (seat : ℕ) (old new : View) (other : ℕ) (theirs spent : View) → get_elem? s.views seat ≡ some old → ¬ (other ≡ seat)
+  pub line_joins : (s : Table) (line : IsTicketQueue R s) (seat : ℕ) (old new : View) (other : ℕ) (theirs spent : View) → get_elem? s.views seat ≡ some old → ¬ (other ≡ seat)
       → get_elem? (set s.views seat new) other ≡ some theirs → new.share + spent.share ≡ old.share + theirs.share → 0 < new.share
       → new.ticket ≡ old.ticket → new.has_turn ≡ old.has_turn → theirs.ticket ≡ None → spent.ticket ≡ None → spent.has_turn ≡ false
-      → IsLine R record { words = s.words; homes = s.homes; views = set (set s.views seat new) other spent }
+      → IsTicketQueue R record { words = s.words; homes = s.homes; views = set (set s.views seat new) other spent }
   line_joins s line seat old new other theirs spent at apart there parts live tickets turns bare bare_after off =
       let views : List View = set s.views seat new in
       let held : one_if new.ticket ≡ one_if old.ticket = ap one_if tickets in
@@ -110,21 +110,21 @@ module _ {S : Type 0} (R : S → Type 0) where
         serving_word = line.serving_word;
         shares = let a = sum_set share_of s.views seat old new at in let b = sum_set share_of views other theirs spent there in let c = line.shares in omega arith;
         holders = let a = sum_set holding s.views seat old new at in let b = sum_set holding views other theirs spent there in let c = line.holders in omega arith;
-        each = seats_stay (IsQueued line.serving line.drawn line.owner) views other spent (bare_queued spent bare_after off)
-            (λ i view _. seats_stay (IsQueued line.serving line.drawn line.owner) s.views seat new (same_queued (line.each seat old at) (λ none_left. absurd (omega arith)) tickets turns) (λ j d _. line.each j d) i view);
+        each = seats_stay (HasOwnTicket line.serving line.drawn line.owner) views other spent (bare_queued spent bare_after off)
+            (λ i view _. seats_stay (HasOwnTicket line.serving line.drawn line.owner) s.views seat new (same_queued (line.each seat old at) (λ none_left. absurd (omega arith)) tickets turns) (λ j d _. line.each j d) i view);
         one_slot = line.one_slot;
         home = λ none_turns. let a = sum_set turning s.views seat old new at in let b = sum_set turning views other theirs spent there in line.home (omega arith);
       }
 
   -- fewer hold tickets than there are shares
-  pub few_hold : (s : Table) (line : IsLine R s) → line.drawn ≤ line.serving + ALL_SHARES
+  pub few_hold : (s : Table) (line : IsTicketQueue R s) → line.drawn ≤ line.serving + ALL_SHARES
   few_hold s line =
       let a = sum_below holding share_of s.views (λ seat view is. one_if-le view.ticket view.share (line.each seat view is).spent) in let b = line.shares in let c = line.holders in omega arith
 
   -- a step on the word of the epoch by a seat that keeps its place in the line; what is right of the value may change while some pass has the turn
-  pub line_stays : (R' : S → Type 0) (s : Table) (line : IsLine R s) (seat word : ℕ) (old new : View) → get_elem? s.views seat ≡ some old
+  pub line_stays : (R' : S → Type 0) (s : Table) (line : IsTicketQueue R s) (seat word : ℕ) (old new : View) → get_elem? s.views seat ≡ some old
       → new.share ≡ old.share → new.ticket ≡ old.ticket → new.has_turn ≡ old.has_turn → ((value : S) → bit new.has_turn ≡ 0 → R value → R' value)
-      → IsLine R' record { words = set s.words 0 word; homes = s.homes; views = set s.views seat new }
+      → IsTicketQueue R' record { words = set s.words 0 word; homes = s.homes; views = set s.views seat new }
   line_stays R' s line seat word old new at shares tickets turns right =
       let held : one_if new.ticket ≡ one_if old.ticket = ap one_if tickets in
       let turned : bit new.has_turn ≡ bit old.has_turn = ap bit turns in record {
@@ -136,16 +136,16 @@ module _ {S : Type 0} (R : S → Type 0) where
         serving_word = get_or-set_other s.words 0 2 word 0 (λ e. omega arith) ∙ line.serving_word;
         shares = let a = sum_set share_of s.views seat old new at in let c = line.shares in omega arith;
         holders = let a = sum_set holding s.views seat old new at in let c = line.holders in omega arith;
-        each = seats_stay (IsQueued line.serving line.drawn line.owner) s.views seat new (same_queued (line.each seat old at) (λ none_left. sym shares ∙ none_left) tickets turns) (λ i view _. line.each i view);
+        each = seats_stay (HasOwnTicket line.serving line.drawn line.owner) s.views seat new (same_queued (line.each seat old at) (λ none_left. sym shares ∙ none_left) tickets turns) (λ i view _. line.each i view);
         one_slot = line.one_slot;
         home = λ none_turns. let a = sum_set turning s.views seat old new at in let b = sum_has turning s.views seat old at in
             let there = line.home (omega arith) in (there.0, there.1, right there.0 (omega arith) there.2);
       }
 
   -- a seat draws a ticket
-  pub line_draws : (s : Table) (line : IsLine R s) (seat word : ℕ) (old new : View) → get_elem? s.views seat ≡ some old → 0 < old.share → old.ticket ≡ None
+  pub line_draws : (s : Table) (line : IsTicketQueue R s) (seat word : ℕ) (old new : View) → get_elem? s.views seat ≡ some old → 0 < old.share → old.ticket ≡ None
       → word ≡ (line.drawn + 1) % 2 ^ 64 → new.share ≡ old.share → new.ticket ≡ Some line.drawn → new.has_turn ≡ old.has_turn
-      → IsLine R record { words = set s.words 1 word; homes = s.homes; views = set s.views seat new }
+      → IsTicketQueue R record { words = set s.words 1 word; homes = s.homes; views = set s.views seat new }
   line_draws s line seat word old new at live bare is shares ticket turns =
       let n : ℕ = line.drawn in
       let wide = line.three_words in
@@ -164,7 +164,7 @@ module _ {S : Type 0} (R : S → Type 0) where
         serving_word = get_or-set_other s.words 1 2 _ 0 (λ e. omega arith) ∙ line.serving_word;
         shares = let a = sum_set share_of s.views seat old new at in let c = line.shares in omega arith;
         holders = let a = sum_set holding s.views seat old new at in omega arith;
-        each = seats_stay (IsQueued line.serving (n + 1) owner) s.views seat new (record {
+        each = seats_stay (HasOwnTicket line.serving (n + 1) owner) s.views seat new (record {
           spent = λ none_left. absurd (omega arith);
           waits = λ k e. let same : n ≡ k = ap num (sym ticket ∙ e) in (omega arith, omega arith, subst (λ (z : ℕ). owner z ≡ seat) same (given_here line.owner n seat));
           called = λ on. absurd (no_some (sym bare ∙ mine.called (sym turns ∙ on)));
@@ -178,14 +178,14 @@ module _ {S : Type 0} (R : S → Type 0) where
       }
 
   -- where one has the turn, no other has
-  pub alone : (s : Table) (line : IsLine R s) (seat : ℕ) (mine : View) → get_elem? s.views seat ≡ some mine → mine.has_turn ≡ true
+  pub alone : (s : Table) (line : IsTicketQueue R s) (seat : ℕ) (mine : View) → get_elem? s.views seat ≡ some mine → mine.has_turn ≡ true
       → (other : ℕ) (theirs : View) → other ≢ seat → get_elem? s.views other ≡ some theirs → theirs.has_turn ≡ true → ⊥
   alone s line seat mine at on other theirs apart there on' =
       let queued = line.each other theirs there in let own = line.each seat mine at in
       apart (sym ((queued.waits line.serving (queued.called on')).2) ∙ (own.waits line.serving (own.called on)).2)
 
   -- where the one whose ticket is served does not have the turn, none has
-  pub none_turns_yet : (s : Table) (line : IsLine R s) (seat : ℕ) (mine : View) → get_elem? s.views seat ≡ some mine → mine.has_turn ≡ false → mine.ticket ≡ Some line.serving
+  pub none_turns_yet : (s : Table) (line : IsTicketQueue R s) (seat : ℕ) (mine : View) → get_elem? s.views seat ≡ some mine → mine.has_turn ≡ false → mine.ticket ≡ Some line.serving
       → (value : S) × (s.homes ≡ some (Some value) ∷ []) × R value
   none_turns_yet s line seat mine at off served = let own = line.each seat mine at in
       line.home (sum_none turning s.views (λ other theirs there. bit_off theirs.has_turn (λ on.
@@ -195,9 +195,9 @@ module _ {S : Type 0} (R : S → Type 0) where
       not_on (sym off ∙ (ap (λ (z : View). z.has_turn) same ∙ on)))))
 
   -- the one whose ticket is served takes the value
-  pub line_takes : (s : Table) (line : IsLine R s) (seat : ℕ) (old new : View) → get_elem? s.views seat ≡ some old → old.has_turn ≡ false → old.ticket ≡ Some line.serving
+  pub line_takes : (s : Table) (line : IsTicketQueue R s) (seat : ℕ) (old new : View) → get_elem? s.views seat ≡ some old → old.has_turn ≡ false → old.ticket ≡ Some line.serving
       → new.share ≡ old.share → new.ticket ≡ old.ticket → new.has_turn ≡ true
-      → IsLine R record { words = s.words; homes = set s.homes 0 none; views = set s.views seat new }
+      → IsTicketQueue R record { words = s.words; homes = set s.homes 0 none; views = set s.views seat new }
   line_takes s line seat old new at off served shares tickets on =
       let mine = line.each seat old at in
       let held : one_if new.ticket ≡ one_if old.ticket = ap one_if tickets in
@@ -211,16 +211,16 @@ module _ {S : Type 0} (R : S → Type 0) where
         serving_word = line.serving_word;
         shares = let a = sum_set share_of s.views seat old new at in let c = line.shares in omega arith;
         holders = let a = sum_set holding s.views seat old new at in let c = line.holders in omega arith;
-        each = seats_stay (IsQueued line.serving line.drawn line.owner) s.views seat new
+        each = seats_stay (HasOwnTicket line.serving line.drawn line.owner) s.views seat new
             (record { spent = λ none_left. tickets ∙ mine.spent (sym shares ∙ none_left); waits = λ k e. mine.waits k (sym tickets ∙ e); called = λ _. tickets ∙ served }) (λ j view _. line.each j view);
         one_slot = length-set s.homes 0 none ∙ line.one_slot;
         home = λ none_turns. let a = sum_set turning s.views seat old new at in absurd (omega arith);
       }
 
   -- the one that has the turn gives a value and the turn on
-  pub line_passes : (R' : S → Type 0) (s : Table) (line : IsLine R s) (seat word : ℕ) (old new : View) (value : S) → get_elem? s.views seat ≡ some old
+  pub line_passes : (R' : S → Type 0) (s : Table) (line : IsTicketQueue R s) (seat word : ℕ) (old new : View) (value : S) → get_elem? s.views seat ≡ some old
       → old.has_turn ≡ true → 0 < old.share → word ≡ (line.serving + 1) % 2 ^ 64 → new.share ≡ old.share → new.ticket ≡ None → new.has_turn ≡ false → R' value
-      → IsLine R' record { words = set s.words 2 word; homes = set s.homes 0 (some (Some value)); views = set s.views seat new }
+      → IsTicketQueue R' record { words = set s.words 2 word; homes = set s.homes 0 (some (Some value)); views = set s.views seat new }
   line_passes R' s line seat word old new value at on live is shares bare off right =
       let n : ℕ = line.serving in
       let wide = line.three_words in
@@ -239,7 +239,7 @@ module _ {S : Type 0} (R : S → Type 0) where
         serving_word = get_or-set_same s.words 2 word 0 (omega arith) ∙ is;
         shares = let a = sum_set share_of s.views seat old new at in let c = line.shares in omega arith;
         holders = let a = sum_set holding s.views seat old new at in omega arith;
-        each = seats_stay (IsQueued (n + 1) line.drawn line.owner) s.views seat new (bare_queued new bare off)
+        each = seats_stay (HasOwnTicket (n + 1) line.drawn line.owner) s.views seat new (bare_queued new bare off)
             (λ j view apart there. let theirs = line.each j view there in record {
               spent = theirs.spent;
               waits = λ k e. let waits = theirs.waits k e in let low = waits.0 in let differ : k ≢ n = λ same. apart (sym waits.2 ∙ (ap line.owner same ∙ owned)) in (omega arith, waits.1, waits.2);
@@ -251,7 +251,7 @@ module _ {S : Type 0} (R : S → Type 0) where
 
   -- the first pass has the turn, at a table with no value yet
   pub line_opens : (word ticket : ℕ) (view : View) → ticket < 2 ^ 64 → view.share ≡ ALL_SHARES → view.ticket ≡ Some ticket → view.has_turn ≡ true
-      → IsLine R record { words = word ∷ (ticket + 1) % 2 ^ 64 ∷ ticket ∷ []; homes = none ∷ []; views = view ∷ [] }
+      → IsTicketQueue R record { words = word ∷ (ticket + 1) % 2 ^ 64 ∷ ticket ∷ []; homes = none ∷ []; views = view ∷ [] }
   line_opens word ticket view small all held on =
       let one : one_if view.ticket ≡ 1 = ap one_if held in let turned : bit view.has_turn ≡ 1 = ap bit on in record {
         serving = ticket;
@@ -262,7 +262,7 @@ module _ {S : Type 0} (R : S → Type 0) where
         serving_word = omega arith;
         shares = omega (arith, sum_by-cons share_of view []);
         holders = omega (arith, sum_by-cons holding view []);
-        each = λ seat other there. subst (λ (z : View). IsQueued ticket (ticket + 1) (λ _. 0) seat z) (only view other seat there) (record {
+        each = λ seat other there. subst (λ (z : View). HasOwnTicket ticket (ticket + 1) (λ _. 0) seat z) (only view other seat there) (record {
           spent = λ none_left. absurd (omega arith);
           waits = λ k e. let same : ticket ≡ k = ap num (sym held ∙ e) in (omega arith, omega arith, sym (only_seat view other seat there));
           called = λ _. held;
@@ -272,7 +272,7 @@ module _ {S : Type 0} (R : S → Type 0) where
       }
 
   -- who has all shares is the last
-  pub others_spent : (s : Table) (line : IsLine R s) (seat : ℕ) (mine : View) → get_elem? s.views seat ≡ some mine → mine.share ≡ ALL_SHARES
+  pub others_spent : (s : Table) (line : IsTicketQueue R s) (seat : ℕ) (mine : View) → get_elem? s.views seat ≡ some mine → mine.share ≡ ALL_SHARES
       → (other : ℕ) (theirs : View) → other ≢ seat → get_elem? s.views other ≡ some theirs → theirs.share ≡ 0
   others_spent s line seat mine at all other theirs apart there =
       let none_left : View = record mine { share = 0 } in
@@ -280,7 +280,7 @@ module _ {S : Type 0} (R : S → Type 0) where
       let b = sum_has share_of (set s.views seat none_left) other theirs (set_else s.views seat other none_left apart ∙ there) in let c = line.shares in omega arith
 
   -- what the last one finds
-  pub line_ends : (s : Table) (line : IsLine R s) (seat : ℕ) (mine : View) → get_elem? s.views seat ≡ some mine → mine.share ≡ ALL_SHARES → mine.ticket ≡ None
+  pub line_ends : (s : Table) (line : IsTicketQueue R s) (seat : ℕ) (mine : View) → get_elem? s.views seat ≡ some mine → mine.share ≡ ALL_SHARES → mine.ticket ≡ None
       → (value : S) × (s.homes ≡ some (Some value) ∷ []) × R value
   line_ends s line seat mine at all bare = line.home (sum_none turning s.views (λ other theirs there. dite (ℕ_discrete other seat)
       (λ same. turning-none (line.each other theirs there) (ap (λ (z : View). z.ticket) (some-injective theirs mine (sym there ∙ (ap (λ (k : ℕ). get_elem? s.views k) same ∙ at))) ∙ bare))

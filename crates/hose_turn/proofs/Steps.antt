@@ -14,14 +14,14 @@ use Rattle.atomic_table.proofs.Lists.{set_again, one_turn}
 use Rattle.hose_graph.specs.declared.entry.Entry.{Entry}
 use Rattle.hose_turn.specs.declared.view.View.{View}
 use Rattle.hose_turn.specs.declared.view.Origin.{Origin}
-use Rattle.hose_turn.specs.declared.shares.TheConstants.{ALL_SHARES}
+use Rattle.hose_turn.specs.declared.pass.TheConstants.{ALL_SHARES}
 use Rattle.hose_turn.specs.Places.{HasPlaces, HasSomePlaces}
 use Rattle.hose_turn.specs.Faults.{end_of_count, IsFloored}
 use Rattle.hose_turn.specs.Known.{HasWholeHistory}
 use Rattle.hose_turn.specs.Views.{nobody, unborn, opener, cut, branch, glued, passed_on, known_of}
-use Rattle.hose_turn.specs.Line.{bit, share_of, IsLine}
+use Rattle.hose_turn.specs.Line.{bit, share_of, IsTicketQueue}
 use Rattle.hose_turn.specs.History.{IsInformed, IsHistory}
-use Rattle.hose_turn.specs.Rule.{IsUnopened, IsOpened, RuleHolds}
+use Rattle.hose_turn.specs.Rule.{HasNoValue, HasOneHistory, RuleHolds}
 use Rattle.hose_turn.specs.Steps.{OpensLock, Looks, PassesOn, Draws, Counts, Settles}
 use Rattle.hose_turn.proofs.Prefix.{prefix_self, prefix_shorter, prefix_push}
 use Rattle.hose_turn.proofs.Seats.{only, only_seat, was_theirs, no_some, not_on, num, opt_discrete}
@@ -51,16 +51,16 @@ module _ {S : Type 0} (stands : Origin → List Entry → S → Type 0) (faults 
   Right origin history count value = stands origin history value × (faults value ≡ count)
 
   -- where a pass with a share is there, the table was opened
-  opened_of : (s : Table) → Rule s → (seat : ℕ) (view : View) → get_elem? s.views seat ≡ some view → 0 < view.share → IsOpened stands faults s
+  opened_of : (s : Table) → Rule s → (seat : ℕ) (view : View) → get_elem? s.views seat ≡ some view → 0 < view.share → HasOneHistory stands faults s
   opened_of s rule seat view at live = ⊎_elim
-      (λ (unopened : IsUnopened s). let bare : 0 ≡ view.share = ap share_of (only unborn view seat (subst (λ (t : Table). get_elem? t.views seat ≡ some view) unopened.2 at)) in absurd (omega arith))
-      (λ (opened : IsOpened stands faults s). opened) rule
+      (λ (unopened : HasNoValue s). let bare : 0 ≡ view.share = ap share_of (only unborn view seat (subst (λ (t : Table). get_elem? t.views seat ≡ some view) unopened.2 at)) in absurd (omega arith))
+      (λ (opened : HasOneHistory stands faults s). opened) rule
 
   -- a step of a seat that keeps its own places and its faults, and leaves the history as it is
-  renew : (s : Table) (opened : IsOpened stands faults s) (seat : ℕ) (old new : View) (words : List ℕ) (homes : List (maybe.Option (Option S))) → get_elem? s.views seat ≡ some old
-      → IsLine (Right opened.origin opened.history opened.count) record { words = words; homes = homes; views = set s.views seat new } → get_or words 0 0 ≡ get_or s.words 0 0
+  renew : (s : Table) (opened : HasOneHistory stands faults s) (seat : ℕ) (old new : View) (words : List ℕ) (homes : List (maybe.Option (Option S))) → get_elem? s.views seat ≡ some old
+      → IsTicketQueue (Right opened.origin opened.history opened.count) record { words = words; homes = homes; views = set s.views seat new } → get_or words 0 0 ≡ get_or s.words 0 0
       → IsInformed opened.origin opened.history new → IsFloored opened.count new → new.own ≡ old.own → new.faults ≡ old.faults
-      → IsOpened stands faults record { words = words; homes = homes; views = set s.views seat new }
+      → HasOneHistory stands faults record { words = words; homes = homes; views = set s.views seat new }
   renew s opened seat old new words homes at line word informed floored owns same = record {
     origin = opened.origin;
     history = opened.history;
@@ -236,7 +236,7 @@ module _ {S : Type 0} (stands : Origin → List Entry → S → Type 0) (faults 
       let before = Right opened.origin opened.history opened.count in
       let others = alone before s opened.line seat view at on in
       let stood : stands opened.origin opened.history value = subst (λ (z : Origin × List Entry). stands z.0 z.1 value) (λ i. (mine.same live i, latest i)) right in
-      let kept : IsOpened stands faults record { words = set s.words 2 ((get_or s.words 2 0 + 1) % 2 ^ 64); homes = set s.homes 0 (some (Some value)); views = set s.views seat new } = record {
+      let kept : HasOneHistory stands faults record { words = set s.words 2 ((get_or s.words 2 0 + 1) % 2 ^ 64); homes = set s.homes 0 (some (Some value)); views = set s.views seat new } = record {
         origin = opened.origin;
         history = opened.history;
         count = now;
@@ -258,7 +258,7 @@ module _ {S : Type 0} (stands : Origin → List Entry → S → Type 0) (faults 
   pub begins : (slots seat epoch : ℕ) (me : Seat) (value : S) (origin : Origin) → me.0 ≡ unborn → stands origin origin.since value → epoch ≡ origin.first + length origin.since
       → Allows Rule slots seat me 0 (λ n. either (n == 0) epoch n) (OpensLock stands faults (step slots 0 0 epoch (some (Some value))) me)
   begins slots seat epoch me value origin new right word s rule _ at _ =
-      ⊎_elim (λ (unopened : IsUnopened s).
+      ⊎_elim (λ (unopened : HasNoValue s).
       let ticket : ℕ = unopened.0 in
       let small = unopened.1 in
       let view : View = opener origin ticket (faults value) in
@@ -270,7 +270,7 @@ module _ {S : Type 0} (stands : Origin → List Entry → S → Type 0) (faults 
         told = (origin.since, refl);
         latest = λ _. refl;
       } in
-      let opened : IsOpened stands faults record { words = epoch ∷ (ticket + 1) % 2 ^ 64 ∷ ticket ∷ []; homes = none ∷ []; views = view ∷ [] } = record {
+      let opened : HasOneHistory stands faults record { words = epoch ∷ (ticket + 1) % 2 ^ 64 ∷ ticket ∷ []; homes = none ∷ []; views = view ∷ [] } = record {
         origin = origin;
         history = origin.since;
         count = faults value;
@@ -289,7 +289,7 @@ module _ {S : Type 0} (stands : Origin → List Entry → S → Type 0) (faults 
           ap (λ (z : S). (opener origin ticket (faults z), (0, None) ∷ me.1)) (ap (λ z. some_or value z) (some-injective (Some value) (Some other) said)),
         ),
       ))
-      (λ (opened : IsOpened stands faults s).
+      (λ (opened : HasOneHistory stands faults s).
       let queued = opened.line.each seat me.0 at in absurd (no_some (sym (queued.spent (ap share_of new)) ∙ ap (λ (z : View). z.ticket) new))) rule
 
   -- what the last pass finds

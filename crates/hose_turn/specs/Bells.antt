@@ -4,5 +4,5 @@ use Rattle.atomic_table.specs.Seated.{TableId}
 use Rattle.hose_turn.specs.declared.bells.TheConstants.{BELLS}
 
 -- there is a word for each bell
-abbrev pub IsRow : TableId → Type 0
-IsRow row = row.words ≡ BELLS
+abbrev pub HasBellWords : TableId → Type 0
+HasBellWords row = row.words ≡ BELLS

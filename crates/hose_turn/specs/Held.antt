@@ -1,6 +1,6 @@
 -- A pass that has the turn, with the value, as callers see it.
 use Rattle.std.specs.Prelude.{ℕ}
-use Rattle.hose_turn.specs.declared.held.Held.{Held}
+use Rattle.hose_turn.specs.declared.pass.Held.{Held}
 use Rattle.hose_turn.specs.Known.{Known}
 use Rattle.hose_turn.specs.Views.{known_of}
 

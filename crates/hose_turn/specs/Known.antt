@@ -4,7 +4,7 @@ use mathlib.Core.List.{IsPrefix}
 pub use Rattle.atomic_table.specs.Seated.{TableId}
 use Rattle.hose_graph.specs.declared.entry.Entry.{Entry}
 use Rattle.hose_turn.specs.declared.view.Origin.{Origin}
-use Rattle.hose_turn.specs.declared.shares.TheConstants.{ALL_SHARES}
+use Rattle.hose_turn.specs.declared.pass.TheConstants.{ALL_SHARES}
 use Rattle.hose_turn.specs.Places.{HasPlaces, HasSomePlaces}
 
 -- the lock that the pass is of, what was fixed when it was made, the pass's share, the beginning of
@@ -28,7 +28,7 @@ first_known turn origin = record {
   faults = 0;
 }
 
--- The same after the pass counted an entry: it has seen the entry, whose place is the number of
+-- What a pass knows once it counted an entry: it has seen the entry, whose place is the number of
 -- entries before it.
 abbrev pub with_own_entry : Known → Entry → Known
 with_own_entry known entry = record known {

@@ -6,7 +6,7 @@ use mathlib.Core.Option.{some}
 use lib.ListN.{get_elem?}
 use Rattle.atomic_table.specs.Table.{State}
 use Rattle.hose_turn.specs.declared.view.View.{View}
-use Rattle.hose_turn.specs.declared.shares.TheConstants.{ALL_SHARES}
+use Rattle.hose_turn.specs.declared.pass.TheConstants.{ALL_SHARES}
 
 -- how many shares the pass has
 abbrev pub share_of : View → ℕ
@@ -32,7 +32,7 @@ turning view = bit view.has_turn
 
 -- A pass that was joined away has no ticket. A ticket is from `serving` on and below `drawn`, and
 -- was drawn by this seat. Who has the turn has the ticket that is served.
-pub record IsQueued (serving drawn : ℕ) (owner : ℕ → ℕ) (seat : ℕ) (view : View)
+pub record HasOwnTicket (serving drawn : ℕ) (owner : ℕ → ℕ) (seat : ℕ) (view : View)
     : Type 0 where
   pub spent : view.share ≡ 0 → view.ticket ≡ None
   pub waits : (ticket : ℕ) → view.ticket ≡ Some ticket
@@ -42,7 +42,7 @@ pub record IsQueued (serving drawn : ℕ) (owner : ℕ → ℕ) (seat : ℕ) (vi
 -- The shares are no more than there are. As many passes hold tickets as were drawn and not yet
 -- served, and `owner` says which seat drew a ticket, so no two have one ticket and at most one has
 -- the turn. Where none has it, the value is in its slot and is right.
-pub record IsLine {S : Type 0} (IsRight : S → Type 0) (state : State (Option S) View)
+pub record IsTicketQueue {S : Type 0} (IsRight : S → Type 0) (state : State (Option S) View)
     : Type 0 where
   pub serving : ℕ
   pub drawn : ℕ
@@ -53,7 +53,7 @@ pub record IsLine {S : Type 0} (IsRight : S → Type 0) (state : State (Option S
   pub shares : sum_by share_of state.views ≤ ALL_SHARES
   pub holders : drawn ≡ serving + sum_by holding state.views
   pub each : (seat : ℕ) (view : View) → get_elem? state.views seat ≡ some view
-      → IsQueued serving drawn owner seat view
+      → HasOwnTicket serving drawn owner seat view
   pub one_slot : length state.homes ≡ 1
   pub home : sum_by turning state.views ≡ 0
       → (value : S) × (state.homes ≡ some (Some value) ∷ []) × IsRight value

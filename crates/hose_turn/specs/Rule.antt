@@ -6,7 +6,7 @@ use Rattle.hose_graph.specs.declared.entry.Entry.{Entry}
 use Rattle.hose_turn.specs.declared.view.View.{View}
 use Rattle.hose_turn.specs.declared.view.Origin.{Origin}
 use Rattle.hose_turn.specs.Views.{unborn}
-use Rattle.hose_turn.specs.Line.{IsLine}
+use Rattle.hose_turn.specs.Line.{IsTicketQueue}
 use Rattle.hose_turn.specs.History.{IsHistory}
 use Rattle.hose_turn.specs.Faults.{IsTally}
 
@@ -15,22 +15,22 @@ abbrev pub IsSized : TableId → Type 0
 IsSized table = (table.words ≡ 3) × (table.slots ≡ 1)
 
 -- The table has no value yet, and its first ticket is drawn.
-abbrev pub IsUnopened : {S : Type 0} → State (Option S) View → Type 0
-IsUnopened {S} state =
+abbrev pub HasNoValue : {S : Type 0} → State (Option S) View → Type 0
+HasNoValue {S} state =
     let words : ℕ → List ℕ = λ ticket. 0 ∷ (ticket + 1) % 2 ^ 64 ∷ ticket ∷ [] in
     (ticket : ℕ) × (ticket < 2 ^ 64)
     × (state ≡ opening {S = Option S} (words ticket) (None ∷ []) unborn)
 
 module _ {S : Type 0} (stands : Origin → List Entry → S → Type 0) (faults : S → ℕ) where
   -- There is one history. The value in the slot stands for it, and `count` is its count of faults.
-  pub record IsOpened (state : State (Option S) View) : Type 0 where
+  pub record HasOneHistory (state : State (Option S) View) : Type 0 where
     pub origin : Origin
     pub history : List Entry
     pub count : ℕ
-    pub line : IsLine (λ value. stands origin history value × (faults value ≡ count)) state
+    pub line : IsTicketQueue (λ value. stands origin history value × (faults value ≡ count)) state
     pub known : IsHistory origin history (slice_index state.words 0) state.views
     pub tally : IsTally count state.views
 
   -- what holds of the table between any two steps
   abbrev pub RuleHolds : State (Option S) View → Type 0
-  RuleHolds state = IsUnopened state ⊎ IsOpened state
+  RuleHolds state = HasNoValue state ⊎ HasOneHistory state

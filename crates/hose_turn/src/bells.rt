@@ -1,7 +1,7 @@
 //! Words on which passes sleep until their tickets are called.
 ghost use Rattle.std.specs.Prelude.{◌≡◌, ◌<◌};
 ghost use Rattle.hose_turn.specs.declared.bells.TheConstants.{BELLS};
-ghost use Rattle.hose_turn.specs.Bells.{IsRow};
+ghost use Rattle.hose_turn.specs.Bells.{HasBellWords};
 
 use atomic_table::{Play, Table, TableRule};
 use std::alloc::{AllocError, Global};
@@ -38,7 +38,7 @@ impl Play<(), ()> for Untold {
 #[derive(Drop)]
 pub(crate) struct Bells {
     row: Table<(), (), (), Free, Global>,
-    ghost sized: { IsRow row.shared.table_id },
+    ghost sized: { HasBellWords row.shared.table_id },
 }
 
 impl Bells {

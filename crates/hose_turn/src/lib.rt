@@ -22,19 +22,11 @@
 #![tactic(auto)]
 
 mod bells;
-mod held;
-mod lends;
 mod pass;
-mod plays;
 mod rule;
-mod shares;
-mod stands;
 mod turn;
 mod view;
 
-pub use held::Held;
-pub use pass::Pass;
-pub use shares::ALL_SHARES;
-pub use stands::Stands;
+pub use pass::{ALL_SHARES, Held, Pass};
 pub use turn::Turn;
-pub use view::Origin;
+pub use view::{Origin, Stands};

@@ -1,12 +1,18 @@
-//! Passes that do not have the turn.
-ghost use Rattle.std.specs.Prelude.{◌≡◌, []};
+//! Passes: how they are divided, what is known of one that does not have the turn, and one that has
+//! it.
+ghost use Rattle.std.specs.Prelude.{◌≡◌, ◌<◌, ◌≤◌, true, [], ◌∷◌, length, None};
 ghost use Rattle.hose_turn.specs.Known.{HasOwnPlaces};
+ghost use Rattle.hose_turn.specs.Places.{HasSomePlaces};
 ghost use Rattle.hose_turn.specs.Views.{known_of, IsAtRest};
 
 use crate::rule::Place;
 use crate::view::View;
 use atomic_table::Badge;
 use std::marker::Model;
+
+/// The shares of all passes of one lock together. Who has all of them is the only pass left, and
+/// may close the lock.
+pub const ALL_SHARES: u64 = 1_000_000;
 
 /// The right to take part in the turns of one lock. It has no bytes, and may go to another thread.
 ///
@@ -54,5 +60,28 @@ impl Pass {
         Pass {
             badge: place.into_badge(),
         }
+    }
+}
+
+/// A pass that has the turn, with the value. It is not `Drop`: a turn ends by `unlock`.
+pub struct Held<S> {
+    pub(crate) place: Place<S>,
+    pub(crate) value: S,
+    ghost live: { 0 < place.me.0.share },
+    ghost turn: { place.me.0.has_turn ≡ true },
+    ghost told: { place.me.0.told ≡ [] },
+    ghost slot: { place.me.1 ≡ (0, None) ∷ [] },
+    ghost since: { length place.me.0.origin.since ≤ length place.me.0.seen },
+    ghost own: { HasSomePlaces (length place.me.0.origin.since) (length place.me.0.seen)
+        place.me.0.own },
+}
+
+impl<S> Held<S> {
+    ghost use Rattle.hose_turn.specs.Held.{value_of};
+
+    pub fn value(&self) -> &S
+        ensures { result.now ≡ value_of self.now }
+    {
+        &self.value
     }
 }

@@ -1,12 +1,17 @@
-//! What holds between any two steps.
+//! The table of the lock: what holds between any two steps, and what each of them tells the pass
+//! that makes it.
 //!
 //! The table has three words and one slot. Word 0 is the epoch, word 1 the next ticket that is
 //! drawn, and word 2 the ticket that has the turn. The slot has the value, while no pass has the
 //! turn.
-use crate::stands::Stands;
-use crate::view::View;
-use atomic_table::{Seat, Table, TableRule};
+ghost use Rattle.hose_turn.specs.Views.{nobody, cut, branch, glued};
+ghost use Rattle.hose_turn.specs.Steps.{OpensLock, Draws, Looks, Settles, Counts, PassesOn};
+ghost use Rattle.hose_turn.specs.Faults.{rise, no_rise};
+
+use crate::view::{Counted, Stands, View};
+use atomic_table::{Join, Play, Seat, Split, Table, TableRule};
 use std::alloc::Global;
+use std::marker::PhantomData;
 
 pub(crate) const EPOCH: usize = 0;
 
@@ -28,3 +33,72 @@ impl<S: Stands> TableRule<Option<S>, View, ()> for OneHistory {
 pub(crate) type Board<S> = Table<Option<S>, View, (), OneHistory, Global>;
 
 pub(crate) type Place<S> = Seat<Option<S>, View>;
+
+/// The first pass takes the turn at a table that has no value yet.
+pub(crate) struct Begin;
+
+impl<S: Stands> Play<Option<S>, View> for Begin {
+    ghost then = { OpensLock S.stands S.faults };
+}
+
+/// The first pass gives the value to the table.
+pub(crate) struct Open;
+
+impl<S: Stands> Play<Option<S>, View> for Open {
+    ghost then = { PassesOn S.faults no_rise };
+}
+
+/// A pass draws a ticket.
+pub(crate) struct Draw;
+
+impl<S> Play<Option<S>, View> for Draw {
+    ghost then = { Draws };
+}
+
+/// A pass looks whether its turn has come, and takes the value where it has.
+pub(crate) struct Look;
+
+impl<S: Stands> Play<Option<S>, View> for Look {
+    ghost then = { Looks S.stands S.faults };
+}
+
+/// The history gains an entry, which is the pass's own.
+pub(crate) struct Count<N> {
+    named: PhantomData<N>,
+}
+
+impl<S, N: Counted> Play<Option<S>, View> for Count<N> {
+    ghost then = { Counts N.entry };
+}
+
+/// A pass gives the value back, and the turn to the next ticket.
+pub(crate) struct PassOn;
+
+impl<S: Stands> Play<Option<S>, View> for PassOn {
+    ghost then = { PassesOn S.faults rise };
+}
+
+/// A share goes to a new pass.
+pub(crate) struct Cut;
+
+impl Split<View> for Cut {
+    ghost left = { cut };
+
+    ghost right = { branch };
+}
+
+/// A pass takes in another one.
+pub(crate) struct Glue;
+
+impl Join<View> for Glue {
+    ghost both = { glued };
+
+    ghost spent = { nobody };
+}
+
+/// After a join: of the two lists that were seen, the longer one is seen.
+pub(crate) struct Settle;
+
+impl<S> Play<Option<S>, View> for Settle {
+    ghost then = { Settles };
+}

@@ -3,19 +3,20 @@ ghost use Rattle.std.specs.Prelude.{◌≡◌, ◌⊎◌, ℕ, ◌+◌, ◌-◌,
 ghost use mathlib.Core.List.{IsPrefix};
 ghost use Rattle.hose_graph.specs.declared.entry.Entry.{Entry};
 ghost use Rattle.hose_turn.specs.declared.view.Origin.{Origin};
+ghost use Rattle.std.specs.Borrow.{sem, follows};
 ghost use Rattle.hose_turn.specs.Known.{first_known, with_own_entry, HasOwnPlaces, HasWholeHistory};
 ghost use Rattle.hose_turn.specs.Places.{AreApart};
 ghost use Rattle.hose_turn.specs.Faults.{rise, end_of_count};
 ghost use Rattle.hose_turn.specs.Views.{unborn, opener};
 ghost use Rattle.hose_turn.specs.Held.{holder, value_of, floor_of};
+ghost use Rattle.hose_turn.specs.contracts.pass.Held.{the_row};
 
 use crate::bells::Bells;
-use crate::held::Held;
-use crate::pass::Pass;
-use crate::plays::{Begin, Count, Cut, Draw, Glue, Look, Open, PassOn, Settle};
-use crate::rule::{Board, EPOCH, Place, SERVING, TICKET};
-use crate::shares::ALL_SHARES;
-use crate::stands::{Counted, Stands};
+use crate::pass::{ALL_SHARES, Held, Pass};
+use crate::rule::{
+    Begin, Board, Count, Cut, Draw, EPOCH, Glue, Look, Open, PassOn, Place, SERVING, Settle, TICKET,
+};
+use crate::view::{Counted, Stands};
 use atomic_table::{Badge, Table};
 use hose_graph::Entry;
 use std::alloc::{AllocError, Global};
@@ -66,8 +67,8 @@ impl<S: Stands + Drop> Turn<S> {
         Turn::from_ticket(alloc, value, 0)
     }
 
-    /// The same, with the number of the first ticket. Tickets are counted modulo 2^64, so it makes
-    /// no difference.
+    /// A lock and its first pass, as `new` makes them, with the number of the first ticket. Tickets
+    /// are counted modulo 2^64, so that number makes no difference.
     pub fn from_ticket(alloc: Global, value: S, ticket: u64) -> Result<(Turn<S>, Pass), AllocError>
         requires { (origin : Origin) × S.stands origin origin.since value }
         ensures first { IfOk result (λ made. made.1 ≡ first_known made.0 made.1.origin) }
@@ -200,7 +201,7 @@ impl<S: Stands + Drop> Turn<S> {
         }
     }
 
-    /// The same as `count`, where a type names the entry.
+    /// Counts an entry as `count` does, where a type names it, so that its step can tell it.
     fn count_named<N: Counted>(&self, held: &mut Held<S>, entry: Snapshot<Entry>)
         requires turn { (holder held.old).turn ≡ self.now }
         requires stands { let known = holder held.old in
@@ -266,5 +267,18 @@ impl<S: Stands + Drop> Turn<S> {
         let value = closed.take(0);
         closed.free();
         value.unwrap()
+    }
+}
+
+// This stands here as its clause names the row of `Held`, which the file that declares that cannot
+// import.
+impl<S> Held<S> {
+    /// The value, to be changed. What it is in the end, the lock gets.
+    pub fn value_mut(&mut self) -> &mut S
+        ensures* writes_back { sem 𝓛 (follows (the_row S.row) S.row
+            self.entry.ghost_name result.ghost_name (λ value. record self.old { value = value })) }
+        ensures value { result.now ≡ value_of self.old }
+    {
+        &mut self.value
     }
 }

@@ -1,6 +1,6 @@
 use Rattle.std.proofs.Common.{◌≡◌, ◌≢◌, [], refl}
 use Rattle.std.proofs.lemmas.Result.{err_from_is_err_and}
-use Rattle.hose_codec.specs.declared.fault.CodecFault.TheVariants.{Bad}
+use Rattle.hose_codec.specs.declared.limits.CodecFault.TheVariants.{Bad}
 use Rattle.hose_codec.proofs.Entries.{no_ends, no_amounts, no_admission_end, admission_spelled}
 use Rattle.hose_codec.proofs.reading.admission.Goals as goal
 

@@ -1,5 +1,5 @@
 use Rattle.std.proofs.Common.{refl}
-use Rattle.hose_disk.specs.Disk.{IsTaken, IsCut}
+use Rattle.hose_disk.specs.Disk.{IsTruncated, IsCut}
 use Rattle.hose_disk.specs.Images.{cut_to, tried_cut}
 use Rattle.hose_disk.specs.Recording.{CallRecord, reads}
 use Rattle.hose_disk.specs.declared.call.DiskCall.TheVariants.{Cut}
@@ -10,7 +10,7 @@ use Rattle.hose_disk.proofs.mem_disk.MemDiskDisk.cut.Goals as goal
 pub returns-clause-cut : goal.returns-clause-cut
 returns-clause-cut c =
     on_done Cut _ _ c.args.self.now c.make_cut.new.self c.make_cut.result
-    (λ (made : CallRecord). IsTaken c.args.len (reads c.args.self.now.made) (reads made)) c.make_cut.ensures.exact refl
+    (λ (made : CallRecord). IsTruncated c.args.len (reads c.args.self.now.made) (reads made)) c.make_cut.ensures.exact refl
 
 pub returns-clause-begun : goal.returns-clause-begun
 returns-clause-begun c =

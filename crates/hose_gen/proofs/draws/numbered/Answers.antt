@@ -1,6 +1,6 @@
 use Rattle.std.proofs.Common.{◌≡◌, ◌∙◌, decimal, arith}
 use Rattle.hose_gen.proofs.Numbered.{front_is_name, is_name}
-use Rattle.hose_gen.proofs.names.numbered.Goals as goal
+use Rattle.hose_gen.proofs.draws.numbered.Goals as goal
 
 pub unwrap-requires : goal.unwrap-requires
 unwrap-requires c =
