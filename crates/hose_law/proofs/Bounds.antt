@@ -14,7 +14,7 @@ use Rattle.hose_graph.specs.Hose.{IsEnd, IsHose}
 use Rattle.hose_graph.specs.Network.{Network, IsNetwork}
 use Rattle.hose_graph.specs.Ranges.{AreInRanges, IsAmount}
 use Rattle.hose_graph.specs.declared.limits.TheConstants.{MOST_AMOUNT, MOST_COST, MOST_RATE, MOST_TREE_LINKS}
-use Rattle.hose_graph.specs.declared.step.Step.{Step}
+use Rattle.hose_graph.specs.declared.topology.Step.{Step}
 use Rattle.hose_law.specs.Plan.{AreNodes, plan_cost}
 use Rattle.hose_law.specs.Tree.{Grow, IsOn, IsReservation, IsTreeReservation, growth, links_of, step_links, new_nodes}
 use Rattle.hose_law.specs.Walk.{Joins, cost_of}

@@ -6,7 +6,7 @@ use Rattle.std.proofs.lemmas.List.Elements.{All-contains}
 use Rattle.std.proofs.lemmas.List.Sums.{get_or-le-sum_by}
 use Rattle.hose_graph.specs.Hose.{IsEnd, IsHose, total_rate}
 use Rattle.hose_graph.specs.Network.{Network, IsNetwork}
-use Rattle.hose_graph.specs.declared.step.Step.{Step}
+use Rattle.hose_graph.specs.declared.topology.Step.{Step}
 use Rattle.hose_law.specs.CanonicalPlan.{IsTightWay, IsRoot, IsCanonicalTree}
 use Rattle.hose_law.specs.Tree.{Growth, Grow, IsOn, links_of, way_up, goes_along, rate_beyond, step_links}
 use Rattle.hose_law.specs.Walk.{IsIn, IsDistance}

@@ -11,7 +11,7 @@ use Rattle.std.proofs.lemmas.Slice.Zip.{firsts-zip}
 use Rattle.hose_graph.specs.Network.{Network, IsNetwork}
 use Rattle.hose_graph.specs.declared.entry.Entry.{Entry}
 use Rattle.hose_graph.specs.declared.entry.Entry.TheVariants.{Admit}
-use Rattle.hose_graph.specs.declared.step.Step.{Step}
+use Rattle.hose_graph.specs.declared.topology.Step.{Step}
 use Rattle.hose_law.specs.CanonicalPlan.{IsCanonicalPlan, IsWeight}
 use Rattle.hose_law.specs.Carries.{Carry, amounts_on}
 use Rattle.hose_law.specs.Cheapest.{AreCheapest, HasRootWithin, IsCheapest, amounts_cost}

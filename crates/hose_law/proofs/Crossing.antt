@@ -3,7 +3,7 @@ use Rattle.std.proofs.Common.{◌≡◌, ◌∙◌, ℕ, ◌+◌, ◌<◌, ◌�
 use Rattle.std.proofs.lemmas.List.{get_or-map}
 use Rattle.hose_graph.specs.Hose.{total_rate}
 use Rattle.hose_law.specs.Heaviest.{lies_beyond}
-use Rattle.hose_law.specs.Matrix.{sum_below, entry, rate_at, IsWithinRates}
+use Rattle.hose_law.specs.Matrix.{sum_below, demand, rate_at, IsWithinRates}
 use Rattle.hose_law.specs.Route.{one_alone, matrix_load}
 use Rattle.hose_law.specs.Tree.{Growth, goes_along, way_up, rate_beyond, smaller_side}
 use Rattle.hose_law.proofs.Sums.{sums-le, same_sums, sum_of_both, swapped_sums, sum_where, sum_over}
@@ -97,6 +97,6 @@ total_by_place hose =
 -- A matrix within the rates puts no more on a link than the smaller side's rate sum.
 pub load-le : (tree : Growth) (hose : List (ℕ × ℕ)) (matrix : List (List ℕ)) → IsWithinRates hose matrix → (l : ℕ) → matrix_load tree hose matrix l ≤ smaller_side tree hose l
 load-le tree hose matrix within l =
-    let one = crossing-le (length hose) (entry matrix) (rate_at hose) within.within (lies_beyond tree hose l) in
-    let other = crossing-le_other (length hose) (entry matrix) (rate_at hose) within.within (lies_beyond tree hose l) in
+    let one = crossing-le (length hose) (demand matrix) (rate_at hose) within.within (lies_beyond tree hose l) in
+    let other = crossing-le_other (length hose) (demand matrix) (rate_at hose) within.within (lies_beyond tree hose l) in
     omega (arith, one, other, beyond_by_place tree hose l, total_by_place hose)

@@ -5,7 +5,7 @@ use Rattle.std.proofs.lemmas.Bool.{cases_lt, cases_eq, eq-eqb, ne_eqb, false≢t
 use Rattle.std.proofs.lemmas.List.Sums.{sum_by-cons}
 use Rattle.hose_graph.specs.Hose.{total_rate}
 use Rattle.hose_graph.specs.Network.{Network, IsNetwork}
-use Rattle.hose_graph.specs.declared.step.Step.{Step}
+use Rattle.hose_graph.specs.declared.topology.Step.{Step}
 use Rattle.hose_law.specs.CanonicalPlan.{IsWeight, IsRoot}
 use Rattle.hose_law.specs.Tree.{IsOn, Grow, links_up, goes_along, step_links, new_nodes}
 use Rattle.hose_law.specs.Walk.{cost_of, IsIn, IsWalk, walk_cost, IsDistance}

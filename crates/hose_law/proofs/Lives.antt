@@ -3,7 +3,7 @@ use Rattle.std.proofs.Common.{◌≡◌, ◌≢◌, ◌⊎◌, ℕ, zero, suc, �
 use Rattle.std.proofs.lemmas.Bool.{false≢true}
 use Rattle.std.proofs.lemmas.Option.{none-some, same_Some}
 use Rattle.std.proofs.lemmas.List.Elements.{Contains-append_left, Contains-push, Contains-push_cases}
-use Rattle.hose_graph.specs.declared.vpn.Vpn.{Vpn}
+use Rattle.hose_graph.specs.declared.entry.Vpn.{Vpn}
 use Rattle.hose_graph.specs.declared.entry.Entry.{Entry}
 use Rattle.hose_graph.specs.declared.entry.Entry.TheVariants.{Admit, Release, Down, Up}
 use Rattle.hose_law.proofs.LiveIds.{next_epoch, rising_ids}
@@ -11,7 +11,7 @@ use Rattle.hose_graph.proofs.Members.{in_filter}
 use Rattle.hose_law.proofs.Releases.{is_vpn_decides, kept_by_release}
 use Rattle.hose_law.specs.Book.{Book}
 use Rattle.hose_law.specs.History.{opening_book, next_book, book_after, book_of, is_vpn}
-use Rattle.hose_law.specs.Live.{AreLiveHeld, NotReleased, StaysLive}
+use Rattle.hose_law.specs.Live.{AreLiveUnreleased, NotReleased, StaysLive}
 
 -- an entry that is not its release keeps a VPN live
 kept_by_entry : (book : Book) (entry : Entry) (vpn : Vpn) → Contains book.live vpn → (entry ≢ Release vpn.customer vpn.id) → Contains (next_book book entry).live vpn
@@ -155,7 +155,7 @@ live_after book (entry ∷ entries) (suc place) vpn there =
     held_behind entry entries admission place vpn rest (suc j) above below same = rest j (omega arith) (omega arith) same
 
 -- At each place of a history exactly the VPNs that are held there are live.
-pub live_held : (epoch : ℕ) (history : List Entry) (place : ℕ) → place ≤ length history → AreLiveHeld epoch history place
+pub live_held : (epoch : ℕ) (history : List Entry) (place : ℕ) → place ≤ length history → AreLiveUnreleased epoch history place
 live_held epoch history place within = record {
   exactly = λ vpn. (
     λ there. elim (live_after (opening_book epoch) history place vpn there) [

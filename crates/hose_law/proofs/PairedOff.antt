@@ -4,7 +4,7 @@ use Rattle.std.specs.List.{All}
 use Rattle.std.specs.Prelude.{nat_lt}
 use Rattle.std.proofs.lemmas.Bool.Decides.{nat_tests}
 use Rattle.hose_law.specs.Heaviest.{lies_beyond, rate_before, common, IsPairedOff}
-use Rattle.hose_law.specs.Matrix.{sum_below, entry, rate_at, IsWithinRates}
+use Rattle.hose_law.specs.Matrix.{sum_below, demand, rate_at, IsWithinRates}
 use Rattle.hose_law.specs.Route.{one_alone, matrix_load}
 use Rattle.hose_law.specs.Tree.{Growth, smaller_side}
 use Rattle.hose_law.proofs.Crossing.{crossing, beyond_by_place, total_by_place}
@@ -167,8 +167,8 @@ module _ (tree : Growth) (hose : List (ℕ × ℕ)) (l : ℕ) where
       columns = columns;
       diagonal = λ i below. off i i below below ∙ paired_itself (rate_at hose) (lies_beyond tree hose l) i;
       within = λ i below.
-          let row = same_sums n (λ j. entry matrix i j) (standing i) (λ j j_below. off i j below j_below) in
-          let column = same_sums n (λ j. entry matrix j i) (λ j. standing j i) (λ j j_below. off j i j_below below) in
+          let row = same_sums n (λ j. demand matrix i j) (standing i) (λ j j_below. off i j below j_below) in
+          let column = same_sums n (λ j. demand matrix j i) (λ j. standing j i) (λ j j_below. off j i j_below below) in
           let most = paired-le (rate_at hose) (lies_beyond tree hose l) n i in
           omega (arith, row, column, most);
     }
@@ -177,8 +177,8 @@ module _ (tree : Growth) (hose : List (ℕ × ℕ)) (l : ℕ) where
     pub paired_load : matrix_load tree hose matrix l ≡ smaller_side tree hose l
     paired_load =
         let side : ℕ → Bool = lies_beyond tree hose l in
-        let same = same_sums n (λ i. sum_below n (λ j. cond (one_alone (side i) (side j)) (entry matrix i j) 0)) (λ i. sum_below n (λ j. cond (one_alone (side i) (side j)) (standing i j) 0))
-        (λ i i_below. same_sums n (λ j. cond (one_alone (side i) (side j)) (entry matrix i j) 0) (λ j. cond (one_alone (side i) (side j)) (standing i j) 0)
+        let same = same_sums n (λ i. sum_below n (λ j. cond (one_alone (side i) (side j)) (demand matrix i j) 0)) (λ i. sum_below n (λ j. cond (one_alone (side i) (side j)) (standing i j) 0))
+        (λ i i_below. same_sums n (λ j. cond (one_alone (side i) (side j)) (demand matrix i j) 0) (λ j. cond (one_alone (side i) (side j)) (standing i j) 0)
         (λ j j_below. ap (λ (x : ℕ). cond (one_alone (side i) (side j)) x 0) (off i j i_below j_below))) in
         let all = crossed_all (rate_at hose) side n in
         let both = both_sides (rate_at hose) side n in

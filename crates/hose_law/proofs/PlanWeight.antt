@@ -4,7 +4,7 @@ use Rattle.std.specs.List.{Contains, sum_by}
 use Rattle.hose_graph.specs.Ascending.{firsts}
 use Rattle.hose_graph.specs.Hose.{total_rate}
 use Rattle.hose_graph.specs.Network.{Network, IsNetwork}
-use Rattle.hose_graph.specs.declared.step.Step.{Step}
+use Rattle.hose_graph.specs.declared.topology.Step.{Step}
 use Rattle.hose_law.specs.CanonicalPlan.{IsRoot, IsCanonicalTree, IsCanonicalPlan}
 use Rattle.hose_law.specs.Plan.{plan_cost}
 use Rattle.hose_law.specs.Tree.{Growth, IsReservation, links_of, rate_beyond, step_links}

@@ -3,8 +3,8 @@ use Rattle.std.proofs.Common.{◌≡◌, ℕ, zero, suc, ◌+◌, Bool, true, fa
 use Rattle.hose_graph.specs.declared.entry.Entry.{Entry}
 use Rattle.hose_graph.specs.declared.command.Command.{Command}
 use Rattle.hose_graph.specs.declared.command.Command.TheVariants.{Admit, Quote, Take, Release, Show, Link, Down as DownCommand, Up as UpCommand}
-use Rattle.hose_graph.specs.declared.reply.Reply.{Reply}
-use Rattle.hose_graph.specs.declared.reply.Reply.TheVariants.{Admitted, Released, NoVpn, LinkState, Down, Up, Denied}
+use Rattle.hose_graph.specs.declared.command.Reply.{Reply}
+use Rattle.hose_graph.specs.declared.command.Reply.TheVariants.{Admitted, Released, NoVpn, LinkState, Down, Up, Denied}
 use Rattle.hose_graph.specs.Network.{Network}
 use Rattle.hose_law.specs.Book.{Book}
 use Rattle.hose_law.specs.History.{AreFrom, EntryKind, next_book, book_after, book_of, opening_book, IsSound, IsSoundAt, IsDecidedAt, IsSoundFrom, IsDecided}
@@ -44,7 +44,7 @@ planned_decided network book customer hose (Admitted id cost at amounts) entry s
     subst (IsDecidedAt network book) (sym answer.6) (subst (IsSoundAt network book) answer.6 sound, answer.2)
 planned_decided network book customer hose reply entry sound answer = absurd answer
 
--- the same of what is taken
+-- a sound entry of what is taken is decided
 taken_decided : (network : Network) (epoch : ℕ) (history : List Entry) (customer : List ℕ) (number : ℕ) (held after : Held) (found : Option HeldQuote) (reply : Reply) (entry : Entry)
     → IsSoundAt network (book_of epoch history) entry → IsTakeAnswer network epoch history customer number held found reply (Some entry) after → IsDecidedAt network (book_of epoch history) entry
 taken_decided network epoch history customer number held after None reply entry sound answer = absurd (cc answer.1)

@@ -8,7 +8,7 @@ use Rattle.std.proofs.lemmas.List.Sums.{sum_by-set}
 use Rattle.std.proofs.lemmas.List.Folds.{sum_by-replicate}
 use Rattle.hose_graph.specs.declared.limits.TheConstants.{MOST_COST, MOST_DISTANCE}
 use Rattle.hose_graph.specs.Network.{Network, IsNetwork}
-use Rattle.hose_law.specs.Walk.{cost_of, Joins, IsIn, without, IsWalk, walk_cost, IsDistance}
+use Rattle.hose_law.specs.Walk.{cost_of, Joins, IsIn, set_without, IsWalk, walk_cost, IsDistance}
 use Rattle.hose_law.proofs.Joined.{joins_nodes, joins_costs}
 
 -- how many nodes a side has
@@ -23,22 +23,22 @@ in_side side u here = elim (cases_lt u (length side)) [
 ]
 
 -- a side has fewer nodes without one of them
-size-without : (side : List Bool) (u : ℕ) → IsIn side u → size (without side u) + 1 ≡ size side
-size-without side u here =
+size-set_without : (side : List Bool) (u : ℕ) → IsIn side u → size (set_without side u) + 1 ≡ size side
+size-set_without side u here =
     let test : Bool → ℕ = λ b. cond b 1 0 in
     let one : test (get_or side u false) ≡ 1 = ap test here in
     omega (arith, sum_by-set test side u false false (in_side side u here), one)
 
 size-some : (side : List Bool) (u : ℕ) → IsIn side u → 1 ≤ size side
-size-some side u here = omega (arith, size-without side u here)
+size-some side u here = omega (arith, size-set_without side u here)
 
-not_without : (side : List Bool) (u : ℕ) → IsIn (without side u) u → ⊥
+not_without : (side : List Bool) (u : ℕ) → IsIn (set_without side u) u → ⊥
 not_without side u here = elim (cases_lt u (length side)) [
   | inl below ↦ false≢true (sym (get_or-set_same side u false false below) ∙ here)
-  | inr past ↦ absurd (omega (arith, in_side (without side u) u here, length-set side u false))
+  | inr past ↦ absurd (omega (arith, in_side (set_without side u) u here, length-set side u false))
 ]
 
-still_without : (side : List Bool) (u w : ℕ) → w ≢ u → IsIn side w → IsIn (without side u) w
+still_without : (side : List Bool) (u w : ℕ) → w ≢ u → IsIn side w → IsIn (set_without side u) w
 still_without side u w differ here = get_or-set_other side u w false false differ ∙ here
 
 module _ (network : Network) (set : List Bool) where
@@ -59,12 +59,12 @@ module _ (network : Network) (set : List Bool) where
     walk : List ℕ
     in_set : IsIn set link
     joins : Joins network link a next
-    inside : IsInside (without side a) next v walk
+    inside : IsInside (set_without side a) next v walk
     costs : cost_of network link + walk_cost network walk ≤ most
 
   -- a walk avoids a node, or it ends there, or it goes on from its last visit of it
   behind : (side : List Bool) (a u v : ℕ) (walk : List ℕ) → IsInside side u v walk
-      → IsInside (without side a) u v walk ⊎ ((a ≡ v) ⊎ HasRest side a v (walk_cost network walk))
+      → IsInside (set_without side a) u v walk ⊎ ((a ≡ v) ⊎ HasRest side a v (walk_cost network walk))
   behind side a u v [] inside = elim (cases_eq u a) [
     | inl same ↦ inr (inl (sym same ∙ inside.0))
     | inr differ ↦ inl (inside.0, still_without side a u differ inside.1)
@@ -108,10 +108,10 @@ module _ (network : Network) (set : List Bool) where
   shorten (suc k) side u v walk count inside =
       let here = starts_inside side u v walk inside in
       elim (behind side u u v walk inside) [
-        | inl avoids ↦ absurd (not_without side u (starts_inside (without side u) u v walk avoids))
+        | inl avoids ↦ absurd (not_without side u (starts_inside (set_without side u) u v walk avoids))
         | inr (inl ends) ↦ record { walk = []; walks = ends; costs = omega arith; short = omega arith }
         | inr (inr rest) ↦
-            let short = shorten k (without side u) rest.next v rest.walk (omega (arith, size-without side u here, count)) rest.inside in
+            let short = shorten k (set_without side u) rest.next v rest.walk (omega (arith, size-set_without side u here, count)) rest.inside in
             record {
               walk = rest.link ∷ short.walk;
               walks = (rest.next, rest.in_set, rest.joins, short.walks);

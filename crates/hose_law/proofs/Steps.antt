@@ -1,86 +1,95 @@
 -- An answer makes a step.
-use Rattle.std.proofs.Common.{◌≡◌, ◌⊎◌, ℕ, List, Option, None, Some, inl, inr, refl}
+use Rattle.std.proofs.Common.{◌≡◌, ◌⊎◌, ℕ, Bool, true, false, List, Option, None, Some, length, take, inl, inr, refl, sym, ap, subst}
 use Rattle.hose_graph.specs.Network.{Network}
 use Rattle.hose_graph.specs.declared.entry.Entry.{Entry}
 use Rattle.hose_graph.specs.declared.command.Command.{Command}
 use Rattle.hose_graph.specs.declared.command.Command.TheVariants.{Admit, Quote, Take, Release, Show, Link, Down as DownCommand, Up as UpCommand}
-use Rattle.hose_graph.specs.declared.reply.Reply.{Reply}
-use Rattle.hose_graph.specs.declared.reply.Reply.TheVariants.{Welcome, Admitted, Quoted, Refused, Stale, Released, NoVpn, NoQuote, TooMany, Shown, LinkState, Down, Up, Already, Denied, Full, Spent, Disk, Memory, Bad, Long, Bye}
-use Rattle.hose_law.specs.Answer.{ChangesHeld, IsAnswer, IsStepOf, IsTakeAnswer, with_entry}
+use Rattle.hose_graph.specs.declared.command.Reply.{Reply}
+use Rattle.hose_graph.specs.declared.command.Reply.TheVariants.{Admitted, Quoted, Refused, Stale, Full, Spent, Released, NoVpn, TooMany, Shown, LinkState, Down, Up, Already, Denied, Memory}
+use Rattle.hose_graph.specs.Hose.{Endpoint}
+use Rattle.hose_law.specs.Answer.{ChangesHeld, IsAdmitAnswer, IsAnswer, IsLinkAnswer, IsOperatorAnswer, IsPlannedAnswer, IsQuoteAnswer, IsReleaseAnswer, IsServiceAnswer, IsShowAnswer, IsStepOf, IsStepOfKind, IsTakeAnswer, IsTakingAnswer, with_entry}
+use Rattle.hose_law.specs.Book.{Book}
 use Rattle.hose_law.specs.History.{IsDecidedAt, IsSoundAt, book_of}
+use Rattle.hose_law.specs.ReplyKind.{ReplyKind, kind_of}
+use Rattle.hose_law.specs.ReplyKind.ReplyKind.{ByTheBook, ForDisk, ForMemory, ForNoCommand}
 use Rattle.hose_law.specs.Quotes.{Held, HeldQuote, at_number}
 use Rattle.hose_law.proofs.Scripts.{answer_decided}
 
+-- ---- an answer is by the book
+
+module _ (network : Network) (book : Book) where
+  planned_kind : (customer : List ℕ) (hose : List Endpoint) (reply : Reply) (entry : Option Entry) → IsPlannedAnswer network book customer hose reply entry → kind_of reply ≡ ByTheBook
+  planned_kind customer hose (Spent at) None answer = refl
+  planned_kind customer hose (Full at) None answer = refl
+  planned_kind customer hose (Admitted id cost at amounts) (Some entry) answer = refl
+  planned_kind customer hose reply entry answer = absurd answer
+
+  admit_kind : (customer : List ℕ) (hose : List Endpoint) (reply : Reply) (entry : Option Entry) → IsAdmitAnswer network book customer hose reply entry → kind_of reply ≡ ByTheBook
+  admit_kind customer hose (Refused at side) None answer = refl
+  admit_kind customer hose reply entry answer = planned_kind customer hose reply entry answer
+
+  quote_kind : (place : ℕ) (hose : List Endpoint) (held after : Held) (reply : Reply) → IsQuoteAnswer network book place hose held reply after → kind_of reply ≡ ByTheBook
+  quote_kind place hose held after (TooMany at) answer = refl
+  quote_kind place hose held after (Refused at side) answer = refl
+  quote_kind place hose held after (Quoted number cost at amounts) answer = refl
+  quote_kind place hose held after reply answer = absurd answer
+
+  taking_kind : (earlier : Book) (customer : List ℕ) (hose : List Endpoint) (reply : Reply) (entry : Option Entry) → IsTakingAnswer network earlier book customer hose reply entry → kind_of reply ≡ ByTheBook
+  taking_kind earlier customer hose (Stale seen now) None answer = refl
+  taking_kind earlier customer hose reply entry answer = planned_kind customer hose reply entry answer.1
+
+  release_kind : (customer : List ℕ) (id : ℕ) (reply : Reply) (entry : Option Entry) → IsReleaseAnswer book customer id reply entry → kind_of reply ≡ ByTheBook
+  release_kind customer id (NoVpn told at) None answer = refl
+  release_kind customer id (Spent at) None answer = refl
+  release_kind customer id (Released told at) (Some entry) answer = refl
+  release_kind customer id reply entry answer = absurd answer
+
+  show_kind : (customer : List ℕ) (id : ℕ) (reply : Reply) (entry : Option Entry) → IsShowAnswer network book customer id reply entry → kind_of reply ≡ ByTheBook
+  show_kind customer id (NoVpn told at) None answer = refl
+  show_kind customer id (Shown told cost at hose amounts) None answer = refl
+  show_kind customer id reply entry answer = absurd answer
+
+  link_kind : (link : ℕ) (reply : Reply) (entry : Option Entry) → IsLinkAnswer book link reply entry → kind_of reply ≡ ByTheBook
+  link_kind link (LinkState told load out at) None answer = refl
+  link_kind link reply entry answer = absurd answer
+
+  service_kind : (down : Bool) (link : ℕ) (reply : Reply) (entry : Option Entry) → IsServiceAnswer network book down link reply entry → kind_of reply ≡ ByTheBook
+  service_kind down link (Already told at) None answer = refl
+  service_kind down link (Spent at) None answer = refl
+  service_kind true link (Down told at) (Some entry) answer = refl
+  service_kind false link (Up told at) (Some entry) answer = refl
+  service_kind down link reply entry answer = absurd answer
+
+  operator_kind : (customer : List ℕ) (down : Bool) (link : ℕ) (reply : Reply) (entry : Option Entry) → IsOperatorAnswer network book customer down link reply entry → kind_of reply ≡ ByTheBook
+  operator_kind customer down link (Denied at) None answer = refl
+  operator_kind customer down link reply entry answer = service_kind down link reply entry answer.1
+
 module _ (network : Network) (epoch : ℕ) (history : List Entry) (customer : List ℕ) (held : Held) where
-  taken_without_memory : (number : ℕ) (found : Option HeldQuote) (entry : Option Entry) (after : Held) → IsTakeAnswer network epoch history customer number held found Memory entry after → ⊥
-  taken_without_memory number None entry after answer = cc answer.0
-  taken_without_memory number (Some quote) None after answer = answer.0.1
-  taken_without_memory number (Some quote) (Some entry) after answer = answer.0.1
+  take_kind : (number : ℕ) (found : Option HeldQuote) (reply : Reply) (entry : Option Entry) (after : Held) → IsTakeAnswer network epoch history customer number held found reply entry after → kind_of reply ≡ ByTheBook
+  take_kind number None reply entry after answer = ap kind_of answer.0
+  take_kind number (Some quote) reply entry after answer = taking_kind network (book_of epoch history) (book_of epoch (take quote.place history)) customer quote.hose reply entry answer.0
 
-  taken_without_disk : (number at : ℕ) (found : Option HeldQuote) (entry : Option Entry) (after : Held) → IsTakeAnswer network epoch history customer number held found (Disk at) entry after → ⊥
-  taken_without_disk number at None entry after answer = cc answer.0
-  taken_without_disk number at (Some quote) None after answer = answer.0.1
-  taken_without_disk number at (Some quote) (Some entry) after answer = answer.0.1
-
-  -- want of memory is no answer
-  without_memory : (command : Command) (entry : Option Entry) (after : Held) → IsAnswer network epoch history customer held command Memory entry after → ⊥
-  without_memory (Admit hose) None after answer = answer.0
-  without_memory (Admit hose) (Some entry) after answer = answer.0
-  without_memory (Quote hose) entry after answer = answer.1
-  without_memory (Take number) entry after answer = taken_without_memory number (at_number held number) entry after answer
-  without_memory (Release id) None after answer = answer.0
-  without_memory (Release id) (Some entry) after answer = answer.0
-  without_memory (Show id) None after answer = answer.0
-  without_memory (Show id) (Some entry) after answer = answer.0
-  without_memory (Link link) None after answer = answer.0
-  without_memory (Link link) (Some entry) after answer = answer.0
-  without_memory (DownCommand link) None after answer = answer.0.1
-  without_memory (DownCommand link) (Some entry) after answer = answer.0.1
-  without_memory (UpCommand link) None after answer = answer.0.1
-  without_memory (UpCommand link) (Some entry) after answer = answer.0.1
-
-  -- a failure of the disk is no answer
-  without_disk : (at : ℕ) (command : Command) (entry : Option Entry) (after : Held) → IsAnswer network epoch history customer held command (Disk at) entry after → ⊥
-  without_disk at (Admit hose) None after answer = answer.0
-  without_disk at (Admit hose) (Some entry) after answer = answer.0
-  without_disk at (Quote hose) entry after answer = answer.1
-  without_disk at (Take number) entry after answer = taken_without_disk number at (at_number held number) entry after answer
-  without_disk at (Release id) None after answer = answer.0
-  without_disk at (Release id) (Some entry) after answer = answer.0
-  without_disk at (Show id) None after answer = answer.0
-  without_disk at (Show id) (Some entry) after answer = answer.0
-  without_disk at (Link link) None after answer = answer.0
-  without_disk at (Link link) (Some entry) after answer = answer.0
-  without_disk at (DownCommand link) None after answer = answer.0.1
-  without_disk at (DownCommand link) (Some entry) after answer = answer.0.1
-  without_disk at (UpCommand link) None after answer = answer.0.1
-  without_disk at (UpCommand link) (Some entry) after answer = answer.0.1
+  -- an answer is by the book
+  answer_kind : (command : Command) (reply : Reply) (entry : Option Entry) (after : Held) → IsAnswer network epoch history customer held command reply entry after → kind_of reply ≡ ByTheBook
+  answer_kind (Admit hose) reply entry after answer = admit_kind network (book_of epoch history) customer hose reply entry answer.0
+  answer_kind (Quote hose) reply entry after answer = quote_kind network (book_of epoch history) (length history) hose held after reply answer.1
+  answer_kind (Take number) reply entry after answer = take_kind number (at_number held number) reply entry after answer
+  answer_kind (Release id) reply entry after answer = release_kind network (book_of epoch history) customer id reply entry answer.0
+  answer_kind (Show id) reply entry after answer = show_kind network (book_of epoch history) customer id reply entry answer.0
+  answer_kind (Link link) reply entry after answer = link_kind network (book_of epoch history) link reply entry answer.0
+  answer_kind (DownCommand link) reply entry after answer = operator_kind network (book_of epoch history) customer true link reply entry answer.0
+  answer_kind (UpCommand link) reply entry after answer = operator_kind network (book_of epoch history) customer false link reply entry answer.0
 
   -- an answer, with its entry added, is a step
   pub step_of : (command : Command) (reply : Reply) (entry : Option Entry) (after : Held) → IsAnswer network epoch history customer held command reply entry after
       → IsStepOf network epoch history customer held command reply entry (with_entry history entry) after
-  step_of command (Welcome at) entry after answer = (answer, refl)
-  step_of command (Admitted id cost at amounts) entry after answer = (answer, refl)
-  step_of command (Quoted quote cost at amounts) entry after answer = (answer, refl)
-  step_of command (Refused at side) entry after answer = (answer, refl)
-  step_of command (Stale seen now) entry after answer = (answer, refl)
-  step_of command (Released id at) entry after answer = (answer, refl)
-  step_of command (NoVpn id at) entry after answer = (answer, refl)
-  step_of command (NoQuote quote at) entry after answer = (answer, refl)
-  step_of command (TooMany at) entry after answer = (answer, refl)
-  step_of command (Shown id cost at hose amounts) entry after answer = (answer, refl)
-  step_of command (LinkState link load out at) entry after answer = (answer, refl)
-  step_of command (Down link at) entry after answer = (answer, refl)
-  step_of command (Up link at) entry after answer = (answer, refl)
-  step_of command (Already link at) entry after answer = (answer, refl)
-  step_of command (Denied at) entry after answer = (answer, refl)
-  step_of command (Full at) entry after answer = (answer, refl)
-  step_of command (Spent at) entry after answer = (answer, refl)
-  step_of command (Disk at) entry after answer = absurd (without_disk at command entry after answer)
-  step_of command Memory entry after answer = absurd (without_memory command entry after answer)
-  step_of command (Bad word) entry after answer = (answer, refl)
-  step_of command Long entry after answer = (answer, refl)
-  step_of command Bye entry after answer = (answer, refl)
+  step_of command reply entry after answer =
+      subst (λ (kind : ReplyKind). IsStepOfKind network epoch history customer held command kind reply entry (with_entry history entry) after) (sym (answer_kind command reply entry after answer)) (answer, refl)
+
+  -- one reply is for want of memory
+  memory_alone : (reply : Reply) → kind_of reply ≡ ForMemory → reply ≡ Memory
+  memory_alone Memory is = refl
+  memory_alone reply is = absurd (cc is)
 
   -- want of memory: there is no entry, and nothing changes
   pub record IsIdle (reply : Reply) (entry : Option Entry) (next : List Entry) (after : Held) : Type 0 where
@@ -98,28 +107,13 @@ module _ (network : Network) (epoch : ℕ) (history : List Entry) (customer : Li
   -- a step is one or the other
   pub step_cases : (command : Command) (reply : Reply) (entry : Option Entry) (next : List Entry) (after : Held) → IsStepOf network epoch history customer held command reply entry next after
       → IsIdle reply entry next after ⊎ IsAnswered command entry next after
-  step_cases command Memory entry next after step = inl (record { tells = refl; none = step.1; stays = step.2; keeps = step.3 })
-  step_cases command (Disk at) entry next after step = inr (record { given = step.2.0; is = step.2.1; goes = inl step.3 })
-  step_cases command (Welcome at) entry next after step = inr (record { given = Welcome at; is = step.0; goes = inr step.1 })
-  step_cases command (Admitted id cost at amounts) entry next after step = inr (record { given = Admitted id cost at amounts; is = step.0; goes = inr step.1 })
-  step_cases command (Quoted quote cost at amounts) entry next after step = inr (record { given = Quoted quote cost at amounts; is = step.0; goes = inr step.1 })
-  step_cases command (Refused at side) entry next after step = inr (record { given = Refused at side; is = step.0; goes = inr step.1 })
-  step_cases command (Stale seen now) entry next after step = inr (record { given = Stale seen now; is = step.0; goes = inr step.1 })
-  step_cases command (Released id at) entry next after step = inr (record { given = Released id at; is = step.0; goes = inr step.1 })
-  step_cases command (NoVpn id at) entry next after step = inr (record { given = NoVpn id at; is = step.0; goes = inr step.1 })
-  step_cases command (NoQuote quote at) entry next after step = inr (record { given = NoQuote quote at; is = step.0; goes = inr step.1 })
-  step_cases command (TooMany at) entry next after step = inr (record { given = TooMany at; is = step.0; goes = inr step.1 })
-  step_cases command (Shown id cost at hose amounts) entry next after step = inr (record { given = Shown id cost at hose amounts; is = step.0; goes = inr step.1 })
-  step_cases command (LinkState link load out at) entry next after step = inr (record { given = LinkState link load out at; is = step.0; goes = inr step.1 })
-  step_cases command (Down link at) entry next after step = inr (record { given = Down link at; is = step.0; goes = inr step.1 })
-  step_cases command (Up link at) entry next after step = inr (record { given = Up link at; is = step.0; goes = inr step.1 })
-  step_cases command (Already link at) entry next after step = inr (record { given = Already link at; is = step.0; goes = inr step.1 })
-  step_cases command (Denied at) entry next after step = inr (record { given = Denied at; is = step.0; goes = inr step.1 })
-  step_cases command (Full at) entry next after step = inr (record { given = Full at; is = step.0; goes = inr step.1 })
-  step_cases command (Spent at) entry next after step = inr (record { given = Spent at; is = step.0; goes = inr step.1 })
-  step_cases command (Bad word) entry next after step = inr (record { given = Bad word; is = step.0; goes = inr step.1 })
-  step_cases command Long entry next after step = inr (record { given = Long; is = step.0; goes = inr step.1 })
-  step_cases command Bye entry next after step = inr (record { given = Bye; is = step.0; goes = inr step.1 })
+  step_cases command reply entry next after step = at (kind_of reply) refl step
+    where
+      at : (kind : ReplyKind) → kind_of reply ≡ kind → IsStepOfKind network epoch history customer held command kind reply entry next after → IsIdle reply entry next after ⊎ IsAnswered command entry next after
+      at ByTheBook is step = inr (record { given = reply; is = step.0; goes = inr step.1 })
+      at (ForDisk place) is step = inr (record { given = step.2.0; is = step.2.1; goes = inl step.3 })
+      at ForMemory is step = inl (record { tells = memory_alone reply is; none = step.1; stays = step.2; keeps = step.3 })
+      at ForNoCommand is step = absurd step
 
   -- a step without an entry leads nowhere
   pub step_stays : (command : Command) (reply : Reply) (next : List Entry) (after : Held) → IsStepOf network epoch history customer held command reply None next after → next ≡ history

@@ -4,7 +4,7 @@ use Rattle.std.specs.Bool.{⊤}
 use Rattle.std.specs.List.{Contains}
 use Rattle.std.proofs.lemmas.Bool.{eqb-true, eqb-false}
 use Rattle.hose_graph.specs.Network.{Network, IsNetwork}
-use Rattle.hose_graph.specs.declared.step.Step.{Step}
+use Rattle.hose_graph.specs.declared.topology.Step.{Step}
 use Rattle.hose_law.specs.CanonicalPlan.{IsTightWay}
 use Rattle.hose_law.specs.Row.{IsTight, IsTightLink}
 use Rattle.hose_law.specs.Tree.{IsOn, Grow, links_up, step_links, new_nodes}

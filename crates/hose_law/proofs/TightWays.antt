@@ -4,7 +4,7 @@ use Rattle.std.proofs.lemmas.Bool.{cases_eq}
 use Rattle.std.proofs.lemmas.List.{map-append, reverse-append}
 use Rattle.std.proofs.lemmas.Option.{same_Some}
 use Rattle.std.proofs.lemmas.List.Elements.{Contains-append_left, Contains-append_cases, Contains-push}
-use Rattle.hose_graph.specs.declared.step.Step.{Step}
+use Rattle.hose_graph.specs.declared.topology.Step.{Step}
 use Rattle.hose_graph.specs.Network.{Network, IsNetwork}
 use Rattle.hose_graph.specs.Row.{Distances, distance_of}
 use Rattle.hose_law.specs.Walk.{cost_of, Joins, walk_cost, IsDistance}

@@ -3,17 +3,16 @@ use Rattle.std.proofs.Common.{◌≡◌, ◌∙◌, ℕ, ◌+◌, ◌-◌, ◌�
 use Rattle.std.specs.List.{flat_map}
 use Rattle.std.proofs.lemmas.Bool.{cases_eq}
 use Rattle.std.proofs.lemmas.Bool.Decides.{nat_tests}
-use Rattle.std.proofs.lemmas.List.{append-nil, append_assoc, length-take-le, take-append-drop}
+use Rattle.std.proofs.lemmas.List.{append-nil, append_assoc, get_or-map, length-map, length-take-le, take-append-drop}
 use Rattle.std.proofs.lemmas.List.Concat.{flat_map-cons}
 use Rattle.std.proofs.lemmas.List.Elements.{Contains-append_left, Contains-append_right}
 use Rattle.std.proofs.lemmas.List.Filters.{sum_by-filter_both}
 use Rattle.std.proofs.lemmas.List.Sums.{sum_by-cons, sum_by_push}
 use Rattle.std.proofs.Math.Seq.{take-append-add}
-use Rattle.hose_graph.proofs.Members.{contains_first, contains_rest, first_or_rest, none_in_empty}
 use Rattle.hose_graph.specs.Ascending.{firsts}
 use Rattle.hose_graph.specs.declared.entry.Entry.{Entry}
 use Rattle.hose_graph.specs.declared.entry.Entry.TheVariants.{Admit, Release, Down, Up}
-use Rattle.hose_graph.specs.declared.vpn.Vpn.{Vpn}
+use Rattle.hose_graph.specs.declared.entry.Vpn.{Vpn}
 use Rattle.hose_law.specs.Book.{Book, amount_on, load_of}
 use Rattle.hose_law.specs.History.{book_after, book_of, is_vpn, next_book, opening_book}
 use Rattle.hose_law.specs.Service.{is_out}
@@ -72,12 +71,10 @@ untouched_out book (Down link) l none = sym (out_other book.out link l (λ same.
 untouched_out book (Up link) l none = sym (back_other book.out link l (λ same. none (0, omega arith, sym same)))
 
 -- a link that is touched is named by a change
-is_change : (epoch : ℕ) (links : List ℕ) (l : ℕ) → Contains links l → Contains (changes_of epoch links) (epoch, l)
-is_change epoch [] l there = absurd (none_in_empty l there)
-is_change epoch (first ∷ links) l there = elim (first_or_rest first l links there) [
-  | inl here ↦ contains_first (epoch, first) (epoch, l) (changes_of epoch links) (ap (λ (link : ℕ). (epoch, link)) here)
-  | inr later ↦ contains_rest (epoch, first) (epoch, l) (changes_of epoch links) (is_change epoch links l later)
-]
+pub is_change : (epoch : ℕ) (links : List ℕ) (l : ℕ) → Contains links l → Contains (changes_of epoch links) (epoch, l)
+is_change epoch links l there =
+    let named : ℕ → Change = λ link. (epoch, link) in
+    (there.0, omega (arith, there.1, length-map links named), get_or-map named links there.0 l (epoch, l) there.1 ∙ ap named there.2)
 
 -- what an entry leaves of a link that it does not touch, entries leave that do not touch it
 stays : {X : Type 0} (of : Book → X) (l : ℕ) → ((book : Book) (entry : Entry) → (Contains (touched_links book entry) l → ⊥) → of book ≡ of (next_book book entry))

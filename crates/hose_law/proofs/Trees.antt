@@ -13,8 +13,8 @@ use Rattle.std.proofs.lemmas.List.Sums.{sum_by-cons, sum_by-le-sum_by}
 use Rattle.std.proofs.lemmas.Map.Keys.{IsDistinct-cons, IsDistinct-IsPermutation}
 use Rattle.hose_graph.specs.Hose.{total_rate}
 use Rattle.hose_graph.specs.Network.{Network, IsNetwork}
-use Rattle.hose_graph.specs.declared.link.Link.{Link}
-use Rattle.hose_graph.specs.declared.step.Step.{Step}
+use Rattle.hose_graph.specs.declared.topology.Link.{Link}
+use Rattle.hose_graph.specs.declared.topology.Step.{Step}
 use Rattle.hose_law.specs.Book.{amount_on}
 use Rattle.hose_law.specs.Tree.{Growth, IsOn, Grow, IsTree, links_up, goes_along, rate_beyond, links_of, step_links, new_nodes}
 use Rattle.hose_law.specs.Walk.{Joins}

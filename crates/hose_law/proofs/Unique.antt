@@ -5,13 +5,13 @@ use Rattle.std.proofs.lemmas.List.Elements.{All-head, All-tail}
 use Rattle.std.proofs.lemmas.List.Kept.{AllPairs-from_increasing}
 use Rattle.hose_graph.specs.Name.{operator}
 use Rattle.hose_graph.specs.Network.{Network, IsNetwork}
-use Rattle.hose_graph.specs.declared.vpn.Vpn.{Vpn}
+use Rattle.hose_graph.specs.declared.entry.Vpn.{Vpn}
 use Rattle.hose_graph.specs.declared.entry.Entry.{Entry}
 use Rattle.hose_graph.specs.declared.entry.Entry.TheVariants.{Admit as AdmitEntry}
 use Rattle.hose_graph.specs.declared.command.Command.{Command}
 use Rattle.hose_graph.specs.declared.command.Command.TheVariants.{Admit, Quote, Take, Release, Show, Link, Down as DownCommand, Up as UpCommand}
-use Rattle.hose_graph.specs.declared.reply.Reply.{Reply}
-use Rattle.hose_graph.specs.declared.reply.Reply.TheVariants.{Admitted, Quoted, Refused, Stale, Full, Spent, Released, NoVpn, TooMany, Shown, LinkState, Down, Up, Already, Denied, Disk, Memory}
+use Rattle.hose_graph.specs.declared.command.Reply.{Reply}
+use Rattle.hose_graph.specs.declared.command.Reply.TheVariants.{Admitted, Quoted, Refused, Stale, Full, Spent, Released, NoVpn, TooMany, Shown, LinkState, Down, Up, Already, Denied}
 use Rattle.hose_law.proofs.LiveIds.{HasDistinctIds, live_ids, vpn_unique}
 use Rattle.hose_law.proofs.CanonicalPlans.{planned_unique}
 use Rattle.hose_law.proofs.Numbers.{some_is}
@@ -21,9 +21,11 @@ use Rattle.hose_law.specs.Book.{Book}
 use Rattle.hose_law.specs.Decision.{HaveEqualGrounds, IsReachedList, IsRefused, lowest_end}
 use Rattle.hose_law.specs.History.{book_of}
 use Rattle.hose_law.specs.Room.{room_of, safe_links}
-use Rattle.hose_law.specs.Answer.{IsPlannedAnswer, IsAdmitAnswer, IsQuoteAnswer, IsTakingAnswer, IsTakeAnswer, IsReleaseAnswer, IsShowAnswer, IsLinkAnswer, IsOperatorAnswer, IsServiceAnswer, IsAnswer, IsStep, with_entry}
+use Rattle.hose_law.specs.Answer.{IsPlannedAnswer, IsAdmitAnswer, IsQuoteAnswer, IsTakingAnswer, IsTakeAnswer, IsReleaseAnswer, IsShowAnswer, IsLinkAnswer, IsOperatorAnswer, IsServiceAnswer, IsAnswer, IsStep, IsStepOfKind, with_entry}
 use Rattle.hose_law.specs.Service.{LinkStands}
 use Rattle.hose_law.specs.Quotes.{Held, HeldQuote, Holdings, at_number, free_number, with_held, with_number}
+use Rattle.hose_law.specs.ReplyKind.{ReplyKind, IsDiskKind, IsMemoryKind, kind_of}
+use Rattle.hose_law.specs.ReplyKind.ReplyKind.{ByTheBook, ForDisk, ForMemory, ForNoCommand}
 use Rattle.hose_law.specs.Script.{ReadLine, Asks, IsBad, IsLong, Unread, IsForDisk, IsForMemory, IsLineStep, IsScript, WithoutDisk, WithoutMemory}
 
 -- none is not some
@@ -424,9 +426,13 @@ Answered network epoch history customer held command reply next after =
 -- a step whose reply is not for want of memory or a failure of the disk has an answer
 answered : (network : Network) (epoch : ℕ) (history : List Entry) (customer : List ℕ) (held : Held) (command : Command) (reply : Reply) (next : List Entry) (after : Held)
     → (¬ IsForMemory reply) × (¬ IsForDisk reply) → IsStep network epoch history customer held command reply next after → Answered network epoch history customer held command reply next after
-answered network epoch history customer held command Memory next after answers step = absurd (answers.0 tt)
-answered network epoch history customer held command (Disk at) next after answers step = absurd (answers.1 tt)
-answered network epoch history customer held command reply next after answers step = (step.0, step.1.0, step.1.1)
+answered network epoch history customer held command reply next after answers step = at (kind_of reply) answers step.1
+  where
+    at : (kind : ReplyKind) → (¬ IsMemoryKind kind) × (¬ IsDiskKind kind) → IsStepOfKind network epoch history customer held command kind reply step.0 next after → Answered network epoch history customer held command reply next after
+    at ByTheBook answers is = (step.0, is.0, is.1)
+    at (ForDisk failed) answers is = absurd (answers.1 tt)
+    at ForMemory answers is = absurd (answers.0 tt)
+    at ForNoCommand answers is = absurd is
 
 -- a line has one step that is not for want of memory or a failure of the disk
 line_unique : (network : Network) → IsNetwork network → (epoch : ℕ) (history : List Entry) (holdings : Holdings) (line : ReadLine) (reply other : Reply) (replies others : List Reply) (next last : List Entry) (after left : Holdings)

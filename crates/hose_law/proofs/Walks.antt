@@ -2,12 +2,12 @@
 use Rattle.std.proofs.Common.{◌≡◌, ◌⊎◌, ℕ, Bool, List, [], ◌∷◌, ◌++◌, Option, None, Some, refl, sym, subst, inl, inr}
 use Rattle.std.specs.Option.{IsSomeAnd}
 use Rattle.std.specs.List.{slice_get}
-use Rattle.hose_graph.specs.declared.link.Link.{Link}
+use Rattle.hose_graph.specs.declared.topology.Link.{Link}
 use Rattle.hose_graph.specs.Network.{Network}
-use Rattle.hose_law.specs.Walk.{IsIn, Joins, IsWalk, Reaches, IsClosed}
+use Rattle.hose_law.specs.Walk.{IsIn, Joins, IsWalk, Reaches, IsClosedSide}
 
 -- no walk over the set leaves a side that is closed
-pub stays : (network : Network) (set side : List Bool) → IsClosed network set side → (u v : ℕ) (walk : List ℕ) → IsWalk network set u v walk → IsIn side u → IsIn side v
+pub stays : (network : Network) (set side : List Bool) → IsClosedSide network set side → (u v : ℕ) (walk : List ℕ) → IsWalk network set u v walk → IsIn side u → IsIn side v
 stays network set side closed u v [] same here = subst (IsIn side) same here
 stays network set side closed u v (l ∷ walk) along here =
     stays network set side closed along.0 v walk along.3 (closed l u along.0 along.1 along.2 here)

@@ -4,9 +4,9 @@ use Rattle.hose_graph.specs.declared.entry.Entry.{Entry}
 use Rattle.hose_graph.specs.declared.entry.Entry.TheVariants.{Admit as AdmitEntry, Release as ReleaseEntry, Down as DownEntry, Up as UpEntry}
 use Rattle.hose_graph.specs.declared.command.Command.{Command}
 use Rattle.hose_graph.specs.declared.command.Command.TheVariants.{Admit, Quote, Take, Release, Show, Link, Down as DownCommand, Up as UpCommand}
-use Rattle.hose_graph.specs.declared.reply.Reply.{Reply}
-use Rattle.hose_graph.specs.declared.reply.Reply.TheVariants.{Admitted, Quoted, Refused, Stale, Full, Spent, Released, NoVpn, NoQuote, TooMany, Shown, LinkState, Down, Up, Already, Denied, Disk, Memory}
-use Rattle.hose_graph.specs.declared.vpn.Vpn.{Vpn}
+use Rattle.hose_graph.specs.declared.command.Reply.{Reply}
+use Rattle.hose_graph.specs.declared.command.Reply.TheVariants.{Admitted, Quoted, Refused, Stale, Full, Spent, Released, NoVpn, NoQuote, TooMany, Shown, LinkState, Down, Up, Already, Denied}
+use Rattle.hose_graph.specs.declared.entry.Vpn.{Vpn}
 use Rattle.hose_graph.specs.Amounts.{ReservedLink}
 use Rattle.hose_graph.specs.Hose.{Endpoint}
 use Rattle.hose_graph.specs.Name.{operator}
@@ -16,6 +16,8 @@ use Rattle.hose_law.specs.Room.{room_of}
 use Rattle.hose_law.specs.Book.{Book, IsLiveVpn, HasVpn, load_of}
 use Rattle.hose_law.specs.Decision.{HaveEqualGrounds, IsPlanned, IsRefused}
 use Rattle.hose_law.specs.History.{book_of, last_epoch, most_live}
+use Rattle.hose_law.specs.ReplyKind.{ReplyKind, kind_of}
+use Rattle.hose_law.specs.ReplyKind.ReplyKind.{ByTheBook, ForDisk, ForMemory, ForNoCommand}
 use Rattle.hose_law.specs.Service.{LinkStands, is_out}
 use Rattle.hose_law.specs.Quotes.{Held, HeldQuote, at_number, free_number, with_number}
 
@@ -183,21 +185,29 @@ MayWantMemory book customer held (Link link) = ⊥
 MayWantMemory book customer held (DownCommand link) = customer ≡ operator
 MayWantMemory book customer held (UpCommand link) = customer ≡ operator
 
--- A step at a history, whose answer has this entry: the answer, with its entry added; or the disk
--- failed to keep the entry, which is not added; or want of memory, which changes nothing.
-abbrev pub IsStepOf : Network → ℕ → List Entry → List ℕ → Held → Command → Reply → Option Entry
-    → List Entry → Held → Type 0
-IsStepOf network epoch history customer held command Memory entry next after =
-    MayWantMemory (book_of epoch history) customer held command
-    × (entry ≡ None) × (next ≡ history) × (after ≡ held)
-IsStepOf network epoch history customer held command (Disk at) entry next after =
-    (at ≡ (book_of epoch history).epoch) × IsSome entry
-    × ((reply : Reply)
-    × IsAnswer network epoch history customer held command reply entry after)
-    × (next ≡ history)
-IsStepOf network epoch history customer held command reply entry next after =
+-- A step at a history, whose answer has this entry, by the kind of its reply: the answer, with its
+-- entry added; or the disk failed to keep the entry, which is not added; or want of memory, which
+-- changes nothing. No other reply is that to a command.
+abbrev pub IsStepOfKind : Network → ℕ → List Entry → List ℕ → Held → Command → ReplyKind → Reply
+    → Option Entry → List Entry → Held → Type 0
+IsStepOfKind network epoch history customer held command ByTheBook reply entry next after =
     IsAnswer network epoch history customer held command reply entry after
     × (next ≡ with_entry history entry)
+IsStepOfKind network epoch history customer held command (ForDisk at) reply entry next after =
+    (at ≡ (book_of epoch history).epoch) × IsSome entry
+    × ((given : Reply)
+    × IsAnswer network epoch history customer held command given entry after)
+    × (next ≡ history)
+IsStepOfKind network epoch history customer held command ForMemory reply entry next after =
+    MayWantMemory (book_of epoch history) customer held command
+    × (entry ≡ None) × (next ≡ history) × (after ≡ held)
+IsStepOfKind network epoch history customer held command ForNoCommand reply entry next after = ⊥
+
+-- a step at a history, whose answer has this entry
+abbrev pub IsStepOf : Network → ℕ → List Entry → List ℕ → Held → Command → Reply → Option Entry
+    → List Entry → Held → Type 0
+IsStepOf network epoch history customer held command reply entry next after =
+    IsStepOfKind network epoch history customer held command (kind_of reply) reply entry next after
 
 -- a step at a history
 abbrev pub IsStep : Network → ℕ → List Entry → List ℕ → Held → Command → Reply → List Entry → Held

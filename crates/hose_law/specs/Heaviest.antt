@@ -2,7 +2,7 @@
 -- off, in order of endpoints, with those of the endpoints on its other.
 use Rattle.std.specs.Prelude.{◌≡◌, ℕ, ◌+◌, ◌-◌, ◌<◌, min, max, nat_lt, Bool, List, length, if◌then◌else◌}
 use Rattle.hose_graph.specs.Hose.{Endpoint}
-use Rattle.hose_law.specs.Matrix.{sum_below, entry, node_at, rate_at}
+use Rattle.hose_law.specs.Matrix.{sum_below, demand, node_at, rate_at}
 use Rattle.hose_law.specs.Route.{one_alone}
 use Rattle.hose_law.specs.Tree.{Growth, way_up, goes_along}
 
@@ -28,5 +28,5 @@ module _ (rate : ℕ → ℕ) (side : ℕ → Bool) where
 abbrev pub IsPairedOff : Growth → List Endpoint → ℕ → List (List ℕ) → Type 0
 IsPairedOff tree hose l matrix =
     (i j : ℕ) → i < length hose → j < length hose
-    → entry matrix i j
+    → demand matrix i j
     ≡ (if nat_lt i j then common (rate_at hose) (lies_beyond tree hose l) i j else 0)

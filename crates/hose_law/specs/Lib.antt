@@ -10,6 +10,7 @@ pub mod Live
 pub mod Matrix
 pub mod Plan
 pub mod Quotes
+pub mod ReplyKind
 pub mod Room
 pub mod Route
 pub mod Row

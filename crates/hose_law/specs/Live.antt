@@ -2,7 +2,7 @@
 use Rattle.std.specs.Prelude.{◌≡◌, ◌≢◌, ℕ, ◌+◌, ◌<◌, ◌≤◌, ◌↔◌, List, length, take, All, AllPairs, Contains, Some, slice_get}
 use Rattle.hose_graph.specs.declared.entry.Entry.{Entry}
 use Rattle.hose_graph.specs.declared.entry.Entry.TheVariants.{Admit, Release}
-use Rattle.hose_graph.specs.declared.vpn.Vpn.{Vpn}
+use Rattle.hose_graph.specs.declared.entry.Vpn.{Vpn}
 use Rattle.hose_graph.specs.Amounts.{ReservedLink}
 use Rattle.hose_graph.specs.Hose.{Endpoint}
 use Rattle.hose_law.specs.Book.{Book}
@@ -37,7 +37,7 @@ StaysLive epoch history k =
 
 -- An admission before a place of a history made the VPN live just as it is, and no later entry
 -- before that place is its customer's release of it.
-pub record IsHeld (epoch : ℕ) (history : List Entry) (place : ℕ) (vpn : Vpn) : Type 0 where
+pub record IsUnreleased (epoch : ℕ) (history : List Entry) (place : ℕ) (vpn : Vpn) : Type 0 where
   pub admission : ℕ
   pub before : admission < place
   pub admits : slice_get history admission ≡ Some (Admit vpn.customer vpn.hose vpn.amounts)
@@ -50,9 +50,10 @@ Rise live = AllPairs (λ (one other : Vpn). one.id < other.id) live
 
 -- At a place of a history exactly the VPNs that are held there are live, each once, in the order of
 -- their admission.
-pub record AreLiveHeld (epoch : ℕ) (history : List Entry) (place : ℕ) : Type 0 where
+pub record AreLiveUnreleased (epoch : ℕ) (history : List Entry) (place : ℕ) : Type 0 where
   pub exactly : (vpn : Vpn)
-      → Contains (book_of epoch (take place history)).live vpn ↔ IsHeld epoch history place vpn
+      → Contains (book_of epoch (take place history)).live vpn
+      ↔ IsUnreleased epoch history place vpn
   pub in_order : Rise (book_of epoch (take place history)).live
 
 -- each is above a first epoch, and at most the book's

@@ -9,15 +9,15 @@ sum_below zero f = 0
 sum_below (suc n) f = sum_below n f + f n
 
 -- the traffic from endpoint i to endpoint j
-abbrev pub entry : List (List ℕ) → ℕ → ℕ → ℕ
-entry matrix i j = slice_index (slice_index_or matrix i []) j
+abbrev pub demand : List (List ℕ) → ℕ → ℕ → ℕ
+demand matrix i j = slice_index (slice_index_or matrix i []) j
 
 -- all that endpoint i of n sends, and all that it is sent
 abbrev pub sent_by : ℕ → List (List ℕ) → ℕ → ℕ
-sent_by n matrix i = sum_below n (λ j. entry matrix i j)
+sent_by n matrix i = sum_below n (λ j. demand matrix i j)
 
 abbrev pub sent_to : ℕ → List (List ℕ) → ℕ → ℕ
-sent_to n matrix i = sum_below n (λ j. entry matrix j i)
+sent_to n matrix i = sum_below n (λ j. demand matrix j i)
 
 -- the node and the rate of endpoint i
 abbrev pub node_at : List Endpoint → ℕ → ℕ
@@ -30,6 +30,6 @@ rate_at hose i = slice_index (map rate_of hose) i
 pub record IsWithinRates (hose : List Endpoint) (matrix : List (List ℕ)) : Type 0 where
   pub rows : length matrix ≡ length hose
   pub columns : All (λ row. length row ≡ length hose) matrix
-  pub diagonal : (i : ℕ) → i < length hose → entry matrix i i ≡ 0
+  pub diagonal : (i : ℕ) → i < length hose → demand matrix i i ≡ 0
   pub within : (i : ℕ) → i < length hose
       → sent_by (length hose) matrix i + sent_to (length hose) matrix i ≤ rate_at hose i

@@ -1,7 +1,7 @@
 -- Routes on a tree, and what a matrix puts on its links.
 use Rattle.std.specs.Prelude.{◌≡◌, ◌↔◌, ℕ, Bool, true, false, not, List, length, Contains, if◌then◌else◌}
 use Rattle.hose_graph.specs.Hose.{Endpoint}
-use Rattle.hose_law.specs.Matrix.{sum_below, entry, node_at}
+use Rattle.hose_law.specs.Matrix.{sum_below, demand, node_at}
 use Rattle.hose_law.specs.Tree.{Growth, IsOn, links_of, way_up, goes_along}
 
 -- just one of two holds
@@ -20,7 +20,7 @@ is_on_route tree u v l =
 abbrev pub matrix_load : Growth → List Endpoint → List (List ℕ) → ℕ → ℕ
 matrix_load tree hose matrix l =
     sum_below (length hose) (λ i. sum_below (length hose) (λ j.
-    if is_on_route tree (node_at hose i) (node_at hose j) l then entry matrix i j else 0))
+    if is_on_route tree (node_at hose i) (node_at hose j) l then demand matrix i j else 0))
 
 -- two trees have the same nodes and the same links
 pub record AreSame (one other : Growth) : Type 0 where

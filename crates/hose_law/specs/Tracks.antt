@@ -5,7 +5,7 @@ use Rattle.std.specs.List.{flat_map}
 use Rattle.hose_graph.specs.Ascending.{firsts}
 use Rattle.hose_graph.specs.declared.entry.Entry.{Entry}
 use Rattle.hose_graph.specs.declared.entry.Entry.TheVariants.{Admit, Release, Down, Up}
-use Rattle.hose_graph.specs.declared.vpn.Vpn.{Vpn}
+use Rattle.hose_graph.specs.declared.entry.Vpn.{Vpn}
 use Rattle.hose_law.specs.Book.{Book, load_of}
 use Rattle.hose_law.specs.History.{book_of, is_vpn, next_book}
 use Rattle.hose_law.specs.Service.{is_out}

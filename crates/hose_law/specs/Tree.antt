@@ -5,7 +5,7 @@ use Rattle.hose_graph.specs.Ascending.{IsAscending}
 use Rattle.hose_graph.specs.Amounts.{ReservedLink, amount_of}
 use Rattle.hose_graph.specs.Hose.{Endpoint, node_of, rate_of, total_rate}
 use Rattle.hose_graph.specs.Network.{Network}
-use Rattle.hose_graph.specs.declared.step.Step.{Step}
+use Rattle.hose_graph.specs.declared.topology.Step.{Step}
 use Rattle.hose_law.specs.Walk.{IsIn, Joins}
 
 -- a start node, and the steps by which a tree grows from it

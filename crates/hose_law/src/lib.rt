@@ -16,7 +16,7 @@ ghost use Rattle.hose_law.specs.Cheapest.{HasRootWithin, amounts_cost};
 ghost use Rattle.hose_law.specs.CanonicalPlan.{IsCanonicalPlan, IsRoot, IsWeight};
 ghost use Rattle.hose_law.specs.Decision.{HaveEqualDecisions, HaveEqualGrounds};
 ghost use Rattle.hose_law.specs.History.{IsSound, book_of};
-ghost use Rattle.hose_law.specs.Live.{AreLiveHeld, IsAdmission, StaysLive};
+ghost use Rattle.hose_law.specs.Live.{AreLiveUnreleased, IsAdmission, StaysLive};
 ghost use Rattle.hose_law.specs.Plan.{plan_cost};
 ghost use Rattle.hose_law.specs.Route.{AreSame, HaveSameRoutes};
 ghost use Rattle.hose_law.specs.Tracks.{LoadsStay, Recent, ServiceStays, Tracks};
@@ -94,7 +94,7 @@ pub fn law_lives(top: &Topology, e0: u64, h: &[Entry], k: u64)
 /// that their own customers have not released since, each once and as it was admitted.
 pub fn law_held(top: &Topology, e0: u64, h: &[Entry])
     requires { IsSound top.now e0 h.now }
-    ensures { (place : ℕ) → place ≤ length h.now → AreLiveHeld e0 h.now place }
+    ensures { (place : ℕ) → place ≤ length h.now → AreLiveUnreleased e0 h.now place }
 {}
 
 /// Where a hose has equal grounds at two places of a history, it has equal decisions there.
