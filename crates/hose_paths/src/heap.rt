@@ -6,12 +6,12 @@ ghost use Rattle.hose_graph.specs.Network.{IsNetwork};
 ghost use Rattle.hose_law.specs.Walk.{Joins};
 ghost use Rattle.hose_paths.specs.Table.{entry, IsFound, IsBounded, CannotLower, IsSettled, Lowers, left_to_fall};
 ghost use Rattle.hose_paths.specs.Chain.{AreChains, Meets};
-ghost use Rattle.hose_paths.specs.Queue.{IsQueued, IsSettledBut, Follows};
+ghost use Rattle.hose_paths.specs.Queue.{IsQueued, IsSettledBut, Relaxes};
 
-use crate::RowMaker;
 use crate::chains::Chains;
 use crate::settling::{Settling, row_by};
-use hose_graph::{Link, Row, Topology};
+use crate::{MadeRow, RowMaker};
+use hose_graph::{Link, Topology};
 use hose_links::LinkSet;
 use std::alloc::{AllocError, Global};
 use std::cmp::Reverse;
@@ -31,13 +31,7 @@ impl HeapRows {
 }
 
 impl RowMaker for HeapRows {
-    fn row(
-        &mut self,
-        alloc: Global,
-        top: &Topology,
-        links: &LinkSet,
-        root: u32,
-    ) -> Result<Row, AllocError> {
+    fn row(&mut self, alloc: Global, top: &Topology, links: &LinkSet, root: u32) -> MadeRow {
         row_by::<HeapRows>(alloc, top, links, root)
     }
 }
@@ -132,7 +126,7 @@ fn follow(
     requires to { to < length dist.old }
     requires fits { (near : ℕ) → entry dist.old from ≡ Some near → near + cost < 2 ^ 64 }
     ensures follows { OnOk result
-        (Follows dist.old (heap_items queue.old) dist.new (heap_items queue.new) from to cost) }
+        (Relaxes dist.old (heap_items queue.old) dist.new (heap_items queue.new) from to cost) }
     ensures len { OnOk result ((heap_len queue.new ≡ heap_len queue.old) × (dist.new ≡ dist.old)
         ⊎ (heap_len queue.new ≡ heap_len queue.old + 1) × Lowers dist.old dist.new from to cost) }
 {

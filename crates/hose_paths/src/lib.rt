@@ -34,16 +34,13 @@ use std::alloc::{AllocError, Global};
 pub use table::{RowTable, TableRows, row_of};
 pub use whole::{all_links, rows_of_all};
 
+/// A row, or want of memory for it.
+pub type MadeRow = Result<Row, AllocError>;
+
 /// What makes rows.
 pub trait RowMaker {
     /// The row of a root over a set of the topology's links.
-    fn row(
-        &mut self,
-        alloc: Global,
-        top: &Topology,
-        links: &LinkSet,
-        root: u32,
-    ) -> Result<Row, AllocError>
+    fn row(&mut self, alloc: Global, top: &Topology, links: &LinkSet, root: u32) -> MadeRow
         requires places { length links.now ≡ length top.now.links }
         requires is_node { root < length top.now.nodes }
         ensures row { IfOk result (IsRow top.now links.now root) }

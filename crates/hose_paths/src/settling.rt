@@ -5,6 +5,7 @@ ghost use Rattle.hose_graph.specs.Row.{HasBoundedDistances};
 ghost use Rattle.hose_law.specs.Row.{IsRow};
 ghost use Rattle.hose_paths.specs.Table.{entry, IsBounded, IsFound, IsSettled};
 
+use crate::MadeRow;
 use crate::tight::mark_tight_links;
 use hose_graph::{Row, Topology};
 use hose_links::LinkSet;
@@ -33,12 +34,7 @@ pub trait Settling {
 }
 
 // The row of a root over a set of the topology's links.
-pub fn row_by<S: Settling>(
-    alloc: Global,
-    top: &Topology,
-    links: &LinkSet,
-    root: u32,
-) -> Result<Row, AllocError>
+pub fn row_by<S: Settling>(alloc: Global, top: &Topology, links: &LinkSet, root: u32) -> MadeRow
     requires places { length links.now ≡ length top.now.links }
     requires is_node { root < length top.now.nodes }
     ensures row { IfOk result (IsRow top.now links.now root) }

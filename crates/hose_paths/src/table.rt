@@ -4,8 +4,8 @@ ghost use Rattle.hose_graph.specs.Row.{HasBoundedDistances};
 ghost use Rattle.hose_law.specs.Row.{IsRow};
 ghost use Rattle.hose_paths.specs.Rows.{AreRows, IsRowOf};
 
-use crate::RowMaker;
 use crate::heap::HeapRows;
+use crate::{MadeRow, RowMaker};
 use hose_graph::{Row, Topology};
 use hose_links::LinkSet;
 use std::alloc::{AllocError, Global};
@@ -92,8 +92,8 @@ pub fn row_of<'a>(top: &Topology, links: &LinkSet, rows: &'a [Row], root: u32) -
     &rows[root as usize]
 }
 
-/// Lends the rows of a table or gives copies of them, where they are over the set that is asked for,
-/// and makes others by a heap.
+/// Lends the rows of a table or gives copies of them, where they are over the set that is asked
+/// for, and makes others by a heap.
 #[derive(Clone, Copy)]
 pub struct TableRows<'a> {
     table: &'a RowTable,
@@ -109,13 +109,7 @@ impl<'a> TableRows<'a> {
 }
 
 impl RowMaker for TableRows<'_> {
-    fn row(
-        &mut self,
-        alloc: Global,
-        top: &Topology,
-        links: &LinkSet,
-        root: u32,
-    ) -> Result<Row, AllocError> {
+    fn row(&mut self, alloc: Global, top: &Topology, links: &LinkSet, root: u32) -> MadeRow {
         if self.table.is_over(top, links) {
             return self.table.row(alloc, root);
         }

@@ -19,7 +19,7 @@ use Rattle.hose_law.specs.Walk.{IsIn}
 use Rattle.hose_law.proofs.CanonicalPlans.{canonical_unique, planned_sound, same_planned}
 use Rattle.hose_tree.specs.Amounts.{AreOnLinks}
 use Rattle.hose_plan.specs.declared.decision.Grounds.{Grounds}
-use Rattle.hose_plan.specs.Planning.{AreGroundsOf, AreMade, HoldBySafe, IsSafeStill, room_beside}
+use Rattle.hose_plan.specs.Planning.{TellsBooks, TellsRooms, AreGroundsOf, AreMade, HoldBySafe, IsSafeStill, room_beside}
 use Rattle.hose_plan.specs.Rooting.{IsPlanOver}
 use Rattle.hose_plan.proofs.Deciding.{none_fits}
 
@@ -179,10 +179,7 @@ equal_grounds network earlier now hose grounds are = (
 
 -- what tells of each room whether the grounds hold tells it of each book
 pub hold_at_books : (network : Network) (service : List Bool) (loads : List ℕ) (grounds : Grounds) (holds : Bool)
-    → ((hose : List (ℕ × ℕ)) (earlier : Room) → AreGroundsOf network earlier hose grounds
-    → IsTrue holds ↔ AreGroundsOf network (room_beside network service loads) hose grounds)
-    → (hose : List (ℕ × ℕ)) (earlier now : Book) → service ≡ first_links network now → loads ≡ loads_of network now → AreGroundsOf network (room_of network earlier) hose grounds
-    → IsTrue holds ↔ HaveEqualGrounds network earlier now hose
+    → TellsRooms network service loads grounds holds → TellsBooks network service loads grounds holds
 hold_at_books network service loads grounds holds rooms hose earlier now served same are =
     let tells = rooms hose (room_of network earlier) are in
     let equal = equal_grounds network earlier now hose grounds are in

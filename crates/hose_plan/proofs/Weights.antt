@@ -1,7 +1,7 @@
 -- Weights of all nodes, while endpoint after endpoint is added.
-use Rattle.std.proofs.Common.{◌≡◌, ◌∙◌, ℕ, ◌+◌, ◌*◌, ◌<◌, ◌≤◌, Bool, List, [], ◌∷◌, ◌++◌, Option, None, Some, length, get_or, replicate, take, refl, ap, subst, arith}
+use Rattle.std.proofs.Common.{◌≡◌, ◌∙◌, ℕ, ◌+◌, ◌*◌, ◌<◌, ◌≤◌, Bool, List, [], ◌∷◌, ◌++◌, Option, None, Some, length, get_or, replicate, take, refl, sym, ap, subst, arith}
 use Rattle.std.specs.Option.{IfSome, MatchOption}
-use Rattle.std.proofs.lemmas.List.{get_or-replicate, get_or_default, length-replicate, take_more}
+use Rattle.std.proofs.lemmas.List.{get_or-replicate, get_or_default, length-replicate, take_all, take_more}
 use Rattle.std.proofs.lemmas.Nat.{mul-le}
 use Rattle.hose_graph.specs.Network.{Network}
 use Rattle.hose_graph.specs.declared.limits.TheConstants.{MOST_DISTANCE, MOST_RATE}
@@ -75,6 +75,11 @@ module _ (network : Network) (set : List Bool) where
         rw (take_more hose i (0, 0) inside, here) more;
   }
 
+-- the weights of the endpoints before a place
+pub record AreSoFar (network : Network) (set : List Bool) (hose : List (ℕ × ℕ)) (i : ℕ) (weights : List (Option ℕ)) : Type 0 where
+  pub are : AreWeights network set (take i hose) weights
+  pub light : AreLight i weights
+
 -- Adding the row of an endpoint to the weights of those before it, where all endpoints lie in a list that equals the hose's.
 module _ (network : Network) (set : List Bool) (hose ends : List (ℕ × ℕ)) (same : ends ≡ hose) where
   pub weights_pushed : (i : ℕ) → i < length ends → (row : Distances) → IsRow network set (get_or ends i (0, 0)).0 row
@@ -89,6 +94,22 @@ module _ (network : Network) (set : List Bool) (hose ends : List (ℕ × ℕ)) (
       each v (omega (arith, below, ap length was))
       ∙ ap (λ (ws : List (Option ℕ)). heavier (weight_at ws v) (get_or ends i (0, 0)).1 (distance_of row v)) was
       ∙ ap (λ (e : ℕ × ℕ). heavier (weight_at before v) e.1 (distance_of row v)) end)
+
+  -- so the weights of the endpoints so far become those with one more, and in the end those of all
+  pub more_so_far : (i : ℕ) → i < length ends → (row : Distances) → IsRow network set (get_or ends i (0, 0)).0 row
+      → (before given after : List (Option ℕ)) → given ≡ before → length after ≡ length given
+      → ((v : ℕ) → v < length given → weight_at after v ≡ heavier (weight_at given v) (get_or ends i (0, 0)).1 (distance_of row v))
+      → (AreLight i given → AreLight (i + 1) after)
+      → AreSoFar network set hose i before → AreSoFar network set hose (i + 1) after
+  more_so_far i inside row is_row before given after was long each light so_far = record {
+    are = weights_pushed i inside row is_row before given after was long each so_far.are;
+    light = light (subst (AreLight i) (sym was) so_far.light);
+  }
+
+  pub all_so_far : (i : ℕ) → length ends ≤ i → (weights : List (Option ℕ)) → AreSoFar network set hose i weights → AreWeights network set hose weights
+  all_so_far i past weights so_far =
+      let whole : take i hose ≡ hose = take_all i hose (omega (arith, past, ap length same)) in
+      subst (λ (es : List (ℕ × ℕ)). AreWeights network set es weights) whole so_far.are
 
 -- a weight that is small, and one more endpoint's share
 light_at : (ends rate : ℕ) → rate ≤ MOST_RATE → (weight distance : Option ℕ) → IfSome weight (λ w. w ≤ ends * most_share) → IsWithinReach distance

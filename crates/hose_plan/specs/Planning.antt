@@ -1,15 +1,16 @@
 -- What is decided of a hose over the links in service and beside loads, as the planner answers it.
-use Rattle.std.specs.Prelude.{◌≡◌, ℕ, ◌<◌, ◌&&◌, Bool, false, List, All, IsTrue, length, nat_le, slice_index, slice_index_or, if◌then◌else◌, ⊤}
+use Rattle.std.specs.Prelude.{◌≡◌, ◌↔◌, ℕ, ◌<◌, ◌&&◌, Bool, false, List, All, IsTrue, length, nat_le, slice_index, slice_index_or, if◌then◌else◌, ⊤}
 use Rattle.hose_plan.specs.declared.decision.Grounds.{Grounds}
 use Rattle.hose_plan.specs.declared.decision.Decision.{Decision}
 use Rattle.hose_plan.specs.declared.decision.Decision.TheVariants.{Plan, Refused}
 use Rattle.hose_graph.specs.Hose.{Endpoint}
 use Rattle.hose_graph.specs.Network.{Network}
+use Rattle.hose_law.specs.Book.{Book, loads_of}
 use Rattle.hose_law.specs.CanonicalPlan.{IsRoot}
 use Rattle.hose_law.specs.Cheapest.{IsCheapest}
-use Rattle.hose_law.specs.Decision.{AreGrounds, CanBeReserved, IsPlannedOver, IsRefused}
+use Rattle.hose_law.specs.Decision.{AreGrounds, CanBeReserved, HaveEqualGrounds, IsPlannedOver, IsRefused}
 use Rattle.hose_law.specs.Plan.{plan_cost}
-use Rattle.hose_law.specs.Room.{Room, free_rates, half_rate, safe_links}
+use Rattle.hose_law.specs.Room.{Room, first_links, free_rates, half_rate, room_of, safe_links}
 use Rattle.hose_law.specs.Tracks.{Change, IsNamedSince}
 use Rattle.hose_plan.specs.Rooting.{IsPlanOver}
 
@@ -71,6 +72,20 @@ abbrev pub HoldBySafe : Network → Room → List Endpoint → Grounds → Bool 
 HoldBySafe network room hose grounds fits_as_before =
     IsTrue fits_as_before
     × (grounds.first_fits ≡ false → grounds.safe ≡ safe_links room hose)
+
+-- says whether grounds of a hose at any earlier room are its grounds at the room beside these loads
+abbrev pub TellsRooms : Network → List Bool → List ℕ → Grounds → Bool → Type 0
+TellsRooms network service loads grounds told =
+    (hose : List Endpoint) (earlier : Room) → AreGroundsOf network earlier hose grounds
+    → (IsTrue told ↔ AreGroundsOf network (room_beside network service loads) hose grounds)
+
+-- says whether the grounds of a hose at any earlier book equal those at a book of these loads
+abbrev pub TellsBooks : Network → List Bool → List ℕ → Grounds → Bool → Type 0
+TellsBooks network service loads grounds told =
+    (hose : List Endpoint) (earlier now : Book)
+    → service ≡ first_links network now → loads ≡ loads_of network now
+    → AreGroundsOf network (room_of network earlier) hose grounds
+    → (IsTrue told ↔ HaveEqualGrounds network earlier now hose)
 
 -- the links over which grounds allow a plan: those of the first plan where it fits, else the safe
 -- ones

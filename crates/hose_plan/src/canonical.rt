@@ -5,7 +5,6 @@ ghost use Rattle.hose_graph.specs.Hose.{IsHose};
 ghost use Rattle.hose_graph.specs.Network.{IsNetwork};
 ghost use Rattle.hose_law.specs.Plan.{AreNodes};
 ghost use Rattle.hose_law.specs.Row.{IsRow};
-ghost use Rattle.hose_paths.specs.Rows.{AreRows};
 ghost use Rattle.hose_plan.specs.Rooting.{IsBestRoot, IsPlanOver};
 ghost use Rattle.hose_tree.specs.Amounts.{AreOnLinks};
 
@@ -38,58 +37,12 @@ pub fn plan<R: RowMaker>(
     ensures hose { IsHose hose.now }
 {
     if let Some(kept) = rows.kept(top, links) {
-        return plan_by_kept(alloc, top, links, hose, kept);
+        let Some(root) = best_root_of_kept(alloc, top, links, hose, kept)? else {
+            return Ok(None);
+        };
+        let row = row_of(top, links, kept, root);
+        return Ok(Some(reserved_from(alloc, top, links, hose, root, row)?));
     }
-    plan_by_new(alloc, top, links, hose, rows)
-}
-
-// The same by rows that are kept.
-fn plan_by_kept(
-    alloc: Global,
-    top: &Topology,
-    links: &LinkSet,
-    hose: &Hose,
-    kept: &[Row],
-) -> Result<Option<Amounts>, AllocError>
-    requires rows { AreRows top.now links.now kept.now }
-    requires nodes { AreNodes top.now hose.now }
-    ensures plan { IfOk result (IsPlanOver top.now links.now hose.now) }
-    ensures no_root { IfOk result
-        (λ found. IfNone found (IsBestRoot top.now links.now hose.now None)) }
-    ensures links { IfOk result (λ found. IfSome found (AreOnLinks top.now)) }
-    ensures few { IfOk result (λ found. IfSome found (λ plan. length plan ≤ MOST_TREE_LINKS)) }
-    ensures amounts { IfOk result
-        (λ found. IfSome found (All (λ pair. amount_of pair ≤ MOST_AMOUNT))) }
-    ensures network { IsNetwork top.now }
-    ensures hose { IsHose hose.now }
-{
-    let Some(root) = best_root_of_kept(alloc, top, links, hose, kept)? else {
-        return Ok(None);
-    };
-    let row = row_of(top, links, kept, root);
-    Ok(Some(reserved_from(alloc, top, links, hose, root, row)?))
-}
-
-// The same by rows that are made one after another.
-fn plan_by_new<R: RowMaker>(
-    alloc: Global,
-    top: &Topology,
-    links: &LinkSet,
-    hose: &Hose,
-    rows: &mut R,
-) -> Result<Option<Amounts>, AllocError>
-    requires places { length links.now ≡ length top.now.links }
-    requires nodes { AreNodes top.now hose.now }
-    ensures plan { IfOk result (IsPlanOver top.now links.now hose.now) }
-    ensures no_root { IfOk result
-        (λ found. IfNone found (IsBestRoot top.now links.now hose.now None)) }
-    ensures links { IfOk result (λ found. IfSome found (AreOnLinks top.now)) }
-    ensures few { IfOk result (λ found. IfSome found (λ plan. length plan ≤ MOST_TREE_LINKS)) }
-    ensures amounts { IfOk result
-        (λ found. IfSome found (All (λ pair. amount_of pair ≤ MOST_AMOUNT))) }
-    ensures network { IsNetwork top.now }
-    ensures hose { IsHose hose.now }
-{
     let Some(root) = best_root(alloc, top, links, hose, rows)? else {
         return Ok(None);
     };

@@ -3,16 +3,16 @@ ghost use Rattle.std.specs.Prelude.{◌≡◌, IfOk, length};
 ghost use Rattle.hose_graph.specs.Hose.{IsHose};
 ghost use Rattle.hose_law.specs.Decision.{HasFirstFit};
 ghost use Rattle.hose_law.specs.Plan.{AreNodes};
+ghost use Rattle.hose_law.specs.Room.{safe_links};
 ghost use Rattle.hose_plan.specs.Planning.{IsCheapestDecision, IsDecision, IsSoundDecision, NamesNodes, room_beside};
 ghost use Rattle.hose_plan.specs.Rooting.{IsPlanOver};
 ghost use Rattle.hose_tree.specs.Amounts.{AreCarried};
 
 use crate::canonical::plan;
-use crate::safe::safe_links;
 use hose_graph::{Amounts, Hose, NodeList, Topology};
 use hose_links::LinkSet;
 use hose_paths::RowMaker;
-use hose_tree::{cost, fits, reached};
+use hose_tree::{cost, fits, free_rate, reached};
 use std::alloc::{AllocError, Global};
 
 /// What a decision rests on: equal grounds of one hose give equal decisions.
@@ -145,4 +145,24 @@ fn decide_over_safe<R: RowMaker>(
         amounts,
         cost,
     })
+}
+
+// The links that are safe for a hose: those in service with half of its rates free.
+fn safe_links(
+    alloc: Global,
+    top: &Topology,
+    service: &LinkSet,
+    loads: &[u64],
+    hose: &Hose,
+) -> Result<LinkSet, AllocError>
+    requires service { length service.now ≡ length top.now.links }
+    requires loads { AreCarried top.now loads.now }
+    ensures links { IfOk result
+        (λ links. links ≡ safe_links (room_beside top.now service.now loads.now) hose.now) }
+    ensures places { IfOk result (λ links. length links ≡ length top.now.links) }
+{
+    let half = hose.total() / 2;
+    let mut links = LinkSet::new(alloc, top.links())?;
+    links.fill_where(|link| service.has(link) && half <= free_rate(top, loads, link));
+    Ok(links)
 }

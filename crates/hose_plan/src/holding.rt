@@ -1,10 +1,9 @@
 // Whether the grounds of a decision still hold.
 ghost use Rattle.std.specs.Prelude.{◌≡◌, ◌<◌, ◌↔◌, List, IfSome, IsSomeAnd, IsTrue, length};
 ghost use Rattle.hose_graph.specs.Hose.{Endpoint};
-ghost use Rattle.hose_law.specs.Book.{Book, loads_of};
-ghost use Rattle.hose_law.specs.Decision.{Fits, HaveEqualGrounds};
-ghost use Rattle.hose_law.specs.Room.{Room, first_links, free_rates, half_rate, room_of, safe_links};
-ghost use Rattle.hose_plan.specs.Planning.{AreGroundsOf, AreMade, HoldBySafe, IsSafeStill, room_beside};
+ghost use Rattle.hose_law.specs.Decision.{Fits};
+ghost use Rattle.hose_law.specs.Room.{Room, free_rates, half_rate, safe_links};
+ghost use Rattle.hose_plan.specs.Planning.{AreGroundsOf, AreMade, HoldBySafe, IsSafeStill, TellsBooks, TellsRooms, room_beside};
 ghost use Rattle.hose_tree.specs.Amounts.{AreCarried, AreOnLinks};
 
 use crate::decision::Grounds;
@@ -20,27 +19,8 @@ pub fn grounds_hold(top: &Topology, service: &LinkSet, loads: &[u64], grounds: &
     requires service { length service.now ≡ length top.now.links }
     requires loads { AreCarried top.now loads.now }
     requires made { AreMade top.now grounds.now }
-    ensures rooms { (hose : List Endpoint) (earlier : Room)
-        → AreGroundsOf top.now earlier hose grounds.now
-        → (IsTrue result
-        ↔ AreGroundsOf top.now (room_beside top.now service.now loads.now) hose grounds.now) }
-    ensures books { (hose : List Endpoint) (earlier now : Book)
-        → service.now ≡ first_links top.now now → loads.now ≡ loads_of top.now now
-        → AreGroundsOf top.now (room_of top.now earlier) hose grounds.now
-        → (IsTrue result ↔ HaveEqualGrounds top.now earlier now hose) }
-{
-    are_grounds(top, service, loads, grounds)
-}
-
-// The same of rooms.
-fn are_grounds(top: &Topology, service: &LinkSet, loads: &[u64], grounds: &Grounds) -> bool
-    requires service { length service.now ≡ length top.now.links }
-    requires loads { AreCarried top.now loads.now }
-    requires made { AreMade top.now grounds.now }
-    ensures { (hose : List Endpoint) (earlier : Room)
-        → AreGroundsOf top.now earlier hose grounds.now
-        → (IsTrue result
-        ↔ AreGroundsOf top.now (room_beside top.now service.now loads.now) hose grounds.now) }
+    ensures rooms { TellsRooms top.now service.now loads.now grounds.now result }
+    ensures books { TellsBooks top.now service.now loads.now grounds.now result }
 {
     if !service.same(&grounds.service) {
         return false;

@@ -14,7 +14,6 @@ mod canonical;
 mod decision;
 mod holding;
 mod root;
-mod safe;
 mod since;
 
 pub use canonical::plan;

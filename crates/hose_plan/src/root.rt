@@ -14,7 +14,8 @@ use hose_paths::{RowMaker, row_of};
 use hose_root::choose;
 use std::alloc::{AllocError, Global};
 
-/// The root of a hose over a set of links; none where no node reaches all endpoints.
+/// The root of a hose over a set of links; none where no node reaches all endpoints. It is as far from
+/// an endpoint to a node as back, so the endpoints' rows give what the hose costs from each node.
 pub fn best_root<R: RowMaker>(
     alloc: Global,
     top: &Topology,
@@ -28,11 +29,16 @@ pub fn best_root<R: RowMaker>(
     ensures network { IsNetwork top.now }
     ensures hose { IsHose hose.now }
 {
-    let weights = weights(alloc, top, links, hose, rows)?;
+    let ends = hose.ends();
+    let mut weights = vec![in alloc; Some(0); top.nodes() as usize]?;
+    for (node, rate) in ends {
+        let row = rows.row(alloc, top, links, *node)?;
+        add_row(&mut weights, &row, *rate);
+    }
     Ok(lightest(top, links, hose, &weights))
 }
 
-/// The same by rows that are kept.
+/// The root of a hose over a set of links, as `best_root` tells it, by rows that are kept.
 pub fn best_root_of_kept(
     alloc: Global,
     top: &Topology,
@@ -46,7 +52,12 @@ pub fn best_root_of_kept(
     ensures network { IsNetwork top.now }
     ensures hose { IsHose hose.now }
 {
-    let weights = weights_of_kept(alloc, top, links, hose, kept)?;
+    let ends = hose.ends();
+    let nodes = top.nodes() as usize;
+    let mut weights = vec![in alloc; Some(0); nodes]?;
+    for &(node, rate) in ends {
+        add_row(&mut weights, row_of(top, links, kept, node), rate);
+    }
     Ok(lightest(top, links, hose, &weights))
 }
 
@@ -57,54 +68,6 @@ fn lightest(top: &Topology, links: &LinkSet, hose: &Hose, weights: &[Option<u64>
     ensures { IsBestRoot top.now links.now hose.now result }
 {
     choose(weights)
-}
-
-// What the hose costs from each node. It is as far from an endpoint to a node as back, so the
-// endpoints' rows give the weights of all nodes.
-fn weights<R: RowMaker>(
-    alloc: Global,
-    top: &Topology,
-    links: &LinkSet,
-    hose: &Hose,
-    rows: &mut R,
-) -> Result<Vec<Option<u64>>, AllocError>
-    requires places { length links.now ≡ length top.now.links }
-    requires nodes { AreNodes top.now hose.now }
-    ensures weights { IfOk result (λ weights. AreWeights top.now links.now hose.now weights.items) }
-    ensures few { IfOk result (λ weights. length weights.items ≤ MOST_NODES) }
-    ensures network { IsNetwork top.now }
-    ensures hose { IsHose hose.now }
-{
-    let ends = hose.ends();
-    let mut weights = vec![in alloc; Some(0); top.nodes() as usize]?;
-    for (node, rate) in ends {
-        let row = rows.row(alloc, top, links, *node)?;
-        add_row(&mut weights, &row, *rate);
-    }
-    Ok(weights)
-}
-
-// The same by rows that are kept.
-fn weights_of_kept(
-    alloc: Global,
-    top: &Topology,
-    links: &LinkSet,
-    hose: &Hose,
-    kept: &[Row],
-) -> Result<Vec<Option<u64>>, AllocError>
-    requires rows { AreRows top.now links.now kept.now }
-    requires nodes { AreNodes top.now hose.now }
-    ensures weights { IfOk result (λ weights. AreWeights top.now links.now hose.now weights.items) }
-    ensures few { IfOk result (λ weights. length weights.items ≤ MOST_NODES) }
-    ensures network { IsNetwork top.now }
-    ensures hose { IsHose hose.now }
-{
-    let ends = hose.ends();
-    let mut weights = vec![in alloc; Some(0); top.nodes() as usize]?;
-    for &(node, rate) in ends {
-        add_row(&mut weights, row_of(top, links, kept, node), rate);
-    }
-    Ok(weights)
 }
 
 // Adds to each node's weight what an endpoint of this rate costs from there, which is the root of

@@ -1,11 +1,9 @@
 // Whether the grounds of a decision still hold, by the links that moved since.
 ghost use Rattle.std.specs.Prelude.{◌≡◌, ◌↔◌, ℕ, ◌<◌, List, IsTrue, length};
 ghost use Rattle.hose_graph.specs.Hose.{Endpoint};
-ghost use Rattle.hose_law.specs.Book.{Book, loads_of};
-ghost use Rattle.hose_law.specs.Decision.{HaveEqualGrounds};
-ghost use Rattle.hose_law.specs.Room.{Room, first_links, half_rate, room_of, safe_links};
+ghost use Rattle.hose_law.specs.Room.{half_rate, safe_links};
 ghost use Rattle.hose_law.specs.Tracks.{IsNamedSince};
-ghost use Rattle.hose_plan.specs.Planning.{AreGroundsOf, AreMadeSince, AreServedSince, IsSafeStill, room_beside};
+ghost use Rattle.hose_plan.specs.Planning.{AreMadeSince, AreServedSince, IsSafeStill, TellsBooks, TellsRooms, room_beside};
 ghost use Rattle.hose_tree.specs.Amounts.{AreCarried};
 
 use crate::decision::Grounds;
@@ -31,34 +29,8 @@ pub fn grounds_hold_since(
     requires service { length service.now ≡ length top.now.links }
     requires loads { AreCarried top.now loads.now }
     requires made { AreMadeSince top.now service.now loads.now grounds.now changes.now seen }
-    ensures rooms { (hose : List Endpoint) (earlier : Room)
-        → AreGroundsOf top.now earlier hose grounds.now
-        → (IsTrue result
-        ↔ AreGroundsOf top.now (room_beside top.now service.now loads.now) hose grounds.now) }
-    ensures books { (hose : List Endpoint) (earlier now : Book)
-        → service.now ≡ first_links top.now now → loads.now ≡ loads_of top.now now
-        → AreGroundsOf top.now (room_of top.now earlier) hose grounds.now
-        → (IsTrue result ↔ HaveEqualGrounds top.now earlier now hose) }
-{
-    are_grounds_since(top, service, loads, grounds, changes, seen)
-}
-
-// The same of rooms.
-fn are_grounds_since(
-    top: &Topology,
-    service: &LinkSet,
-    loads: &[u64],
-    grounds: &Grounds,
-    changes: &[(u64, u32)],
-    seen: u64,
-) -> bool
-    requires service { length service.now ≡ length top.now.links }
-    requires loads { AreCarried top.now loads.now }
-    requires made { AreMadeSince top.now service.now loads.now grounds.now changes.now seen }
-    ensures { (hose : List Endpoint) (earlier : Room)
-        → AreGroundsOf top.now earlier hose grounds.now
-        → (IsTrue result
-        ↔ AreGroundsOf top.now (room_beside top.now service.now loads.now) hose grounds.now) }
+    ensures rooms { TellsRooms top.now service.now loads.now grounds.now result }
+    ensures books { TellsBooks top.now service.now loads.now grounds.now result }
 {
     if !is_service_since(top, service, &grounds.service, changes, seen) {
         return false;

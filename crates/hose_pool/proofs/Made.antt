@@ -6,10 +6,10 @@ use Rattle.std.proofs.lemmas.Option.{get_or_from_slice_get, slice_get-map, slice
 use Rattle.hose_graph.specs.Network.{Network}
 use Rattle.hose_graph.specs.Row.{Distances}
 use Rattle.hose_paths.specs.Rows.{AreRows}
-use Rattle.hose_pool.specs.Rows.{IsMade}
+use Rattle.hose_pool.specs.Rows.{IsMadeRow}
 
 pub rows_made : (network : Network) (links : List Bool) (made : List (Option Distances)) (rows : List Distances) → map Some rows ≡ made → length made ≡ length network.nodes
-    → ((root : ℕ) (none : Option Distances) → root < length made → IsMade network links root (slice_index_or made root none)) → AreRows network links rows
+    → ((root : ℕ) (none : Option Distances) → root < length made → IsMadeRow network links root (slice_index_or made root none)) → AreRows network links rows
 rows_made network links made rows same nodes each = record {
   places = sym (length-map {A = Distances} {B = Option Distances} rows Some) ∙ ap length same ∙ nodes;
   each = λ root row there.
@@ -17,5 +17,5 @@ rows_made network links made rows same nodes each = record {
       let size = sym (length-map {A = Distances} {B = Option Distances} rows Some) ∙ ap length same in
       let at : slice_get made root ≡ Some (Some row) = ap (λ (all : List (Option Distances)). slice_get all root) (sym same) ∙ slice_get-map Some rows root ∙ ap (option_map Some) there in
       let is : slice_index_or made root (Some row) ≡ Some row = get_or_from_slice_get made root (Some row) (Some row) at in
-      subst (IsMade network links root) is (each root (Some row) (omega arith));
+      subst (IsMadeRow network links root) is (each root (Some row) (omega arith));
 }

@@ -6,7 +6,7 @@ ghost use Rattle.hose_pool.specs.declared.rows.TheConstants.{MOST_WORKERS};
 use crate::rows::all_rows;
 use hose_graph::{Row, Topology};
 use hose_links::LinkSet;
-use hose_paths::{HeapRows, RowMaker, RowTable};
+use hose_paths::{HeapRows, MadeRow, RowMaker, RowTable};
 use std::alloc::{AllocError, Global};
 use std::marker::Model;
 use std::thread::Threads;
@@ -21,9 +21,10 @@ impl<T: Sync> Shareable for T {
     ghost is_shareable = { IsShared T.row.shr_at };
 }
 
-/// A maker of rows that has several workers at once make those of all nodes over all links of a
-/// network, the first time that it is asked for one. It keeps them, and gives copies of them until
-/// it is asked over another network. Over fewer links it makes each row when it is asked.
+/// A maker of rows for embeddings and tests alone, as the program makes its table at its start. It
+/// has several workers at once make the rows of all nodes over all links of a network, the first
+/// time that it is asked for one. It keeps them, and gives copies of them until it is asked over
+/// another network. Over fewer links it makes each row when it is asked.
 ///
 /// A contract sees it as the number of its workers.
 #[derive(Drop)]
@@ -60,13 +61,7 @@ impl<'a, T: Threads + Sync> PoolRows<'a, T> {
 }
 
 impl<T: Threads + Sync> RowMaker for PoolRows<'_, T> {
-    fn row(
-        &mut self,
-        alloc: Global,
-        top: &Topology,
-        links: &LinkSet,
-        root: u32,
-    ) -> Result<Row, AllocError> {
+    fn row(&mut self, alloc: Global, top: &Topology, links: &LinkSet, root: u32) -> MadeRow {
         // While no link is out of service each hose is planned over all links first, so these rows
         // are asked for again.
         if !has_all(links) {
@@ -88,7 +83,8 @@ fn has_all(links: &LinkSet) -> bool {
     (0..links.len()).all(|link| links.has(link))
 }
 
-// The rows over these links: those that are kept, where they are of these, and else new ones.
+// The rows over these links: those that are kept, where they are of these, and else new ones that
+// the workers make.
 fn take_or_make<T: Threads + Sync>(
     rt: &T,
     alloc: Global,
@@ -108,22 +104,6 @@ fn take_or_make<T: Threads + Sync>(
             return Ok(kept);
         }
     }
-    make(rt, alloc, top, links, workers)
-}
-
-// Has the workers make the rows of all nodes.
-fn make<T: Threads + Sync>(
-    rt: &T,
-    alloc: Global,
-    top: &Topology,
-    links: &LinkSet,
-    workers: u32,
-) -> Result<RowTable, AllocError>
-    requires workers { (1 ≤ workers) × (workers ≤ MOST_WORKERS) }
-    requires places { length links.now ≡ length top.now.links }
-    ensures network { IfOk result (λ table. table.network ≡ top.now) }
-    ensures links { IfOk result (λ table. table.links ≡ links.now) }
-{
     let rows = all_rows(rt, alloc, top, links, workers)?;
     RowTable::build(alloc, top, links, rows)
 }

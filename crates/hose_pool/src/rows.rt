@@ -3,7 +3,7 @@ ghost use Rattle.std.specs.Prelude.{◌≡◌, ◌<◌, ◌≤◌, ℕ, IfOk, Op
 ghost use Rattle.hose_graph.specs.Row.{Distances};
 ghost use Rattle.hose_law.specs.Walk.{all_links};
 ghost use Rattle.hose_paths.specs.Rows.{AreRows};
-ghost use Rattle.hose_pool.specs.Rows.{IsMade};
+ghost use Rattle.hose_pool.specs.Rows.{IsMadeRow};
 
 use hose_graph::{Row, Topology};
 use hose_links::LinkSet;
@@ -86,7 +86,7 @@ fn make_rows<T: Threads + Sync>(
     requires nodes { length made.old ≡ length top.now.nodes }
     ensures nodes { length made.new ≡ length made.old }
     ensures made { (root : ℕ) (none : Option Distances) → root < length made.old
-        → IsMade top.now links.now root (slice_index_or made.new root none) }
+        → IsMadeRow top.now links.now root (slice_index_or made.new root none) }
 {
     thread::for_each_mut(
         rt,
@@ -100,7 +100,7 @@ fn make_rows<T: Threads + Sync>(
 fn row_of(alloc: Global, top: &Topology, links: &LinkSet, root: usize) -> Option<Row>
     requires places { length links.now ≡ length top.now.links }
     requires is_node { root < length top.now.nodes }
-    ensures { IsMade top.now links.now root result }
+    ensures { IsMadeRow top.now links.now root result }
 {
     // The call tells the proof that a network has few nodes, so that the cast keeps the number.
     let _nodes = top.nodes();

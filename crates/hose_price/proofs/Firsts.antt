@@ -5,7 +5,7 @@ use Rattle.hose_graph.specs.Network.{Network, IsNetwork}
 use Rattle.hose_law.specs.CanonicalPlan.{IsCanonicalPlan, IsRoot}
 use Rattle.hose_law.specs.Walk.{all_links}
 use Rattle.hose_tariff.specs.Fact.{IsPricedBy}
-use Rattle.hose_price.specs.Pricing.{HasNoPlan, IsFirstPlan}
+use Rattle.hose_price.specs.Pricing.{HasNoPricedPlan, IsFirstPlan}
 use Rattle.hose_price.specs.Sheet.{costs_something}
 use Rattle.hose_price.proofs.Alike.{alike, priced_links}
 use Rattle.hose_price.proofs.Roots.{no_plan_alike}
@@ -20,7 +20,7 @@ module _ (answers : ℕ → ℕ → Type 0) (network priced : Network) (is : IsP
   pub first_plan : (hose plan : List (ℕ × ℕ)) → IsCanonicalPlan priced set hose plan → IsFirstPlan priced hose plan
   first_plan hose plan over = subst (λ (links : List Bool). IsCanonicalPlan priced links hose plan) same_links over
 
-  pub no_plan : (hose : List (ℕ × ℕ)) → IsNetwork priced → ((root weight : ℕ) → ¬ IsRoot priced set hose root weight) → HasNoPlan network hose
+  pub no_plan : (hose : List (ℕ × ℕ)) → IsNetwork priced → ((root weight : ℕ) → ¬ IsRoot priced set hose root weight) → HasNoPricedPlan network hose
   no_plan hose network_is none other plan other_is first =
       no_plan_alike priced other network_is (alike costs_something answers network other priced other_is is) hose plan
       (subst (λ (links : List Bool). (root weight : ℕ) → ¬ IsRoot priced links hose root weight) same_links none) first

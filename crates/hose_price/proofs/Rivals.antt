@@ -7,7 +7,7 @@ use Rattle.std.proofs.lemmas.List.Sums.{sum_by-cons}
 use Rattle.std.proofs.lemmas.Slice.Zip.{firsts-zip}
 use Rattle.hose_graph.specs.Ascending.{firsts}
 use Rattle.hose_graph.specs.Network.{Network, IsNetwork}
-use Rattle.hose_graph.specs.declared.step.Step.{Step}
+use Rattle.hose_graph.specs.declared.topology.Step.{Step}
 use Rattle.hose_law.specs.Carries.{StandFor, amounts_on}
 use Rattle.hose_law.specs.Plan.{plan_cost}
 use Rattle.hose_law.specs.Tree.{Growth, IsReservation, IsTree, IsTreeOver, links_of, smaller_side, step_links}

@@ -5,7 +5,7 @@ use Rattle.std.proofs.lemmas.List.Elements.{All-head, All-tail}
 use Rattle.hose_graph.specs.Limit.{IsUpTo}
 use Rattle.hose_graph.specs.Network.{IsLink, IsNetwork, Network}
 use Rattle.hose_graph.specs.declared.limits.TheConstants.{MOST_LENGTH}
-use Rattle.hose_graph.specs.declared.link.Link.{Link}
+use Rattle.hose_graph.specs.declared.topology.Link.{Link}
 use Rattle.hose_tariff.specs.Fact.{IsPricedBy, IsPricedLink}
 
 module _ (one two : ℕ → ℕ → Type 0) (weaker : (length cost : ℕ) → IsUpTo MOST_LENGTH length → one length cost → two length cost) where

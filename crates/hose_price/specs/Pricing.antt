@@ -18,8 +18,8 @@ abbrev pub IsFirstPlan : Network → List Endpoint → List ReservedLink → Typ
 IsFirstPlan network hose plan = IsCanonicalPlan network (all_links network) hose plan
 
 -- there is no plan of the hose, whatever the links cost
-abbrev pub HasNoPlan : Network → List Endpoint → Type 0
-HasNoPlan network hose =
+abbrev pub HasNoPricedPlan : Network → List Endpoint → Type 0
+HasNoPricedPlan network hose =
     (other : Network) (plan : List ReservedLink) → IsPricedBy costs_something network other
     → ¬ IsFirstPlan other hose plan
 
@@ -77,10 +77,11 @@ pub record ArePrices (sheet : Sheet) (hose : List Endpoint) (prices : List Price
       (slice_index_or prices k price)
 
 -- there is the hose's price for each column, and which is the best
-pub record IsLine (sheet : Sheet) (hose : List Endpoint) (line : PriceLine) : Type 0 where
+pub record IsPriceLine (sheet : Sheet) (hose : List Endpoint) (line : PriceLine) : Type 0 where
   pub prices : ArePrices sheet hose line.prices
   pub best : IsFirstLeast line.prices line.best
 
 -- the hose has this line; or there is no plan of it
 abbrev pub IsLineOf : Sheet → List Endpoint → Option PriceLine → Type 0
-IsLineOf sheet hose found = MatchOption found (HasNoPlan sheet.network hose) (IsLine sheet hose)
+IsLineOf sheet hose found =
+    MatchOption found (HasNoPricedPlan sheet.network hose) (IsPriceLine sheet hose)

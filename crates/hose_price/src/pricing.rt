@@ -3,7 +3,7 @@ ghost use Rattle.std.specs.Prelude.{◌≡◌, ◌<◌, length, IfOk, MatchOptio
 ghost use Rattle.hose_graph.specs.Network.{Network};
 ghost use Rattle.hose_law.specs.Plan.{AreNodes};
 ghost use Rattle.hose_law.specs.Walk.{all_links};
-ghost use Rattle.hose_price.specs.Pricing.{AreBounds, HasNoPlan, IsLineOf, IsPriceOf};
+ghost use Rattle.hose_price.specs.Pricing.{AreBounds, HasNoPricedPlan, IsLineOf, IsPriceOf};
 
 use crate::bounds::{Bounds, total};
 use crate::priced::{Price, Priced};
@@ -52,7 +52,8 @@ impl PriceSheet {
     ) -> Result<Option<Bounds>, AllocError>
         requires links { links.now ≡ all_links self.now.network }
         requires nodes { AreNodes self.now.network hose.now }
-        ensures { IfOk result (λ found. MatchOption found (HasNoPlan self.now.network hose.now)
+        ensures { IfOk result
+            (λ found. MatchOption found (HasNoPricedPlan self.now.network hose.now)
             (AreBounds self.now hose.now)) }
     {
         let Some(few) = plan(alloc, &self.hops, links, hose, rows)? else {
@@ -82,7 +83,8 @@ impl PriceSheet {
         requires links { links.now ≡ all_links self.now.network }
         requires nodes { AreNodes self.now.network hose.now }
         requires bounds { AreBounds self.now hose.now bounds.now }
-        ensures { IfOk result (λ found. MatchOption found (HasNoPlan self.now.network hose.now)
+        ensures { IfOk result
+            (λ found. MatchOption found (HasNoPricedPlan self.now.network hose.now)
             (λ price. (column : _)
             → IsPriceOf self.now hose.now (slice_index_or self.now.columns place column) price)) }
     {

@@ -5,7 +5,7 @@ ghost use Rattle.hose_price.specs.Kept.{AreTablesOf};
 use crate::sheet::PriceSheet;
 use hose_graph::{Row, Topology};
 use hose_links::LinkSet;
-use hose_paths::{HeapRows, RowMaker, RowTable, row_of};
+use hose_paths::{HeapRows, MadeRow, RowMaker, RowTable, row_of};
 use std::alloc::{AllocError, Global};
 
 impl PriceSheet {
@@ -41,13 +41,7 @@ impl<'a> TablesRows<'a> {
 }
 
 impl RowMaker for TablesRows<'_> {
-    fn row(
-        &mut self,
-        alloc: Global,
-        top: &Topology,
-        links: &LinkSet,
-        root: u32,
-    ) -> Result<Row, AllocError> {
+    fn row(&mut self, alloc: Global, top: &Topology, links: &LinkSet, root: u32) -> MadeRow {
         if let Some(rows) = self.kept(top, links) {
             return row_of(top, links, rows, root).copy(alloc);
         }

@@ -154,7 +154,8 @@ fn with_lengths(alloc: Global, top: &Topology) -> Result<Topology, AllocError>
     priced_by_length(alloc, top, rule)
 }
 
-// The same by a rule that answers each length.
+// The network priced by a rule that answers each length, in a function of its own because the boxed
+// closure that is the rule has its clauses where it is made.
 fn priced_by_length(alloc: Global, top: &Topology, rule: Rule) -> Result<Topology, AllocError>
     requires { (length : ℕ) → IsUpTo MOST_LENGTH length
         → ⟦<Box<dyn Fn(u64) -> u64> as Fn(u64) -> u64>⟧.pre rule length

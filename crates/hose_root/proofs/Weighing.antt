@@ -62,6 +62,25 @@ module _ (row : Distances) (hose : List (ℕ × ℕ)) (i distance : ℕ) (below 
       let end = get_or hose i (0, 0) in
       mul-le end.1 distance MOST_RATE MOST_DISTANCE (within i (0, 0) below).rate.1 (bounded_at row bounded end.0 distance there)
 
+-- an endpoint at a place of a list that is the hose's, with its distance, and what it weighs at most
+pub record Share (row : Distances) (hose ends : List (ℕ × ℕ)) (i distance : ℕ) : Type 0 where
+  pub inside : i < length hose
+  pub there : distance_of row (get_or hose i (0, 0)).0 ≡ Some distance
+  pub same : (get_or ends i (0, 0)).1 * distance ≡ (get_or hose i (0, 0)).1 * distance
+  pub small : (get_or ends i (0, 0)).1 * distance ≤ MOST_RATE * MOST_DISTANCE
+
+pub share_at : (row : Distances) (hose ends : List (ℕ × ℕ)) (i distance : ℕ) (told : Option ℕ) → ends ≡ hose → i < length ends
+    → told ≡ distance_of row (get_or ends i (0, 0)).0 → told ≡ Some distance → HasBoundedDistances row → All IsEnd hose
+    → Share row hose ends i distance
+share_at row hose ends i distance told same below tells is bounded within =
+    let inside : i < length hose = omega (arith, below, ap length same) in
+    let there : distance_of row (get_or hose i (0, 0)).0 ≡ Some distance =
+    ap (λ (es : List (ℕ × ℕ)). distance_of row (get_or es i (0, 0)).0) (sym same) ∙ sym tells ∙ is in
+    let share : (get_or ends i (0, 0)).1 * distance ≡ (get_or hose i (0, 0)).1 * distance =
+    ap (λ (es : List (ℕ × ℕ)). (get_or es i (0, 0)).1 * distance) same in
+    let small = weight_small row hose i distance inside there bounded within in
+    record { inside = inside; there = there; same = share; small = omega (arith, share, small) }
+
 -- an endpoint without a distance is left out of all
 pub left_out : (row : Distances) (hose : List (ℕ × ℕ)) (i : ℕ) → i < length hose → distance_of row (get_or hose i (0, 0)).0 ≡ None
     → LeavesOut row hose

@@ -19,8 +19,8 @@ ghost use Rattle.hose_root.specs.Weight.{LeavesOut, weight_of};
 
 use hose_graph::{Hose, MOST_NODES, Row};
 
-/// What the hose costs from the row's root: the sum of each endpoint's rate times its distance.
-/// None where an endpoint has no distance.
+/// What the hose costs from the row's root, which only an embedding or a test asks: the sum of each
+/// endpoint's rate times its distance. None where an endpoint has no distance.
 pub fn weight(row: &Row, hose: &Hose) -> Option<u64>
     requires bounded { HasBoundedDistances row.now }
     requires nodes { All (λ end. node_of end < length row.now.dist) hose.now }

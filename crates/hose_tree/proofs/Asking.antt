@@ -11,7 +11,7 @@ use Rattle.hose_law.specs.Tree.{IsTreeReservation}
 use Rattle.hose_law.specs.Walk.{all_links}
 use Rattle.hose_law.proofs.Apart.{apart_rising}
 use Rattle.hose_law.proofs.Bounds.{reserved_few}
-use Rattle.hose_tree.specs.Peeling.{IsForestOf, IsPossible, IsYes, Question, Stands}
+use Rattle.hose_tree.specs.Peeling.{IsForestOf, IsPossible, IsYes, Question, StandsForQuestion}
 use Rattle.hose_tree.specs.Rates.{AreRatesOf}
 use Rattle.hose_tree.specs.declared.judge.Forest.{Forest}
 use Rattle.hose_tree.proofs.Judging.{distinct_apart, reservation_is_possible, reservation_of_tree, tree_of_reservation}
@@ -52,7 +52,7 @@ module _ (network : Network) (is : IsNetwork network) (hose amounts pairs : List
       )
 
       pub starts : IsHose hose → IsAscending amounts → (forest : Forest) → IsForestOf network [] pairs forest → (rates : List ℕ) → AreRatesOf hose rates
-          → Stands network total question (record { degrees = forest.degrees; links = forest.links; amounts = forest.amounts; rates = rates; left = forest.left })
+          → StandsForQuestion network total question (record { degrees = forest.degrees; links = forest.links; amounts = forest.amounts; rates = rates; left = forest.left })
       starts is_hose ascending forest is_forest rates are = record {
         ends = hose;
         pairs = pairs;

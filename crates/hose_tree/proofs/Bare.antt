@@ -5,11 +5,11 @@ use Rattle.std.proofs.lemmas.List.{get_or-take, get_or_default, length-take, nil
 use Rattle.hose_graph.specs.Hose.{total_rate}
 use Rattle.hose_graph.specs.Network.{Network}
 use Rattle.hose_law.specs.Book.{amount_on}
-use Rattle.hose_tree.specs.Peeling.{HasNoLeafBelow, IsTreeOf, IsYes, Question, Stands}
+use Rattle.hose_tree.specs.Peeling.{HasNoLeafBelow, IsTreeOf, IsYes, Question, StandsForQuestion}
 use Rattle.hose_tree.specs.declared.judge.Forest.{Forest}
 use Rattle.hose_tree.proofs.Judging.{bare_node, bare_tree, has_leaf}
 
-module _ (network : Network) (total : ℕ) (question : Question) (forest : Forest) (stands : Stands network total question forest) where
+module _ (network : Network) (total : ℕ) (question : Question) (forest : Forest) (stands : StandsForQuestion network total question forest) where
   pub links_left : HasNoLeafBelow (length network.nodes) forest → forest.left ≢ 0 → IsYes network question → ⊥
   links_left quiet some agreed =
       let found = has_leaf network stands.network stands.ends stands.pairs stands.distinct (λ none. some (stands.is_forest.left ∙ ap length none)) (stands.same.1 agreed) in

@@ -11,15 +11,15 @@ use Rattle.hose_graph.specs.Ascending.{firsts}
 use Rattle.hose_graph.specs.Hose.{total_rate}
 use Rattle.hose_graph.specs.Network.{Network}
 use Rattle.hose_graph.specs.declared.limits.TheConstants.{MOST_ENDS, MOST_NODES, MOST_RATE, MOST_TREE_LINKS}
-use Rattle.hose_graph.specs.declared.link.Link.{Link}
-use Rattle.hose_graph.specs.declared.step.Step.{Step}
+use Rattle.hose_graph.specs.declared.topology.Link.{Link}
+use Rattle.hose_graph.specs.declared.topology.Step.{Step}
 use Rattle.hose_graph.proofs.Members.{contains_first, contains_rest}
 use Rattle.hose_law.specs.Book.{amount_on}
 use Rattle.hose_law.specs.Walk.{Joins}
 use Rattle.hose_law.proofs.Joined.{joins_nodes}
 use Rattle.hose_law.proofs.Trees.{amount_on-le, moved, moved_node, moved_total, step_amounts-le}
 use Rattle.hose_law.proofs.Walks.{joins_turned}
-use Rattle.hose_tree.specs.Peeling.{AreLeavesStill, HasRoom, IsForestOf, IsLinked, IsPart, IsPossible, IsYes, AreSumsOf, Question, Stands, at_ends, sum_at}
+use Rattle.hose_tree.specs.Peeling.{AreLeavesStill, HasRoom, IsForestOf, IsLinked, IsInSums, IsPossible, IsYes, AreSumsOf, Question, StandsForQuestion, at_ends, sum_at}
 use Rattle.hose_tree.specs.Rates.{AreRatesOf}
 use Rattle.hose_tree.specs.declared.judge.Forest.{Forest}
 use Rattle.hose_tree.proofs.Moving.{rates_moved}
@@ -95,7 +95,7 @@ unfolding IsDistinct
 rest_distinct x xs distinct = distinct.1
 
 -- The leaf of a forest at which one link is left.
-module _ (network : Network) (total : ℕ) (question : Question) (forest : Forest) (stands : Stands network total question forest) (v : ℕ) (one : get_or forest.degrees v 0 ≡ 1) where
+module _ (network : Network) (total : ℕ) (question : Question) (forest : Forest) (stands : StandsForQuestion network total question forest) (v : ℕ) (one : get_or forest.degrees v 0 ≡ 1) where
   -- the pair whose link ends there is read off the forest
   abbrev pub leaf_pair : ℕ × ℕ
   leaf_pair = (get_or forest.links v 0, get_or forest.amounts v 0)
@@ -133,16 +133,16 @@ module _ (network : Network) (total : ℕ) (question : Question) (forest : Fores
 
   -- what stands at a node has the link's part
   part : (number : ℕ × ℕ → ℕ) (sums : List ℕ) (link : Link) → slice_get network.links leaf_pair.0 ≡ Some link → AreSumsOf network number stands.pairs sums
-      → IsPart link (number leaf_pair) sums
+      → IsInSums link (number leaf_pair) sums
   part number sums link there are u = omega (arith, are u, leaf_more.sums number u, ap (λ (found : Option Link). at_ends found u (number leaf_pair)) there)
 
-  pub degree_part : (link : Link) → slice_get network.links leaf_pair.0 ≡ Some link → IsPart link 1 forest.degrees
+  pub degree_part : (link : Link) → slice_get network.links leaf_pair.0 ≡ Some link → IsInSums link 1 forest.degrees
   degree_part link there = part (λ p. 1) forest.degrees link there stands.is_forest.degrees
 
-  pub link_part : (link : Link) → slice_get network.links leaf_pair.0 ≡ Some link → IsPart link leaf_pair.0 forest.links
+  pub link_part : (link : Link) → slice_get network.links leaf_pair.0 ≡ Some link → IsInSums link leaf_pair.0 forest.links
   link_part link there = part (λ p. p.0) forest.links link there stands.is_forest.links
 
-  pub amount_part : (link : Link) → slice_get network.links leaf_pair.0 ≡ Some link → IsPart link leaf_pair.1 forest.amounts
+  pub amount_part : (link : Link) → slice_get network.links leaf_pair.0 ≡ Some link → IsInSums link leaf_pair.1 forest.amounts
   amount_part link there = part (λ p. p.1) forest.amounts link there stands.is_forest.amounts
 
   module _ (place : v < length forest.rates) where
@@ -196,7 +196,7 @@ module _ (network : Network) (total : ℕ) (question : Question) (forest : Fores
         -- and the answer is the same for what is left
         pub stands_less : leaf_pair.1 ≡ min rate (total - rate) → (rates : List ℕ) → length rates ≡ length after.rates → w < length after.rates
             → get_or rates w 0 ≡ get_or after.rates w 0 + get_or after.rates v 0 → get_or rates v 0 ≡ 0 → ((u : ℕ) → u ≢ w → u ≢ v → get_or rates u 0 ≡ get_or after.rates u 0)
-            → Stands network total question (record { degrees = after.degrees; links = after.links; amounts = after.amounts; rates = rates; left = after.left })
+            → StandsForQuestion network total question (record { degrees = after.degrees; links = after.links; amounts = after.amounts; rates = rates; left = after.left })
         stands_less right rates long w_place at_w at_v elsewhere =
             let base = forest_less network stands.ends is_leaf.rest stands.pairs leaf_pair leaf_more link there after forest linked stands.is_forest in
             record {

@@ -10,7 +10,7 @@ use Rattle.std.proofs.lemmas.Bool.{cases_lt}
 use Rattle.std.proofs.lemmas.List.Sorted.{Contains-permutation, IsPermutation-reverse}
 use Rattle.hose_graph.specs.Network.{Network, IsNetwork}
 use Rattle.hose_graph.specs.declared.limits.TheConstants.{MOST_NODES}
-use Rattle.hose_graph.specs.declared.step.Step.{Step}
+use Rattle.hose_graph.specs.declared.topology.Step.{Step}
 use Rattle.hose_graph.proofs.Members.{first_or_rest, none_in_empty}
 use Rattle.hose_law.specs.Tree.{Growth, Grow, IsTree, goes_along, links_up}
 use Rattle.hose_law.specs.Walk.{Joins}

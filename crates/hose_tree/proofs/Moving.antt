@@ -4,7 +4,7 @@ use Rattle.std.proofs.lemmas.Bool.{cases_eq, eq-eqb, ne_eqb}
 use Rattle.std.proofs.lemmas.List.Sums.{sum_by_more, sum_by_more_le_part}
 use Rattle.hose_graph.specs.Hose.{IsHose}
 use Rattle.hose_graph.specs.declared.limits.TheConstants.{MOST_NODES, MOST_ENDS, MOST_RATE}
-use Rattle.hose_graph.specs.declared.step.Step.{Step}
+use Rattle.hose_graph.specs.declared.topology.Step.{Step}
 use Rattle.hose_graph.proofs.Endpoints.{total_rate-le}
 use Rattle.hose_law.specs.Book.{amount_on}
 use Rattle.hose_law.proofs.Trees.{moved, moved_at_old, moved_at_new, moved_at_others}

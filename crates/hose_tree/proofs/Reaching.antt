@@ -4,7 +4,7 @@ use Rattle.std.proofs.lemmas.List.{get_or-set_same, get_or-set_other}
 use Rattle.std.proofs.lemmas.List.Sums.{sum_by-set, sum_by-cons}
 use Rattle.std.proofs.lemmas.Bool.{cases_eq, cond_both, false≢true}
 use Rattle.hose_graph.specs.Network.{Network}
-use Rattle.hose_law.specs.Walk.{IsIn, Joins, Reaches, IsClosed}
+use Rattle.hose_law.specs.Walk.{IsIn, Joins, Reaches, IsClosedSide}
 use Rattle.hose_law.specs.Plan.{IsReachedSet}
 use Rattle.hose_law.proofs.Walks.{joins_turned, reaches_itself, reaches_on, reaches_along, stays}
 use Rattle.hose_tree.specs.Reach.{count_on, AllReached}
@@ -86,7 +86,7 @@ count_le (on ∷ side) = let first = sum_by-cons bit on side in let rest = count
 
 -- a side with its start, of which every node is reached and out of which no link leads, is all that is reached
 pub side_done : (network : Network) (links : List Bool) (from : ℕ) (side : List Bool) → length side ≡ length network.nodes → IsIn side from
-    → AllReached network links from side → IsClosed network links side → IsReachedSet network links from side
+    → AllReached network links from side → IsClosedSide network links side → IsReachedSet network links from side
 side_done network links from side places start all closed = record {
   places = places;
   reached = λ v there. (λ on. all v on, λ reach. stays network links side closed from v reach.0 reach.1 start);

@@ -8,7 +8,7 @@ use Rattle.std.proofs.lemmas.List.Sorted.{Contains-permutation, IsPermutation-ma
 use Rattle.std.proofs.lemmas.Map.Keys.{IsDistinct-IsPermutation, IsStrictlyIncreasing-from_distinct}
 use Rattle.hose_graph.specs.Ascending.{firsts, IsAscending}
 use Rattle.hose_graph.specs.Network.{Network}
-use Rattle.hose_graph.specs.declared.step.Step.{Step}
+use Rattle.hose_graph.specs.declared.topology.Step.{Step}
 use Rattle.hose_law.specs.Tree.{Growth, IsTree, IsReservation, smaller_side, step_links}
 use Rattle.hose_law.proofs.Trees.{tree_links_differ}
 use Rattle.hose_tree.specs.Rates.{reserved_by}

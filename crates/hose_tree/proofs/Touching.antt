@@ -8,7 +8,7 @@ use Rattle.std.proofs.lemmas.List.Elements.{All-append, All-cons, All-head, All-
 use Rattle.std.proofs.lemmas.List.Sorted.{IsPermutation-append_comm, IsPermutation-cons, IsPermutation-refl, IsPermutation-trans, sum_by-IsPermutation}
 use Rattle.std.proofs.lemmas.List.Sums.{sum_by-cons}
 use Rattle.hose_graph.specs.Network.{Network, IsNetwork}
-use Rattle.hose_graph.specs.declared.link.Link.{Link}
+use Rattle.hose_graph.specs.declared.topology.Link.{Link}
 use Rattle.hose_law.specs.Walk.{Joins}
 use Rattle.hose_law.proofs.Joined.{joins_nodes}
 use Rattle.hose_tree.specs.Peeling.{at_ends, sum_at}

@@ -1,6 +1,6 @@
 -- Trees along tight links, while node after node is attached to them.
 use Rattle.std.specs.Prelude.{◌⊎◌, ◌↔◌, ℕ, ◌≤◌, Bool, List, All, Contains}
-use Rattle.hose_graph.specs.declared.step.Step.{Step}
+use Rattle.hose_graph.specs.declared.topology.Step.{Step}
 use Rattle.hose_graph.specs.Network.{Network}
 use Rattle.hose_law.specs.Walk.{IsIn, IsDistance}
 use Rattle.hose_law.specs.Row.{IsTightLink}

@@ -7,8 +7,8 @@ use Rattle.hose_graph.specs.Ascending.{firsts}
 use Rattle.hose_graph.specs.Hose.{Endpoint, node_of, rate_of, total_rate}
 use Rattle.hose_graph.specs.Network.{Network, IsNetwork}
 use Rattle.hose_graph.specs.declared.limits.TheConstants.{MOST_NODES}
-use Rattle.hose_graph.specs.declared.link.Link.{Link}
-use Rattle.hose_graph.specs.declared.step.Step.{Step}
+use Rattle.hose_graph.specs.declared.topology.Link.{Link}
+use Rattle.hose_graph.specs.declared.topology.Step.{Step}
 use Rattle.hose_law.specs.Tree.{Grow, IsOn, step_links, links_up, goes_along}
 use Rattle.hose_tree.specs.Rates.{AreRatesOf}
 use Rattle.hose_tree.specs.declared.judge.Forest.{Forest}
@@ -75,7 +75,7 @@ pub record IsForestOf (network : Network) (ends : List Endpoint) (pairs : List R
   pub left : forest.left ≡ length pairs
 
 -- A forest is of ends and pairs for which the answer is the same as for those of the question.
-pub record Stands (top : Network) (total : ℕ) (question : Question)
+pub record StandsForQuestion (top : Network) (total : ℕ) (question : Question)
     (forest : Forest) : Type 0 where
   pub ends : List Endpoint
   pub pairs : List ReservedLink
@@ -89,17 +89,18 @@ pub record Stands (top : Network) (total : ℕ) (question : Question)
 
 -- a forest stands for some question
 abbrev pub StandsForSome : Network → ℕ → Forest → Type 0
-StandsForSome top total forest = (question : Question) × Stands top total question forest
+StandsForSome top total forest = (question : Question) × StandsForQuestion top total question forest
 
 -- for whatever question one forest stands, another stands too
 abbrev pub KeepsQuestions : Network → ℕ → Forest → Forest → Type 0
 KeepsQuestions top total before after =
-    (question : Question) → Stands top total question before → Stands top total question after
+    (question : Question) → StandsForQuestion top total question before
+    → StandsForQuestion top total question after
 
 -- the answer is no, for whatever question a forest stands
 abbrev pub IsNo : Network → ℕ → Forest → Type 0
 IsNo top total forest =
-    (question : Question) → Stands top total question forest → ¬ IsYes top question
+    (question : Question) → StandsForQuestion top total question forest → ¬ IsYes top question
 
 -- a number was added at both ends of a link
 abbrev pub IsAddedAt : Link → ℕ → List ℕ → List ℕ → Type 0
@@ -115,7 +116,7 @@ pub record IsLinked (link : Link) (number amount : ℕ) (before after : Forest) 
   pub left : after.left ≡ before.left + 1
 
 -- both nodes of a link have a place
-pub record HasPlaces (link : Link) : Type 0 where
+pub record HasNodePlaces (link : Link) : Type 0 where
   pub a : link.a < MOST_NODES
   pub b : link.b < MOST_NODES
 
@@ -124,8 +125,8 @@ abbrev pub HasRoom : ℕ → List ℕ → Type 0
 HasRoom number sums = (v : ℕ) → slice_index sums v + 2 * number < 2 ^ 64
 
 -- it is part of the sums there
-abbrev pub IsPart : Link → ℕ → List ℕ → Type 0
-IsPart link number sums = (v : ℕ) → at_ends (Some link) v number ≤ slice_index sums v
+abbrev pub IsInSums : Link → ℕ → List ℕ → Type 0
+IsInSums link number sums = (v : ℕ) → at_ends (Some link) v number ≤ slice_index sums v
 
 -- no node below a number has just one link left
 abbrev pub HasNoLeafBelow : ℕ → Forest → Type 0

@@ -3,7 +3,7 @@ use Rattle.std.specs.Prelude.{◌≡◌, ℕ, Bool, false, List, length, nat_lt,
 use Rattle.hose_graph.specs.declared.limits.TheConstants.{MOST_NODES}
 use Rattle.hose_graph.specs.Hose.{Endpoint}
 use Rattle.hose_law.specs.Heaviest.{common}
-use Rattle.hose_law.specs.Matrix.{sum_below, entry, node_at, rate_at}
+use Rattle.hose_law.specs.Matrix.{sum_below, demand, node_at, rate_at}
 use Rattle.hose_law.specs.Route.{one_alone}
 use Rattle.hose_law.specs.Tree.{Growth, goes_along, way_up}
 
@@ -21,7 +21,7 @@ is_marked hose marks i = slice_index_or marks (node_at hose i) false
 abbrev pub sent_across : List Endpoint → List Bool → List (List ℕ) → ℕ → ℕ
 sent_across hose marks matrix i =
     sum_below (length hose) (λ j.
-    if one_alone (is_marked hose marks i) (is_marked hose marks j) then entry matrix i j else 0)
+    if one_alone (is_marked hose marks i) (is_marked hose marks j) then demand matrix i j else 0)
 
 -- what is paired off of the rates of endpoints i and j, in the row of the lower-numbered one
 abbrev pub paired : List Endpoint → List Bool → ℕ → ℕ → ℕ

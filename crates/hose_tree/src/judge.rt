@@ -4,7 +4,7 @@ ghost use Rattle.std.specs.Prelude.{◌≡◌, ◌↔◌, ℕ, ◌+◌, ◌*◌,
 ghost use Rattle.hose_graph.specs.Network.{IsNetwork};
 ghost use Rattle.hose_law.specs.Tree.{IsTreeReservation};
 ghost use Rattle.hose_law.specs.Walk.{all_links};
-ghost use Rattle.hose_tree.specs.Peeling.{AreLeavesStill, HasNoLeafBelow, HasPlaces, HasRoom, IsAddedAt, IsForestOf, IsLinked, IsNo, IsPart, IsPossible, IsYes, KeepsQuestions, Question, Stands, StandsForSome};
+ghost use Rattle.hose_tree.specs.Peeling.{AreLeavesStill, HasNoLeafBelow, HasNodePlaces, HasRoom, IsAddedAt, IsForestOf, IsLinked, IsNo, IsInSums, IsPossible, IsYes, KeepsQuestions, Question, StandsForQuestion, StandsForSome};
 
 use crate::canonical::other_end;
 use crate::reserve::{add_rates, move_rate};
@@ -88,7 +88,7 @@ impl Forest {
 
     // Adds a link with its number and its amount.
     fn add_link(&mut self, link: &Link, number: u32, amount: u64)
-        requires places { HasPlaces link.now }
+        requires places { HasNodePlaces link.now }
         requires degrees { HasRoom 1 self.old.degrees }
         requires links { HasRoom number self.old.links }
         requires amounts { HasRoom amount self.old.amounts }
@@ -103,10 +103,10 @@ impl Forest {
 
     // Takes a link away.
     fn take_link(&mut self, link: &Link, number: u32, amount: u64)
-        requires places { HasPlaces link.now }
-        requires degrees { IsPart link.now 1 self.old.degrees }
-        requires links { IsPart link.now number self.old.links }
-        requires amounts { IsPart link.now amount self.old.amounts }
+        requires places { HasNodePlaces link.now }
+        requires degrees { IsInSums link.now 1 self.old.degrees }
+        requires links { IsInSums link.now number self.old.links }
+        requires amounts { IsInSums link.now amount self.old.amounts }
         requires left { 0 < self.old.left }
         ensures { IsLinked link.now number amount self.new self.old }
     {
@@ -185,7 +185,7 @@ impl Forest {
     // Whether no link is left, and the whole total is at one node.
     fn is_bare(&self, top: &Topology, total: u64) -> bool
         requires { HasNoLeafBelow (length top.now.nodes) self.now }
-        ensures { (question : Question) → Stands top.now total question self.now
+        ensures { (question : Question) → StandsForQuestion top.now total question self.now
             → (IsTrue result ↔ IsYes top.now question) }
     {
         self.left == 0 && has(&self.rates[..top.nodes() as usize], total)
@@ -200,7 +200,7 @@ fn has(rates: &[u64], rate: u64) -> bool
 
 // Adds a number at both nodes of a link.
 fn add_at_ends(sums: &mut Sums, link: &Link, number: u64)
-    requires places { HasPlaces link.now }
+    requires places { HasNodePlaces link.now }
     requires room { HasRoom number sums.old }
     ensures { IsAddedAt link.now number sums.old sums.new }
 {
@@ -210,8 +210,8 @@ fn add_at_ends(sums: &mut Sums, link: &Link, number: u64)
 
 // Takes a number away at both nodes of a link.
 fn take_at_ends(sums: &mut Sums, link: &Link, number: u64)
-    requires places { HasPlaces link.now }
-    requires part { IsPart link.now number sums.old }
+    requires places { HasNodePlaces link.now }
+    requires part { IsInSums link.now number sums.old }
     ensures { IsAddedAt link.now number sums.new sums.old }
 {
     sums[link.a as usize] -= number;

@@ -16,19 +16,16 @@ ghost use Rattle.std.specs.Prelude.{◌≡◌};
 ghost use Rattle.hose_law.specs.Tree.{Growth, IsTree};
 ghost use Rattle.hose_graph.specs.Network.{Network, IsNetwork};
 
+mod amounts;
 mod canonical;
-mod costing;
-mod fit;
 mod judge;
 mod matrix;
 mod pairing;
 mod reach;
 mod reserve;
-mod side;
 mod traffic;
 
-pub use costing::cost;
-pub use fit::{fits, free_rate};
+pub use amounts::{cost, fits, free_rate};
 pub use hose_graph::Step;
 pub use judge::is_reservation;
 pub use matrix::Matrix;
@@ -61,7 +58,7 @@ impl Model for Tree {
 }
 
 impl Tree {
-    /// The node from which it grows.
+    /// The node from which it grows, which only an embedding or a test asks for.
     pub fn start(&self) -> u32
         ensures start { result ≡ self.now.start }
         ensures is_tree { (network : Network) × IsNetwork network × IsTree network self.now }

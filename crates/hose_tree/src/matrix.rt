@@ -1,11 +1,11 @@
 // Traffic matrices of a hose.
 ghost use Rattle.std.specs.Prelude.{◌≡◌, ◌<◌, All, length, map};
-ghost use Rattle.hose_law.specs.Matrix.{entry};
+ghost use Rattle.hose_law.specs.Matrix.{demand};
 
 use std::marker::Model;
 
-/// What the endpoints of a hose send each other, in the customer's unit of bandwidth: a row and a
-/// column for each endpoint, in their order.
+/// What the endpoints of a hose send each other, which only an embedding or a test tells: in the
+/// customer's unit of bandwidth, a row and a column for each endpoint, in their order.
 ///
 /// A contract sees it as the list of its rows.
 #[derive(Debug, Drop)]
@@ -38,7 +38,7 @@ impl Matrix {
     pub fn at(&self, i: u32, j: u32) -> u64
         requires row { i < length self.now }
         requires column { j < length self.now }
-        ensures { result ≡ entry self.now i j }
+        ensures { result ≡ demand self.now i j }
     {
         self.rows[i as usize][j as usize]
     }

@@ -9,11 +9,12 @@ ghost use Rattle.hose_tree.specs.Side.{is_marked, paired};
 
 use crate::Tree;
 use crate::matrix::Matrix;
-use crate::side::{is_beyond, mark_beyond};
+use crate::traffic::{is_beyond, mark_beyond};
 use hose_graph::{Hose, MOST_ENDS, MOST_NODES, MOST_RATE};
 use std::alloc::{AllocError, Global};
 
-/// The traffic within the rates of a hose that puts on a link of a tree all that is reserved there.
+/// The traffic that only an embedding or a test asks for: the one within the rates of a hose that
+/// puts on a link of a tree all that is reserved there.
 ///
 /// The rates of the endpoints on the one side are paired off, in order of endpoints, with those of
 /// the endpoints on the other. What is paired stands in the row of the lower-numbered endpoint and

@@ -3,7 +3,7 @@ ghost use Rattle.std.specs.Prelude.{◌≡◌, ◌≢◌, ℕ, ◌<◌, false, t
 ghost use Rattle.hose_graph.specs.Network.{IsNetwork};
 ghost use Rattle.hose_law.specs.Decision.{IsReachedList};
 ghost use Rattle.hose_law.specs.Plan.{IsReachedSet};
-ghost use Rattle.hose_law.specs.Walk.{IsIn, IsClosed};
+ghost use Rattle.hose_law.specs.Walk.{IsIn, IsClosedSide};
 ghost use Rattle.hose_tree.specs.Nodes.{AreNodesBelow};
 ghost use Rattle.hose_tree.specs.Reach.{count_on, AllReached, IsClosedAt};
 
@@ -47,7 +47,7 @@ fn spread_all(top: &Topology, links: &LinkSet, side: &mut [bool])
     ensures keeps { (v : ℕ) → IsIn side.old v → IsIn side.new v }
     ensures reached { (from : ℕ) → AllReached top.now links.now from side.old
         → AllReached top.now links.now from side.new }
-    ensures closed { IsClosed top.now links.now side.new }
+    ensures closed { IsClosedSide top.now links.now side.new }
 {
     while spread(top, links, side) {}
 }
@@ -60,7 +60,7 @@ fn spread(top: &Topology, links: &LinkSet, side: &mut [bool]) -> bool
     ensures keeps { (v : ℕ) → IsIn side.old v → IsIn side.new v }
     ensures reached { (from : ℕ) → AllReached top.now links.now from side.old
         → AllReached top.now links.now from side.new }
-    ensures stable { result ≡ false → IsClosed top.now links.now side.new }
+    ensures stable { result ≡ false → IsClosedSide top.now links.now side.new }
     ensures grows { result ≡ true → count_on side.old < count_on side.new }
 {
     let mut has_grown = false;
@@ -72,7 +72,8 @@ fn spread(top: &Topology, links: &LinkSet, side: &mut [bool]) -> bool
     has_grown
 }
 
-// The same along one link.
+// Where one node of this link is on the side and the set has the link, so is the other from now on.
+// Says whether that added a node.
 fn spread_along(top: &Topology, links: &LinkSet, side: &mut [bool], l: u32) -> bool
     requires places { length links.now ≡ length top.now.links }
     requires nodes { length side.old ≡ length top.now.nodes }

@@ -1,10 +1,10 @@
 -- The endpoint's share is small, and it is one more that is not left out.
-use Rattle.std.proofs.Common.{◌≡◌, ◌∙◌, ℕ, ◌*◌, ◌<◌, List, None, Some, length, get_or, take, ap, sym, subst, arith}
+use Rattle.std.proofs.Common.{◌≡◌, ◌∙◌, ℕ, ◌<◌, List, None, length, get_or, take, ap, sym, subst, arith}
 use Rattle.std.proofs.lemmas.List.{take_all}
 use Rattle.hose_graph.specs.Row.{distance_of}
 use Rattle.hose_law.specs.CanonicalPlan.{IsWeight}
 use Rattle.hose_root.specs.Weight.{LeavesOut, weight_of}
-use Rattle.hose_root.proofs.Weighing.{weight_more, none_left_out_more, weight_small, is_weight, no_weight, left_out}
+use Rattle.hose_root.proofs.Weighing.{weight_more, none_left_out_more, share_at, is_weight, no_weight, left_out}
 use Rattle.hose_root.proofs.weight.Goals as goal
 
 pub loop-node-preserved : goal.loop-node-preserved
@@ -13,49 +13,22 @@ loop-node-preserved c =
     let hose = c.args.hose.now in
     let i = c.loop-node.node-index in
     let d = c.in_ok-distance.distance in
-    let same = c.ends-node-items.ensures.value in
-    let inside : i < length hose = omega (arith, ap length same) in
-    let there : distance_of row (get_or hose i (0, 0)).0 ≡ Some d =
-    ap (λ (es : List (ℕ × ℕ)). distance_of row (get_or es i (0, 0)).0) (sym same) ∙ sym c.distance.ensures ∙ c.in_ok-distance.was in
-    let share : (get_or c.ends-node-items.result.now i (0, 0)).1 * d ≡ (get_or hose i (0, 0)).1 * d =
-    ap (λ (es : List (ℕ × ℕ)). (get_or es i (0, 0)).1 * d) same in
-    let more = weight_more row hose i d inside there in
-    let small = weight_small row hose i d inside there c.requires.bounded c.ends-node-items.ensures.hose.within in
+    let share = share_at c.args.row.now c.args.hose.now c.ends-node-items.result.now c.loop-node.node-index c.in_ok-distance.distance c.distance.result c.ends-node-items.ensures.value c.loop-node-test.true c.distance.ensures c.in_ok-distance.was c.requires.bounded c.ends-node-items.ensures.hose.within in
     record {
-      sum = omega (arith, share, more);
-      all = none_left_out_more row hose i d inside there c.loop-node.invariant.all;
-      small = omega (arith, share, small);
+      sum = omega (arith, share.same, weight_more row hose i d share.inside share.there);
+      all = none_left_out_more row hose i d share.inside share.there c.loop-node.invariant.all;
+      small = omega (arith, share.small);
     }
 
 pub overflow_mul-weight : goal.overflow_mul-weight
 overflow_mul-weight c =
-    let row = c.args.row.now in
-    let hose = c.args.hose.now in
-    let i = c.loop-node.node-index in
-    let d = c.in_ok-distance.distance in
-    let same = c.ends-node-items.ensures.value in
-    let inside : i < length hose = omega (arith, ap length same) in
-    let there : distance_of row (get_or hose i (0, 0)).0 ≡ Some d =
-    ap (λ (es : List (ℕ × ℕ)). distance_of row (get_or es i (0, 0)).0) (sym same) ∙ sym c.distance.ensures ∙ c.in_ok-distance.was in
-    let share : (get_or c.ends-node-items.result.now i (0, 0)).1 * d ≡ (get_or hose i (0, 0)).1 * d =
-    ap (λ (es : List (ℕ × ℕ)). (get_or es i (0, 0)).1 * d) same in
-    let small = weight_small row hose i d inside there c.requires.bounded c.ends-node-items.ensures.hose.within in
-    omega (arith, share, small)
+    let share = share_at c.args.row.now c.args.hose.now c.ends-node-items.result.now c.loop-node.node-index c.in_ok-distance.distance c.distance.result c.ends-node-items.ensures.value c.loop-node-test.true c.distance.ensures c.in_ok-distance.was c.requires.bounded c.ends-node-items.ensures.hose.within in
+    omega (arith, share.small)
 
 pub overflow_add-weight : goal.overflow_add-weight
 overflow_add-weight c =
-    let row = c.args.row.now in
-    let hose = c.args.hose.now in
-    let i = c.loop-node.node-index in
-    let d = c.in_ok-distance.distance in
-    let same = c.ends-node-items.ensures.value in
-    let inside : i < length hose = omega (arith, ap length same) in
-    let there : distance_of row (get_or hose i (0, 0)).0 ≡ Some d =
-    ap (λ (es : List (ℕ × ℕ)). distance_of row (get_or es i (0, 0)).0) (sym same) ∙ sym c.distance.ensures ∙ c.in_ok-distance.was in
-    let share : (get_or c.ends-node-items.result.now i (0, 0)).1 * d ≡ (get_or hose i (0, 0)).1 * d =
-    ap (λ (es : List (ℕ × ℕ)). (get_or es i (0, 0)).1 * d) same in
-    let small = weight_small row hose i d inside there c.requires.bounded c.ends-node-items.ensures.hose.within in
-    omega (arith, share, small, c.ends-node-items.ensures.hose.counted.few)
+    let share = share_at c.args.row.now c.args.hose.now c.ends-node-items.result.now c.loop-node.node-index c.in_ok-distance.distance c.distance.result c.ends-node-items.ensures.value c.loop-node-test.true c.distance.ensures c.in_ok-distance.was c.requires.bounded c.ends-node-items.ensures.hose.within in
+    omega (arith, share.small, ap length c.ends-node-items.ensures.value, c.ends-node-items.ensures.hose.counted.few)
 
 pub returns-clause-weight : goal.returns-clause-weight
 returns-clause-weight c network set is_row =

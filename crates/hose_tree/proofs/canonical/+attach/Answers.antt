@@ -1,7 +1,7 @@
 -- The tight link leads to a node that is nearer, and a step along it attaches the node.
 use Rattle.std.proofs.Common.{◌≡◌, ◌∙◌, ◌∷◌, ℕ, ◌<◌, List, Option, Some, IsSome, length, reverse, unwrap_or, refl, sym, ap, subst, arith}
 use Rattle.std.proofs.lemmas.Bool.{true≢false}
-use Rattle.hose_graph.specs.declared.step.Step.{Step}
+use Rattle.hose_graph.specs.declared.topology.Step.{Step}
 use Rattle.hose_graph.specs.Row.{distance_of, tight_link_of}
 use Rattle.hose_law.specs.Walk.{IsIn}
 use Rattle.hose_tree.proofs.Attaching.{tight_is_link, tight_joins, falls, is_node, attached_by_step, reverse_push}

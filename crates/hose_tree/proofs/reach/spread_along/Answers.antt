@@ -1,7 +1,7 @@
 use Rattle.std.proofs.Common.{◌≡◌, ◌⊎◌, ◌<◌, Bool, List, Option, refl, sym, subst, inl, inr, arith, rules}
 use Rattle.std.specs.Option.{IsSomeAnd}
 use Rattle.std.proofs.lemmas.Bool.{cases_Bool}
-use Rattle.hose_graph.specs.declared.link.Link.{Link}
+use Rattle.hose_graph.specs.declared.topology.Link.{Link}
 use Rattle.hose_law.specs.Walk.{IsIn, Joins}
 use Rattle.hose_tree.specs.Reach.{count_on, AllReached}
 use Rattle.hose_tree.proofs.Reaching.{pair_counts, pair_reached}

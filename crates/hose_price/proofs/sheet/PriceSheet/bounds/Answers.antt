@@ -2,7 +2,7 @@
 use Rattle.std.proofs.Common.{◌≡◌, ℕ, sym, subst}
 use Rattle.hose_law.specs.CanonicalPlan.{IsCanonicalPlan, IsRoot}
 use Rattle.hose_law.specs.Walk.{all_links}
-use Rattle.hose_price.specs.Pricing.{AreBounds, HasNoPlan}
+use Rattle.hose_price.specs.Pricing.{AreBounds, HasNoPricedPlan}
 use Rattle.hose_price.specs.Sheet.{Sheet, costs_length, costs_one}
 use Rattle.hose_price.proofs.Firsts.{first_plan, links_there, no_plan}
 use Rattle.hose_price.proofs.sheet.PriceSheet.bounds.Goals as goal
@@ -13,7 +13,7 @@ returns-in_default g c =
     let all : c.args.links.now ≡ all_links own.top = rw (sym c.self.view_is) at c.requires.links in
     let none : (root weight : ℕ) → ¬ IsRoot own.hops c.args.links.now c.args.hose.now root weight = rw c.in_default.is at (c.in_ok-few.ensures).no_root in
     let has = no_plan costs_one own.top own.hops c.self.invariant.hops c.args.links.now all c.args.hose.now c.plan.ensures.network none in
-    subst (λ (sheet : Sheet). HasNoPlan sheet.network c.args.hose.now) c.self.view_is has
+    subst (λ (sheet : Sheet). HasNoPricedPlan sheet.network c.args.hose.now) c.self.view_is has
 
 pub plan-requires-2-clause-places : goal.plan-requires-2-clause-places
 plan-requires-2-clause-places g c =
@@ -27,7 +27,7 @@ returns-in_default-2 g c =
     let all : c.args.links.now ≡ all_links own.top = rw (sym c.self.view_is) at c.requires.links in
     let none : (root weight : ℕ) → ¬ IsRoot own.lengths c.args.links.now c.args.hose.now root weight = rw c.in_default-2.is at (c.in_ok-short.ensures).no_root in
     let has = no_plan costs_length own.top own.lengths c.self.invariant.lengths c.args.links.now all c.args.hose.now c.plan-2.ensures.network none in
-    subst (λ (sheet : Sheet). HasNoPlan sheet.network c.args.hose.now) c.self.view_is has
+    subst (λ (sheet : Sheet). HasNoPricedPlan sheet.network c.args.hose.now) c.self.view_is has
 
 pub returns : goal.returns
 returns g c =

@@ -1,5 +1,5 @@
 use Rattle.hose_tree.proofs.Marking.{IsMarked}
-use Rattle.hose_tree.proofs.side.mark_beyond.Given as goal
+use Rattle.hose_tree.proofs.traffic.mark_beyond.Given as goal
 
 abbrev pub invariant-loop-step : goal.invariant-loop-step
 invariant-loop-step l = IsMarked l.tree l.link l.step-index l.marks

@@ -1,6 +1,6 @@
 use Rattle.std.proofs.Common.{length, ap, arith}
 use Rattle.hose_tree.proofs.Costs.{cost_more, cost_little}
-use Rattle.hose_tree.proofs.costing.cost.Goals as goal
+use Rattle.hose_tree.proofs.amounts.cost.Goals as goal
 
 pub overflow_mul-sum : goal.overflow_mul-sum
 overflow_mul-sum c =

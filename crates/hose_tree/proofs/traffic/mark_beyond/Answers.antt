@@ -1,8 +1,8 @@
 use Rattle.std.proofs.Common.{◌≡◌, ◌∙◌, ◌||◌, false, List, get_or, eqb, length, sym, ap, arith}
-use Rattle.hose_graph.specs.declared.step.Step.{Step}
+use Rattle.hose_graph.specs.declared.topology.Step.{Step}
 use Rattle.hose_tree.proofs.Marking.{marked_none, marked_more, step_has_places}
-use Rattle.hose_tree.proofs.side.mark_beyond.Goals as goal
-use Rattle.hose_tree.proofs.side.mark_beyond.Goals.{then-marks-step, else-marks-step}
+use Rattle.hose_tree.proofs.traffic.mark_beyond.Goals as goal
+use Rattle.hose_tree.proofs.traffic.mark_beyond.Goals.{then-marks-step, else-marks-step}
 
 pub loop-step-init : goal.loop-step-init
 loop-step-init c = marked_none c.args.tree.now c.args.link c.args.marks.now c.requires.none

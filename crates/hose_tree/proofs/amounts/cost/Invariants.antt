@@ -1,7 +1,7 @@
 use Rattle.std.proofs.Common.{◌≡◌, ◌*◌, ◌≤◌, take}
 use Rattle.hose_graph.specs.declared.limits.TheConstants.{MOST_AMOUNT, MOST_COST}
 use Rattle.hose_law.specs.Plan.{plan_cost}
-use Rattle.hose_tree.proofs.costing.cost.Given as goal
+use Rattle.hose_tree.proofs.amounts.cost.Given as goal
 
 abbrev pub invariant-loop-link : goal.invariant-loop-link
 invariant-loop-link l = record {

@@ -4,7 +4,7 @@ use Rattle.std.proofs.lemmas.List.{length-replicate}
 use Rattle.std.specs.Prelude.{nat_le, slice_index, slice_index_or}
 use Rattle.hose_law.specs.Room.{free_rates}
 use Rattle.hose_plan.proofs.EqualGrounds.{safe_from}
-use Rattle.hose_plan.proofs.safe.safe_links.Goals as goal
+use Rattle.hose_plan.proofs.decision.safe_links.Goals as goal
 
 pub returns-clause-places : goal.returns-clause-places
 returns-clause-places c = c.fill_where.ensures.len ∙ ap length c.in_ok-links.ensures ∙ length-replicate c.links.result false ∙ c.links.ensures.count

@@ -1,7 +1,7 @@
 use Rattle.std.proofs.Common.{◌∙◌, ◌-◌, ℕ, get_or, sym, ap}
 use Rattle.hose_law.proofs.Joined.{capacity_of_link}
 use Rattle.hose_law.proofs.Rooms.{free_rates-at}
-use Rattle.hose_tree.proofs.fit.free_rate.Goals as goal
+use Rattle.hose_tree.proofs.amounts.free_rate.Goals as goal
 
 pub returns : goal.returns
 returns c =

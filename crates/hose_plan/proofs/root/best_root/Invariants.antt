@@ -1,0 +1,5 @@
+use Rattle.hose_plan.proofs.Weights.{AreSoFar}
+use Rattle.hose_plan.proofs.root.best_root.Given as goal
+
+abbrev pub invariant-loop-node : goal.invariant-loop-node
+invariant-loop-node g l = AreSoFar l.top l.links l.hose l.node-index l.weights.items
