@@ -22,7 +22,7 @@ use Rattle.hose_book.proofs.Served.{on_tree, served_on}
 use Rattle.hose_book.specs.declared.checking.BookRefusal.{BookRefusal}
 use Rattle.hose_book.specs.declared.checking.BookRefusal.TheVariants.{Spent, Full, NotATree, OutOfService, NoRoom, NoVpn, NoLink, Already}
 use Rattle.hose_graph.specs.Ascending.{IsAscending}
-use Rattle.hose_book.specs.Refusal.{AreServed, HasPlace, IsAbove, IsLowestFull, IsLowestOut, IsRefusedAdmission, IsRefusedFor, IsRefusedRelease, IsRefusedService, Judges}
+use Rattle.hose_book.specs.Refusal.{AreInService, HasPlace, IsAbove, IsLowestFull, IsLowestOut, IsRefusedAdmission, IsRefusedFor, IsRefusedRelease, IsRefusedService, Judges}
 
 module _ (network : Network) (book : Book) where
   abbrev service : List Bool
@@ -86,7 +86,7 @@ module _ (network : Network) (book : Book) where
       omega (arith, below, above, here.here, there.here)
 
   -- amounts of which one is on a link that is out are not all in service
-  not_served : (amounts : List (ℕ × ℕ)) (link : ℕ) → IsLowestOut service amounts link → AreServed service amounts → ⊥
+  not_served : (amounts : List (ℕ × ℕ)) (link : ℕ) → IsLowestOut service amounts link → AreInService service amounts → ⊥
   not_served amounts link out served = out.out (All-contains (λ (pair : ℕ × ℕ). IsIn service pair.0) amounts out.pair served out.there)
 
   -- an admission is refused for one cause
@@ -247,7 +247,7 @@ first_is_lowest free amounts i ascending inside fit above = record {
 }
 
 -- so is the first amount that is on a link that is not in a set
-pub first_out_is_lowest : (service : List Bool) (amounts : List (ℕ × ℕ)) (i : ℕ) → IsAscending amounts → i < length amounts → AreServed service (take i amounts)
+pub first_out_is_lowest : (service : List Bool) (amounts : List (ℕ × ℕ)) (i : ℕ) → IsAscending amounts → i < length amounts → AreInService service (take i amounts)
     → (¬ IsIn service (get_or amounts i (0, 0)).0) → IsLowestOut service amounts (get_or amounts i (0, 0)).0
 first_out_is_lowest service amounts i ascending inside served out = record {
   pair = get_or amounts i (0, 0);

@@ -2,6 +2,7 @@ pub mod Ids
 pub mod Judging
 pub mod Loads
 pub mod Moving
+mod Operated
 pub mod Releasing
 pub mod Reserved
 mod Served

@@ -8,7 +8,7 @@ use Rattle.std.proofs.lemmas.Bool.Decides.{Decides-not}
 use Rattle.std.proofs.lemmas.Option.{none-some, same_Some, get_or_from_slice_get, slice_get_within, slice_get-get_or}
 use Rattle.std.proofs.lemmas.List.Elements.{All-filter, All-head, All-tail, All-weaker}
 use Rattle.std.proofs.lemmas.List.Sums.{sum_by-remove}
-use Rattle.hose_graph.specs.declared.vpn.Vpn.{Vpn}
+use Rattle.hose_graph.specs.declared.entry.Vpn.{Vpn}
 use Rattle.hose_graph.specs.declared.entry.Entry.TheVariants.{Release}
 use Rattle.hose_graph.specs.Network.{Network}
 use Rattle.hose_law.specs.Book.{Book, HasVpn, IsLiveVpn, amount_on, load_of}
@@ -142,7 +142,7 @@ module _ (book : Book) (customer : List ℕ) (id place : ℕ) where
       let touched : touched_links book (Release customer id) ≡ firsts vpn.amounts = ap links found ∙ append-nil (firsts vpn.amounts) in
       record { inside = inside; is = is; released = released; touched = touched; load_less = less }
 
--- the same where it was found in the book of the ledger that a book is seen as
+-- a VPN is taken out so too where it was found in the book of the ledger that a book is seen as
 pub taken_in : (seen book : Book) (customer : List ℕ) (id place : ℕ) (vpn : Vpn) → book ≡ seen → Rise book.live
     → IsSomeAnd (slice_get seen.live place) (IsLiveVpn seen customer id) → vpn ≡ get_or book.live place vpn → Taken book customer id place vpn
 taken_in seen book customer id place vpn same rise asked read =

@@ -15,8 +15,8 @@ use Rattle.hose_law.specs.Tree.{IsTreeReservation, links_of}
 use Rattle.hose_law.specs.Walk.{IsIn, all_links}
 use Rattle.hose_law.proofs.Reservations.{pair_there, tree_in_reserved}
 use Rattle.hose_law.proofs.Serving.{back_other, back_same, out_other, out_same}
-use Rattle.hose_book.specs.Refusal.{AreServed}
-use Rattle.hose_book.specs.Serving.{IsServed, Served}
+use Rattle.hose_book.specs.Refusal.{AreInService}
+use Rattle.hose_book.specs.Serving.{IsSetInService, Served}
 
 -- ---- what is out
 
@@ -42,7 +42,7 @@ any_below (x ∷ xs) n below q some = elim (cases_eq q x) [
     rest true is found = absurd (false≢true (sym is))
     rest false is found = found
 
-module _ (served : Served) (is : IsServed served) (link : ℕ) (inside : link < length served.links) where
+module _ (served : Served) (is : IsSetInService served) (link : ℕ) (inside : link < length served.links) where
   abbrev out : List ℕ
   out = served.out
 
@@ -75,7 +75,7 @@ module _ (served : Served) (is : IsServed served) (link : ℕ) (inside : link < 
         let few = length-le_from_distinct_below (taken_out out link) count (IsDistinct-from_AllPairs (λ a b. Decides-eqb a b) (taken_out out link) once_more) (any_below (taken_out out link) count below_more) in
         omega (arith, few, length-append out (link ∷ []))
 
-    pub served_out : IsServed after_out
+    pub served_out : IsSetInService after_out
     served_out = record {
       few = omega (arith, is.few, length-set served.links link false);
       each = λ l below. at l (omega (arith, below, length-set served.links link false));
@@ -90,7 +90,7 @@ module _ (served : Served) (is : IsServed served) (link : ℕ) (inside : link < 
           | inr differ ↦ get_or-set_other served.links link l false false differ ∙ is.each l below ∙ ap not (sym (out_other out link l differ))
         ]
 
-  pub served_back : IsServed after_back
+  pub served_back : IsSetInService after_back
   served_back = record {
     few = omega (arith, is.few, length-set served.links link true);
     each = λ l below. at l (omega (arith, below, length-set served.links link true));
@@ -106,7 +106,7 @@ module _ (served : Served) (is : IsServed served) (link : ℕ) (inside : link < 
       ]
 
 -- where none is out, all are in service
-pub served_all : (count : ℕ) → count ≤ 2048 → IsServed (record { links = replicate count true; out = [] })
+pub served_all : (count : ℕ) → count ≤ 2048 → IsSetInService (record { links = replicate count true; out = [] })
 served_all count few = record {
   few = omega (arith, few, length-replicate count true);
   each = λ l below. get_or-replicate count l true false (omega (arith, below, length-replicate count true));
@@ -139,13 +139,13 @@ module _ (network : Network) (set : List Bool) (hose amounts : List (ℕ × ℕ)
       ]
 
   -- the amounts of a tree over a set are on links of it
-  pub served_on : AreServed set amounts
+  pub served_on : AreInService set amounts
   served_on =
       All-weaker (Contains amounts) (λ (pair : ℕ × ℕ). IsIn set pair.0)
       (λ pair there. All-contains (IsIn set) (links_of reserved.tree) pair.0 reserved.over ((reserved.reserves.each pair.0 pair.1).0 there).0) amounts (All-contains_itself amounts)
 
   -- where all amounts of a tree are on links of another set, it is a tree over that
-  pub over_served : (other : List Bool) → AreServed other amounts → IsTreeReservation network other hose amounts
+  pub over_served : (other : List Bool) → AreInService other amounts → IsTreeReservation network other hose amounts
   over_served other served = over_other other (λ l there.
       let found = pair_there amounts l (tree_in_reserved reserved.tree hose amounts reserved.reserves l there) in
       All-contains (λ (pair : ℕ × ℕ). IsIn other pair.0) amounts (l, found.0) served found.1)

@@ -10,7 +10,7 @@ use Rattle.hose_law.specs.History.{book_of}
 use Rattle.hose_law.specs.Tracks.{Change, Recent, Tracks, changes_of, touched_links}
 use Rattle.hose_law.proofs.Tracked.{tracks_anew, tracks_more}
 use Rattle.hose_book.specs.Changes.{AreInOrder, AreUpTo, with_changes}
-use Rattle.hose_book.specs.Ledger.{HasBookOf, Ledger, next_ledger}
+use Rattle.hose_book.specs.Ledger.{HasBookOf, Ledger, TracksOn, next_ledger}
 use Rattle.hose_book.specs.declared.recent.TheConstants.{MOST_CHANGES}
 
 -- the next ledger tracks the history with the entry
@@ -27,6 +27,11 @@ tracks_next ledger entry epoch history same tracks =
         (record { floor = ledger.recent.floor; changes = ledger.recent.changes ++ changes_of ((book_of epoch history).epoch + 1) (touched_links (book_of epoch history) entry) }))
     by_room true = tracks_anew epoch history entry
     by_room false = tracks_more epoch history ledger.recent entry tracks
+
+-- so does a ledger that is the next one
+pub tracks_on : (old new : Ledger) (entry told : Entry) → new ≡ next_ledger old told → entry ≡ told → TracksOn old entry new
+tracks_on old new entry told next is = λ epoch history same tracks.
+    subst (λ (l : Ledger). Tracks epoch (history ++ entry ∷ []) l.recent) (sym (next ∙ ap (next_ledger old) (sym is))) (tracks_next old entry epoch history same tracks)
 
 -- where changes stand in order and none is of a later epoch, one of the epoch may follow
 in_order_push : (changes : List Change) (epoch link : ℕ) → AreInOrder changes → AreUpTo epoch changes → AreInOrder (changes ++ (epoch, link) ∷ [])
@@ -53,7 +58,7 @@ in_order_with changes epoch (link ∷ links) order up_to =
 up_to_next : (changes : List Change) (epoch : ℕ) → AreUpTo epoch changes → AreUpTo (epoch + 1) changes
 up_to_next changes epoch up_to = All-weaker (λ (change : Change). change.0 ≤ epoch) (λ (change : Change). change.0 ≤ epoch + 1) (λ change below. omega (arith, below)) changes up_to
 
--- the same of changes with those of an epoch more, of which the earlier ones may have gone
+-- changes with those of an epoch more are up to it, though the earlier ones may have gone
 module _ (recent : Recent) (epoch : ℕ) (links : List ℕ) where
   abbrev over : Bool
   over = nat_lt MOST_CHANGES (length recent.changes + length links)

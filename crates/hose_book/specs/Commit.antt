@@ -3,8 +3,8 @@ use Rattle.std.specs.Prelude.{◌≡◌, List, [], ◌∷◌, ◌++◌, ⊤}
 use Rattle.hose_io.specs.Frame.{Frame, Rose, Stays}
 use Rattle.hose_graph.specs.declared.entry.Entry.{Entry}
 use Rattle.hose_book.specs.Ledger.{Ledger, TracksOn, next_ledger}
-use Rattle.hose_book.specs.declared.committed.Committed.{Committed}
-use Rattle.hose_book.specs.declared.committed.Committed.TheVariants.{Done, Disk}
+use Rattle.hose_book.specs.declared.books.Committed.{Committed}
+use Rattle.hose_book.specs.declared.books.Committed.TheVariants.{Done, Disk}
 
 -- the ledger is the next one, or as before
 abbrev pub Commits : Ledger → Entry → Committed → Ledger → Type 0

@@ -5,7 +5,7 @@ use Rattle.hose_graph.specs.declared.entry.Entry.{Entry}
 use Rattle.hose_law.specs.History.{EntryKind, book_of}
 use Rattle.hose_book.specs.Commit.{history_after}
 use Rattle.hose_book.specs.declared.books.Books.{Ghosts}
-use Rattle.hose_book.specs.declared.committed.Committed.{Committed}
+use Rattle.hose_book.specs.declared.books.Committed.{Committed}
 
 -- Entries were committed to books of a history, each of this kind at the history before it: these
 -- are the history and the books that they lead to. A commit that failed leaves the history.

@@ -1,6 +1,6 @@
 -- The ledger, as contracts see it: a network, its book and recent changes; and what a book keeps.
 use Rattle.std.specs.Prelude.{◌≡◌, ℕ, ◌<◌, ◌≤◌, List, [], ◌∷◌, ◌++◌, All, length, slice_index}
-use Rattle.hose_graph.specs.declared.vpn.Vpn.{Vpn}
+use Rattle.hose_graph.specs.declared.entry.Vpn.{Vpn}
 use Rattle.hose_graph.specs.declared.limits.TheConstants.{MOST_AMOUNT, MOST_TREE_LINKS}
 use Rattle.hose_graph.specs.Amounts.{ReservedLink, amount_of}
 use Rattle.hose_graph.specs.Network.{Network}

@@ -33,8 +33,8 @@ pub record IsLowestFull (free : List ℕ) (amounts : List ReservedLink) (link : 
       → link ≤ link_of other
 
 -- all links of these amounts are in a set
-abbrev pub AreServed : List Bool → List ReservedLink → Type 0
-AreServed service amounts = All (λ (pair : ReservedLink). IsIn service (link_of pair)) amounts
+abbrev pub AreInService : List Bool → List ReservedLink → Type 0
+AreInService service amounts = All (λ (pair : ReservedLink). IsIn service (link_of pair)) amounts
 
 -- this is the lowest link of these amounts that is not in a set
 pub record IsLowestOut (service : List Bool) (amounts : List ReservedLink) (link : ℕ) :
@@ -63,13 +63,13 @@ IsRefusedAdmission network book hose amounts (OutOfService link) =
     HasPlace book × AreOnTree network hose amounts
     × IsLowestOut (first_links network book) amounts link
 IsRefusedAdmission network book hose amounts (NoRoom link) =
-    HasPlace book × AreOnTree network hose amounts × AreServed (first_links network book) amounts
+    HasPlace book × AreOnTree network hose amounts × AreInService (first_links network book) amounts
     × IsLowestFull (room_of network book).free amounts link
 IsRefusedAdmission network book hose amounts NoVpn = ⊥
 IsRefusedAdmission network book hose amounts NoLink = ⊥
 IsRefusedAdmission network book hose amounts Already = ⊥
 
--- the same of a release: no VPN, spent
+-- a release is refused for the first of these: no VPN, spent
 abbrev pub IsRefusedRelease : Book → List ℕ → ℕ → BookRefusal → Type 0
 IsRefusedRelease book customer id NoVpn = ¬ HasVpn book customer id
 IsRefusedRelease book customer id Spent = HasVpn book customer id × (book.epoch ≡ last_epoch)
@@ -80,8 +80,8 @@ IsRefusedRelease book customer id (NoRoom link) = ⊥
 IsRefusedRelease book customer id NoLink = ⊥
 IsRefusedRelease book customer id Already = ⊥
 
--- the same of a link that is taken out of service, where this is true, or put back: no link,
--- already, spent
+-- an entry that takes a link out of service, where this is true, or puts it back is refused for the
+-- first of these: no link, already, spent
 abbrev pub IsRefusedService : Network → Book → Bool → ℕ → BookRefusal → Type 0
 IsRefusedService network book down link NoLink = ¬ IsLinkOf network link
 IsRefusedService network book down link Already = LinkStands network book link down

@@ -9,7 +9,7 @@ pub record Served : Type 0 where
   pub out : List ℕ
 
 -- The set has just the links that are not out. Each that is out has a place in it, and is out once.
-pub record IsServed (served : Served) : Type 0 where
+pub record IsSetInService (served : Served) : Type 0 where
   pub few : length served.links ≤ MOST_LINKS
   pub each : (l : ℕ) → l < length served.links
       → slice_index_or served.links l false ≡ not (is_out served.out l)

@@ -6,12 +6,20 @@ ghost use Rattle.hose_law.specs.History.{IsSoundAt};
 ghost use Rattle.hose_book.specs.Commit.{Commits, IsMet, KeepsTracks, unfailing};
 ghost use Rattle.hose_book.specs.Ledger.{Ledger};
 ghost use Rattle.hose_graph.specs.Ranges.{IsInRanges};
-ghost use Rattle.hose_book.specs.declared.committed.Committed.{Committed};
+ghost use Rattle.hose_book.specs.declared.books.Committed.{Committed};
 
 use crate::Book;
-use crate::committed::Committed;
 use hose_graph::Entry;
 use std::alloc::{AllocError, Global};
+
+/// What came of an entry that was to be entered.
+#[derive(Clone, Copy, Debug, PartialEq, Eq)]
+pub enum Committed {
+    /// It is entered.
+    Done,
+    /// What keeps the book elsewhere failed, and the book is as before.
+    Disk,
+}
 
 /// A book that takes entries: in memory alone, or with what keeps it elsewhere besides.
 pub trait Books {

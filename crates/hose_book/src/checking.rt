@@ -7,7 +7,7 @@ ghost use Rattle.hose_law.specs.History.{IsSoundAt};
 ghost use Rattle.hose_law.specs.Room.{free_rates};
 ghost use Rattle.hose_law.specs.Service.{service_entry};
 ghost use Rattle.hose_tree.specs.Amounts.{AreCarried, AreOnLinks};
-ghost use Rattle.hose_book.specs.Refusal.{AreServed, IsLowestFull, IsLowestOut, IsRefusedFor, Judges};
+ghost use Rattle.hose_book.specs.Refusal.{AreInService, IsLowestFull, IsLowestOut, IsRefusedFor, Judges};
 
 use crate::Book;
 use hose_graph::{Amounts, Entry, Hose, MOST_EPOCH, MOST_LIVE, Name, Topology};
@@ -108,7 +108,7 @@ impl Book {
 fn first_link_out(service: &LinkSet, amounts: &Amounts) -> Option<u32>
     requires { All (λ pair. link_of pair < length service.now) amounts.now }
     ensures some { IfSome result (IsLowestOut service.now amounts.now) }
-    ensures none { IfNone result (AreServed service.now amounts.now) }
+    ensures none { IfNone result (AreInService service.now amounts.now) }
 {
     for &(link, _) in amounts.pairs() {
         if !service.has(link) {

@@ -31,7 +31,6 @@ ghost use Rattle.hose_tree.specs.Amounts.{AreCarried};
 mod books;
 mod changing;
 mod checking;
-mod committed;
 mod finding;
 mod live_vpns;
 mod recent;
@@ -40,9 +39,8 @@ mod served_links;
 use crate::live_vpns::LiveVpns;
 use crate::recent::RecentChanges;
 use crate::served_links::ServedLinks;
-pub use books::{Books, Plain};
+pub use books::{Books, Committed, Plain};
 pub use checking::BookRefusal;
-pub use committed::Committed;
 use hose_graph::{MOST_EPOCH, Topology, Vpn};
 use hose_links::LinkSet;
 pub use recent::MOST_CHANGES;
@@ -104,7 +102,7 @@ impl Book {
         Book::at(alloc, topology, 0)
     }
 
-    /// The same at an epoch of at most 4,000,000,000.
+    /// The book of a network at an epoch of at most 4,000,000,000, otherwise as `new` makes it.
     pub fn at(alloc: Global, topology: Topology, epoch: u64) -> Result<Book, AllocError>
         requires { epoch ≤ MOST_EPOCH }
         ensures value { IfOk result (λ book. book ≡ opening_ledger topology epoch) }
@@ -166,7 +164,7 @@ impl Book {
         self.live.as_slice()
     }
 
-    /// The changes that it keeps, each the epoch after an entry and a link that the entry touched:
+    /// The changes that it keeps, for embeddings and tests alone to look at: each the epoch after an entry and a link that the entry touched:
     /// those of each epoch above the floor, by epochs and then by links, 65,536 at most.
     pub fn changes(&self) -> &[(u64, u32)]
         ensures value { result.now ≡ self.now.recent.changes }

@@ -24,7 +24,7 @@ pub(crate) struct LiveVpns {
 impl Model for LiveVpns {
     ghost use Rattle.std.specs.Prelude.{◌+◌, ◌≤◌, List, drop, length, vec_capacity};
     ghost use Rattle.hose_graph.specs.declared.limits.TheConstants.{MOST_LIVE};
-    ghost use Rattle.hose_graph.specs.declared.vpn.Vpn.{Vpn};
+    ghost use Rattle.hose_graph.specs.declared.entry.Vpn.{Vpn};
     ghost use Rattle.hose_book.specs.declared.live_vpns.TheConstants.{MOST_GONE};
 
     ghost Value = { List Vpn };
@@ -75,7 +75,7 @@ impl LiveVpns {
         }
     }
 
-    // The same by moving those before it.
+    // Takes out the VPN at a place in the front half, past which those before it move.
     fn remove_early(&mut self, place: usize)
         requires { place < length self.old }
         ensures { self.new ≡ remove self.old place }

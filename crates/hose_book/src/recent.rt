@@ -70,7 +70,8 @@ impl RecentChanges {
         ensures { (epoch link : ℕ) → seen < epoch → Contains self.now.changes (epoch, link)
             → Contains result.now (epoch, link) }
     {
-        since(&self.changes, seen)
+        let changes = self.as_slice();
+        &changes[first_since(changes, seen)..]
     }
 
     // Adds the links of an entry, as changes of the epoch after this one. Where the changes would
@@ -88,7 +89,7 @@ impl RecentChanges {
         push_changes(&mut self.changes, epoch, amounts);
     }
 
-    // The same of an entry that touches one link.
+    // Adds the one link that an entry touched, as `add` adds those of amounts.
     pub(crate) fn add_link(&mut self, epoch: u64, link: u32)
         requires epochs { AreUpTo epoch self.old.changes }
         requires epoch { epoch + 1 < 2 ^ 64 }
@@ -97,15 +98,6 @@ impl RecentChanges {
         // What the link carries is not asked for here.
         self.add(epoch, &[(link, 0)]);
     }
-}
-
-// The last of some changes, with all that are of a later epoch than this.
-fn since(changes: &[(u64, u32)], seen: u64) -> &[(u64, u32)]
-    requires { AreInOrder changes.now }
-    ensures { (epoch link : ℕ) → seen < epoch → Contains changes.now (epoch, link)
-        → Contains result.now (epoch, link) }
-{
-    &changes[first_since(changes, seen)..]
 }
 
 // A place before which no change is of a later epoch than this.

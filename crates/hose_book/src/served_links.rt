@@ -21,13 +21,13 @@ pub(crate) struct ServedLinks {
 impl Model for ServedLinks {
     ghost use Rattle.std.specs.Prelude.{◌≤◌, length, vec_capacity};
     ghost use Rattle.hose_graph.specs.declared.limits.TheConstants.{MOST_LINKS};
-    ghost use Rattle.hose_book.specs.Serving.{Served, IsServed};
+    ghost use Rattle.hose_book.specs.Serving.{Served, IsSetInService};
 
     ghost Value = { Served };
 
     ghost view = { λ s. record { links = s.links; out = s.out.items } };
 
-    ghost invariant = { λ s. IsServed (record { links = s.links; out = s.out.items })
+    ghost invariant = { λ s. IsSetInService (record { links = s.links; out = s.out.items })
         × (MOST_LINKS ≤ vec_capacity s.out) };
 }
 

@@ -1,7 +1,7 @@
 use Rattle.std.proofs.Common.{◌≡◌, ℕ, ◌+◌, ◌<◌, ◌≤◌, List, ◌++◌, length, get_or, take, drop, All, sym, ap, subst, arith}
 use Rattle.std.proofs.lemmas.List.{take_at}
 use Rattle.std.proofs.lemmas.List.Elements.{All-push}
-use Rattle.hose_graph.specs.declared.vpn.Vpn.{Vpn}
+use Rattle.hose_graph.specs.declared.entry.Vpn.{Vpn}
 use Rattle.hose_graph.specs.declared.entry.Entry.TheVariants.{Admit}
 use Rattle.hose_law.specs.Book.{Book, amount_on, load_of}
 use Rattle.hose_law.specs.History.{IsSoundAt, next_book}

@@ -7,7 +7,7 @@ use Rattle.hose_law.specs.Tree.{IsTreeReservation}
 use Rattle.hose_law.specs.Walk.{all_links}
 use Rattle.hose_law.proofs.Bounds.{reserved_links}
 use Rattle.hose_book.specs.Ledger.{Ledger}
-use Rattle.hose_book.specs.Refusal.{AreServed}
+use Rattle.hose_book.specs.Refusal.{AreInService}
 use Rattle.hose_book.proofs.Served.{over_served}
 use Rattle.hose_book.proofs.Book.check_admission.Goals as goal
 
@@ -30,7 +30,7 @@ returns-in-None c customer =
     let inside : IsTreeReservation c.self.inside.topology (all_links c.self.inside.topology) hose amounts = c.is_reservation.ensures.0 c.if-not-is_reservation.false in
     let on_tree : IsTreeReservation ledger.network (all_links ledger.network) hose amounts =
     subst (λ (s : Ledger). IsTreeReservation s.network (all_links s.network) hose amounts) c.self.view_is inside in
-    let served : AreServed (first_links ledger.network ledger.book) amounts = subst (λ (set : List Bool). AreServed set amounts) c.service.ensures.value c.in_default.ensures.none in
+    let served : AreInService (first_links ledger.network ledger.book) amounts = subst (λ (set : List Bool). AreInService set amounts) c.service.ensures.value c.in_default.ensures.none in
     let fits_here : Fits (free_rates c.self.inside.topology c.loads.result.now) amounts = c.in-None.ensures.none in
     let network : c.self.inside.topology ≡ ledger.network = ap (λ (s : Ledger). s.network) c.self.view_is in
     let fits : Fits (room_of ledger.network ledger.book).free amounts =

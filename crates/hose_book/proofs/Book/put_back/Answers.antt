@@ -1,16 +1,12 @@
-use Rattle.std.proofs.Common.{◌≡◌, ◌∙◌, ◌+◌, ◌≤◌, ℕ, Bool, List, [], ◌∷◌, true, length, set, sym, ap, subst, arith}
+use Rattle.std.proofs.Common.{◌∙◌, ◌+◌, Bool, List, true, length, set, sym, ap, subst, arith}
 use Rattle.hose_graph.specs.declared.entry.Entry.TheVariants.{Up}
 use Rattle.hose_law.specs.Book.{Book}
-use Rattle.hose_law.specs.History.{IsSoundAt, next_book}
-use Rattle.hose_law.specs.Live.{HasRisingIds}
-use Rattle.hose_law.specs.Service.{links_in_service, put_back}
-use Rattle.hose_law.specs.Tracks.{Recent}
-use Rattle.hose_law.proofs.LiveIds.{rising_next}
+use Rattle.hose_law.specs.History.{IsSoundAt}
+use Rattle.hose_law.specs.Service.{links_in_service}
 use Rattle.hose_law.proofs.Serving.{length-links_in_service, one_back}
-use Rattle.hose_book.specs.Changes.{AreUpTo}
 use Rattle.hose_book.specs.Ledger.{Ledger}
 use Rattle.hose_book.specs.Serving.{Served}
-use Rattle.hose_book.proofs.Tracking.{floor_next, with_up_to}
+use Rattle.hose_book.proofs.Operated.{operated}
 use Rattle.hose_book.proofs.Book.put_back.Goals as goal
 
 pub put_back-requires : goal.put_back-requires
@@ -21,21 +17,10 @@ put_back-requires c =
 pub invariant_of-self : goal.invariant_of-self
 invariant_of-self c =
     let network = c.self.inside.topology in
-    let link = c.args.link in
-    let entry = Up link in
     let book : Book = record { epoch = c.self.inside.epoch; live = c.self.inside.live; out = c.self.inside.served.out } in
-    let sound : IsSoundAt network book entry = subst (λ (s : Ledger). IsSoundAt s.network s.book entry) (sym c.self.view_is) c.requires in
-    let out_is : c.put_back.new.self.out ≡ put_back book.out link = ap (λ (s : Served). s.out) c.put_back.ensures in
-    let next_is : next_book book entry ≡ record { epoch = book.epoch + 1; live = book.live; out = c.put_back.new.self.out } =
-    ap (λ (out : List ℕ). record { epoch = book.epoch + 1; live = book.live; out = out }) (sym out_is) in
-    let old = c.self.invariant.1 in (
-      c.self.invariant.0,
-      record { places = old.places; each = old.each; none_oversold = old.none_oversold },
-      omega (arith, sound.0),
-      subst (HasRisingIds 0) next_is (rising_next 0 book entry c.self.invariant.3),
-      c.self.invariant.4,
-      subst (λ (r : Recent). r.floor ≤ book.epoch + 1) (sym c.add_link.ensures) (floor_next c.self.inside.recent book.epoch (link ∷ []) c.self.invariant.5),
-      subst (λ (r : Recent). AreUpTo (book.epoch + 1) r.changes) (sym c.add_link.ensures) (with_up_to c.self.inside.recent book.epoch (link ∷ []) c.self.invariant.6),
-      ap (λ (s : Served). s.links) c.put_back.ensures ∙ ap (λ (links : List Bool). set links link true) c.self.invariant.7
-          ∙ sym (one_back network book link sound.1.0) ∙ ap (links_in_service network) (sym out_is),
-    )
+    let sound : IsSoundAt network book (Up c.args.link) = subst (λ (s : Ledger). IsSoundAt s.network s.book (Up c.args.link)) (sym c.self.view_is) c.requires in
+    let was = c.self.invariant in
+    operated network c.self.inside.loads.items book c.put_back.new.self c.self.inside.recent c.add_link.new.self c.args.link (Up c.args.link)
+    (ap (λ (s : Served). record { epoch = book.epoch + 1; live = book.live; out = s.out }) (sym c.put_back.ensures)) c.add_link.ensures was.0 was.1 sound.0 was.3 was.4 was.5 was.6
+    (ap (λ (s : Served). s.links) c.put_back.ensures ∙ ap (λ (links : List Bool). set links c.args.link true) was.7
+    ∙ sym (one_back network book c.args.link sound.1.0) ∙ ap (λ (s : Served). links_in_service network s.out) (sym c.put_back.ensures))

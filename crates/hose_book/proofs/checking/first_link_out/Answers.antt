@@ -4,7 +4,7 @@ use Rattle.std.proofs.lemmas.List.{take_all}
 use Rattle.std.proofs.lemmas.List.Elements.{All-more}
 use Rattle.hose_law.specs.Walk.{IsIn}
 use Rattle.hose_book.proofs.Judging.{first_out_is_lowest}
-use Rattle.hose_book.specs.Refusal.{AreServed, IsLowestOut}
+use Rattle.hose_book.specs.Refusal.{AreInService, IsLowestOut}
 use Rattle.hose_book.proofs.checking.first_link_out.Goals as goal
 
 pub returns-then-not-has-clause-some : goal.returns-then-not-has-clause-some
@@ -31,4 +31,4 @@ loop-link-preserved c =
 pub returns-clause-none : goal.returns-clause-none
 returns-clause-none c =
     let amounts = c.args.amounts.now in
-    subst (AreServed c.args.service.now) (take_all c.loop-link.link-index amounts (omega (arith, c.loop-link-test.false, ap length c.pairs-link-items.ensures.value))) c.loop-link.invariant
+    subst (AreInService c.args.service.now) (take_all c.loop-link.link-index amounts (omega (arith, c.loop-link-test.false, ap length c.pairs-link-items.ensures.value))) c.loop-link.invariant

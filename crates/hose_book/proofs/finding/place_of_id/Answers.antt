@@ -2,7 +2,7 @@ use Rattle.std.proofs.Common.{rules, ◌≡◌, ◌∙◌, ◌<◌, ltb, length,
 use Rattle.std.proofs.lemmas.Fn.{answers_by}
 use Rattle.std.proofs.lemmas.List.{get_or_default}
 use Rattle.std.proofs.lemmas.Option.{slice_get-get_or}
-use Rattle.hose_graph.specs.declared.vpn.Vpn.{Vpn}
+use Rattle.hose_graph.specs.declared.entry.Vpn.{Vpn}
 use Rattle.hose_book.proofs.Ids.{below_first, nowhere_else}
 use Rattle.hose_book.proofs.finding.place_of_id.Goals as goal
 use Rattle.hose_book.proofs.finding.place_of_id.Goals.{then-place-live-via-then-place-live, then-place-live-via-else-place-live+then-live-place}

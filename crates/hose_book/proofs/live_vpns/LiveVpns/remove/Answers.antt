@@ -1,6 +1,6 @@
 use Rattle.std.proofs.Common.{◌∙◌, List, ap, arith, drop, length, length-drop}
 use Rattle.std.specs.List.{remove}
-use Rattle.hose_graph.specs.declared.vpn.Vpn.{Vpn}
+use Rattle.hose_graph.specs.declared.entry.Vpn.{Vpn}
 use Rattle.hose_book.proofs.Moving.{drop_removed}
 use Rattle.hose_book.proofs.live_vpns.LiveVpns.remove.Goals as goal
 

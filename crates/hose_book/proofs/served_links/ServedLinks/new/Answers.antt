@@ -1,6 +1,6 @@
 use Rattle.std.proofs.Common.{◌≡◌, ◌∙◌, true, false, length, get_or, replicate, sym, ap, subst, arith, rules}
 use Rattle.std.proofs.lemmas.List.{ext_get_or, get_or-replicate, length-replicate}
-use Rattle.hose_book.specs.Serving.{IsServed}
+use Rattle.hose_book.specs.Serving.{IsSetInService}
 use Rattle.hose_book.proofs.Served.{served_all}
 use Rattle.hose_book.proofs.served_links.ServedLinks.new.Goals as goal
 
@@ -17,4 +17,4 @@ returns c =
     λ i. record { links = links i; out = c.in_ok-out.ensures.items i }
 
 pub invariant_of-result : goal.invariant_of-result
-invariant_of-result c = (subst IsServed (sym (returns c)) (served_all c.args.count c.requires), omega (arith, c.in_ok-out.ensures.capacity))
+invariant_of-result c = (subst IsSetInService (sym (returns c)) (served_all c.args.count c.requires), omega (arith, c.in_ok-out.ensures.capacity))

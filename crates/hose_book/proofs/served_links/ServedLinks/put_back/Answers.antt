@@ -1,7 +1,7 @@
 use Rattle.std.proofs.Common.{◌≡◌, ◌∙◌, ◌<◌, true, length, not, set, eqb, sym, ap, subst, arith, rules}
 use Rattle.std.proofs.lemmas.Fn.{filter_same}
 use Rattle.hose_law.specs.Service.{put_back}
-use Rattle.hose_book.specs.Serving.{IsServed, Served}
+use Rattle.hose_book.specs.Serving.{IsSetInService, Served}
 use Rattle.hose_book.proofs.Served.{served_back}
 use Rattle.hose_book.proofs.served_links.ServedLinks.put_back.Goals as goal
 
@@ -18,6 +18,6 @@ invariant_of-self c =
     let link = c.args.link in
     let inside : link < length c.self.inside.links = omega (arith, c.requires, ap (λ (s : Served). length s.links) c.self.view_is) in
     let next = returns c ∙ sym (ap (λ (s : Served). record { links = set s.links link true; out = put_back s.out link }) c.self.view_is) in (
-      subst IsServed (sym next) (served_back (record { links = c.self.inside.links; out = c.self.inside.out.items }) c.self.invariant.0 link inside),
+      subst IsSetInService (sym next) (served_back (record { links = c.self.inside.links; out = c.self.inside.out.items }) c.self.invariant.0 link inside),
       omega (arith, c.self.invariant.1, c.retain.ensures.capacity),
     )

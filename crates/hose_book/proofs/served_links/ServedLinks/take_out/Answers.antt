@@ -1,6 +1,6 @@
 use Rattle.std.proofs.Common.{◌≡◌, ◌∙◌, ◌<◌, ◌+◌, ◌≤◌, false, true, length, set, get_or, sym, ap, subst, arith}
 use Rattle.hose_law.specs.Service.{taken_out}
-use Rattle.hose_book.specs.Serving.{IsServed, Served}
+use Rattle.hose_book.specs.Serving.{IsSetInService, Served}
 use Rattle.hose_book.proofs.Served.{room_left, served_out}
 use Rattle.hose_book.proofs.served_links.ServedLinks.take_out.Goals as goal
 
@@ -21,6 +21,6 @@ invariant_of-self c =
     let free : get_or served.links link false ≡ true = ap (λ (s : Served). get_or s.links link false) c.self.view_is ∙ c.requires.served in
     let next : record { links = c.clear.new.self; out = c.push_reserved.new.self.items } ≡ record { links = set served.links link false; out = taken_out served.out link } =
     (λ i. record { links = c.clear.ensures i; out = c.push_reserved.ensures.items i }) in (
-      subst IsServed (sym next) (served_out served c.self.invariant.0 link inside free),
+      subst IsSetInService (sym next) (served_out served c.self.invariant.0 link inside free),
       omega (arith, c.self.invariant.1, c.push_reserved.ensures.capacity),
     )
