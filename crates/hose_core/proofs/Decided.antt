@@ -1,11 +1,12 @@
 -- What was decided of a hose at a ledger, and what becomes of it.
-use Rattle.std.proofs.Common.{◌≡◌, ◌∙◌, ℕ, Bool, List, Option, None, Some, Result, Ok, Err, IfOk, inl, refl, ap, subst}
+use Rattle.std.proofs.Common.{◌≡◌, ◌∙◌, ℕ, Bool, List, Option, None, Some, MatchResult, Result, Ok, Err, IfOk, inl, refl, ap, subst}
 use Rattle.hose_graph.specs.Hose.{IsHose}
+use Rattle.hose_graph.specs.Naming.{NamesPlaces}
 use Rattle.hose_graph.specs.Network.{IsNetwork, Network}
 use Rattle.hose_graph.specs.declared.command.Command.TheVariants as command
 use Rattle.hose_graph.specs.declared.entry.Entry.{Entry}
-use Rattle.hose_graph.specs.declared.reply.Reply.{Reply}
-use Rattle.hose_graph.specs.declared.reply.Reply.TheVariants as reply
+use Rattle.hose_graph.specs.declared.command.Reply.{Reply}
+use Rattle.hose_graph.specs.declared.command.Reply.TheVariants as reply
 use Rattle.hose_law.specs.Answer.{IsAdmitAnswer, IsPlannedAnswer}
 use Rattle.hose_law.specs.Book.{Book, loads_of}
 use Rattle.hose_law.specs.Decision.{IsRefused}
@@ -18,12 +19,13 @@ use Rattle.hose_plan.specs.declared.decision.Grounds.{Grounds}
 use Rattle.hose_plan.specs.declared.decision.Decision.{Decision}
 use Rattle.hose_plan.specs.declared.decision.Decision.TheVariants.{Plan, Refused}
 use Rattle.hose_book.specs.declared.books.Books.{Ghosts}
+use Rattle.hose_book.specs.declared.books.Committed.TheVariants.{Done}
 use Rattle.hose_book.specs.Ledger.{Ledger}
 use Rattle.hose_core.specs.Claiming.{HasRanges, IsDecisionAt}
 use Rattle.hose_core.specs.Holding.{IsMadeAt}
-use Rattle.hose_core.specs.Planning.{IsPlannedAt}
-use Rattle.hose_core.specs.declared.planning.Planned.{Planned}
-use Rattle.hose_core.specs.Stepping.{AnswersBy, HasStepped}
+use Rattle.hose_core.specs.Planning.{IsNotPlanned, IsPlannedFor}
+use Rattle.hose_core.specs.declared.quotes.Quote.{Quote}
+use Rattle.hose_core.specs.Stepping.{AnswersBy, HasStepped, committed_of}
 use Rattle.hose_core.proofs.Stepped.{stepped_by}
 
 -- the amounts of a sound decision are in their ranges
@@ -84,12 +86,29 @@ module _ {K R : Type 0} (books : Ghosts K R) (old new : K) (epoch : ℕ) (histor
 -- ---- a quote
 
 -- What comes of planning over the links in service of a ledger and beside its loads is so at that ledger.
-pub planned_there : (here ledger : Ledger) → here ≡ ledger → (top : Network) (service : List Bool) (loads : List ℕ) (at : ℕ) (hose : List (ℕ × ℕ)) (planned : Planned) → top ≡ here.network
+pub planned_there : (here ledger : Ledger) → here ≡ ledger → (top : Network) (service : List Bool) (loads : List ℕ) (at : ℕ) (hose : List (ℕ × ℕ)) (result : Result Quote Reply) → top ≡ here.network
     → service ≡ first_links here.network here.book → loads ≡ loads_of here.network here.book → at ≡ here.book.epoch
-    → ((book : Book) → service ≡ first_links top book → loads ≡ loads_of top book → at ≡ book.epoch → IsPlannedAt top book hose planned) → IsPlannedAt ledger.network ledger.book hose planned
-planned_there here ledger same top service loads at hose planned is_top is_service is_loads is_at plans =
-    subst (λ (l : Ledger). IsPlannedAt l.network l.book hose planned) same
-    (subst (λ (n : Network). (book : Book) → service ≡ first_links n book → loads ≡ loads_of n book → at ≡ book.epoch → IsPlannedAt n book hose planned) is_top plans here.book is_service is_loads is_at)
+    → ((book : Book) → service ≡ first_links top book → loads ≡ loads_of top book → at ≡ book.epoch → MatchResult result (IsPlannedFor top book hose) (IsNotPlanned top book hose))
+    → MatchResult result (IsPlannedFor ledger.network ledger.book hose) (IsNotPlanned ledger.network ledger.book hose)
+planned_there here ledger same top service loads at hose result is_top is_service is_loads is_at plans =
+    subst (λ (l : Ledger). MatchResult result (IsPlannedFor l.network l.book hose) (IsNotPlanned l.network l.book hose)) same
+    (subst (λ (n : Network). (book : Book) → service ≡ first_links n book → loads ≡ loads_of n book → at ≡ book.epoch → MatchResult result (IsPlannedFor n book hose) (IsNotPlanned n book hose)) is_top plans here.book is_service is_loads is_at)
+
+-- a reply that nothing was planned names what is there
+pub unplanned_names : (network : Network) (book : Book) (hose : List (ℕ × ℕ)) (answer : Reply) → IsNotPlanned network book hose answer → NamesPlaces network answer
+unplanned_names _ book hose reply.Memory is = tt
+unplanned_names _ book hose (reply.Refused at side) is = is.2
+unplanned_names _ book hose answer is = absurd is
+
+-- and no entry of its was committed
+pub unplanned_done : (network : Network) (book : Book) (hose : List (ℕ × ℕ)) (answer : Reply) → IsNotPlanned network book hose answer → committed_of answer ≡ Done
+unplanned_done _ book hose reply.Memory is = refl
+unplanned_done _ book hose (reply.Refused at side) is = refl
+unplanned_done _ book hose answer is = absurd is
+
+-- a room beside the links in service of a book and its loads is that of the book
+pub room_there : (network : Network) (service : List Bool) (loads : List ℕ) (book : Book) → service ≡ first_links network book → loads ≡ loads_of network book → room_beside network service loads ≡ room_of network book
+room_there network service loads book served same = ap (λ (s : List Bool). room_beside network s loads) served ∙ ap (room_beside network (first_links network book)) same
 
 -- A plan that was decided over the links in service of a book and beside its loads is a quote that was made there.
 pub made_beside : (network : Network) → IsNetwork network → (service : List Bool) (loads : List ℕ) (hose amounts : List (ℕ × ℕ)) (cost epoch : ℕ) (grounds : Grounds) (decision : Decision) → decision ≡ Plan grounds amounts cost → IsHose hose
@@ -97,8 +116,7 @@ pub made_beside : (network : Network) → IsNetwork network → (service : List 
     → (book : Book) → service ≡ first_links network book → loads ≡ loads_of network book → epoch ≡ book.epoch
     → IsMadeAt network book (record { hose = hose; seen = epoch; cost = cost; amounts = amounts; grounds = grounds })
 made_beside network is service loads hose amounts cost epoch grounds decision plan is_hose decided sound book served same here =
-    let room : room_beside network service loads ≡ room_of network book =
-    ap (λ (s : List Bool). room_beside network s loads) served ∙ ap (room_beside network (first_links network book)) same in
+    let room = room_there network service loads book served same in
     let is_sound = subst (λ (r : Room). IsSoundDecision network r hose (Plan grounds amounts cost)) room (subst (IsSoundDecision network (room_beside network service loads) hose) plan sound) in
     record {
       is_hose = is_hose;

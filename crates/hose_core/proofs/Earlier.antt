@@ -1,6 +1,5 @@
 -- Quotes that were made at a book before: their grounds since then, and that they stay so as entries come.
-use Rattle.std.proofs.Common.{◌≡◌, ◌∙◌, ℕ, ◌+◌, ◌<◌, ◌≤◌, Bool, true, false, not, List, ◌++◌, Option, length, nat_lt, Contains, refl, sym, ap, subst, inl, inr, arith, cond}
-use Rattle.std.proofs.lemmas.List.{get_or-map, length-map}
+use Rattle.std.proofs.Common.{◌∙◌, ℕ, ◌+◌, ◌<◌, ◌≤◌, Bool, true, false, not, List, ◌++◌, Option, length, nat_lt, Contains, refl, sym, ap, subst, inl, inr, arith, cond}
 use Rattle.std.proofs.lemmas.List.Elements.{Contains-append_left, Contains-append_right}
 use Rattle.hose_graph.specs.Network.{Network}
 use Rattle.hose_graph.specs.declared.entry.Entry.{Entry}
@@ -10,7 +9,7 @@ use Rattle.hose_law.specs.Tracks.{Change, IsNamedSince, Recent, changes_of, touc
 use Rattle.hose_law.proofs.LiveIds.{next_epoch}
 use Rattle.hose_law.proofs.Rooms.{loads_of-at}
 use Rattle.hose_law.proofs.Serving.{length-links_in_service, links_in_service-at}
-use Rattle.hose_law.proofs.Tracked.{untouched, untouched_out}
+use Rattle.hose_law.proofs.Tracked.{is_change, untouched, untouched_out}
 use Rattle.hose_plan.specs.Planning.{AreMadeSince}
 use Rattle.hose_plan.specs.declared.decision.Grounds.{Grounds}
 use Rattle.hose_book.specs.Ledger.{Ledger, next_ledger}
@@ -73,12 +72,6 @@ grounds_by_last network service loads grounds changes last seen whole made = rec
 
 -- ---- as entries come
 
--- a link that an entry touches is named by a change
-change_of : (epoch : ℕ) (links : List ℕ) (link : ℕ) → Contains links link → Contains (changes_of epoch links) (epoch, link)
-change_of epoch links link there =
-    let named : ℕ → Change = λ l. (epoch, l) in
-    (there.0, omega (arith, there.1, length-map links named), get_or-map named links there.0 link (epoch, link) there.1 ∙ ap named there.2)
-
 module _ (ledger : Ledger) (entry : Entry) (quote : Quote) (before : WasMadeBefore ledger quote) where
   abbrev book : Book
   book = ledger.book
@@ -95,7 +88,7 @@ module _ (ledger : Ledger) (entry : Entry) (quote : Quote) (before : WasMadeBefo
   -- a link that the entry does not touch is as before
   untouched_since : (link : ℕ) → (Contains added (now, link) → ⊥) → LinkStays book (next_ledger ledger entry).book link
   untouched_since link none =
-      let free : Contains (touched_links book entry) link → ⊥ = λ there. none (change_of now (touched_links book entry) link there) in
+      let free : Contains (touched_links book entry) link → ⊥ = λ there. none (is_change now (touched_links book entry) link there) in
       record { load = untouched book entry link free; out = untouched_out book entry link free }
 
   stays : (over : Bool) → (recent over).floor ≤ quote.seen → (link : ℕ) → (IsNamedSince (recent over).changes quote.seen link → ⊥) → LinkStays before.book (next_ledger ledger entry).book link

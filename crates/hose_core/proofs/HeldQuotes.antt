@@ -7,13 +7,16 @@ use mathlib.Core.List.{IsPrefix}
 use Rattle.std.proofs.lemmas.List.{length-append, take-append-le}
 use Rattle.hose_graph.specs.Network.{Network}
 use Rattle.hose_graph.specs.declared.entry.Entry.{Entry}
+use Rattle.hose_graph.specs.declared.command.Reply.{Reply}
+use Rattle.hose_graph.specs.declared.command.Reply.TheVariants.{Memory, Quoted as QuotedReply}
 use Rattle.hose_graph.specs.declared.limits.TheConstants.{MOST_QUOTES}
 use Rattle.hose_law.specs.Answer.{with_entry}
 use Rattle.hose_law.specs.History.{book_of}
 use Rattle.hose_law.specs.Quotes.{Held, HeldQuote, Holdings, at_number, free_number, none_held, with_held, with_number}
 use Rattle.hose_law.proofs.Numbers.{at_none_held, at_with_other, at_with_same, length_with, same_free}
 use Rattle.hose_book.specs.Ledger.{Ledger}
-use Rattle.hose_core.specs.Holding.{AreHeld, AreKept, Fits, HoldsNow, IsMadeAt, IsQuoteOf, Quoted, WasMadeBefore, quotes_in}
+use Rattle.hose_core.specs.Holding.{AreHeld, AreKept, FitsQuote, HoldsNow, IsMadeAt, IsQuoteOf, AllQuotes, WasMadeBefore, quotes_in}
+use Rattle.hose_core.specs.Planning.{HasTold}
 use Rattle.hose_core.specs.declared.quotes.Quote.{Quote}
 
 -- ---- a longer history
@@ -34,7 +37,7 @@ pub front_prefix : (history next : List Entry) → IsPrefix history next → IsF
 front_prefix history next (rest, same) = subst (IsFront history) same (λ place there. (omega (arith, there, length-append history rest), take-append-le place history rest there))
 
 module _ (network : Network) (epoch : ℕ) (history next : List Entry) (front : IsFront history next) where
-  fits_longer : (held : Option HeldQuote) (quote : Option Quote) → Fits network epoch history held quote → Fits network epoch next held quote
+  fits_longer : (held : Option HeldQuote) (quote : Option Quote) → FitsQuote network epoch history held quote → FitsQuote network epoch next held quote
   fits_longer None quote fits = fits
   fits_longer (Some one) quote (other, is, of) =
       let goes = front one.place of.there in
@@ -47,7 +50,7 @@ module _ (network : Network) (epoch : ℕ) (history next : List Entry) (front : 
 
 module _ (network : Network) (epoch : ℕ) (history : List Entry) (held : Held) (quotes : List (Option Quote)) (are : AreHeld network epoch history held quotes) where
   -- a number has nothing in both or something in both
-  same_none : (one : Option HeldQuote) (other : Option Quote) → Fits network epoch history one other → is_none one ≡ is_none other
+  same_none : (one : Option HeldQuote) (other : Option Quote) → FitsQuote network epoch history one other → is_none one ≡ is_none other
   same_none None None fits = refl
   same_none None (Some other) fits = absurd (cc fits)
   same_none (Some one) None (other, is, of) = absurd (cc is)
@@ -58,7 +61,7 @@ module _ (network : Network) (epoch : ℕ) (history : List Entry) (held : Held) 
   free_alike = same_free held quotes are.numbers (λ number. same_none (at_number held number) (at_number quotes number) (are.each number))
 
   -- nothing is held where nothing is quoted
-  nothing_from : (one : Option HeldQuote) (other : Option Quote) → Fits network epoch history one other → other ≡ None → one ≡ None
+  nothing_from : (one : Option HeldQuote) (other : Option Quote) → FitsQuote network epoch history one other → other ≡ None → one ≡ None
   nothing_from None other fits none = refl
   nothing_from (Some one) other (quote, is, of) none = absurd (cc (is, none))
 
@@ -66,7 +69,7 @@ module _ (network : Network) (epoch : ℕ) (history : List Entry) (held : Held) 
   none_alike number none = nothing_from (at_number held number) (at_number quotes number) (are.each number) none
 
   -- and what is quoted is held
-  something_from : (one : Option HeldQuote) (other : Option Quote) (quote : Quote) → Fits network epoch history one other → other ≡ Some quote → (there : HeldQuote) × (one ≡ Some there) × IsQuoteOf network epoch history there quote
+  something_from : (one : Option HeldQuote) (other : Option Quote) (quote : Quote) → FitsQuote network epoch history one other → other ≡ Some quote → (there : HeldQuote) × (one ≡ Some there) × IsQuoteOf network epoch history there quote
   something_from None other quote fits some = absurd (cc (fits, some))
   something_from (Some one) other quote (found, is, of) some = (one, refl, subst (IsQuoteOf network epoch history one) (same_quote found quote (sym is ∙ some)) of)
     where
@@ -77,21 +80,21 @@ module _ (network : Network) (epoch : ℕ) (history : List Entry) (held : Held) 
   some_alike number quote some = something_from (at_number held number) (at_number quotes number) quote (are.each number) some
 
   -- with the same at a number
-  pub held_with : (number : ℕ) (one : Option HeldQuote) (quote : Option Quote) → 1 ≤ number → number ≤ length quotes → Fits network epoch history one quote
+  pub held_with : (number : ℕ) (one : Option HeldQuote) (quote : Option Quote) → 1 ≤ number → number ≤ length quotes → FitsQuote network epoch history one quote
       → AreHeld network epoch history (with_number held number one) (with_number quotes number quote)
   held_with number one quote some most fits = record {
     numbers = length_with held number one ∙ are.numbers ∙ sym (length_with quotes number quote);
     each = λ other. at other (cases_eq other number);
   }
     where
-      at : (other : ℕ) → (other ≡ number) ⊎ (other ≢ number) → Fits network epoch history (at_number (with_number held number one) other) (at_number (with_number quotes number quote) other)
+      at : (other : ℕ) → (other ≡ number) ⊎ (other ≢ number) → FitsQuote network epoch history (at_number (with_number held number one) other) (at_number (with_number quotes number quote) other)
       at other (inl same) =
           let mine : at_number (with_number held number one) other ≡ one = ap (at_number (with_number held number one)) same ∙ at_with_same held number one some (omega (arith, most, are.numbers)) in
           let theirs : at_number (with_number quotes number quote) other ≡ quote = ap (at_number (with_number quotes number quote)) same ∙ at_with_same quotes number quote some most in
-          subst (λ (o : Option HeldQuote). Fits network epoch history o (at_number (with_number quotes number quote) other)) (sym mine) (subst (Fits network epoch history one) (sym theirs) fits)
+          subst (λ (o : Option HeldQuote). FitsQuote network epoch history o (at_number (with_number quotes number quote) other)) (sym mine) (subst (FitsQuote network epoch history one) (sym theirs) fits)
       at other (inr differs) =
-          subst (λ (o : Option HeldQuote). Fits network epoch history o (at_number (with_number quotes number quote) other)) (sym (at_with_other held number other one differs))
-          (subst (Fits network epoch history (at_number held other)) (sym (at_with_other quotes number other quote differs)) (are.each other))
+          subst (λ (o : Option HeldQuote). FitsQuote network epoch history o (at_number (with_number quotes number quote) other)) (sym (at_with_other held number other one differs))
+          (subst (FitsQuote network epoch history (at_number held other)) (sym (at_with_other quotes number other quote differs)) (are.each other))
 
 -- ---- what is kept
 
@@ -112,8 +115,15 @@ module _ (ledger : Ledger) where
           one_made quote found (sym (at_with_same quotes number quote some (omega (arith, most, kept.numbers))) ∙ ap (at_number (with_number quotes number quote)) (sym same) ∙ there) made
       at other found (inr differs) there = kept.made other found (sym (at_with_other quotes number other quote differs) ∙ there)
 
+  -- with one that was told, or none where memory was wanting
+  pub kept_told : (quotes now : List (Option Quote)) (number : ℕ) (quote : Quote) (answer : Reply) → 1 ≤ number → number ≤ MOST_QUOTES → WasMadeBefore ledger quote → AreKept ledger quotes → HasTold number quote quotes now answer
+      → AreKept ledger now
+  kept_told quotes now number quote Memory some most made kept told = subst (AreKept ledger) (sym told) kept
+  kept_told quotes now number quote (QuotedReply given cost at amounts) some most made kept told = subst (AreKept ledger) (sym told.4) (kept_with quotes number (Some quote) some most made kept)
+  kept_told quotes now number quote answer some most made kept told = absurd told
+
   -- what each customer has is kept where one customer's is
-  pub kept_now : (old new : Quoted) (customer : List ℕ) (quotes : List (Option Quote)) → HoldsNow old customer quotes new → AreKept ledger quotes → ((name : List ℕ) → AreKept ledger (quotes_in old name))
+  pub kept_now : (old new : AllQuotes) (customer : List ℕ) (quotes : List (Option Quote)) → HoldsNow old customer quotes new → AreKept ledger quotes → ((name : List ℕ) → AreKept ledger (quotes_in old name))
       → (name : List ℕ) → AreKept ledger (quotes_in new name)
   kept_now old new customer quotes holds one others name = subst (AreKept ledger) (sym (holds name)) (at (bytes_eq customer name))
     where
@@ -122,7 +132,7 @@ module _ (ledger : Ledger) where
       at false = others name
 
 -- what each customer holds fits where one customer's does
-pub held_now : (network : Network) (epoch : ℕ) (history : List Entry) (holdings : Holdings) (after : Held) (old new : Quoted) (customer : List ℕ) (quotes : List (Option Quote)) → HoldsNow old customer quotes new
+pub held_now : (network : Network) (epoch : ℕ) (history : List Entry) (holdings : Holdings) (after : Held) (old new : AllQuotes) (customer : List ℕ) (quotes : List (Option Quote)) → HoldsNow old customer quotes new
     → AreHeld network epoch history after quotes → ((name : List ℕ) → AreHeld network epoch history (holdings name) (quotes_in old name))
     → (name : List ℕ) → AreHeld network epoch history (with_held holdings customer after name) (quotes_in new name)
 held_now network epoch history holdings after old new customer quotes holds one others name =

@@ -1,5 +1,5 @@
 mod Customers
-mod Decided
+pub mod Decided
 pub mod Earlier
 mod HeldQuotes
 mod Leading

@@ -1,8 +1,8 @@
 -- What becomes of an entry whose hose was planned.
 use Rattle.std.proofs.Common.{◌≡◌, ◌+◌, ◌<◌, ◌≤◌, ℕ, Bool, List, Option, None, Some, length, inl, inr, refl, sym, ap, subst, ◌∙◌}
 use Rattle.hose_graph.specs.declared.entry.Entry.{Entry}
-use Rattle.hose_graph.specs.declared.reply.Reply.{Reply}
-use Rattle.hose_graph.specs.declared.reply.Reply.TheVariants as reply
+use Rattle.hose_graph.specs.declared.command.Reply.{Reply}
+use Rattle.hose_graph.specs.declared.command.Reply.TheVariants as reply
 use Rattle.hose_graph.specs.Network.{IsNetwork, Network}
 use Rattle.hose_law.specs.Answer.{IsPlannedAnswer}
 use Rattle.hose_law.specs.Cheapest.{IsCheapest}
@@ -13,7 +13,7 @@ use Rattle.hose_law.specs.Book.{Book}
 use Rattle.hose_law.specs.History.{IsSoundAt, last_epoch, most_live}
 use Rattle.hose_law.specs.Plan.{plan_cost}
 use Rattle.hose_book.specs.declared.books.Books.{Ghosts}
-use Rattle.hose_book.specs.declared.committed.Committed.TheVariants.{Done, Disk}
+use Rattle.hose_book.specs.declared.books.Committed.TheVariants.{Done, Disk}
 use Rattle.hose_book.specs.Commit.{Commits}
 use Rattle.hose_book.specs.Ledger.{Ledger}
 use Rattle.hose_core.specs.Claiming.{IsPlannedEntry}

@@ -4,14 +4,14 @@ use Rattle.std.proofs.lemmas.Bool.{true≢false}
 use Rattle.hose_graph.specs.declared.entry.Entry.{Entry}
 use Rattle.hose_graph.specs.declared.entry.Entry.TheVariants.{Release}
 use Rattle.hose_graph.specs.declared.command.Command.TheVariants as command
-use Rattle.hose_graph.specs.declared.reply.Reply.{Reply}
-use Rattle.hose_graph.specs.declared.reply.Reply.TheVariants as reply
+use Rattle.hose_graph.specs.declared.command.Reply.{Reply}
+use Rattle.hose_graph.specs.declared.command.Reply.TheVariants as reply
 use Rattle.hose_law.specs.Answer.{IsReleaseAnswer}
 use Rattle.hose_law.specs.Book.{Book, HasVpn}
 use Rattle.hose_law.specs.History.{IsSoundAt, book_of, last_epoch}
 use Rattle.hose_law.specs.Quotes.{Held}
 use Rattle.hose_book.specs.declared.books.Books.{Ghosts}
-use Rattle.hose_book.specs.declared.committed.Committed.TheVariants.{Done, Disk}
+use Rattle.hose_book.specs.declared.books.Committed.TheVariants.{Done, Disk}
 use Rattle.hose_book.specs.Commit.{Commits}
 use Rattle.hose_book.specs.Ledger.{Ledger}
 use Rattle.hose_core.specs.Stepping.{AnswersBy, HasStepped}

@@ -3,8 +3,8 @@ use Rattle.std.proofs.Common.{◌≡◌, ℕ, List, Option, None, Some, IsSome, 
 use Rattle.hose_graph.specs.Network.{Network}
 use Rattle.hose_graph.specs.declared.entry.Entry.{Entry}
 use Rattle.hose_graph.specs.declared.command.Command.{Command}
-use Rattle.hose_graph.specs.declared.reply.Reply.{Reply}
-use Rattle.hose_graph.specs.declared.reply.Reply.TheVariants as reply
+use Rattle.hose_graph.specs.declared.command.Reply.{Reply}
+use Rattle.hose_graph.specs.declared.command.Reply.TheVariants as reply
 use Rattle.hose_law.specs.Answer.{IsAnswer, IsStepOf, with_entry}
 use Rattle.hose_law.specs.Book.{Book}
 use Rattle.hose_law.specs.History.{IsSoundWith, book_of, opening_book}

@@ -7,8 +7,8 @@ use Rattle.hose_graph.specs.Network.{Network}
 use Rattle.hose_graph.specs.declared.command.Command.{Command}
 use Rattle.hose_graph.specs.declared.command.Command.TheVariants as command
 use Rattle.hose_graph.specs.declared.entry.Entry.{Entry}
-use Rattle.hose_graph.specs.declared.reply.Reply.{Reply}
-use Rattle.hose_graph.specs.declared.reply.Reply.TheVariants as reply
+use Rattle.hose_graph.specs.declared.command.Reply.{Reply}
+use Rattle.hose_graph.specs.declared.command.Reply.TheVariants as reply
 use Rattle.hose_law.specs.Answer.{IsAnswer, IsStepOf, IsTakeAnswer, MayWantMemory}
 use Rattle.hose_law.specs.Book.{Book}
 use Rattle.hose_law.specs.Decision.{IsPlanned, IsRefused}
@@ -21,6 +21,7 @@ use Rattle.hose_plan.specs.Planning.{allowed_links}
 use Rattle.hose_book.specs.declared.books.Books.{Ghosts}
 use Rattle.hose_book.specs.Ledger.{Ledger}
 use Rattle.hose_core.specs.Holding.{AreHeld, HoldsNow, IsMadeAt, IsQuoteOf, State, quotes_in}
+use Rattle.hose_core.specs.Planning.{HasTold, IsNotPlanned}
 use Rattle.hose_core.specs.Serving.{service_command}
 use Rattle.hose_core.specs.Stepping.{FitsHistory, HasStepped, StepsOn}
 use Rattle.hose_core.proofs.Leading.{decided, leads}
@@ -97,7 +98,7 @@ module _ {K R : Type 0} (books : Ghosts K R) (old new : State K) (epoch : ℕ) (
   On asked answer = StepsOn books old new epoch history holdings customer asked answer
 
   -- a customer's quotes are others now
-  pub changes_on : (asked : Command) (answer : Reply) (stepped : Stepped asked answer) (quotes : List (Option Quote)) → HoldsNow old.sessions customer quotes new.sessions
+  pub changes_on : (asked : Command) (answer : Reply) (stepped : Stepped asked answer) (quotes : List (Option Quote)) → HoldsNow old.quotes customer quotes new.quotes
       → AreHeld network epoch stepped.next stepped.after quotes → On asked answer
   changes_on asked answer stepped quotes holds one = record {
     stepped = stepped;
@@ -105,32 +106,32 @@ module _ {K R : Type 0} (books : Ghosts K R) (old new : State K) (epoch : ℕ) (
     leads = leads network epoch history customer held asked answer stepped.entry stepped.next stepped.after stepped.step;
     fits = record {
       book = stepped.book;
-      held = subst (λ (n : Network). (name : List ℕ) → AreHeld n epoch stepped.next (with_held holdings customer stepped.after name) (quotes_in new.sessions name)) (sym same)
-          (held_now network epoch stepped.next holdings stepped.after old.sessions new.sessions customer quotes holds one
-          (λ name. held_longer network epoch history stepped.next (front_of books old.books new.books epoch history customer held asked answer stepped) (holdings name) (quotes_in old.sessions name) (fits.held name)));
+      held = subst (λ (n : Network). (name : List ℕ) → AreHeld n epoch stepped.next (with_held holdings customer stepped.after name) (quotes_in new.quotes name)) (sym same)
+          (held_now network epoch stepped.next holdings stepped.after old.quotes new.quotes customer quotes holds one
+          (λ name. held_longer network epoch history stepped.next (front_of books old.books new.books epoch history customer held asked answer stepped) (holdings name) (quotes_in old.quotes name) (fits.held name)));
     };
   }
 
   -- the quotes are as before
-  pub stays_on : (asked : Command) (answer : Reply) (stepped : Stepped asked answer) → stepped.after ≡ held → new.sessions ≡ old.sessions → On asked answer
-  stays_on asked answer stepped keeps sessions =
-      let quotes : List (Option Quote) = quotes_in old.sessions customer in
-      let holds = subst (HoldsNow old.sessions customer quotes) (sym sessions) (holds_same old.sessions customer quotes refl) in
+  pub stays_on : (asked : Command) (answer : Reply) (stepped : Stepped asked answer) → stepped.after ≡ held → new.quotes ≡ old.quotes → On asked answer
+  stays_on asked answer stepped keeps unchanged =
+      let quotes : List (Option Quote) = quotes_in old.quotes customer in
+      let holds = subst (HoldsNow old.quotes customer quotes) (sym unchanged) (holds_same old.quotes customer quotes refl) in
       let longer = held_longer network epoch history stepped.next (front_of books old.books new.books epoch history customer held asked answer stepped) held quotes (fits.held customer) in
       changes_on asked answer stepped quotes holds (subst (λ (h : Held). AreHeld network epoch stepped.next h quotes) (sym keeps) longer)
 
-  pub keeps_on : (asked : Command) (answer : Reply) → IsKeeping asked → Stepped asked answer → new.sessions ≡ old.sessions → On asked answer
-  keeps_on asked answer keeping stepped sessions = stays_on asked answer stepped (at (cases books old.books new.books epoch history customer held asked answer stepped)) sessions
+  pub keeps_on : (asked : Command) (answer : Reply) → IsKeeping asked → Stepped asked answer → new.quotes ≡ old.quotes → On asked answer
+  keeps_on asked answer keeping stepped unchanged = stays_on asked answer stepped (at (cases books old.books new.books epoch history customer held asked answer stepped)) unchanged
     where
       at : Cases books old.books new.books epoch history customer held asked answer stepped → stepped.after ≡ held
       at (inl idle) = idle.keeps
       at (inr answered) = answer_keeps network epoch history customer held stepped.after asked answered.given stepped.entry keeping answered.is
 
   -- the quote under a number is taken
-  pub taken_on : (number : ℕ) (quote : Quote) (answer : Reply) → at_number (quotes_in old.sessions customer) number ≡ Some quote → answer ≢ reply.Memory → Stepped (command.Take number) answer
-      → HoldsNow old.sessions customer (with_number (quotes_in old.sessions customer) number None) new.sessions → On (command.Take number) answer
+  pub taken_on : (number : ℕ) (quote : Quote) (answer : Reply) → at_number (quotes_in old.quotes customer) number ≡ Some quote → answer ≢ reply.Memory → Stepped (command.Take number) answer
+      → HoldsNow old.quotes customer (with_number (quotes_in old.quotes customer) number None) new.quotes → On (command.Take number) answer
   taken_on number quote answer there told stepped holds =
-      let quotes : List (Option Quote) = quotes_in old.sessions customer in
+      let quotes : List (Option Quote) = quotes_in old.quotes customer in
       let one = some_alike network epoch history held quotes (fits.held customer) number quote there in
       let range = some_at quotes number quote there in
       let longer = held_longer network epoch history stepped.next (front_of books old.books new.books epoch history customer held (command.Take number) answer stepped) (with_number held number None) (with_number quotes number None)
@@ -156,7 +157,7 @@ module _ {K R : Type 0} (books : Ghosts K R) (old : State K) (epoch : ℕ) (hist
   mine = holdings customer
 
   abbrev quotes : List (Option Quote)
-  quotes = quotes_in old.sessions customer
+  quotes = quotes_in old.quotes customer
 
   abbrev Stays : Command → Reply → Type 0
   Stays asked answer = StepsOn books old old epoch history holdings customer asked answer
@@ -181,15 +182,21 @@ module _ {K R : Type 0} (books : Ghosts K R) (old : State K) (epoch : ℕ) (hist
   some_free number free = free_alike was.network epoch history mine quotes (fits.held customer) ∙ free
 
   -- the hose is refused
-  pub refused_on : (hose : List (ℕ × ℕ)) (number at : ℕ) (side : List ℕ) → at ≡ was.book.epoch → free_number quotes ≡ Some number → IsRefused was.network (room_of was.network was.book) hose side
+  refused_on : (hose : List (ℕ × ℕ)) (number at : ℕ) (side : List ℕ) → at ≡ was.book.epoch → free_number quotes ≡ Some number → IsRefused was.network (room_of was.network was.book) hose side
       → Stays (command.Quote hose) (reply.Refused at side)
   refused_on hose number at side is free refused =
       let refuses = subst (λ (b : Book). IsRefused was.network (room_of was.network b) hose side) fits.book refused in
       let some : IsSome (free_number mine) = subst IsSome (sym (some_free number free)) refl in
       told_on (command.Quote hose) (reply.Refused at side) ((refl, (here at is, some, refuses, refl)), refl)
 
-  pub quote_memory_on : (hose : List (ℕ × ℕ)) (number : ℕ) → free_number quotes ≡ Some number → Stays (command.Quote hose) reply.Memory
+  quote_memory_on : (hose : List (ℕ × ℕ)) (number : ℕ) → free_number quotes ≡ Some number → Stays (command.Quote hose) reply.Memory
   quote_memory_on hose number free = memory_on (command.Quote hose) (subst IsSome (sym (some_free number free)) refl)
+
+  -- nothing was planned
+  pub unplanned_on : (hose : List (ℕ × ℕ)) (number : ℕ) (answer : Reply) → free_number quotes ≡ Some number → IsNotPlanned was.network was.book hose answer → Stays (command.Quote hose) answer
+  unplanned_on hose number reply.Memory free is = quote_memory_on hose number free
+  unplanned_on hose number (reply.Refused at side) free is = refused_on hose number at side is.0 free is.1
+  unplanned_on hose number answer free is = absurd is
 
   -- nothing stands at the number
   pub no_quote_on : (number at : ℕ) → at ≡ was.book.epoch → at_number quotes number ≡ None → Stays (command.Take number) (reply.NoQuote number at)
@@ -214,8 +221,8 @@ module _ {K R : Type 0} (books : Ghosts K R) (old : State K) (epoch : ℕ) (hist
 
   -- ---- a quote that is put
 
-  pub quoted_on : (new : State K) (number : ℕ) (quote : Quote) → 1 ≤ number → number ≤ length quotes → free_number quotes ≡ Some number → IsMadeAt was.network was.book quote → new.books ≡ old.books
-      → HoldsNow old.sessions customer (with_number quotes number (Some quote)) new.sessions
+  quoted_on : (new : State K) (number : ℕ) (quote : Quote) → 1 ≤ number → number ≤ length quotes → free_number quotes ≡ Some number → IsMadeAt was.network was.book quote → new.books ≡ old.books
+      → HoldsNow old.quotes customer (with_number quotes number (Some quote)) new.quotes
       → StepsOn books old new epoch history holdings customer (command.Quote quote.hose) (reply.Quoted number quote.cost quote.seen quote.amounts)
   quoted_on new number quote some most free made same holds =
       let one : HeldQuote = record { hose = quote.hose; place = length history } in
@@ -234,6 +241,32 @@ module _ {K R : Type 0} (books : Ghosts K R) (old : State K) (epoch : ℕ) (hist
       } in
       changes_on books old new epoch history holdings customer fits (ap (λ (k : K). (books.ledger k).network) same) (command.Quote quote.hose) (reply.Quoted number quote.cost quote.seen quote.amounts) stepped
       (with_number quotes number (Some quote)) holds (held_with was.network epoch history mine quotes (fits.held customer) number (Some one) (Some quote) some most (quote, refl, of))
+
+  -- or memory was wanting
+  starved_on : (new : State K) (number : ℕ) (hose : List (ℕ × ℕ)) (now : List (Option Quote)) → free_number quotes ≡ Some number → new.books ≡ old.books → now ≡ quotes → HoldsNow old.quotes customer now new.quotes
+      → StepsOn books old new epoch history holdings customer (command.Quote hose) reply.Memory
+  starved_on new number hose now free same is holds =
+      let some : IsSome (free_number mine) = subst IsSome (sym (some_free number free)) refl in
+      let stepped : HasStepped books old.books new.books epoch history customer mine (command.Quote hose) reply.Memory = record {
+        entry = None;
+        next = history;
+        after = mine;
+        step = (some, refl, refl, refl);
+        sound = tt;
+        goes = same;
+        book = ap (λ (k : K). (books.ledger k).book) same ∙ fits.book;
+      } in
+      changes_on books old new epoch history holdings customer fits (ap (λ (k : K). (books.ledger k).network) same) (command.Quote hose) reply.Memory stepped now holds
+      (subst (AreHeld was.network epoch history mine) (sym is) (fits.held customer))
+
+  -- by what is told of it
+  pub held_on : (new : State K) (number : ℕ) (quote : Quote) (now : List (Option Quote)) (answer : Reply) → 1 ≤ number → number ≤ length quotes → free_number quotes ≡ Some number → IsMadeAt was.network was.book quote
+      → new.books ≡ old.books → HasTold number quote quotes now answer → HoldsNow old.quotes customer now new.quotes → StepsOn books old new epoch history holdings customer (command.Quote quote.hose) answer
+  held_on new number quote now reply.Memory some most free made same told holds = starved_on new number quote.hose now free same told holds
+  held_on new number quote now (reply.Quoted given cost at amounts) some most free made same (is_number, is_cost, is_at, is_amounts, is_now) holds =
+      subst (λ (r : Reply). StepsOn books old new epoch history holdings customer (command.Quote quote.hose) r) (cc (is_number, is_cost, is_at, is_amounts))
+      (quoted_on new number quote some most free made same (subst (λ (q : List (Option Quote)). HoldsNow old.quotes customer q new.quotes) is_now holds))
+  held_on new number quote now answer some most free made same told holds = absurd told
 
 -- What is shown of a core by its fields is shown of it.
 pub of_fields : {K R : Type 0} (books : Ghosts K R) (fields old new : State K) (epoch : ℕ) (history : List Entry) (holdings : Holdings) (customer : List ℕ) (asked : Command) (answer : Reply) → fields ≡ old

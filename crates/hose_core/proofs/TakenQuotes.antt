@@ -5,8 +5,8 @@ use Rattle.hose_graph.specs.Network.{IsNetwork, Network}
 use Rattle.hose_graph.specs.declared.command.Command.TheVariants as command
 use Rattle.hose_graph.specs.declared.entry.Entry.{Entry}
 use Rattle.hose_graph.specs.declared.entry.Entry.TheVariants.{Admit}
-use Rattle.hose_graph.specs.declared.reply.Reply.{Reply}
-use Rattle.hose_graph.specs.declared.reply.Reply.TheVariants as reply
+use Rattle.hose_graph.specs.declared.command.Reply.{Reply}
+use Rattle.hose_graph.specs.declared.command.Reply.TheVariants as reply
 use Rattle.hose_law.specs.Answer.{IsAnswer, IsPlannedAnswer, IsTakeAnswer, IsTakingAnswer}
 use Rattle.hose_law.specs.Book.{Book, loads_of}
 use Rattle.hose_law.specs.Decision.{HaveEqualGrounds, IsPlannedOver}

@@ -73,8 +73,8 @@ pub record IsQuoteOf (network : Network) (epoch : ℕ) (history : List Entry) (h
   pub made : IsMadeAt network (book_of epoch (take held.place history)) quote
 
 -- nothing stands at a number for what is not held, and for what is held that quote
-abbrev pub Fits : Network → ℕ → List Entry → Option HeldQuote → Option Quote → Type 0
-Fits network epoch history held quote = MatchOption held (IsNone quote)
+abbrev pub FitsQuote : Network → ℕ → List Entry → Option HeldQuote → Option Quote → Type 0
+FitsQuote network epoch history held quote = MatchOption held (IsNone quote)
     (λ one. (other : Quote) × (quote ≡ Some other) × IsQuoteOf network epoch history one other)
 
 -- the quotes are those that a customer holds at a history
@@ -82,21 +82,21 @@ pub record AreHeld (network : Network) (epoch : ℕ) (history : List Entry) (hel
     (quotes : List (Option Quote)) : Type 0 where
   pub numbers : length held ≡ length quotes
   pub each : (number : ℕ)
-      → Fits network epoch history (at_number held number) (at_number quotes number)
+      → FitsQuote network epoch history (at_number held number) (at_number quotes number)
 
 -- ---- customers
 
 -- the quotes of each customer who has been quoted, by name
-abbrev pub Quoted : Type 0
-Quoted = List (List ℕ × List (Option Quote))
+abbrev pub AllQuotes : Type 0
+AllQuotes = List (List ℕ × List (Option Quote))
 
 -- the quotes of a customer
-abbrev pub quotes_in : Quoted → List ℕ → List (Option Quote)
-quotes_in sessions customer =
-    unwrap_or (lookup (is_at (slice_cmp nat_cmp customer)) sessions) none_held
+abbrev pub quotes_in : AllQuotes → List ℕ → List (Option Quote)
+quotes_in all customer =
+    unwrap_or (lookup (is_at (slice_cmp nat_cmp customer)) all) none_held
 
 -- a customer's quotes are these now, and those of the others are as before
-abbrev pub HoldsNow : Quoted → List ℕ → List (Option Quote) → Quoted → Type 0
+abbrev pub HoldsNow : AllQuotes → List ℕ → List (Option Quote) → AllQuotes → Type 0
 HoldsNow old customer quotes new = (name : List ℕ)
     → quotes_in new name ≡ (if bytes_eq customer name then quotes else quotes_in old name)
 
@@ -105,8 +105,8 @@ HoldsNow old customer quotes new = (name : List ℕ)
 -- a core as contracts see it: its books, and the quotes of its customers
 pub record State (K : Type 0) : Type 0 where
   pub books : K
-  pub sessions : Quoted
+  pub quotes : AllQuotes
 
 -- the quotes of a customer
 abbrev pub quotes_of : {K : Type 0} → State K → List ℕ → List (Option Quote)
-quotes_of state customer = quotes_in state.sessions customer
+quotes_of state customer = quotes_in state.quotes customer

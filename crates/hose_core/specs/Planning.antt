@@ -1,18 +1,47 @@
--- What comes of planning a hose at a book.
-use Rattle.std.specs.Prelude.{◌≡◌, ◌<◌, ℕ, List, All, length}
+-- What comes of planning a hose at a book: a quote, or a reply; and of holding the quote.
+use Rattle.std.specs.Prelude.{◌≡◌, ℕ, List, Option, Some, ⊤}
 use Rattle.hose_graph.specs.Hose.{Endpoint}
+use Rattle.hose_graph.specs.Naming.{NamesPlaces}
 use Rattle.hose_graph.specs.Network.{Network}
+use Rattle.hose_graph.specs.declared.entry.Entry.{Entry}
+use Rattle.hose_graph.specs.declared.entry.Entry.TheVariants.{Admit}
+use Rattle.hose_graph.specs.declared.command.Reply.{Reply}
+use Rattle.hose_graph.specs.declared.command.Reply.TheVariants.{Memory, Quoted, Refused}
+use Rattle.hose_graph.specs.Amounts.{ReservedLink}
 use Rattle.hose_law.specs.Book.{Book}
 use Rattle.hose_law.specs.Decision.{IsRefused}
+use Rattle.hose_law.specs.Quotes.{with_number}
 use Rattle.hose_law.specs.Room.{room_of}
 use Rattle.hose_core.specs.Holding.{IsMadeAt}
-use Rattle.hose_core.specs.declared.planning.Planned.{Planned}
-use Rattle.hose_core.specs.declared.planning.Planned.TheVariants as planned
+use Rattle.hose_core.specs.Stepping.{TellsPlan}
+use Rattle.hose_core.specs.declared.quotes.Quote.{Quote}
 
--- the quote that is made of the hose there, or the refusal
-abbrev pub IsPlannedAt : Network → Book → List Endpoint → Planned → Type 0
-IsPlannedAt network book hose (planned.Quote quote) =
-    (quote.hose ≡ hose) × IsMadeAt network book quote
-IsPlannedAt network book hose (planned.Refused side) =
-    IsRefused network (room_of network book) hose side
-    × All (λ (node : ℕ). node < length network.nodes) side
+-- the quote is made of the hose at the book
+pub record IsPlannedFor (network : Network) (book : Book) (hose : List Endpoint) (quote : Quote) :
+    Type 0 where
+  pub of : quote.hose ≡ hose
+  pub made : IsMadeAt network book quote
+
+-- the hose is refused at the book, or memory was wanting
+abbrev pub IsNotPlanned : Network → Book → List Endpoint → Reply → Type 0
+IsNotPlanned network book hose Memory = ⊤
+IsNotPlanned network book hose (Refused at side) = (at ≡ book.epoch)
+    × IsRefused network (room_of network book) hose side
+    × NamesPlaces network (Refused at side)
+IsNotPlanned network book hose reply = ⊥
+
+-- the quote is held under a number, and told; or memory was wanting
+abbrev pub HasTold : ℕ → Quote → List (Option Quote) → List (Option Quote) → Reply → Type 0
+HasTold number quote old new Memory = new ≡ old
+HasTold number quote old new (Quoted told cost at amounts) = (told ≡ number)
+    × (cost ≡ quote.cost) × (at ≡ quote.seen) × (amounts ≡ quote.amounts)
+    × (new ≡ with_number old number (Some quote))
+HasTold number quote old new reply = ⊥
+
+-- the entry admits a customer's hose with a plan, which the reply tells where it is an admission
+pub record EntersPlan (customer : List ℕ) (hose : List Endpoint) (reply : Reply) (entry : Entry) :
+    Type 0 where
+  pub plan : List ReservedLink
+  pub cost : ℕ
+  pub tells : TellsPlan plan cost reply
+  pub enters : entry ≡ Admit customer hose plan

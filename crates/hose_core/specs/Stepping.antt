@@ -5,27 +5,35 @@ use Rattle.hose_graph.specs.Hose.{Endpoint}
 use Rattle.hose_graph.specs.Network.{Network}
 use Rattle.hose_graph.specs.declared.command.Command.{Command}
 use Rattle.hose_graph.specs.declared.entry.Entry.{Entry}
-use Rattle.hose_graph.specs.declared.reply.Reply.{Reply}
-use Rattle.hose_graph.specs.declared.reply.Reply.TheVariants as reply
+use Rattle.hose_graph.specs.declared.command.Reply.{Reply}
+use Rattle.hose_graph.specs.declared.command.Reply.TheVariants as reply
 use Rattle.hose_law.specs.Answer.{IsPlannedAnswer, IsStepOf}
 use Rattle.hose_law.specs.Book.{Book}
 use Rattle.hose_law.specs.Cheapest.{IsCheapest}
 use Rattle.hose_law.specs.Decision.{HaveEqualGrounds, IsAllowed}
 use Rattle.hose_law.specs.History.{IsDecidedAt, IsSoundWith, book_of, next_book}
 use Rattle.hose_law.specs.Quotes.{Held, Holdings, with_held}
+use Rattle.hose_law.specs.ReplyKind.{ReplyKind, kind_of}
+use Rattle.hose_law.specs.ReplyKind.ReplyKind.{ByTheBook, ForDisk, ForMemory, ForNoCommand}
 use Rattle.hose_law.specs.Room.{room_of}
 use Rattle.hose_book.specs.Commit.{history_after}
 use Rattle.hose_book.specs.Ledger.{HasBookOf, Ledger, next_ledger}
 use Rattle.hose_book.specs.declared.books.Books.{Ghosts}
-use Rattle.hose_book.specs.declared.committed.Committed.{Committed}
-use Rattle.hose_book.specs.declared.committed.Committed.TheVariants.{Done, Disk}
+use Rattle.hose_book.specs.declared.books.Committed.{Committed}
+use Rattle.hose_book.specs.declared.books.Committed.TheVariants.{Done, Disk}
 use Rattle.hose_core.specs.Holding.{AreHeld, State, quotes_of}
 use Rattle.hose_core.specs.declared.quotes.Quote.{Quote}
 
--- what the commit of a command's entry answered, by the reply
+-- what the commit of a command's entry answered, by the kind of the reply
+abbrev pub committed_for : ReplyKind → Committed
+committed_for ByTheBook = Done
+committed_for (ForDisk at) = Disk
+committed_for ForMemory = Done
+committed_for ForNoCommand = Done
+
+-- and by the reply
 abbrev pub committed_of : Reply → Committed
-committed_of (reply.Disk at) = Disk
-committed_of _ = Done
+committed_of reply = committed_for (kind_of reply)
 
 -- the books are as before where a command has no entry, and else one commit took them on
 abbrev pub Goes : {K R : Type 0} → Ghosts K R → K → Reply → Option Entry → K → Type 0

@@ -1,7 +1,7 @@
 -- What a book tells of a VPN.
 use Rattle.std.specs.Prelude.{ℕ, List, None}
-use Rattle.hose_graph.specs.declared.reply.Reply.{Reply}
-use Rattle.hose_graph.specs.declared.reply.Reply.TheVariants.{Memory}
+use Rattle.hose_graph.specs.declared.command.Reply.{Reply}
+use Rattle.hose_graph.specs.declared.command.Reply.TheVariants.{Memory}
 use Rattle.hose_law.specs.Answer.{IsShowAnswer}
 use Rattle.hose_law.specs.Book.{HasVpn}
 use Rattle.hose_book.specs.Ledger.{Ledger}

@@ -1,5 +1,5 @@
 // Admitting a hose at once.
-ghost use Rattle.std.specs.Prelude.{◌≡◌, ℕ, List};
+ghost use Rattle.std.specs.Prelude.{◌≡◌, ℕ, IfNone, IfSome, List};
 ghost use Rattle.hose_graph.specs.Naming.{NamesPlaces};
 ghost use Rattle.hose_graph.specs.Network.{IsNetwork};
 ghost use Rattle.hose_graph.specs.Ranges.{AreInRanges};
@@ -11,6 +11,7 @@ ghost use Rattle.hose_law.specs.Quotes.{Held};
 ghost use Rattle.hose_law.specs.Room.{room_of};
 ghost use Rattle.hose_book.specs.Commit.{IsMet};
 ghost use Rattle.hose_book.specs.Ledger.{HasBookOf};
+ghost use Rattle.hose_core.specs.Planning.{EntersPlan};
 ghost use Rattle.hose_core.specs.Stepping.{AdmitsCheapest, HasStepped, IsSameOrNext, committed_of};
 
 use crate::deciding::decide_now;
@@ -20,34 +21,39 @@ use hose_graph::{Amounts, Entry, Hose, Name, Reply};
 use hose_paths::RowMaker;
 use hose_plan::Decision;
 use std::alloc::Global;
+use std::snapshot::Snapshot;
 
 /// Plans a hose and admits it with its plan: `Admitted`, `Refused`, `Spent`, `Full`, `Disk` or
-/// `Memory`. Its endpoints are nodes of the network.
+/// `Memory`. Its endpoints are nodes of the network. What joins the book, where it is accepted, is
+/// given beside the reply, unless nothing was planned.
 pub fn admit_now<K: Books, R: RowMaker>(
     alloc: Global,
     books: &mut K,
     customer: &Name,
     hose: Hose,
     rows: &mut R,
-) -> Reply
+) -> (Reply, Option<Snapshot<Entry>>)
     requires { AreNodes (K.ledger books.old).network hose }
     ensures step { (epoch : ℕ) (history : List Entry) (held : Held)
         → HasBookOf epoch history (K.ledger books.old)
         → HasStepped K.Books books.old books.new epoch history customer.now held
-        (Command.Admit hose) result }
+        (Command.Admit hose) result.0 }
     ensures cheapest { AdmitsCheapest (K.ledger books.old).network (K.ledger books.old).book
-        hose result }
+        hose result.0 }
     ensures network { (K.ledger books.new).network ≡ (K.ledger books.old).network }
     ensures ledger { IsSameOrNext (K.ledger books.old) (K.ledger books.new) }
-    ensures met { IsMet (K.frame books.old) (committed_of result) (K.frame books.new) }
-    ensures names { NamesPlaces (K.ledger books.old).network result }
+    ensures met { IsMet (K.frame books.old) (committed_of result.0) (K.frame books.new) }
+    ensures names { NamesPlaces (K.ledger books.old).network result.0 }
+    ensures none { IfNone result.1 (books.new ≡ books.old) }
+    ensures entered { IfSome result.1 (λ entry. EntersPlan customer.now hose result.0
+        entry.value) }
 {
     match decide_now(alloc, books, &hose, rows) {
-        Err(_) => Reply::Memory,
-        Ok(Decision::Refused { side }) => Reply::Refused {
-            at: books.book().epoch(),
-            side,
-        },
+        Err(_) => (Reply::Memory, None),
+        Ok(Decision::Refused { side }) => {
+            let at = books.book().epoch();
+            (Reply::Refused { at, side }, None)
+        }
         Ok(Decision::Plan { amounts, cost, .. }) => {
             admit_planned(alloc, books, customer, hose, amounts, cost)
         }
@@ -62,7 +68,7 @@ fn admit_planned<K: Books>(
     hose: Hose,
     amounts: Amounts,
     cost: u64,
-) -> Reply
+) -> (Reply, Option<Snapshot<Entry>>)
     requires network { IsNetwork (K.ledger books.old).network }
     requires planned { IsPlanned (K.ledger books.old).network
         (room_of (K.ledger books.old).network (K.ledger books.old).book) hose amounts }
@@ -73,16 +79,19 @@ fn admit_planned<K: Books>(
     ensures step { (epoch : ℕ) (history : List Entry) (held : Held)
         → HasBookOf epoch history (K.ledger books.old)
         → HasStepped K.Books books.old books.new epoch history customer.now held
-        (Command.Admit hose) result }
+        (Command.Admit hose) result.0 }
     ensures cheapest { AdmitsCheapest (K.ledger books.old).network (K.ledger books.old).book
-        hose result }
+        hose result.0 }
     ensures network { (K.ledger books.new).network ≡ (K.ledger books.old).network }
     ensures ledger { IsSameOrNext (K.ledger books.old) (K.ledger books.new) }
-    ensures met { IsMet (K.frame books.old) (committed_of result) (K.frame books.new) }
-    ensures names { NamesPlaces (K.ledger books.old).network result }
+    ensures met { IsMet (K.frame books.old) (committed_of result.0) (K.frame books.new) }
+    ensures names { NamesPlaces (K.ledger books.old).network result.0 }
+    ensures none { IfNone result.1 (books.new ≡ books.old) }
+    ensures entered { IfSome result.1 (λ entry. EntersPlan customer.now hose result.0
+        entry.value) }
 {
     let Ok(told) = amounts.copy(alloc) else {
-        return Reply::Memory;
+        return (Reply::Memory, None);
     };
     let entry = Entry::Admit {
         customer: *customer,
@@ -90,7 +99,11 @@ fn admit_planned<K: Books>(
         amounts,
     };
     let Ok(ready) = K::prepare(alloc, &entry) else {
-        return Reply::Memory;
+        return (Reply::Memory, None);
     };
-    enter_planned(books, entry, ready, told, cost)
+    let entered = Snapshot::of(&entry);
+    (
+        enter_planned(books, entry, ready, told, cost),
+        Some(entered),
+    )
 }

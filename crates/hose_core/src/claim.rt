@@ -72,8 +72,8 @@ pub fn claim_release<K: Books>(
     })
 }
 
-/// Claims what is needed to take a link out of service, where `down` is true, or to put it back. The
-/// link's number is below 2,048.
+/// Claims what is needed to take a link out of service, where `down` is true, or to put it back.
+/// The link's number is below 2,048.
 pub fn claim_service<K: Books>(alloc: Global, link: u32, down: bool) -> Result<Claim<K>, AllocError>
     requires { link < MOST_LINKS }
     ensures { IfOk result (λ claim. IsServiceClaim K.Books claim down link) }

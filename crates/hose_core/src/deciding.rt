@@ -27,7 +27,7 @@ pub fn decide_now<K: Books, R: RowMaker>(
     decide_at(alloc, books.book(), hose, rows)
 }
 
-// The same at a book.
+// What is decided of a hose at one book.
 fn decide_at<R: RowMaker>(
     alloc: Global,
     book: &Book,

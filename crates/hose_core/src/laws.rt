@@ -4,7 +4,7 @@ ghost use mathlib.Core.List.{IsPrefix};
 ghost use Rattle.hose_graph.specs.Network.{Network};
 ghost use Rattle.hose_graph.specs.declared.command.Command.{Command};
 ghost use Rattle.hose_graph.specs.declared.entry.Entry.{Entry};
-ghost use Rattle.hose_graph.specs.declared.reply.Reply.{Reply};
+ghost use Rattle.hose_graph.specs.declared.command.Reply.{Reply};
 ghost use Rattle.hose_law.specs.History.{IsDecidedAt, book_of};
 ghost use Rattle.hose_law.specs.Quotes.{Held, HeldQuote, at_number, free_number, none_held, with_number};
 ghost use Rattle.hose_core.specs.Holding.{AreHeld, IsQuoteOf};

@@ -6,13 +6,14 @@
 //! let reply = core.step(alloc, &customer, Command::Quote(hose), &mut PlainRows::new());
 //! ```
 //!
-//! `admit_now`, `take_now`, `release_now`, `service_now`, `show_now` and `link_now` do the same to
-//! books that are kept by others, as under a lock: a take, a release and an order of the operator
-//! take no memory there, since all of it is in their claim. What is quoted can be planned outside of
-//! it, by `plan_beside`.
+//! `admit_now`, `take_now`, `release_now`, `service_now`, `show_now` and `link_now` do so to books
+//! that are kept by others, as under a lock: a take, a release and an order of the operator take no
+//! memory there, since all of it is in their claim. What is quoted can be planned outside of it, by
+//! `plan_beside`.
 #![tactic(auto)]
 
 mod admitting;
+mod by_customer;
 mod claim;
 mod deciding;
 mod entering;
@@ -21,7 +22,6 @@ mod planning;
 mod quotes;
 mod releasing;
 mod serving;
-mod sessions;
 mod stepping;
 mod taking;
 mod telling;
@@ -29,7 +29,7 @@ mod telling;
 pub use admitting::admit_now;
 pub use claim::{Claim, claim_release, claim_service, claim_take};
 pub use laws::{law_quotes, law_step};
-pub use planning::{Planned, plan_beside};
+pub use planning::plan_beside;
 pub use quotes::{Quote, Quotes};
 pub use releasing::release_now;
 pub use serving::service_now;

@@ -2,9 +2,11 @@
 ghost use Rattle.std.specs.Prelude.{◌≡◌, ◌<◌, ◌≤◌, IfNone, IfSome, None, Some, is_none, length, position};
 ghost use Rattle.hose_law.specs.Quotes.{at_number, free_number, none_held, with_number};
 ghost use Rattle.hose_graph.specs.declared.limits.TheConstants.{MOST_QUOTES};
+ghost use Rattle.hose_core.specs.Planning.{HasTold};
 
-use hose_graph::{Amounts, Hose, MOST_QUOTES};
+use hose_graph::{Amounts, Hose, MOST_QUOTES, Reply};
 use hose_plan::Grounds;
+use std::alloc::Global;
 use std::array;
 use std::marker::Model;
 
@@ -65,6 +67,26 @@ impl Quotes {
         ensures places { length self.now ≡ MOST_QUOTES }
     {
         first_free(&self.quotes).map(|index| index as u64 + 1)
+    }
+
+    /// Holds a quote under the lowest number at which none is held, and tells it: `Quoted` or
+    /// `Memory`.
+    pub fn hold(&mut self, alloc: Global, number: u64, quote: Quote) -> Reply
+        requires range { (1 ≤ number) × (number ≤ MOST_QUOTES) }
+        requires free { free_number self.old ≡ Some number }
+        ensures { HasTold number quote self.old self.new result }
+    {
+        let (at, cost) = (quote.seen, quote.cost);
+        let Ok(amounts) = quote.amounts.copy(alloc) else {
+            return Reply::Memory;
+        };
+        self.put(number, quote);
+        Reply::Quoted {
+            quote: number,
+            cost,
+            at,
+            amounts,
+        }
     }
 
     /// Holds a quote under a number of 1 to 16 under which none is held.

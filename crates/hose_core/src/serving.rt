@@ -4,7 +4,7 @@ ghost use Rattle.hose_graph.specs.Name.{operator};
 ghost use Rattle.hose_graph.specs.Naming.{NamesPlaces};
 ghost use Rattle.hose_graph.specs.Network.{IsLinkOf};
 ghost use Rattle.hose_graph.specs.declared.entry.Entry.{Entry};
-ghost use Rattle.hose_graph.specs.declared.reply.Reply.{Reply};
+ghost use Rattle.hose_graph.specs.declared.command.Reply.{Reply};
 ghost use Rattle.hose_law.specs.Quotes.{Held};
 ghost use Rattle.hose_law.specs.Service.{is_out, service_entry};
 ghost use Rattle.hose_book.specs.Commit.{IsMet};

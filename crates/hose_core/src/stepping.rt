@@ -9,18 +9,18 @@ ghost use Rattle.hose_law.specs.Plan.{AreNodes};
 ghost use Rattle.hose_law.specs.Quotes.{free_number, nothing_held};
 ghost use Rattle.hose_book.specs.Commit.{IsMet};
 ghost use Rattle.hose_book.specs.Ledger.{HasBookOf};
-ghost use Rattle.hose_book.specs.declared.committed.Committed.{Committed};
+ghost use Rattle.hose_book.specs.declared.books.Committed.{Committed};
 ghost use Rattle.hose_core.specs.Holding.{IsMadeAt, quotes_of};
 ghost use Rattle.hose_core.specs.Serving.{service_command};
 ghost use Rattle.hose_core.specs.Stepping.{FitsHistory, Steps, committed_of};
 
 use crate::admitting::admit_now;
+use crate::by_customer::QuotesByCustomer;
 use crate::claim::{claim_release, claim_service, claim_take};
-use crate::planning::{Planned, plan_beside};
+use crate::planning::plan_now;
 use crate::quotes::Quote;
 use crate::releasing::release_now;
 use crate::serving::service_now;
-use crate::sessions::Sessions;
 use crate::taking::take_now;
 use crate::telling::{link_now, show_now};
 use hose_book::Books;
@@ -35,7 +35,7 @@ use std::marker::Model;
 #[derive(Drop)]
 pub struct Core<K: Books + Drop> {
     books: K,
-    sessions: Sessions,
+    quotes: QuotesByCustomer,
 }
 
 impl<K: Books + Drop> Model for Core<K> {
@@ -44,11 +44,11 @@ impl<K: Books + Drop> Model for Core<K> {
 
     ghost Value = { State K };
 
-    ghost view = { λ core. record { books = core.books; sessions = core.sessions } };
+    ghost view = { λ core. record { books = core.books; quotes = core.quotes } };
 
     // What is held was decided on this network, at a book that this one came from.
     ghost invariant = { λ core. (customer : List ℕ)
-        → AreKept (K.ledger core.books) (quotes_in core.sessions customer) };
+        → AreKept (K.ledger core.books) (quotes_in core.quotes customer) };
 }
 
 impl<K: Books + Drop> Core<K> {
@@ -61,7 +61,7 @@ impl<K: Books + Drop> Core<K> {
     {
         Core {
             books,
-            sessions: Sessions::new(alloc),
+            quotes: QuotesByCustomer::new(alloc),
         }
     }
 
@@ -122,7 +122,8 @@ impl<K: Books + Drop> Core<K> {
             (K.frame self.new.books) }
         ensures names { NamesPlaces (K.ledger self.old.books).network result }
     {
-        admit_now(alloc, &mut self.books, customer, hose, rows)
+        let (reply, _entered) = admit_now(alloc, &mut self.books, customer, hose, rows);
+        reply
     }
 
     // Plans a hose and holds the plan under the customer's lowest free number.
@@ -139,16 +140,13 @@ impl<K: Books + Drop> Core<K> {
         ensures met { committed_of result ≡ Committed.Done }
         ensures names { NamesPlaces (K.ledger self.old.books).network result }
     {
-        let book = self.books.book();
-        let at = book.epoch();
-        let Some(number) = self.sessions.free(customer) else {
+        let Some(number) = self.quotes.free(customer) else {
+            let at = self.books.book().epoch();
             return Reply::TooMany { at };
         };
-        let (top, service, loads) = (book.topology(), book.service(), book.loads());
-        match plan_beside(alloc, top, service, loads, at, hose, rows) {
-            Err(_) => Reply::Memory,
-            Ok(Planned::Refused { side }) => Reply::Refused { at, side },
-            Ok(Planned::Quote(quote)) => self.hold(alloc, customer, number, quote),
+        match plan_now(alloc, &self.books, hose, rows) {
+            Err(reply) => reply,
+            Ok(quote) => self.hold(alloc, customer, number, quote),
         }
     }
 
@@ -164,19 +162,7 @@ impl<K: Books + Drop> Core<K> {
         ensures met { committed_of result ≡ Committed.Done }
         ensures names { NamesPlaces (K.ledger self.old.books).network result }
     {
-        let (at, cost) = (quote.seen, quote.cost);
-        let Ok(amounts) = quote.amounts.copy(alloc) else {
-            return Reply::Memory;
-        };
-        let Ok(()) = self.sessions.put(customer, number, quote) else {
-            return Reply::Memory;
-        };
-        Reply::Quoted {
-            quote: number,
-            cost,
-            at,
-            amounts,
-        }
+        self.quotes.hold(alloc, customer, number, quote)
     }
 
     // Takes the quote under a number.
@@ -187,7 +173,7 @@ impl<K: Books + Drop> Core<K> {
             (K.frame self.new.books) }
         ensures names { NamesPlaces (K.ledger self.old.books).network result }
     {
-        let Some(quote) = self.sessions.held(customer, number) else {
+        let Some(quote) = self.quotes.held(customer, number) else {
             let at = self.books.book().epoch();
             return Reply::NoQuote { quote: number, at };
         };
@@ -195,7 +181,7 @@ impl<K: Books + Drop> Core<K> {
             return Reply::Memory;
         };
         let reply = take_now(&mut self.books, quote, claim);
-        self.sessions.clear(customer, number);
+        self.quotes.clear(customer, number);
         reply
     }
 

@@ -8,7 +8,7 @@ ghost use Rattle.hose_law.specs.Answer.{IsLinkAnswer, IsShowAnswer};
 ghost use Rattle.hose_law.specs.Book.{HasVpn};
 ghost use Rattle.hose_law.specs.Quotes.{Held};
 ghost use Rattle.hose_book.specs.Ledger.{HasBookOf};
-ghost use Rattle.hose_book.specs.declared.committed.Committed.{Committed};
+ghost use Rattle.hose_book.specs.declared.books.Committed.{Committed};
 ghost use Rattle.hose_core.specs.Stepping.{HasStepped, committed_of};
 ghost use Rattle.hose_core.specs.Telling.{IsShown};
 

@@ -1,5 +1,5 @@
 -- Which entry joined, and what an admission's take and the replies without an entry are as steps.
-use Rattle.std.proofs.Common.{◌≡◌, ◌≢◌, ℕ, Bool, true, false, List, ◌++◌, length, take, Option, None, Some, IfSome, IsSome, MatchResult, Result, refl, sym, ap, subst, ◌∙◌, append-nil, arith, ◌≤◌, ◌<◌}
+use Rattle.std.proofs.Common.{◌≡◌, ◌≢◌, ℕ, Bool, true, false, List, ◌++◌, length, take, Option, None, Some, IfSome, IsSome, MatchResult, Result, inl, inr, refl, sym, ap, subst, ◌∙◌, append-nil, arith, ◌≤◌, ◌<◌}
 use Rattle.std.specs.Prelude.{replicate}
 use Rattle.std.proofs.lemmas.List.{length-append, length-take-le, take-append-le, take_all}
 use mathlib.Core.List.{IsPrefix}
@@ -14,30 +14,33 @@ use Rattle.hose_graph.specs.declared.command.Command.{Command}
 use Rattle.hose_graph.specs.declared.command.Command.TheVariants as command
 use Rattle.hose_graph.specs.declared.entry.Entry.{Entry}
 use Rattle.hose_graph.specs.declared.entry.Entry.TheVariants.{Admit, Release}
-use Rattle.hose_graph.specs.declared.reply.Reply.{Reply}
-use Rattle.hose_graph.specs.declared.reply.Reply.TheVariants as reply
-use Rattle.hose_law.specs.Answer.{IsAdmitAnswer, IsAnswer, IsOperatorAnswer, IsPlannedAnswer, IsReleaseAnswer, IsStepOf, IsTakeAnswer, IsTakingAnswer, with_entry}
+use Rattle.hose_graph.specs.declared.command.Reply.{Reply}
+use Rattle.hose_graph.specs.declared.command.Reply.TheVariants as reply
+use Rattle.hose_law.specs.Answer.{IsAdmitAnswer, IsAnswer, IsOperatorAnswer, IsPlannedAnswer, IsReleaseAnswer, IsStepOf, IsStepOfKind, IsTakeAnswer, IsTakingAnswer, with_entry}
 use Rattle.hose_law.specs.Book.{Book, loads_of}
 use Rattle.hose_law.specs.Decision.{HasFirstFit, HaveEqualGrounds, IsPlanned}
 use Rattle.hose_law.specs.History.{book_of}
 use Rattle.hose_law.specs.Plan.{AreNodes, plan_cost}
 use Rattle.hose_law.specs.Quotes.{Held, HeldQuote, at_number, free_number, with_number}
+use Rattle.hose_law.specs.ReplyKind.{ReplyKind, kind_of}
+use Rattle.hose_law.specs.ReplyKind.ReplyKind.{ByTheBook, ForDisk, ForMemory, ForNoCommand}
 use Rattle.hose_law.specs.Room.{first_links, room_of, safe_links}
 use Rattle.hose_law.specs.Service.{service_entry}
 use Rattle.hose_book.specs.Ledger.{Ledger}
-use Rattle.hose_book.specs.declared.committed.Committed.{Committed}
-use Rattle.hose_book.specs.declared.committed.Committed.TheVariants.{Done, Disk}
+use Rattle.hose_book.specs.declared.books.Committed.{Committed}
+use Rattle.hose_book.specs.declared.books.Committed.TheVariants.{Done, Disk}
 use Rattle.hose_core.specs.Holding.{AreHeld, IsMadeAt, IsQuoteOf}
+use Rattle.hose_core.specs.Planning.{EntersPlan, HasTold, IsNotPlanned, IsPlannedFor}
 use Rattle.hose_core.specs.Serving.{service_command}
-use Rattle.hose_core.specs.Stepping.{TellsPlan, committed_of}
+use Rattle.hose_core.specs.Stepping.{TellsPlan, committed_for, committed_of}
 use Rattle.hose_core.specs.declared.quotes.Quote.{Quote}
 use Rattle.hose_plan.specs.Planning.{allowed_links}
 use Rattle.hose_turn.specs.Known.{Known}
-use Rattle.hose_shared.specs.Along.{StepsAlong, StepsHolding}
-use Rattle.hose_shared.specs.Planning.{HasTold, IsNotPlanned, IsPlannedFor, is_stale}
+use Rattle.hose_shared.specs.Along.{StepsAlong, StepsHolding, is_stale}
 use Rattle.hose_shared.specs.Sharing.{HasSeenMore}
 use Rattle.hose_shared.specs.Turns.{StepsAt, place_of}
 use Rattle.hose_law.proofs.Fronts.{prefix_same}
+use Rattle.hose_law.proofs.Steps.{step_cases}
 use Rattle.hose_shared.proofs.Passes.{along_of, epoch_of}
 use Rattle.hose_shared.proofs.Turned.{joined_of, none_joined}
 
@@ -51,9 +54,13 @@ module _ (network : Network) (history : List Entry) (customer : List ℕ) (held 
   -- a step whose entry was committed is an answer
   answered : (answer : Reply) (entry : Entry) (next : List Entry) (after : Held) → committed_of answer ≡ Done → IsStepOf network 0 history customer held asked answer (Some entry) next after
       → IsAnswer network 0 history customer held asked answer (Some entry) after
-  answered (reply.Disk at) entry next after done step = absurd (cc done)
-  answered reply.Memory entry next after done step = absurd (cc step.1)
-  answered answer entry next after done step = step.0
+  answered answer entry next after done step = at (kind_of answer) done step
+    where
+      at : (kind : ReplyKind) → committed_for kind ≡ Done → IsStepOfKind network 0 history customer held asked kind answer (Some entry) next after → IsAnswer network 0 history customer held asked answer (Some entry) after
+      at ByTheBook done is = is.0
+      at (ForDisk epoch) done is = absurd (cc done)
+      at ForMemory done is = absurd (cc is.1)
+      at ForNoCommand done is = absurd is
 
 -- ---- a release
 
@@ -96,16 +103,27 @@ module _ (network : Network) (history : List Entry) (customer : List ℕ) (held 
   order_starved true link is = (is, refl, refl, refl)
   order_starved false link is = (is, refl, refl, refl)
 
+-- ---- what was planned
+
+module _ (network : Network) (book : Book) (customer : List ℕ) (hose : List Endpoint) where
+  planned_is : (plan : List ReservedLink) (cost : ℕ) (answer : Reply) (entry : Entry) → TellsPlan plan cost answer → IsPlannedAnswer network book customer hose answer (Some entry) → entry ≡ Admit customer hose plan
+  planned_is plan cost (reply.Admitted id told at amounts) entry tells is = is.6 ∙ ap (Admit customer hose) tells.0
+  planned_is plan cost answer entry tells is = absurd is
+
+  admit_planned : (answer : Reply) (entry : Entry) → IsAdmitAnswer network book customer hose answer (Some entry) → IsPlannedAnswer network book customer hose answer (Some entry)
+  admit_planned (reply.Refused at side) entry is = is
+  admit_planned answer entry is = is
+
+  -- the entry of an admission is the one that was to be entered
+  entered_is : (answer : Reply) (entry mine : Entry) → EntersPlan customer hose answer mine → IsAdmitAnswer network book customer hose answer (Some entry) → entry ≡ mine
+  entered_is answer entry mine enters is = planned_is enters.plan enters.cost answer entry enters.tells (admit_planned answer entry is) ∙ sym enters.enters
+
 -- ---- a take
 
 module _ (network : Network) (earlier book : Book) (customer : List ℕ) (hose : List Endpoint) where
   taking_planned : (answer : Reply) (entry : Entry) → IsTakingAnswer network earlier book customer hose answer (Some entry) → IsPlannedAnswer network book customer hose answer (Some entry)
   taking_planned (reply.Stale seen now) entry is = is.1
   taking_planned answer entry is = is.1
-
-  planned_is : (plan : List ReservedLink) (cost : ℕ) (answer : Reply) (entry : Entry) → TellsPlan plan cost answer → IsPlannedAnswer network book customer hose answer (Some entry) → entry ≡ Admit customer hose plan
-  planned_is plan cost (reply.Admitted id told at amounts) entry tells is = is.6 ∙ ap (Admit customer hose) tells.0
-  planned_is plan cost answer entry tells is = absurd is
 
   -- what has a plan is answered as an admission
   planned_admits : (answer : Reply) (entry : Option Entry) → IsPlannedAnswer network book customer hose answer entry → IsAdmitAnswer network book customer hose answer entry
@@ -120,6 +138,16 @@ module _ (network : Network) (earlier book : Book) (customer : List ℕ) (hose :
 
   taking_entered : (answer : Reply) (entry : Entry) → IsTakingAnswer network earlier book customer hose answer (Some entry) → IsAdmitAnswer network book customer hose answer (Some entry)
   taking_entered answer entry is = planned_admits answer (Some entry) (taking_planned answer entry is)
+
+-- ---- an admission
+
+pub admit_entry : (network : Network) (history : List Entry) (customer : List ℕ) (held : Held) (hose : List Endpoint) (answer : Reply) (mine : Entry) (entry : Option Entry) (next : List Entry) (after : Held) → EntersPlan customer hose answer mine
+    → IsStepOf network 0 history customer held (command.Admit hose) answer entry next after → IfSome (joined_of entry (committed_of answer)) (λ joined. joined ≡ mine)
+admit_entry network history customer held hose answer mine entry next after enters step = joined_is (λ joined. joined ≡ mine) entry (committed_of answer) (λ joined is done.
+    entered_is network (book_of 0 history) customer hose answer joined mine enters
+    (answered network history customer held (command.Admit hose) answer joined next after done (subst (λ (e : Option Entry). IsStepOf network 0 history customer held (command.Admit hose) answer e next after) is step)).0)
+
+-- ---- a take that is not stale
 
 -- the decisions on a hose at one book cannot but have the same grounds
 grounds_same : (network : Network) (book : Book) (hose : List Endpoint) → (HaveEqualGrounds network book book hose → ⊥) → ⊥
@@ -143,7 +171,7 @@ module _ (network : Network) (history : List Entry) (customer : List ℕ) (held 
   pub take_entry : (plan : List ReservedLink) (cost : ℕ) (answer : Reply) (entry : Option Entry) (next : List Entry) (after : Held) → TellsPlan plan cost answer → Taken answer entry next after
       → IfSome (joined_of entry (committed_of answer)) (λ joined. joined ≡ Admit customer one.hose plan)
   take_entry plan cost answer entry next after tells step = joined_is (λ joined. joined ≡ Admit customer one.hose plan) entry (committed_of answer) (λ joined is done.
-      planned_is network earlier (book_of 0 history) customer one.hose plan cost answer joined tells
+      planned_is network (book_of 0 history) customer one.hose plan cost answer joined tells
       (taking_planned network earlier (book_of 0 history) customer one.hose answer joined
       (taking answer (Some joined) after (answered network history customer held (command.Take number) answer joined next after done (subst (λ (e : Option Entry). Taken answer e next after) is step)))))
 
@@ -155,9 +183,13 @@ module _ (network : Network) (history : List Entry) (customer : List ℕ) (held 
   -- A take of a quote that is not stale answers the admission of its hose.
   take_admits : (mine : Held) (answer : Reply) (entry : Option Entry) (next : List Entry) (after : Held) → is_stale answer ≡ false → Taken answer entry next after
       → IsStepOf network 0 history customer mine (command.Admit one.hose) answer entry next mine
-  take_admits mine (reply.Disk at) entry next after fresh step = (step.0, step.1, (step.2.0, entered_admits mine step.2.0 entry after step.1 step.2.1), step.3)
-  take_admits mine reply.Memory entry next after fresh step = (tt, step.1, step.2, refl)
-  take_admits mine answer entry next after fresh step = ((taking_admits network earlier (book_of 0 history) customer one.hose answer entry fresh (taking answer entry after step.0), refl), step.1)
+  take_admits mine answer entry next after fresh step = at (kind_of answer) step
+    where
+      at : (kind : ReplyKind) → IsStepOfKind network 0 history customer held (command.Take number) kind answer entry next after → IsStepOfKind network 0 history customer mine (command.Admit one.hose) kind answer entry next mine
+      at ByTheBook is = ((taking_admits network earlier (book_of 0 history) customer one.hose answer entry fresh (taking answer entry after is.0), refl), is.1)
+      at (ForDisk failed) is = (is.0, is.1, (is.2.0, entered_admits mine is.2.0 entry after is.1 is.2.1), is.3)
+      at ForMemory is = (tt, is.1, is.2, refl)
+      at ForNoCommand is = absurd is
 
   -- at the place of its quote a take is not stale
   pub fresh_there : one.place ≡ length history → (answer : Reply) (entry : Option Entry) (next : List Entry) (after : Held) → Taken answer entry next after → is_stale answer ≡ false
@@ -192,7 +224,7 @@ module _ (network : Network) (history : List Entry) (customer : List ℕ) (held 
       let none = none_joined history at.joined (ap length (stale_stays answer at.entry (with_entry history at.joined) at.after stale at.step)) in
       record { same = at.same; own = at.own ∙ ap (λ (joined : Option Entry). old.own ++ place_of history joined) none ∙ append-nil old.own }
 
-  -- the same of a pass
+  -- a take of a pass that is not stale answers the admission of its hose
   pub admits_at : (mine : Held) (answer : Reply) (old new : Known) → is_stale answer ≡ false → StepsAt network customer held (command.Take number) answer history old new
       → StepsAt network customer mine (command.Admit one.hose) answer history old new
   admits_at mine answer old new fresh at = record {
@@ -226,7 +258,7 @@ stays_along network customer held after asked answer old new more done step = al
   failed = λ is. absurd (cc (is, done));
 })
 
--- the same, with what is held then
+-- A reply without an entry, with what is held then.
 pub stays_holding : (network : Network) (customer : List ℕ) (held after : Held) (asked : Command) (answer : Reply) (old new : Known) (quotes : List (Option Quote)) → HasSeenMore old new → committed_of answer ≡ Done
     → IsStepOf network 0 new.seen customer held asked answer None new.seen after → AreHeld network 0 new.seen after quotes → StepsHolding network customer held asked answer old new quotes
 unfolding stays_along
@@ -244,16 +276,6 @@ module _ (network : Network) (seen : List Entry) (customer : List ℕ) (held : H
   unplanned_quote reply.Memory some is = (some, refl, refl, refl)
   unplanned_quote (reply.Refused at side) some is = ((refl, (is.0, some, is.1, refl)), refl)
   unplanned_quote answer some is = absurd is
-
-  pub unplanned_done : (answer : Reply) → IsNotPlanned network (book_of 0 seen) hose answer → committed_of answer ≡ Done
-  unplanned_done reply.Memory is = refl
-  unplanned_done (reply.Refused at side) is = refl
-  unplanned_done answer is = absurd is
-
-  pub unplanned_names : (answer : Reply) → IsNotPlanned network (book_of 0 seen) hose answer → NamesPlaces network answer
-  unplanned_names reply.Memory is = tt
-  unplanned_names (reply.Refused at side) is = is.2
-  unplanned_names answer is = absurd is
 
   -- a plan that was made at all that was seen is a quote of that place
   pub quote_there : (quote : Quote) → IsPlannedFor network (book_of 0 seen) hose quote → IsQuoteOf network 0 seen (record { hose = hose; place = length seen }) quote
@@ -294,9 +316,10 @@ module _ (network : Network) (seen : List Entry) (customer : List ℕ) (held : H
   -- a take that was answered has used its quote up
   pub taken_after : (one : HeldQuote) → at_number held number ≡ Some one → (answer : Reply) (entry : Option Entry) (next : List Entry) (after : Held) → answer ≢ reply.Memory
       → IsStepOf network 0 seen customer held (command.Take number) answer entry next after → after ≡ with_number held number None
-  taken_after one there (reply.Disk at) entry next after told step = taken_by one there step.2.0 entry after step.2.1
-  taken_after one there reply.Memory entry next after told step = absurd (told refl)
-  taken_after one there answer entry next after told step = taken_by one there answer entry after step.0
+  taken_after one there answer entry next after told step = elim (step_cases network 0 seen customer held (command.Take number) answer entry next after step) [
+    | inl idle ↦ absurd (told idle.tells)
+    | inr answered ↦ taken_by one there answered.given entry after answered.is
+  ]
 
 -- a quote of a place that was seen is one of that place in all that was seen later
 pub seen_quote : (network : Network) (seen later : List Entry) (one : HeldQuote) (quote : Quote) → IsPrefix seen later → IsQuoteOf network 0 seen one quote → IsQuoteOf network 0 later one quote

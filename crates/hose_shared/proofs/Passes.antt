@@ -10,7 +10,7 @@ use mathlib.Core.List.{IsPrefix}
 use Rattle.hose_io.specs.Frame.{Frame}
 use Rattle.hose_graph.specs.declared.entry.Entry.{Entry}
 use Rattle.hose_graph.specs.declared.command.Command.{Command}
-use Rattle.hose_graph.specs.declared.reply.Reply.{Reply}
+use Rattle.hose_graph.specs.declared.command.Reply.{Reply}
 use Rattle.hose_graph.specs.Network.{Network}
 use Rattle.hose_law.specs.Answer.{IsStepOf, with_entry}
 use Rattle.hose_law.specs.Book.{Book}
@@ -20,8 +20,8 @@ use Rattle.hose_law.proofs.Fronts.{front_of, prefix_length, prefix_on, prefix_sa
 use Rattle.hose_law.proofs.LiveIds.{next_epoch}
 use Rattle.hose_law.proofs.Transcripts.{front_longer}
 use Rattle.hose_book.specs.Commit.{IsMet}
-use Rattle.hose_book.specs.declared.committed.Committed.{Committed}
-use Rattle.hose_book.specs.declared.committed.Committed.TheVariants.{Done, Disk}
+use Rattle.hose_book.specs.declared.books.Committed.{Committed}
+use Rattle.hose_book.specs.declared.books.Committed.TheVariants.{Done, Disk}
 use Rattle.hose_turn.specs.Faults.{end_of_count, rise}
 use Rattle.hose_turn.specs.Known.{HasOwnPlaces, Known}
 use Rattle.hose_shared.specs.Along.{HasEntryAt, IsCheapestEntry, StepsAlong}

@@ -1,5 +1,5 @@
 -- Commands that are answered along a history.
-use Rattle.std.specs.Prelude.{◌≡◌, ℕ, ◌<◌, ◌≤◌, All, Bool, List, ◌++◌, length, take, slice_get, Option, Some, Result, Ok, Err, ⊤}
+use Rattle.std.specs.Prelude.{◌≡◌, ℕ, ◌<◌, ◌≤◌, All, Bool, true, false, List, ◌++◌, length, take, slice_get, Option, Some, Result, Ok, Err, ⊤}
 use Rattle.hose_graph.specs.Hose.{Endpoint}
 use Rattle.hose_graph.specs.Network.{Network}
 use Rattle.hose_graph.specs.Naming.{NamesPlaces}
@@ -7,7 +7,8 @@ use Rattle.hose_graph.specs.declared.command.Command.{Command}
 use Rattle.hose_graph.specs.declared.command.Command.TheVariants.{Admit as AdmitHose}
 use Rattle.hose_graph.specs.declared.entry.Entry.{Entry}
 use Rattle.hose_graph.specs.declared.entry.Entry.TheVariants.{Admit, Release, Down, Up}
-use Rattle.hose_graph.specs.declared.reply.Reply.{Reply}
+use Rattle.hose_graph.specs.declared.command.Reply.{Reply}
+use Rattle.hose_graph.specs.declared.command.Reply.TheVariants.{Stale}
 use Rattle.hose_law.specs.Book.{Book}
 use Rattle.hose_law.specs.Cheapest.{IsCheapest}
 use Rattle.hose_law.specs.Decision.{IsAllowed}
@@ -15,7 +16,7 @@ use Rattle.hose_law.specs.History.{IsDecidedAt, book_of}
 use Rattle.hose_law.specs.Quotes.{Held}
 use Rattle.hose_law.specs.Room.{room_of}
 use Rattle.hose_law.specs.Transcript.{IsPlacedStep}
-use Rattle.hose_book.specs.declared.committed.Committed.TheVariants.{Disk}
+use Rattle.hose_book.specs.declared.books.Committed.TheVariants.{Disk}
 use Rattle.hose_core.specs.Holding.{AreHeld}
 use Rattle.hose_core.specs.Stepping.{committed_of}
 use Rattle.hose_core.specs.declared.quotes.Quote.{Quote}
@@ -55,11 +56,16 @@ pub record StepsAlong (network : Network) (customer : List ℕ) (held : Held) (c
   pub own : new.own ≡ old.own ++ added
   pub failed : committed_of answer ≡ Disk → old.faults < new.faults
 
--- The same of a command that changes what the customer holds, which these quotes fit then.
+-- A command that changes what the customer holds was answered so, and these quotes fit that then.
 pub record StepsHolding (network : Network) (customer : List ℕ) (held : Held) (command : Command)
     (answer : Reply) (old new : Known) (quotes : List (Option Quote)) : Type 0 where
   pub along : StepsAlong network customer held command answer old new
   pub holds : AreHeld network 0 new.seen along.left quotes
+
+-- the reply is that a quote went stale
+abbrev pub is_stale : Reply → Bool
+is_stale (Stale seen now) = true
+is_stale reply = false
 
 -- An admission was answered so, with a reply that names what is there; or its plan went stale, and
 -- the hose is still to be admitted.

@@ -1,6 +1,5 @@
 pub mod Along
 pub mod Closing
 pub mod Keeping
-pub mod Planning
 pub mod Sharing
 pub mod Turns

@@ -4,11 +4,11 @@ use mathlib.Core.List.{IsPrefix}
 use Rattle.hose_graph.specs.Network.{Network}
 use Rattle.hose_graph.specs.declared.command.Command.{Command}
 use Rattle.hose_graph.specs.declared.entry.Entry.{Entry}
-use Rattle.hose_graph.specs.declared.reply.Reply.{Reply}
+use Rattle.hose_graph.specs.declared.command.Reply.{Reply}
 use Rattle.hose_law.specs.Answer.{IsStepOf, with_entry}
 use Rattle.hose_law.specs.History.{IsDecidedAt, book_of}
 use Rattle.hose_law.specs.Quotes.{Held}
-use Rattle.hose_book.specs.declared.committed.Committed.TheVariants.{Disk}
+use Rattle.hose_book.specs.declared.books.Committed.TheVariants.{Disk}
 use Rattle.hose_core.specs.Stepping.{committed_of}
 use Rattle.hose_disk.specs.declared.disk.Disk.{Ghosts}
 use Rattle.hose_store.specs.Store.{Kept as KeptStore}

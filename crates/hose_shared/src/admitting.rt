@@ -4,18 +4,18 @@ ghost use Rattle.hose_graph.specs.Naming.{NamesPlaces};
 ghost use Rattle.hose_graph.specs.declared.command.Command.{Command};
 ghost use Rattle.hose_law.specs.Plan.{AreNodes};
 ghost use Rattle.hose_law.specs.Quotes.{Held as HeldQuotes};
-ghost use Rattle.hose_shared.specs.Along.{IsTried, StepsAlong};
-ghost use Rattle.hose_shared.specs.Planning.{is_stale};
+ghost use Rattle.hose_shared.specs.Along.{IsTried, StepsAlong, is_stale};
 ghost use Rattle.hose_shared.specs.Sharing.{IsPassOf};
 
 use crate::kept::Begun;
 use crate::shared::Shared;
-use hose_core::claim_take;
+use hose_core::{admit_now, claim_take, law_step};
 use hose_disk::Disk;
 use hose_graph::{Hose, Name, Reply};
 use hose_paths::RowMaker;
 use hose_pool::{Gate, Point};
-use hose_turn::Pass;
+use hose_store::Store;
+use hose_turn::{Pass, Stands};
 use std::alloc::Global;
 use std::sync::Wait;
 
@@ -91,7 +91,7 @@ impl<D: Disk, B: Begun<D>> Shared<D, B> {
         (Ok(reply), pass)
     }
 
-    // Plans a hose under the lock and takes the plan there, which cannot be stale.
+    // Plans a hose and admits it, all under the lock.
     fn admit_in_turn<W: Wait, R: RowMaker>(
         &self,
         rt: &W,
@@ -107,15 +107,15 @@ impl<D: Disk, B: Begun<D>> Shared<D, B> {
             (Command.Admit hose) result.0 pass result.1 }
         ensures names { NamesPlaces self.now.network result.0 }
     {
-        let held = self.turn.lock(rt, pass);
-        let quote = match self.plan_in_turn(alloc, &held, hose, rows) {
-            Ok(quote) => quote,
-            Err(reply) => return (reply, self.turn.unlock(held)),
-        };
-        let Ok(claim) = claim_take(alloc, customer, &quote) else {
-            return (Reply::Memory, self.turn.unlock(held));
-        };
-        self.take_claimed(held, &quote, claim)
+        law_step::<Store<D>>();
+        let mut held = self.turn.lock(rt, pass);
+        let epoch = held.value().epoch();
+        let store = &mut held.value_mut().store;
+        let (reply, entered) = admit_now(alloc, store, customer, hose, rows);
+        match entered {
+            None => (reply, self.turn.unlock(held)),
+            Some(entry) => (reply, self.end_turn(held, epoch, entry)),
+        }
     }
 }
 

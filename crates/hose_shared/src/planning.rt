@@ -1,51 +1,24 @@
 // Planning over a copy of the links in service, and beside one of the loads.
 ghost use Rattle.std.specs.Prelude.{◌≡◌, MatchResult, length};
-ghost use Rattle.hose_law.specs.Book.{Book, loads_of};
+ghost use Rattle.hose_law.specs.Book.{loads_of};
 ghost use Rattle.hose_law.specs.History.{book_of};
 ghost use Rattle.hose_law.specs.Plan.{AreNodes};
 ghost use Rattle.hose_law.specs.Room.{first_links};
 ghost use Rattle.hose_tree.specs.Amounts.{AreCarried};
-ghost use Rattle.hose_turn.specs.Held.{holder, value_of};
-ghost use Rattle.hose_shared.specs.Keeping.{StandsShared};
-ghost use Rattle.hose_shared.specs.Planning.{IsNotPlanned, IsPlannedFor};
+ghost use Rattle.hose_core.specs.Planning.{IsNotPlanned, IsPlannedFor};
 ghost use Rattle.hose_shared.specs.Sharing.{HasSeenMore, IsPassOf};
 
-use crate::kept::{Begun, Kept};
+use crate::kept::Begun;
 use crate::shared::Shared;
 use hose_book::Books;
-use hose_core::{Planned, Quote, plan_beside};
+use hose_core::{Quote, plan_beside};
 use hose_disk::Disk;
-use hose_graph::{Hose, Reply, Topology};
+use hose_graph::{Hose, Reply};
 use hose_links::LinkSet;
 use hose_paths::RowMaker;
-use hose_turn::{Held, Pass};
+use hose_turn::Pass;
 use std::alloc::Global;
 use std::sync::Wait;
-
-/// The plan of a hose over the links in service of a book at an epoch and beside its loads, or the
-/// reply where it has none.
-pub fn plan_at<R: RowMaker>(
-    alloc: Global,
-    top: &Topology,
-    service: &LinkSet,
-    loads: &[u64],
-    epoch: u64,
-    hose: Hose,
-    rows: &mut R,
-) -> Result<Quote, Reply>
-    requires places { length service.now ≡ length top.now.links }
-    requires loads { AreCarried top.now loads.now }
-    requires nodes { AreNodes top.now hose }
-    ensures { (book : Book) → service.now ≡ first_links top.now book
-        → loads.now ≡ loads_of top.now book → epoch ≡ book.epoch
-        → MatchResult result (IsPlannedFor top.now book hose) (IsNotPlanned top.now book hose) }
-{
-    match plan_beside(alloc, top, service, loads, epoch, hose, rows) {
-        Err(_) => Err(Reply::Memory),
-        Ok(Planned::Refused { side }) => Err(Reply::Refused { at: epoch, side }),
-        Ok(Planned::Quote(quote)) => Ok(quote),
-    }
-}
 
 impl<D: Disk, B: Begun<D>> Shared<D, B> {
     /// The plan of a hose over the links in service at a place of the history, which the pass has
@@ -75,38 +48,8 @@ impl<D: Disk, B: Begun<D>> Shared<D, B> {
         };
         let (epoch, pass) = self.look(rt, pass, &mut service, &mut loads);
         let top = &self.topology;
-        (
-            plan_at(alloc, top, &service, &loads, epoch, hose, rows),
-            pass,
-        )
-    }
-
-    /// The same under the lock, at all that the pass has seen.
-    pub(crate) fn plan_in_turn<R: RowMaker>(
-        &self,
-        alloc: Global,
-        held: &Held<Kept<D, B>>,
-        hose: Hose,
-        rows: &mut R,
-    ) -> Result<Quote, Reply>
-        requires network { (holder held.now).origin.network ≡ self.now.network }
-        requires stands { StandsShared D.Disk B.begins (holder held.now).origin
-            (holder held.now).seen (value_of held.now).store }
-        requires nodes { AreNodes self.now.network hose }
-        ensures { let book = book_of 0 (holder held.now).seen in
-            MatchResult result (IsPlannedFor self.now.network book hose)
-            (IsNotPlanned self.now.network book hose) }
-    {
-        let book = held.value().store.book();
-        plan_at(
-            alloc,
-            book.topology(),
-            book.service(),
-            book.loads(),
-            book.epoch(),
-            hose,
-            rows,
-        )
+        let planned = plan_beside(alloc, top, &service, &loads, epoch, hose, rows);
+        (planned, pass)
     }
 
     // Copies the links in service and the loads of all links at a place of the history, and tells

@@ -1,18 +1,16 @@
 // Quotes.
-ghost use Rattle.std.specs.Prelude.{◌≡◌, ◌≤◌, List, Some, ℕ};
+ghost use Rattle.std.specs.Prelude.{List, ℕ};
 ghost use Rattle.hose_graph.specs.Naming.{NamesPlaces};
 ghost use Rattle.hose_graph.specs.declared.command.Command.{Command};
-ghost use Rattle.hose_graph.specs.declared.limits.TheConstants.{MOST_QUOTES};
 ghost use Rattle.hose_law.specs.Plan.{AreNodes};
-ghost use Rattle.hose_law.specs.Quotes.{Held as HeldQuotes, free_number};
+ghost use Rattle.hose_law.specs.Quotes.{Held as HeldQuotes};
 ghost use Rattle.hose_core.specs.Holding.{AreHeld};
 ghost use Rattle.hose_shared.specs.Along.{StepsHolding};
-ghost use Rattle.hose_shared.specs.Planning.{HasTold};
 ghost use Rattle.hose_shared.specs.Sharing.{IsPassOf};
 
 use crate::kept::Begun;
 use crate::shared::Shared;
-use hose_core::{Quote, Quotes, law_quotes};
+use hose_core::{Quotes, law_quotes};
 use hose_disk::Disk;
 use hose_graph::{Hose, Reply};
 use hose_paths::RowMaker;
@@ -50,26 +48,7 @@ impl<D: Disk, B: Begun<D>> Shared<D, B> {
         let (planned, pass) = self.plan(rt, alloc, pass, hose, rows);
         match planned {
             Err(reply) => (reply, pass),
-            Ok(quote) => (hold(alloc, quotes, number, quote), pass),
+            Ok(quote) => (quotes.hold(alloc, number, quote), pass),
         }
-    }
-}
-
-// Holds a quote under a free number, and tells it.
-fn hold(alloc: Global, quotes: &mut Quotes, number: u64, quote: Quote) -> Reply
-    requires range { (1 ≤ number) × (number ≤ MOST_QUOTES) }
-    requires free { free_number quotes.old ≡ Some number }
-    ensures { HasTold number quote quotes.old quotes.new result }
-{
-    let (at, cost) = (quote.seen, quote.cost);
-    let Ok(amounts) = quote.amounts.copy(alloc) else {
-        return Reply::Memory;
-    };
-    quotes.put(number, quote);
-    Reply::Quoted {
-        quote: number,
-        cost,
-        at,
-        amounts,
     }
 }

@@ -2,7 +2,7 @@
 ghost use Rattle.std.specs.Prelude.{◌≡◌, ◌≢◌, ◌<◌, ◌≤◌, List, Option, Some, ℕ, length};
 ghost use Rattle.hose_graph.specs.Naming.{NamesPlaces};
 ghost use Rattle.hose_graph.specs.declared.command.Command.{Command};
-ghost use Rattle.hose_graph.specs.declared.reply.Reply.{Reply};
+ghost use Rattle.hose_graph.specs.declared.command.Reply.{Reply};
 ghost use Rattle.hose_law.specs.Quotes.{Held as HeldQuotes, HeldQuote, at_number};
 ghost use Rattle.hose_store.specs.Commit.{store_books};
 ghost use Rattle.hose_core.specs.Claiming.{IsClaimOf};

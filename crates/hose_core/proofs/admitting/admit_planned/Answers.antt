@@ -1,6 +1,7 @@
 use Rattle.std.proofs.Common.{List, ℕ, refl, subst, sym}
 use Rattle.hose_graph.specs.declared.entry.Entry.TheVariants.{Admit}
 use Rattle.hose_core.specs.Claiming.{IsPlannedEntry}
+use Rattle.hose_core.specs.Stepping.{TellsPlan}
 use Rattle.hose_core.proofs.Decided.{admit_step}
 use Rattle.hose_core.proofs.PlannedEntries.{admits_cheapest}
 use Rattle.hose_core.proofs.admitting.admit_planned.Goals as goal
@@ -14,6 +15,14 @@ returns-clause-step g c = λ epoch history held at.
     let planned : IsPlannedEntry ledger customer hose c.args.amounts entry = record { admits = refl; planned = c.requires.planned; sound = c.requires.sound } in
     let told = subst (λ (plan : List (ℕ × ℕ)). IsPlannedEntry ledger customer hose plan entry) (sym c.in-Ok.ensures) planned in
     admit_step g.K.Books c.args.books.now c.enter_planned.new.books epoch history customer held hose at c.enter_planned.result (c.enter_planned.ensures.answers customer hose told)
+
+pub returns-clause-entered : goal.returns-clause-entered
+returns-clause-entered g c = record {
+  plan = c.args.amounts;
+  cost = c.args.cost;
+  tells = subst (λ (plan : List (ℕ × ℕ)). TellsPlan plan c.args.cost c.enter_planned.result) c.in-Ok.ensures c.enter_planned.ensures.told;
+  enters = c.of-entered.ensures;
+}
 
 pub returns-clause-cheapest : goal.returns-clause-cheapest
 returns-clause-cheapest g c =

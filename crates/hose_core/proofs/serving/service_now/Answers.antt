@@ -1,7 +1,7 @@
 use Rattle.std.proofs.Common.{◌<◌, ◌∙◌, Bool, ℕ, ap, arith, refl, sym}
 use Rattle.hose_graph.specs.Name.{operator}
 use Rattle.hose_graph.specs.Network.{IsLinkOf}
-use Rattle.hose_graph.specs.declared.reply.Reply.TheVariants.{Already, Disk, Spent}
+use Rattle.hose_graph.specs.declared.command.Reply.TheVariants.{Already, Disk, Spent}
 use Rattle.hose_law.specs.History.{last_epoch}
 use Rattle.hose_law.specs.Service.{is_out}
 use Rattle.hose_book.specs.Ledger.{Ledger}

@@ -1,4 +1,4 @@
-use Rattle.std.proofs.Common.{◌≤◌, ℕ, Bool, List, arith, refl, subst, sym}
+use Rattle.std.proofs.Common.{◌≤◌, ℕ, Bool, List, arith, subst, sym}
 use Rattle.hose_graph.specs.Network.{Network}
 use Rattle.hose_law.specs.Book.{loads_of}
 use Rattle.hose_law.specs.Room.{room_of}

@@ -2,7 +2,7 @@ use Rattle.std.proofs.Common.{◌∙◌, ap, inl, inr, refl, subst, sym, ℕ}
 use Rattle.std.proofs.lemmas.Bool.{false≢true}
 use Rattle.hose_graph.specs.Network.{IsNetwork}
 use Rattle.hose_book.specs.Ledger.{Ledger}
-use Rattle.hose_graph.specs.declared.reply.Reply.TheVariants.{Stale}
+use Rattle.hose_graph.specs.declared.command.Reply.TheVariants.{Stale}
 use Rattle.hose_core.proofs.PlannedEntries.{admits_cheapest}
 use Rattle.hose_core.proofs.TakenQuotes.{claim_planned, holds_there, stale_step, take_step}
 use Rattle.hose_core.proofs.taking.take_now.Goals as goal

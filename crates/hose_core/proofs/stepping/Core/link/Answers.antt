@@ -8,7 +8,7 @@ use Rattle.hose_core.proofs.stepping.Core.link.Goals as goal
 pub returns-clause-step : goal.returns-clause-step
 returns-clause-step g c = λ customer epoch history holdings.
     let books = g.K.Books in
-    let fields : State _ = record { books = c.self.inside.books; sessions = c.self.inside.sessions } in
+    let fields : State _ = record { books = c.self.inside.books; quotes = c.self.inside.quotes } in
     let answer = c.link_now.result in
     subst (λ (s : State _). FitsHistory books s epoch history holdings → StepsOn books s s epoch history holdings customer (Link c.args.link) answer) c.self.view_is
     (λ fits. keeps_on books fields fields epoch history holdings customer fits refl (Link c.args.link) answer tt (c.link_now.ensures.step customer epoch history (holdings customer) fits.book) refl)

@@ -23,8 +23,8 @@ invariant_of-self g c = λ customer. kept_on (g.K.Books.ledger c.self.inside.boo
 pub returns-clause-step : goal.returns-clause-step
 returns-clause-step g c = λ epoch history holdings.
     let books = g.K.Books in
-    let fields : State _ = record { books = c.self.inside.books; sessions = c.self.inside.sessions } in
-    let new : State _ = record { books = c.service_now.new.books; sessions = c.self.inside.sessions } in
+    let fields : State _ = record { books = c.self.inside.books; quotes = c.self.inside.quotes } in
+    let new : State _ = record { books = c.service_now.new.books; quotes = c.self.inside.quotes } in
     let customer = c.args.customer.now in
     let asked = service_command c.args.down c.args.link in
     let answer = c.service_now.result in

@@ -1,33 +1,51 @@
-use Rattle.std.proofs.Common.{◌∙◌, ap, sym}
+use Rattle.std.proofs.Common.{◌∙◌, ℕ, List, ap, subst, sym}
 use Rattle.hose_book.specs.Ledger.{Ledger}
+use Rattle.hose_graph.specs.declared.command.Command.TheVariants.{Quote as QuoteOf}
 use Rattle.hose_law.specs.Quotes.{free_number}
 use Rattle.hose_core.specs.Holding.{State, quotes_in}
-use Rattle.hose_core.specs.Planning.{IsPlannedAt}
-use Rattle.hose_core.specs.declared.planning.Planned.TheVariants.{Refused}
-use Rattle.hose_core.proofs.Decided.{planned_there}
-use Rattle.hose_core.proofs.SteppedOn.{quote_memory_on, refused_on, too_many_on}
+use Rattle.hose_core.specs.Planning.{IsNotPlanned, IsPlannedFor}
+use Rattle.hose_core.specs.Stepping.{StepsOn}
+use Rattle.hose_core.proofs.Decided.{unplanned_done, unplanned_names}
+use Rattle.hose_core.proofs.SteppedOn.{too_many_on, unplanned_on}
 use Rattle.hose_core.proofs.stepping.Core.quote.Goals as goal
 
 pub returns-in_default-clause-step : goal.returns-in_default-clause-step
 returns-in_default-clause-step g c = λ epoch history holdings fits.
     let customer = c.args.customer.now in
-    let at = c.epoch-at.ensures.value ∙ ap (λ (l : Ledger). l.book.epoch) (c.book-book.ensures ∙ ap (λ (s : State _). g.K.Books.ledger s.books) c.self.view_is) in
-    let none = ap (λ (s : State _). free_number (quotes_in s.sessions customer)) (sym c.self.view_is) ∙ sym c.free.ensures.lowest ∙ c.in_default.is in
+    let at = c.epoch-at.ensures.value ∙ ap (λ (l : Ledger). l.book.epoch) (c.book.ensures ∙ ap (λ (s : State _). g.K.Books.ledger s.books) c.self.view_is) in
+    let none = ap (λ (s : State _). free_number (quotes_in s.quotes customer)) (sym c.self.view_is) ∙ sym c.free.ensures.lowest ∙ c.in_default.is in
     too_many_on g.K.Books c.args.self.now epoch history holdings customer fits c.args.hose c.epoch-at.result at none
 
 pub returns-in-Err-clause-step : goal.returns-in-Err-clause-step
 returns-in-Err-clause-step g c = λ epoch history holdings fits.
-    let customer = c.args.customer.now in
-    let free = ap (λ (s : State _). free_number (quotes_in s.sessions customer)) (sym c.self.view_is) ∙ sym c.free.ensures.lowest ∙ c.in-Some.is in
-    quote_memory_on g.K.Books c.args.self.now epoch history holdings customer fits c.args.hose c.in-Some.number free
+    let free = ap (λ (s : State _). free_number (quotes_in s.quotes c.args.customer.now)) (sym c.self.view_is) ∙ sym c.free.ensures.lowest ∙ c.in-Some.is in
+    let here = g.K.Books.ledger c.self.inside.books in
+    let none : IsNotPlanned here.network here.book c.args.hose c.in-Err.reply = rw c.in-Err.is at c.plan_now.ensures in
+    let there = subst (λ (s : State _). let l = g.K.Books.ledger s.books in IsNotPlanned l.network l.book c.args.hose c.in-Err.reply) c.self.view_is none in
+    unplanned_on g.K.Books c.args.self.now epoch history holdings c.args.customer.now fits c.args.hose c.in-Some.number c.in-Err.reply free there
 
-pub returns-in-Ok-Refused-clause-step : goal.returns-in-Ok-Refused-clause-step
-returns-in-Ok-Refused-clause-step g c = λ epoch history holdings fits.
-    let customer = c.args.customer.now in
+pub returns-in-Err-clause-names : goal.returns-in-Err-clause-names
+returns-in-Err-clause-names g c =
+    let here = g.K.Books.ledger c.self.inside.books in
+    let none : IsNotPlanned here.network here.book c.args.hose c.in-Err.reply = rw c.in-Err.is at c.plan_now.ensures in
+    let there = subst (λ (s : State _). let l = g.K.Books.ledger s.books in IsNotPlanned l.network l.book c.args.hose c.in-Err.reply) c.self.view_is none in
     let now = g.K.Books.ledger c.args.self.now.books in
-    let here = c.book-book.ensures ∙ ap (λ (s : State _). g.K.Books.ledger s.books) c.self.view_is in
-    let at = c.epoch-at.ensures.value ∙ ap (λ (l : Ledger). l.book.epoch) here in
-    let free = ap (λ (s : State _). free_number (quotes_in s.sessions customer)) (sym c.self.view_is) ∙ sym c.free.ensures.lowest ∙ c.in-Some.is in
-    let planned = planned_there c.book-book.result.now now here c.topology-top.result.now c.service-service.result.now c.loads-loads.result.now c.epoch-at.result c.args.hose c.in-Ok-Refused.field-0 c.topology-top.ensures.value c.service-service.ensures.value c.loads-loads.ensures.value c.epoch-at.ensures.value c.in-Ok-Refused.ensures in
-    let refused : IsPlannedAt now.network now.book c.args.hose (Refused c.in-Ok-Refused.side) = rw c.in-Ok-Refused.field-0-is at planned in
-    refused_on g.K.Books c.args.self.now epoch history holdings customer fits c.args.hose c.in-Some.number c.epoch-at.result c.in-Ok-Refused.side at free refused.0
+    unplanned_names now.network now.book c.args.hose c.in-Err.reply there
+
+pub returns-in-Err-clause-met : goal.returns-in-Err-clause-met
+returns-in-Err-clause-met g c =
+    let here = g.K.Books.ledger c.self.inside.books in
+    let none : IsNotPlanned here.network here.book c.args.hose c.in-Err.reply = rw c.in-Err.is at c.plan_now.ensures in
+    unplanned_done here.network here.book c.args.hose c.in-Err.reply none
+
+pub hold-requires-clause-made : goal.hold-requires-clause-made
+hold-requires-clause-made g c =
+    let here = g.K.Books.ledger c.self.inside.books in
+    let planned : IsPlannedFor here.network here.book c.args.hose c.in-Ok.quote = rw c.in-Ok.is at c.plan_now.ensures in
+    (subst (λ (s : State _). let l = g.K.Books.ledger s.books in IsPlannedFor l.network l.book c.args.hose c.in-Ok.quote) c.self.view_is planned).made
+
+pub returns-in-Ok-clause-step : goal.returns-in-Ok-clause-step
+returns-in-Ok-clause-step g c = λ epoch history holdings fits.
+    let here = g.K.Books.ledger c.self.inside.books in
+    let planned : IsPlannedFor here.network here.book c.args.hose c.in-Ok.quote = rw c.in-Ok.is at c.plan_now.ensures in
+    subst (λ (ends : List (ℕ × ℕ)). StepsOn g.K.Books c.args.self.now c.hold.new.self epoch history holdings c.args.customer.now (QuoteOf ends) c.hold.result) planned.of (c.hold.ensures.step epoch history holdings fits)

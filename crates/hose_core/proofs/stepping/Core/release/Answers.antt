@@ -14,8 +14,8 @@ invariant_of-self g c = λ customer. kept_on (g.K.Books.ledger c.self.inside.boo
 pub returns-clause-step : goal.returns-clause-step
 returns-clause-step g c = λ epoch history holdings.
     let books = g.K.Books in
-    let fields : State _ = record { books = c.self.inside.books; sessions = c.self.inside.sessions } in
-    let new : State _ = record { books = c.release_now.new.books; sessions = c.self.inside.sessions } in
+    let fields : State _ = record { books = c.self.inside.books; quotes = c.self.inside.quotes } in
+    let new : State _ = record { books = c.release_now.new.books; quotes = c.self.inside.quotes } in
     let customer = c.args.customer.now in
     let answer = c.release_now.result in
     of_fields books fields c.args.self.now new epoch history holdings customer (Release c.args.id) answer c.self.view_is

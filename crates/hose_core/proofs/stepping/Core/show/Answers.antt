@@ -8,7 +8,7 @@ use Rattle.hose_core.proofs.stepping.Core.show.Goals as goal
 pub returns-clause-step : goal.returns-clause-step
 returns-clause-step g c = λ epoch history holdings.
     let books = g.K.Books in
-    let fields : State _ = record { books = c.self.inside.books; sessions = c.self.inside.sessions } in
+    let fields : State _ = record { books = c.self.inside.books; quotes = c.self.inside.quotes } in
     let customer = c.args.customer.now in
     let answer = c.show_now.result in
     subst (λ (s : State _). FitsHistory books s epoch history holdings → StepsOn books s s epoch history holdings customer (Show c.args.id) answer) c.self.view_is

@@ -14,7 +14,7 @@ pub returns-in_default-clause-step : goal.returns-in_default-clause-step
 returns-in_default-clause-step g c = λ epoch history holdings fits.
     let customer = c.args.customer.now in
     let at = c.epoch-at.ensures.value ∙ ap (λ (l : Ledger). l.book.epoch) (c.book.ensures ∙ ap (λ (s : State _). g.K.Books.ledger s.books) c.self.view_is) in
-    let none = ap (λ (s : State _). at_number (quotes_in s.sessions customer) c.args.number) (sym c.self.view_is) ∙ c.in_default.ensures.none in
+    let none = ap (λ (s : State _). at_number (quotes_in s.quotes customer) c.args.number) (sym c.self.view_is) ∙ c.in_default.ensures.none in
     no_quote_on g.K.Books c.args.self.now epoch history holdings customer fits c.args.number c.epoch-at.result at none
 
 pub claim_take-requires : goal.claim_take-requires
@@ -23,7 +23,7 @@ claim_take-requires g c = ((c.self.invariant c.args.customer.now).made c.args.nu
 pub returns-in_default-claim_take-clause-step : goal.returns-in_default-claim_take-clause-step
 returns-in_default-claim_take-clause-step g c = λ epoch history holdings fits.
     let customer = c.args.customer.now in
-    let there = ap (λ (s : State _). at_number (quotes_in s.sessions customer) c.args.number) (sym c.self.view_is) ∙ c.in-Some.ensures.some in
+    let there = ap (λ (s : State _). at_number (quotes_in s.quotes customer) c.args.number) (sym c.self.view_is) ∙ c.in-Some.ensures.some in
     take_memory_on g.K.Books c.args.self.now epoch history holdings customer fits c.args.number c.in-Some.quote.now there
 
 pub take_now-reply-requires-clause-made : goal.take_now-reply-requires-clause-made
@@ -38,7 +38,7 @@ take_now-reply-requires-clause-since g c =
 
 pub clear-requires : goal.clear-requires
 clear-requires g c =
-    let quotes = quotes_in c.self.inside.sessions c.args.customer.now in
+    let quotes = quotes_in c.self.inside.quotes c.args.customer.now in
     let range = some_at quotes c.args.number c.in-Some.quote.now c.in-Some.ensures.some in
     let most : c.args.number ≤ MOST_QUOTES = omega (arith, range.1, (c.self.invariant c.args.customer.now).numbers) in
     (range.0, most)
@@ -46,7 +46,7 @@ clear-requires g c =
 pub invariant_of-self : goal.invariant_of-self
 invariant_of-self g c =
     let ledger = g.K.Books.ledger c.self.inside.books in
-    let was = c.self.inside.sessions in
+    let was = c.self.inside.quotes in
     let customer = c.args.customer.now in
     let quotes = quotes_in was customer in
     let range = some_at quotes c.args.number c.in-Some.quote.now c.in-Some.ensures.some in
@@ -58,14 +58,14 @@ invariant_of-self g c =
 pub returns-clause-step : goal.returns-clause-step
 returns-clause-step g c = λ epoch history holdings.
     let books = g.K.Books in
-    let fields : State _ = record { books = c.self.inside.books; sessions = c.self.inside.sessions } in
-    let new : State _ = record { books = c.take_now-reply.new.books; sessions = c.clear.new.self } in
+    let fields : State _ = record { books = c.self.inside.books; quotes = c.self.inside.quotes } in
+    let new : State _ = record { books = c.take_now-reply.new.books; quotes = c.clear.new.self } in
     let customer = c.args.customer.now in
     let number = c.args.number in
     let quote = c.in-Some.quote.now in
     let reply = c.take_now-reply.result in
     of_fields books fields c.args.self.now new epoch history holdings customer (Take number) reply c.self.view_is
     (λ fits.
-    let one = some_alike (books.ledger fields.books).network epoch history (holdings customer) (quotes_in fields.sessions customer) (fits.held customer) number quote c.in-Some.ensures.some in
+    let one = some_alike (books.ledger fields.books).network epoch history (holdings customer) (quotes_in fields.quotes customer) (fits.held customer) number quote c.in-Some.ensures.some in
     taken_on books fields new epoch history holdings customer fits c.take_now-reply.ensures.network number quote reply c.in-Some.ensures.some c.take_now-reply.ensures.memory
     (c.take_now-reply.ensures.step customer epoch number history (holdings customer) one.0 c.in-Ok.ensures fits.book one.1 one.2) c.clear.ensures)

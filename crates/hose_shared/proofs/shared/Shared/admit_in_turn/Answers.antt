@@ -1,63 +1,120 @@
-use Rattle.std.proofs.Common.{List, [], ◌∷◌, Some, ap, length, refl, subst, sym}
+use Rattle.std.proofs.Common.{◌≡◌, ◌∙◌, ◌+◌, ap, arith, subst, sym}
+use Rattle.hose_graph.specs.Naming.{NamesPlaces}
+use Rattle.hose_graph.specs.Network.{IsNetwork, Network}
 use Rattle.hose_graph.specs.declared.command.Command.TheVariants.{Admit}
-use Rattle.hose_graph.specs.declared.entry.Entry.{Entry}
-use Rattle.hose_graph.specs.declared.reply.Reply.TheVariants.{Memory}
-use Rattle.hose_law.specs.History.{book_of}
-use Rattle.hose_law.specs.Quotes.{HeldQuote}
-use Rattle.hose_turn.specs.Held.{holder}
+use Rattle.hose_law.specs.Quotes.{Held, none_held}
+use Rattle.hose_core.specs.Planning.{EntersPlan}
+use Rattle.hose_turn.specs.Faults.{rise}
+use Rattle.hose_turn.specs.Held.{floor_of, holder, value_of}
 use Rattle.hose_turn.specs.Known.{Known}
-use Rattle.hose_shared.specs.Planning.{IsNotPlanned, IsPlannedFor}
-use Rattle.hose_shared.proofs.Entries.{admits_at, fresh_there, quote_there, stays_along, unplanned_admit, unplanned_done, unplanned_names}
-use Rattle.hose_shared.proofs.Passes.{along_of, locked_more, unlocked_more}
+use Rattle.hose_shared.specs.Keeping.{StandsShared}
+use Rattle.hose_shared.specs.Sharing.{SharedBook}
+use Rattle.hose_shared.specs.Turns.{faults_in}
+use Rattle.hose_shared.proofs.Entries.{admit_entry, nodes_here}
+use Rattle.hose_shared.proofs.Passes.{along_of, locked_more}
+use Rattle.hose_shared.proofs.Turned.{asked_steps, entered, turn_stands, turn_steps}
 use Rattle.hose_shared.proofs.shared.Shared.admit_in_turn.Goals as goal
 
-pub returns-in-Err-clause-steps : goal.returns-in-Err-clause-steps
-returns-in-Err-clause-steps g c = λ held.
-    let network = c.args.self.now.network in
+pub admit_now-reply-requires : goal.admit_now-reply-requires
+admit_now-reply-requires g c =
+    let here = ap (λ (k : Known). k.origin.network) c.lock-held.ensures.kept ∙ c.requires.of.network in
+    let same = ap (λ (k : _). k.store) c.value_mut.ensures.value in
+    let network = ap (λ (s : _). s.ledger.network) same ∙ c.lock-held.ensures.stands.network ∙ here in
+    nodes_here c.args.hose c.args.self.now.network c.value_mut.result.now.store.ledger.network network c.requires.nodes
+
+pub unlock-requires-clause-stands : goal.unlock-requires-clause-stands
+unlock-requires-clause-stands g c =
+    let known = holder c.lock-held.result in
+    let same = ap (λ (k : _). k.store) c.value_mut.ensures.value in
+    let stays : c.admit_now-reply.new.books ≡ c.value_mut.result.now.store = rw c.in-None.is at c.admit_now-reply.ensures.none in
+    subst (StandsShared g.D.Disk g.B.Begun.begins known.origin known.seen) (sym (stays ∙ same)) c.lock-held.ensures.stands
+
+pub returns-in-None-clause-steps : goal.returns-in-None-clause-steps
+returns-in-None-clause-steps g c = λ held.
+    let top = c.args.self.now.network in
     let customer = c.args.customer.now in
-    let hose = c.args.hose in
     let known = holder c.lock-held.result in
-    let new = c.unlock.result in
-    let reply = c.in-Err.reply in
-    let more = unlocked_more c.args.pass known new _ (locked_more c.args.pass known c.lock-held.ensures.kept c.lock-held.ensures.seen c.lock-held.ensures.places) c.unlock.ensures.passed in
-    let here : IsNotPlanned network (book_of 0 known.seen) hose reply = rw c.in-Err.is at c.plan_in_turn.ensures in
-    let none = subst (λ (all : List Entry). IsNotPlanned network (book_of 0 all) hose reply) (ap (λ (k : Known). k.seen) (sym c.unlock.ensures.passed)) here in
-    stays_along network customer held held (Admit hose) reply c.args.pass new more (unplanned_done network new.seen customer held hose reply none) (unplanned_admit network new.seen customer held hose reply none)
+    let value = (value_of c.lock-held.result).store in
+    let old = c.value_mut.result.now.store in
+    let new = c.admit_now-reply.new.books in
+    let answer = c.admit_now-reply.result.0 in
+    let is = subst IsNetwork (ap (λ (s : SharedBook). s.network) c.self.view_is) c.self.invariant in
+    let here = ap (λ (k : Known). k.origin.network) c.lock-held.ensures.kept ∙ c.requires.of.network in
+    let same = ap (λ (k : _). k.store) c.value_mut.ensures.value in
+    let stood = c.lock-held.ensures.stands in
+    let book = ap (λ (s : _). s.ledger.book) same ∙ stood.book in
+    let stepped = c.admit_now-reply.ensures.step 0 known.seen held book in
+    let law = c.law_step.ensures old new 0 known.seen customer held (Admit c.args.hose) answer stepped in
+    let stays : new ≡ old = rw c.in-None.is at c.admit_now-reply.ensures.none in
+    let floor = floor_of c.lock-held.result in
+    let passed = subst (λ (s : _). c.unlock.result ≡ record known { faults = known.faults + rise floor (faults_in g.D.Disk s) }) (stays ∙ same) c.unlock.ensures.passed in
+    along_of top customer held (Admit c.args.hose) answer c.args.pass known c.unlock.result (locked_more c.args.pass known c.lock-held.ensures.kept c.lock-held.ensures.seen c.lock-held.ensures.places)
+    (asked_steps g.D.Disk g.B.Begun.begins top is known here value old new same stood customer held (Admit c.args.hose) answer stepped law c.admit_now-reply.ensures.network c.unlock.result floor c.lock-held.ensures.floor c.admit_now-reply.ensures.met stays passed c.unlock.ensures.places)
 
-pub returns-in-Err-clause-names : goal.returns-in-Err-clause-names
-returns-in-Err-clause-names g c =
+pub returns-in-None-clause-names : goal.returns-in-None-clause-names
+returns-in-None-clause-names g c =
+    let here = ap (λ (k : Known). k.origin.network) c.lock-held.ensures.kept ∙ c.requires.of.network in
+    let same = ap (λ (k : _). k.store) c.value_mut.ensures.value in
+    let network = ap (λ (s : _). s.ledger.network) same ∙ c.lock-held.ensures.stands.network ∙ here in
+    subst (λ (n : Network). NamesPlaces n c.admit_now-reply.result.0) network c.admit_now-reply.ensures.names
+
+pub end_turn-requires-clause-epoch : goal.end_turn-requires-clause-epoch
+end_turn-requires-clause-epoch g c =
     let known = holder c.lock-held.result in
-    let here : IsNotPlanned c.args.self.now.network (book_of 0 known.seen) c.args.hose c.in-Err.reply = rw c.in-Err.is at c.plan_in_turn.ensures in
-    unplanned_names c.args.self.now.network known.seen c.args.customer.now [] c.args.hose c.in-Err.reply here
+    let stood = subst (λ (k : _). StandsShared g.D.Disk g.B.Begun.begins known.origin known.seen k.store) (sym c.value.ensures) c.lock-held.ensures.stands in
+    let is = c.epoch-epoch.ensures known.origin known.seen stood in
+    let first = stood.epoch in omega arith
 
-pub claim_take-requires : goal.claim_take-requires
-claim_take-requires g c =
-    let planned : IsPlannedFor c.args.self.now.network (book_of 0 (holder c.lock-held.result).seen) c.args.hose c.in-Ok.quote = rw c.in-Ok.is at c.plan_in_turn.ensures in
-    planned.made.ranges
-
-pub returns-in_default-clause-steps : goal.returns-in_default-clause-steps
-returns-in_default-clause-steps g c = λ held.
-    let known = holder c.lock-held.result in
-    let more = unlocked_more c.args.pass known c.unlock-in_default.result _ (locked_more c.args.pass known c.lock-held.ensures.kept c.lock-held.ensures.seen c.lock-held.ensures.places) c.unlock-in_default.ensures.passed in
-    stays_along c.args.self.now.network c.args.customer.now held held (Admit c.args.hose) Memory c.args.pass c.unlock-in_default.result more refl (tt, refl, refl, refl)
-
-pub take_claimed-requires-clause-quote : goal.take_claimed-requires-clause-quote
-take_claimed-requires-clause-quote g c =
-    let seen = (holder c.lock-held.result).seen in
-    let planned : IsPlannedFor c.args.self.now.network (book_of 0 seen) c.args.hose c.in-Ok.quote = rw c.in-Ok.is at c.plan_in_turn.ensures in
-    (record { hose = c.args.hose; place = length seen }, quote_there c.args.self.now.network seen c.args.customer.now [] c.args.hose c.in-Ok.quote planned)
-
-pub returns-clause-steps : goal.returns-clause-steps
-returns-clause-steps g c = λ held.
-    let network = c.args.self.now.network in
+pub end_turn-requires-clause-stands : goal.end_turn-requires-clause-stands
+end_turn-requires-clause-stands g c =
+    let held : Held = none_held in
+    let top = c.args.self.now.network in
     let customer = c.args.customer.now in
-    let hose = c.args.hose in
     let known = holder c.lock-held.result in
-    let new = c.take_claimed.result.1 in
-    let answer = c.take_claimed.result.0 in
-    let one : HeldQuote = record { hose = hose; place = length known.seen } in
-    let planned : IsPlannedFor network (book_of 0 known.seen) hose c.in-Ok.quote = rw c.in-Ok.is at c.plan_in_turn.ensures in
-    let at = c.take_claimed.ensures.steps customer (Some one ∷ []) 1 one c.in-Ok-claim_take.ensures refl (quote_there network known.seen customer [] hose c.in-Ok.quote planned) in
-    let fresh = fresh_there network known.seen customer (Some one ∷ []) 1 one refl refl answer at.entry _ at.after at.step in
-    along_of network customer held (Admit hose) answer c.args.pass known new (locked_more c.args.pass known c.lock-held.ensures.kept c.lock-held.ensures.seen c.lock-held.ensures.places)
-    (admits_at network known.seen customer (Some one ∷ []) 1 one refl held answer known new fresh at)
+    let value = (value_of c.lock-held.result).store in
+    let old = c.value_mut.result.now.store in
+    let new = c.admit_now-reply.new.books in
+    let answer = c.admit_now-reply.result.0 in
+    let is = subst IsNetwork (ap (λ (s : SharedBook). s.network) c.self.view_is) c.self.invariant in
+    let here = ap (λ (k : Known). k.origin.network) c.lock-held.ensures.kept ∙ c.requires.of.network in
+    let same = ap (λ (k : _). k.store) c.value_mut.ensures.value in
+    let stood = c.lock-held.ensures.stands in
+    let book = ap (λ (s : _). s.ledger.book) same ∙ stood.book in
+    let stepped = c.admit_now-reply.ensures.step 0 known.seen held book in
+    let law = c.law_step.ensures old new 0 known.seen customer held (Admit c.args.hose) answer stepped in
+    let enters : EntersPlan customer c.args.hose answer c.in-Some.entry.value = rw c.in-Some.is at c.admit_now-reply.ensures.entered in (
+      entered g.D.Disk g.B.Begun.begins top is known here value old new same stood customer held (Admit c.args.hose) answer stepped law c.admit_now-reply.ensures.network,
+      turn_stands g.D.Disk g.B.Begun.begins top is known here value old new same stood customer held (Admit c.args.hose) answer stepped law c.admit_now-reply.ensures.network,
+      admit_entry old.ledger.network known.seen customer held c.args.hose answer c.in-Some.entry.value stepped.entry stepped.next stepped.after enters stepped.step,
+    )
+
+pub returns-in-Some-clause-steps : goal.returns-in-Some-clause-steps
+returns-in-Some-clause-steps g c = λ held.
+    let top = c.args.self.now.network in
+    let customer = c.args.customer.now in
+    let known = holder c.lock-held.result in
+    let value = (value_of c.lock-held.result).store in
+    let old = c.value_mut.result.now.store in
+    let new = c.admit_now-reply.new.books in
+    let answer = c.admit_now-reply.result.0 in
+    let is = subst IsNetwork (ap (λ (s : SharedBook). s.network) c.self.view_is) c.self.invariant in
+    let here = ap (λ (k : Known). k.origin.network) c.lock-held.ensures.kept ∙ c.requires.of.network in
+    let same = ap (λ (k : _). k.store) c.value_mut.ensures.value in
+    let stood = c.lock-held.ensures.stands in
+    let book = ap (λ (s : _). s.ledger.book) same ∙ stood.book in
+    let stepped = c.admit_now-reply.ensures.step 0 known.seen held book in
+    let law = c.law_step.ensures old new 0 known.seen customer held (Admit c.args.hose) answer stepped in
+    let joined = entered g.D.Disk g.B.Begun.begins top is known here value old new same stood customer held (Admit c.args.hose) answer stepped law c.admit_now-reply.ensures.network in
+    let stands = turn_stands g.D.Disk g.B.Begun.begins top is known here value old new same stood customer held (Admit c.args.hose) answer stepped law c.admit_now-reply.ensures.network in
+    let enters : EntersPlan customer c.args.hose answer c.in-Some.entry.value = rw c.in-Some.is at c.admit_now-reply.ensures.entered in
+    let mine = admit_entry old.ledger.network known.seen customer held c.args.hose answer c.in-Some.entry.value stepped.entry stepped.next stepped.after enters stepped.step in
+    along_of top customer held (Admit c.args.hose) answer c.args.pass known c.end_turn.result (locked_more c.args.pass known c.lock-held.ensures.kept c.lock-held.ensures.seen c.lock-held.ensures.places)
+    (turn_steps g.D.Disk g.B.Begun.begins top is known here value old new same stood customer held (Admit c.args.hose) answer stepped law c.admit_now-reply.ensures.network c.end_turn.result (floor_of c.lock-held.result) c.lock-held.ensures.floor c.admit_now-reply.ensures.met
+    (c.end_turn.ensures.passed joined stands mine) c.end_turn.ensures.places)
+
+pub returns-in-Some-clause-names : goal.returns-in-Some-clause-names
+returns-in-Some-clause-names g c =
+    let here = ap (λ (k : Known). k.origin.network) c.lock-held.ensures.kept ∙ c.requires.of.network in
+    let same = ap (λ (k : _). k.store) c.value_mut.ensures.value in
+    let network = ap (λ (s : _). s.ledger.network) same ∙ c.lock-held.ensures.stands.network ∙ here in
+    subst (λ (n : Network). NamesPlaces n c.admit_now-reply.result.0) network c.admit_now-reply.ensures.names

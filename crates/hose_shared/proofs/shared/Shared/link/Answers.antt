@@ -2,7 +2,7 @@ use Rattle.std.proofs.Common.{◌∙◌, ap, refl, subst, sym}
 use Rattle.hose_graph.specs.Network.{IsNetwork}
 use Rattle.hose_graph.specs.declared.command.Command.TheVariants.{Link}
 use Rattle.hose_book.specs.Commit.{IsMet}
-use Rattle.hose_book.specs.declared.committed.Committed.{Committed}
+use Rattle.hose_book.specs.declared.books.Committed.{Committed}
 use Rattle.hose_disk.specs.Disk.{object_frame}
 use Rattle.hose_turn.specs.Held.{floor_of, holder, value_of}
 use Rattle.hose_turn.specs.Known.{Known}

@@ -1,10 +1,11 @@
 use Rattle.std.proofs.Common.{◌≡◌, ◌≤◌, ◌∙◌, IsSome, Some, arith, length, refl, subst, sym}
 use Rattle.hose_graph.specs.declared.command.Command.TheVariants.{Quote as QuoteOf}
-use Rattle.hose_graph.specs.declared.reply.Reply.TheVariants.{TooMany}
+use Rattle.hose_graph.specs.declared.command.Reply.TheVariants.{TooMany}
 use Rattle.hose_law.specs.History.{book_of}
 use Rattle.hose_law.specs.Quotes.{free_number}
-use Rattle.hose_shared.specs.Planning.{IsNotPlanned, IsPlannedFor}
-use Rattle.hose_shared.proofs.Entries.{stays_holding, told_quote, unplanned_done, unplanned_quote}
+use Rattle.hose_core.specs.Planning.{IsNotPlanned, IsPlannedFor}
+use Rattle.hose_core.proofs.Decided.{unplanned_done}
+use Rattle.hose_shared.proofs.Entries.{stays_holding, told_quote, unplanned_quote}
 use Rattle.hose_shared.proofs.Passes.{epoch_of}
 use Rattle.hose_shared.proofs.shared.Shared.quote.Goals as goal
 
@@ -32,7 +33,7 @@ returns-in-Err-clause-steps g c = λ customer held are.
     let free : free_number held ≡ Some c.in-Some.number = c.law_quotes.ensures.free network 0 pass.seen held quotes are ∙ sym c.free.ensures.lowest ∙ c.in-Some.is in
     let none : IsNotPlanned network (book_of 0 new.seen) hose c.in-Err.reply = rw c.in-Err.is at c.plan-planned.ensures.planned in
     let some : IsSome (free_number held) = subst IsSome (sym free) refl in
-    stays_holding network customer held held (QuoteOf hose) c.in-Err.reply pass new quotes more (unplanned_done network new.seen customer held hose c.in-Err.reply none)
+    stays_holding network customer held held (QuoteOf hose) c.in-Err.reply pass new quotes more (unplanned_done network (book_of 0 new.seen) hose c.in-Err.reply none)
     (unplanned_quote network new.seen customer held hose c.in-Err.reply some none) (c.law_quotes.ensures.longer network 0 pass.seen new.seen held quotes more.same.seen are)
 
 pub returns-in-Ok-clause-steps : goal.returns-in-Ok-clause-steps
@@ -49,6 +50,6 @@ returns-in-Ok-clause-steps g c = λ customer held are.
     let planned : IsPlannedFor network (book_of 0 new.seen) hose c.in-Ok.quote = rw c.in-Ok.is at c.plan-planned.ensures.planned in
     let longer = c.law_quotes.ensures.longer network 0 pass.seen new.seen held quotes more.same.seen are in
     let most : number ≤ length quotes = omega (arith, range.1, c.free.ensures.places) in
-    let told = told_quote network new.seen customer held hose c.in-Ok.quote number quotes c.hold.new.quotes c.hold.result longer free planned c.hold.ensures
+    let told = told_quote network new.seen customer held hose c.in-Ok.quote number quotes c.hold.new.self c.hold.result longer free planned c.hold.ensures
     (λ one of. c.law_quotes.ensures.put network 0 new.seen held quotes number one c.in-Ok.quote longer range.0 most of) in
-    stays_holding network customer held told.0 (QuoteOf hose) c.hold.result pass new c.hold.new.quotes more told.3 told.1 told.2
+    stays_holding network customer held told.0 (QuoteOf hose) c.hold.result pass new c.hold.new.self more told.3 told.1 told.2

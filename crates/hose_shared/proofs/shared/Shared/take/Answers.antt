@@ -1,7 +1,7 @@
 use Rattle.std.proofs.Common.{◌≤◌, ◌∙◌, IsSome, None, arith, refl, subst, sym, [], ◌∷◌, Some, length}
 use Rattle.hose_graph.specs.declared.command.Command.TheVariants.{Take}
 use Rattle.hose_graph.specs.declared.limits.TheConstants.{MOST_QUOTES}
-use Rattle.hose_graph.specs.declared.reply.Reply.TheVariants.{Memory, NoQuote}
+use Rattle.hose_graph.specs.declared.command.Reply.TheVariants.{Memory, NoQuote}
 use Rattle.hose_law.specs.Quotes.{Held, at_number, with_number}
 use Rattle.hose_core.specs.Holding.{AreHeld}
 use Rattle.hose_turn.specs.Held.{holder}

@@ -1,11 +1,12 @@
 use Rattle.std.proofs.Common.{◌∙◌, [], ◌∷◌, Some, length, refl, sym}
 use Rattle.hose_graph.specs.declared.command.Command.TheVariants.{Admit}
-use Rattle.hose_graph.specs.declared.reply.Reply.TheVariants.{Memory}
+use Rattle.hose_graph.specs.declared.command.Reply.TheVariants.{Memory}
 use Rattle.hose_law.specs.History.{book_of}
 use Rattle.hose_law.specs.Quotes.{HeldQuote}
 use Rattle.hose_turn.specs.Held.{holder}
-use Rattle.hose_shared.specs.Planning.{IsNotPlanned, IsPlannedFor}
-use Rattle.hose_shared.proofs.Entries.{admits_at, quote_there, seen_quote, stale_more, stays_along, unplanned_admit, unplanned_done, unplanned_names}
+use Rattle.hose_core.specs.Planning.{IsNotPlanned, IsPlannedFor}
+use Rattle.hose_core.proofs.Decided.{unplanned_done, unplanned_names}
+use Rattle.hose_shared.proofs.Entries.{admits_at, quote_there, seen_quote, stale_more, stays_along, unplanned_admit}
 use Rattle.hose_shared.proofs.Passes.{along_of, locked_more, more_on}
 use Rattle.hose_shared.proofs.shared.Shared.try_to_admit.Goals as goal
 
@@ -16,9 +17,9 @@ returns-in-Err g c =
     let new = c.plan-planned.result.1 in
     let customer = c.args.customer.now in
     let none : IsNotPlanned network (book_of 0 new.seen) hose c.in-Err.reply = rw c.in-Err.is at c.plan-planned.ensures.planned in (
-      λ held. stays_along network customer held held (Admit hose) c.in-Err.reply c.args.pass new c.plan-planned.ensures.more (unplanned_done network new.seen customer held hose c.in-Err.reply none)
+      λ held. stays_along network customer held held (Admit hose) c.in-Err.reply c.args.pass new c.plan-planned.ensures.more (unplanned_done network (book_of 0 new.seen) hose c.in-Err.reply none)
           (unplanned_admit network new.seen customer held hose c.in-Err.reply none),
-      unplanned_names network new.seen customer [] hose c.in-Err.reply none,
+      unplanned_names network (book_of 0 new.seen) hose c.in-Err.reply none,
     )
 
 pub returns-in_default : goal.returns-in_default

@@ -1,35 +1,37 @@
 // The quotes of all customers.
-ghost use Rattle.std.specs.Prelude.{◌≡◌, ◌≤◌, ℕ, List, IfNone, IfSome, None, OnErr, OnOk, Some};
+ghost use Rattle.std.specs.Prelude.{◌≡◌, ◌≤◌, ℕ, List, IfNone, IfSome, None, Option, Some};
 ghost use Rattle.hose_graph.specs.declared.limits.TheConstants.{MOST_QUOTES};
 ghost use Rattle.hose_law.specs.Quotes.{at_number, free_number, none_held, with_number};
 ghost use Rattle.hose_core.specs.Holding.{HoldsNow, quotes_in};
+ghost use Rattle.hose_core.specs.Planning.{HasTold};
+ghost use Rattle.hose_core.specs.declared.quotes.Quote.{Quote as QuoteHeld};
 
 use crate::quotes::{Quote, Quotes};
-use hose_graph::Name;
-use std::alloc::{AllocError, Global};
+use hose_graph::{Name, Reply};
+use std::alloc::Global;
 use std::collections::BTreeMap;
 use std::marker::Model;
 
 /// The quotes of each customer who has been quoted.
 #[derive(Drop)]
-pub struct Sessions {
+pub struct QuotesByCustomer {
     by_customer: BTreeMap<Name, Quotes>,
 }
 
-impl Model for Sessions {
-    ghost use Rattle.hose_core.specs.Holding.{Quoted};
+impl Model for QuotesByCustomer {
+    ghost use Rattle.hose_core.specs.Holding.{AllQuotes};
 
-    ghost Value = { Quoted };
+    ghost Value = { AllQuotes };
 
-    ghost view = { λ sessions. sessions.by_customer.entries };
+    ghost view = { λ all. all.by_customer.entries };
 }
 
-impl Sessions {
+impl QuotesByCustomer {
     /// No customer holds a quote.
-    pub fn new(alloc: Global) -> Sessions
+    pub fn new(alloc: Global) -> QuotesByCustomer
         ensures { (customer : List ℕ) → quotes_in result customer ≡ none_held }
     {
-        Sessions {
+        QuotesByCustomer {
             by_customer: BTreeMap::new(alloc),
         }
     }
@@ -55,22 +57,24 @@ impl Sessions {
         }
     }
 
-    /// Holds a quote for a customer under a number of 1 to 16 under which the customer holds none.
-    pub fn put(&mut self, customer: &Name, number: u64, quote: Quote) -> Result<(), AllocError>
+    /// Holds a quote for a customer under the lowest number at which the customer holds none, and
+    /// tells it: `Quoted` or `Memory`.
+    pub fn hold(&mut self, alloc: Global, customer: &Name, number: u64, quote: Quote) -> Reply
         requires range { (1 ≤ number) × (number ≤ MOST_QUOTES) }
-        requires empty { at_number (quotes_in self.old customer.now) number ≡ None }
-        ensures ok { OnOk result (HoldsNow self.old customer.now
-            (with_number (quotes_in self.old customer.now) number (Some quote)) self.new) }
-        ensures err { OnErr result (self.new ≡ self.old) }
+        requires free { free_number (quotes_in self.old customer.now) ≡ Some number }
+        ensures { (now : List (Option QuoteHeld))
+            × HasTold number quote (quotes_in self.old customer.now) now result
+            × HoldsNow self.old customer.now now self.new }
     {
         if let Some(quotes) = self.by_customer.get_mut(customer) {
-            quotes.put(number, quote);
-            return Ok(());
+            return quotes.hold(alloc, number, quote);
         }
         let mut quotes = Quotes::new();
-        quotes.put(number, quote);
-        self.by_customer.insert(*customer, quotes)?;
-        Ok(())
+        let reply = quotes.hold(alloc, number, quote);
+        let Ok(_) = self.by_customer.insert(*customer, quotes) else {
+            return Reply::Memory;
+        };
+        reply
     }
 
     /// Holds none for a customer under a number of 1 to 16 from then on.

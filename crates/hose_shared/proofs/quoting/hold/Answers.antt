@@ -1,5 +1,0 @@
-use Rattle.hose_law.proofs.Numbers.{free_is_empty}
-use Rattle.hose_shared.proofs.quoting.hold.Goals as goal
-
-pub put-requires-clause-empty : goal.put-requires-clause-empty
-put-requires-clause-empty c = free_is_empty c.args.quotes.now c.args.number c.requires.free
