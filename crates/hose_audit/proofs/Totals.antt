@@ -4,7 +4,7 @@ use Rattle.std.specs.List.{slice_get, sum_by}
 use Rattle.std.proofs.Math.Nat.{mul-le-mul}
 use Rattle.hose_graph.specs.Network.{Network, IsLink}
 use Rattle.hose_graph.specs.declared.limits.TheConstants.{MOST_CAPACITY, MOST_COST}
-use Rattle.hose_graph.specs.declared.link.Link.{Link}
+use Rattle.hose_graph.specs.declared.topology.Link.{Link}
 use Rattle.hose_law.specs.Book.{Book, load_of, loads_of}
 use Rattle.hose_law.specs.Walk.{cost_of}
 use Rattle.hose_law.proofs.Joined.{capacity_of_link, cost_of_link}

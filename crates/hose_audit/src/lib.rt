@@ -10,8 +10,6 @@ ghost use Rattle.hose_io.specs.Writing.{IsPut};
 ghost use Rattle.hose_audit.specs.Audit.{audit_text};
 
 mod lines;
-mod pieces;
-mod total;
 
 use hose_book::Book;
 use hose_io::{Failed, Gather, Sink};

@@ -9,13 +9,13 @@ use Rattle.hose_words.proofs.Forms.{wrong_at_start}
 use Rattle.hose_words.proofs.Passing.{Passes, pass_branch, pass_finish, pass_list, pass_place, pass_these, pass_until}
 use Rattle.hose_graph.specs.Network.{Network, IsNetwork, IsLinkOf}
 use Rattle.hose_graph.specs.declared.limits.TheConstants.{LEAST_ENDS}
-use Rattle.hose_graph.specs.declared.reply.Reply.{Reply}
-use Rattle.hose_graph.specs.declared.reply.Reply.TheVariants.{Welcome, Admitted, Quoted, Refused, Stale, Released, NoVpn, NoQuote, TooMany, Shown, LinkState, Down, Up, Already, Denied, Full, Spent, Disk, Memory, Bad, Long, Bye}
+use Rattle.hose_graph.specs.declared.command.Reply.{Reply}
+use Rattle.hose_graph.specs.declared.command.Reply.TheVariants.{Welcome, Admitted, Quoted, Refused, Stale, Released, NoVpn, NoQuote, TooMany, Shown, LinkState, Down, Up, Already, Denied, Full, Spent, Disk, Memory, Bad, Long, Bye}
 use Rattle.hose_proto.specs.Places.{IsHoseOf, end_word}
 use Rattle.hose_proto.specs.Reading.{IsFaultOf}
 use Rattle.hose_proto.specs.ReplyGrammar.{AreEnds, at_form, id_form, amounts_form, changed_form, hose_form, priced_form, reply_form, reply_grammar, service_form}
 use Rattle.hose_graph.specs.Naming.{NamesPlaces}
-use Rattle.hose_proto.specs.ReplyWords.{AreAmounts, IsOfKind, IsReply, pair_word, link_words, priced_words, reply_words, service_words}
+use Rattle.hose_proto.specs.ReplyWords.{AreAmounts, IsOfKind, IsReply, pair_word, words_of_link, priced_words, reply_words, service_words}
 use Rattle.hose_proto.specs.declared.fault.ReadFault.{ReadFault}
 use Rattle.hose_proto.specs.declared.fault.ReadFault.TheVariants as fault
 use Rattle.hose_proto.specs.declared.head.Head.TheVariants as head
@@ -69,7 +69,7 @@ module _ (network : Network) (is : IsNetwork network) where
   pass_reply (LinkState link load out at) kind =
       pass_branch head.Link tt heads_apart
       (pass_branch link kind.0 (links_apart network is)
-      (pass_these (link_words network (slice_get network.links link)) _ (codes "load" ∷ decimal load ∷ service_words out at) (pass_place refl (pass_place (load, refl, kind.1) (pass_service out at kind.2)))))
+      (pass_these (words_of_link network (slice_get network.links link)) _ (codes "load" ∷ decimal load ∷ service_words out at) (pass_place refl (pass_place (load, refl, kind.1) (pass_service out at kind.2)))))
   pass_reply (Down link at) kind = pass_branch head.Down tt heads_apart (pass_changed network is link at kind.0 kind.1)
   pass_reply (Up link at) kind = pass_branch head.Up tt heads_apart (pass_changed network is link at kind.0 kind.1)
   pass_reply (Already link at) kind = pass_branch head.Already tt heads_apart (pass_changed network is link at kind.0 kind.1)

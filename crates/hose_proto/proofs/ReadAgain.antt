@@ -8,12 +8,12 @@ use Rattle.hose_words.specs.Words.{words_of}
 use Rattle.hose_graph.specs.Name.{IsName, is_name_byte}
 use Rattle.hose_graph.specs.Network.{Network, IsNetwork, IsLink, name_of}
 use Rattle.hose_graph.specs.Hose.{IsEnd}
-use Rattle.hose_graph.specs.declared.link.Link.{Link}
-use Rattle.hose_graph.specs.declared.reply.Reply.{Reply}
-use Rattle.hose_graph.specs.declared.reply.Reply.TheVariants.{Welcome, Admitted, Quoted, Refused, Stale, Released, NoVpn, NoQuote, TooMany, Shown, LinkState, Down, Up, Already, Denied, Full, Spent, Disk, Memory, Bad, Long, Bye}
+use Rattle.hose_graph.specs.declared.topology.Link.{Link}
+use Rattle.hose_graph.specs.declared.command.Reply.{Reply}
+use Rattle.hose_graph.specs.declared.command.Reply.TheVariants.{Welcome, Admitted, Quoted, Refused, Stale, Released, NoVpn, NoQuote, TooMany, Shown, LinkState, Down, Up, Already, Denied, Full, Spent, Disk, Memory, Bad, Long, Bye}
 use Rattle.hose_proto.specs.ReplyText.{reply_text, pair_text, node_text, end_text, link_text, priced_text, service_text}
 use Rattle.hose_proto.specs.Places.{IsHoseOf, end_word}
-use Rattle.hose_proto.specs.ReplyWords.{reply_words, pair_word, link_words, priced_words, service_words, IsOfKind, IsReply, AreAmounts}
+use Rattle.hose_proto.specs.ReplyWords.{reply_words, pair_word, words_of_link, priced_words, service_words, IsOfKind, IsReply, AreAmounts}
 use Rattle.hose_words.proofs.Spaced.{spaced, words_of-line, AreWords, AreWords-map, AreWords-append, IsWord, IsWord-allowed, IsWord-known, IsWord-decimal, IsWord-colon}
 
 -- ---- a text is its words, with spaces between them
@@ -30,7 +30,7 @@ spaced-ends network hose = sym (flat_map-map (λ (word : List ℕ). 32 ∷ word)
 spaced-append : (words more : List (List ℕ)) → spaced (words ++ more) ≡ spaced words ++ spaced more
 spaced-append words more = flat_map-append (λ (word : List ℕ). 32 ∷ word) words more
 
-spaced-link : (network : Network) (link : Option Link) → link_text network link ≡ spaced (link_words network link)
+spaced-link : (network : Network) (link : Option Link) → link_text network link ≡ spaced (words_of_link network link)
 spaced-link network None = refl
 spaced-link network (Some link) = rw (append_assoc, append_assoc, append_assoc, append_assoc, append-nil) refl
 
@@ -57,7 +57,7 @@ spaced-reply network (Shown id cost at hose amounts) =
     (append_assoc, append_assoc, append_assoc, append_assoc, append_assoc, append_assoc, append_assoc, spaced-ends network hose, spaced-pairs amounts, spaced-append (map (end_word network) hose) (codes "links" ∷ map pair_word amounts))
     refl
 spaced-reply network (LinkState link load out at) =
-    rw (append_assoc, append_assoc, append_assoc, spaced-link network (slice_get network.links link), spaced-append (link_words network (slice_get network.links link)) (codes "load" ∷ decimal load ∷ service_words out at), spaced-service out at) refl
+    rw (append_assoc, append_assoc, append_assoc, spaced-link network (slice_get network.links link), spaced-append (words_of_link network (slice_get network.links link)) (codes "load" ∷ decimal load ∷ service_words out at), spaced-service out at) refl
 spaced-reply network (Down link at) = rw (append_assoc, append-nil) refl
 spaced-reply network (Up link at) = rw (append_assoc, append-nil) refl
 spaced-reply network (Already link at) = rw (append_assoc, append-nil) refl
@@ -126,7 +126,7 @@ module _ (network : Network) (is : IsNetwork network) where
   AreWords-ends : (hose : List (ℕ × ℕ)) → IsHoseOf network hose → AreWords (map (end_word network) hose)
   AreWords-ends hose are = AreWords-map (end_word network) hose IsWord-end (λ k d below. (are.nodes k d below, are.is_hose.within k d below))
 
-  AreWords-link : (link : Option Link) → IfSome link (IsLink network) → AreWords (link_words network link)
+  AreWords-link : (link : Option Link) → IfSome link (IsLink network) → AreWords (words_of_link network link)
   AreWords-link None is_link = tt
   AreWords-link (Some link) is_link =
       let within = is_link.in_range in
@@ -153,7 +153,7 @@ module _ (network : Network) (is : IsNetwork network) where
   AreWords-reply (Shown id cost at hose amounts) kind =
       (IsWord-known (codes "vpn") refl (omega arith), (IsWord-decimal id kind.0, (cost_word, (IsWord-decimal cost kind.1, (at_word, (IsWord-decimal at kind.2, (IsWord-known (codes "ends") refl (omega arith), AreWords-append (map (end_word network) hose) (codes "links" ∷ map pair_word amounts) (AreWords-ends hose kind.3) (AreWords-links amounts kind.4))))))))
   AreWords-reply (LinkState link load out at) kind =
-      (IsWord-known (codes "link") refl (omega arith), (IsWord-decimal link (few kind.0), AreWords-append (link_words network (slice_get network.links link)) (codes "load" ∷ decimal load ∷ service_words out at) (AreWords-link (slice_get network.links link) (IfSome-place (IsLink network) network.links link is.links)) (IsWord-known (codes "load") refl (omega arith), (IsWord-decimal load kind.1, AreWords-service out at kind.2))))
+      (IsWord-known (codes "link") refl (omega arith), (IsWord-decimal link (few kind.0), AreWords-append (words_of_link network (slice_get network.links link)) (codes "load" ∷ decimal load ∷ service_words out at) (AreWords-link (slice_get network.links link) (IfSome-place (IsLink network) network.links link is.links)) (IsWord-known (codes "load") refl (omega arith), (IsWord-decimal load kind.1, AreWords-service out at kind.2))))
   AreWords-reply (Down link at) kind = (IsWord-known (codes "down") refl (omega arith), (IsWord-decimal link (few kind.0), AreWords-at at kind.1))
   AreWords-reply (Up link at) kind = (IsWord-known (codes "up") refl (omega arith), (IsWord-decimal link (few kind.0), AreWords-at at kind.1))
   AreWords-reply (Already link at) kind = (IsWord-known (codes "already") refl (omega arith), (IsWord-decimal link (few kind.0), AreWords-at at kind.1))

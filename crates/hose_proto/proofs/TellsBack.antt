@@ -5,9 +5,9 @@ use Rattle.std.specs.Str.{bytes_eq}
 use Rattle.std.proofs.lemmas.Option.{slice_get-get_or}
 use Rattle.hose_words.specs.Form.{Fits64}
 use Rattle.hose_graph.specs.Network.{Network, IsNetwork, name_of}
-use Rattle.hose_graph.specs.declared.link.Link.{Link}
-use Rattle.hose_graph.specs.declared.reply.Reply.{Reply}
-use Rattle.hose_graph.specs.declared.reply.Reply.TheVariants.{Welcome, Admitted, Quoted, Refused, Stale, Released, NoVpn, NoQuote, TooMany, Shown, LinkState, Down, Up, Already, Denied, Full, Spent, Disk, Memory, Bad, Long, Bye}
+use Rattle.hose_graph.specs.declared.topology.Link.{Link}
+use Rattle.hose_graph.specs.declared.command.Reply.{Reply}
+use Rattle.hose_graph.specs.declared.command.Reply.TheVariants.{Welcome, Admitted, Quoted, Refused, Stale, Released, NoVpn, NoQuote, TooMany, Shown, LinkState, Down, Up, Already, Denied, Full, Spent, Disk, Memory, Bad, Long, Bye}
 use Rattle.hose_proto.specs.Places.{IsHoseOf, end_word}
 use Rattle.hose_proto.specs.ReplyWords.{AreAmounts, IsOfKind, IsReply, pair_word, reply_words}
 use Rattle.hose_proto.specs.declared.head.Head.{Head}

@@ -7,7 +7,7 @@ use Rattle.hose_graph.specs.Hose.{IsEnd, Endpoint, node_of}
 use Rattle.hose_graph.specs.Network.{Network, IsLinkOf, IsNodeOf, name_of}
 use Rattle.hose_graph.specs.declared.limits.TheConstants.{LEAST_ENDS, MOST_ENDS}
 use Rattle.hose_proto.specs.Places.{end_word}
-use Rattle.hose_proto.specs.ReplyWords.{AreAmounts, IsSide, pair_word, link_words}
+use Rattle.hose_proto.specs.ReplyWords.{AreAmounts, IsSide, pair_word, words_of_link}
 use Rattle.hose_proto.specs.declared.head.Head.{Head}
 use Rattle.hose_proto.specs.declared.head.Head.TheVariants as head
 use Rattle.hose_proto.specs.declared.head.Missing.{Missing}
@@ -78,12 +78,12 @@ service_form = branch Each service_word after_service
 -- what the network tells of a link, `load X`, and `out at N` or `at N`
 abbrev pub load_form : Network → ℕ → Form
 load_form network link =
-    these (link_words network (slice_get network.links link))
+    these (words_of_link network (slice_get network.links link))
     (this (codes "load") (number service_form))
 
 -- `L A B capacity C cost K load X at N`, with `out` before `at` or without it
-abbrev pub link_form : Network → Form
-link_form network = branch (IsLinkOf network) decimal (load_form network)
+abbrev pub link_state_form : Network → Form
+link_state_form network = branch (IsLinkOf network) decimal (load_form network)
 
 -- `L at N`
 abbrev pub changed_form : Network → Form
@@ -129,7 +129,7 @@ head_form network head.Released = id_form
 head_form network head.No = branch Each missing_word (λ _. id_form)
 head_form network head.Too = these (codes "many" ∷ codes "quotes" ∷ []) at_form
 head_form network head.Vpn = shown_form network
-head_form network head.Link = link_form network
+head_form network head.Link = link_state_form network
 head_form network head.Down = changed_form network
 head_form network head.Up = changed_form network
 head_form network head.Already = changed_form network

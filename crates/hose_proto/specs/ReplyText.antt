@@ -4,9 +4,9 @@ use Rattle.std.specs.List.{flat_map}
 use Rattle.hose_graph.specs.Amounts.{ReservedLink, amount_of, link_of}
 use Rattle.hose_graph.specs.Hose.{Endpoint, node_of, rate_of}
 use Rattle.hose_graph.specs.Network.{Network, name_of}
-use Rattle.hose_graph.specs.declared.link.Link.{Link}
-use Rattle.hose_graph.specs.declared.reply.Reply.{Reply}
-use Rattle.hose_graph.specs.declared.reply.Reply.TheVariants.{Welcome, Admitted, Quoted, Refused, Stale, Released, NoVpn, NoQuote, TooMany, Shown, LinkState, Down, Up, Already, Denied, Full, Spent, Disk, Memory, Bad, Long, Bye}
+use Rattle.hose_graph.specs.declared.topology.Link.{Link}
+use Rattle.hose_graph.specs.declared.command.Reply.{Reply}
+use Rattle.hose_graph.specs.declared.command.Reply.TheVariants.{Welcome, Admitted, Quoted, Refused, Stale, Released, NoVpn, NoQuote, TooMany, Shown, LinkState, Down, Up, Already, Denied, Full, Spent, Disk, Memory, Bad, Long, Bye}
 
 -- a link and its amount
 abbrev pub pair_text : ReservedLink → List ℕ

@@ -5,9 +5,9 @@ use Rattle.hose_words.specs.Form.{Fits64}
 use Rattle.hose_graph.specs.Amounts.{ReservedLink, amount_of, link_of}
 use Rattle.hose_graph.specs.Ascending.{IsAscending}
 use Rattle.hose_graph.specs.Network.{Network, name_of, IsLinkOf, IsNodeOf}
-use Rattle.hose_graph.specs.declared.link.Link.{Link}
-use Rattle.hose_graph.specs.declared.reply.Reply.{Reply}
-use Rattle.hose_graph.specs.declared.reply.Reply.TheVariants.{Welcome, Admitted, Quoted, Refused, Stale, Released, NoVpn, NoQuote, TooMany, Shown, LinkState, Down, Up, Already, Denied, Full, Spent, Disk, Memory, Bad, Long, Bye}
+use Rattle.hose_graph.specs.declared.topology.Link.{Link}
+use Rattle.hose_graph.specs.declared.command.Reply.{Reply}
+use Rattle.hose_graph.specs.declared.command.Reply.TheVariants.{Welcome, Admitted, Quoted, Refused, Stale, Released, NoVpn, NoQuote, TooMany, Shown, LinkState, Down, Up, Already, Denied, Full, Spent, Disk, Memory, Bad, Long, Bye}
 use Rattle.hose_proto.specs.Places.{IsHoseOf, end_word}
 
 -- ---- the words
@@ -17,9 +17,9 @@ abbrev pub pair_word : ReservedLink → List ℕ
 pair_word pair = decimal (link_of pair) ++ codes ":" ++ decimal (amount_of pair)
 
 -- what a network tells of a link: its nodes, its capacity and its cost
-abbrev pub link_words : Network → Option Link → List (List ℕ)
-link_words network None = []
-link_words network (Some link) =
+abbrev pub words_of_link : Network → Option Link → List (List ℕ)
+words_of_link network None = []
+words_of_link network (Some link) =
     name_of network link.a ∷ name_of network link.b
     ∷ codes "capacity" ∷ decimal link.capacity ∷ codes "cost" ∷ decimal link.cost ∷ []
 
@@ -58,7 +58,7 @@ reply_words network (Shown id cost at hose amounts) =
     codes "vpn" ∷ decimal id ∷ codes "cost" ∷ decimal cost ∷ codes "at" ∷ decimal at
     ∷ codes "ends" ∷ map (end_word network) hose ++ codes "links" ∷ map pair_word amounts
 reply_words network (LinkState link load out at) =
-    codes "link" ∷ decimal link ∷ link_words network (slice_get network.links link)
+    codes "link" ∷ decimal link ∷ words_of_link network (slice_get network.links link)
     ++ codes "load" ∷ decimal load ∷ service_words out at
 reply_words network (Down link at) = codes "down" ∷ decimal link ∷ codes "at" ∷ decimal at ∷ []
 reply_words network (Up link at) = codes "up" ∷ decimal link ∷ codes "at" ∷ decimal at ∷ []

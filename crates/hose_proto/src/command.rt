@@ -74,7 +74,7 @@ pub fn read_command_at(
     read_words(alloc, top, words)
 }
 
-// The same of a network.
+// Reads the words of a command, where it is known that `top` is a network.
 fn read_words(alloc: Global, top: &Topology, words: &mut Cursor<'_>) -> Result<Command, ReadFault>
     requires { IsNetwork top.now }
     ensures ok { IfOk result (IsCommand top.now words.old.left) }
@@ -151,7 +151,7 @@ pub fn read_hose(alloc: Global, top: &Topology, words: &mut Cursor<'_>) -> Resul
     read_ends(alloc, top, words)
 }
 
-// The same of a network.
+// Reads the words of endpoints, where it is known that `top` is a network.
 fn read_ends(alloc: Global, top: &Topology, words: &mut Cursor<'_>) -> Result<Hose, ReadFault>
     requires { IsNetwork top.now }
     ensures ok { IfOk result (AreEndsOf top.now words.old.left) }

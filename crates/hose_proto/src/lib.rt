@@ -7,9 +7,9 @@
 #![tactic(auto)]
 
 mod command;
-mod end_words;
 mod fault;
 mod head;
+mod pieces;
 mod places;
 mod reply_lists;
 mod reply_reader;
@@ -17,8 +17,8 @@ mod reply_text;
 mod verb;
 
 pub use command::{read_command, read_command_at, read_hose};
-pub use end_words::{name_and_rate, name_before_colon};
 pub use fault::ReadFault;
-pub use places::{endpoint, read_name};
+pub use pieces::{add_ends, add_link, add_pairs};
+pub use places::{endpoint, name_and_rate, name_before_colon, read_name};
 pub use reply_reader::read_reply;
 pub use reply_text::put_reply;

@@ -3,13 +3,15 @@ ghost use Rattle.std.specs.Prelude.{◌≡◌, ◌++◌, ◌∷◌, ℕ, decimal
 ghost use Rattle.hose_words.specs.Cursor.{Took, Misses};
 ghost use Rattle.hose_words.specs.Form.{IsChoice};
 ghost use Rattle.hose_graph.specs.Hose.{Endpoint};
+ghost use Rattle.hose_graph.specs.Limit.{IsUpTo};
 ghost use Rattle.hose_graph.specs.Name.{IsName};
 ghost use Rattle.hose_graph.specs.Network.{IsNetwork, IsLinkOf};
+ghost use Rattle.hose_graph.specs.declared.limits.TheConstants.{MOST_RATE};
+ghost use Rattle.hose_proto.specs.EndWords.{IsEndWord, name_in, named_rate};
 ghost use Rattle.hose_proto.specs.Places.{end_word};
 ghost use Rattle.hose_proto.specs.Reading.{IsEndOf};
 
-use crate::end_words::name_and_rate;
-use hose_graph::{Endpoint, Name, Topology};
+use hose_graph::{Endpoint, MOST_RATE, Name, Topology};
 use hose_words::{Cursor, WrongWord, number};
 
 /// The name that the next word is.
@@ -74,6 +76,30 @@ pub fn endpoint(top: &Topology, word: &[u8]) -> Option<Endpoint>
     let (name, rate) = name_and_rate(word)?;
     let node = top.find(&name)?;
     Some((node, rate))
+}
+
+/// The name and the rate that the word of an endpoint has, whatever nodes there are. A rate is in
+/// the customer's unit of bandwidth.
+pub fn name_and_rate(word: &[u8]) -> Option<(Name, u64)>
+    ensures spelled { IfSome result (λ end. word.now ≡ named_rate end.0 end.1) }
+    ensures is_name { IfSome result (λ end. IsName end.0) }
+    ensures is_rate { IfSome result (λ end. IsUpTo MOST_RATE end.1) }
+    ensures none { IfNone result (¬ IsEndWord word.now) }
+{
+    let (name, rate) = parts(word)?;
+    let name = Name::read(name)?;
+    let rate = number(rate, MOST_RATE)?;
+    (rate > 0).then_some((name, rate))
+}
+
+/// What stands before a word's first colon: of the word of an endpoint, its name.
+pub fn name_before_colon(word: &[u8]) -> &[u8]
+    ensures { result.now ≡ name_in word.now }
+{
+    match parts(word) {
+        Some((name, _)) => name,
+        None => word,
+    }
 }
 
 // What stands before a word's first colon, and what stands after it.

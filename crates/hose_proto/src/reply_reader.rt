@@ -5,11 +5,11 @@ ghost use Rattle.hose_words.specs.Form.{Fits64, IsChoice, Each, anything, branch
 ghost use Rattle.hose_words.specs.Grammar.{IsFirst, IsFirstNotAllowed};
 ghost use Rattle.hose_words.specs.Words.{words_of};
 ghost use Rattle.hose_graph.specs.Network.{Network, IsNetwork, IsLinkOf, name_of};
-ghost use Rattle.hose_graph.specs.declared.reply.Reply.{Reply};
+ghost use Rattle.hose_graph.specs.declared.command.Reply.{Reply};
 ghost use Rattle.hose_proto.specs.Reading.{IsFaultOf};
-ghost use Rattle.hose_proto.specs.ReplyGrammar.{HasLists, at_form, cost_form, id_form, priced_form, side_form, shown_form, load_form, link_form, changed_form, service_form, head_word, missing_word, head_form, reply_form, reply_grammar};
+ghost use Rattle.hose_proto.specs.ReplyGrammar.{HasLists, at_form, cost_form, id_form, priced_form, side_form, shown_form, load_form, link_state_form, changed_form, service_form, head_word, missing_word, head_form, reply_form, reply_grammar};
 ghost use Rattle.hose_graph.specs.Naming.{NamesPlaces};
-ghost use Rattle.hose_proto.specs.ReplyWords.{AreAmounts, IsReply, cost_words, link_words, priced_words, service_words};
+ghost use Rattle.hose_proto.specs.ReplyWords.{AreAmounts, IsReply, cost_words, words_of_link, priced_words, service_words};
 
 use crate::fault::ReadFault;
 use crate::head::{Head, Missing, Service};
@@ -27,7 +27,7 @@ struct Costed {
     at: u64,
 }
 
-/// The reply that the words of a line tell, as `put_reply` writes it.
+/// The reply that the words of a line tell, as `put_reply` writes it, for tests and embeddings.
 pub fn read_reply(alloc: Global, top: &Topology, line: &[u8]) -> Result<Reply, ReadFault>
     ensures ok { IfOk result (IsReply top.now (words_of line.now)) }
     ensures bad { (word : ℕ) → result ≡ Err (ReadFault.Bad word)
@@ -225,7 +225,8 @@ fn read_shown(alloc: Global, top: &Topology, words: &mut Cursor<'_>) -> Result<R
 fn read_link(top: &Topology, words: &mut Cursor<'_>) -> Result<Reply, WrongWord>
     requires { IsNetwork top.now }
     ensures ok { IfOk result (IsReply top.now (codes "link" ∷ words.old.left)) }
-    ensures wrong { IfErr result (λ wrong. IsWrong (link_form top.now) words.old wrong.number) }
+    ensures wrong { IfErr result
+        (λ wrong. IsWrong (link_state_form top.now) words.old wrong.number) }
 {
     let link = read_link_number(top, words)?;
     let (load, out, at) = read_load(top, link, words)?;
@@ -245,7 +246,7 @@ fn read_load(
 ) -> Result<(u64, bool, u64), WrongWord>
     requires { link < length top.now.links }
     ensures ok { IfOk result (λ load. words.old.left
-        ≡ link_words top.now (slice_get top.now.links link)
+        ≡ words_of_link top.now (slice_get top.now.links link)
         ++ codes "load" ∷ decimal load.0 ∷ service_words load.1 load.2) }
     ensures small { IfOk result (λ load. Fits64 load.0 × Fits64 load.2) }
     ensures wrong { IfErr result

@@ -1,18 +1,19 @@
 // The texts of replies on their way to a sink.
-ghost use Rattle.std.specs.Prelude.{◌≡◌, ◌<◌, ◌≤◌, All, OnOk, ◌++◌, codes, decimal, length, Some};
+ghost use Rattle.std.specs.Prelude.{◌≡◌, ◌≤◌, All, OnOk, ◌++◌, codes, decimal, length};
 ghost use Rattle.std.specs.List.{flat_map};
 ghost use Rattle.hose_io.specs.Count.{one_more};
 ghost use Rattle.hose_io.specs.Gather.{IsAdded};
 ghost use Rattle.hose_io.specs.Writing.{IsPut};
 ghost use Rattle.hose_graph.specs.Hose.{node_of};
 ghost use Rattle.hose_graph.specs.Network.{IsLinkOf, IsNodeOf};
-ghost use Rattle.hose_graph.specs.declared.reply.Reply.TheVariants.{LinkState};
-ghost use Rattle.hose_proto.specs.ReplyText.{line_of, reply_text, priced_text, pair_text, node_text, end_text, link_text, service_text};
+ghost use Rattle.hose_graph.specs.declared.command.Reply.TheVariants.{LinkState};
+ghost use Rattle.hose_proto.specs.ReplyText.{line_of, reply_text, priced_text, pair_text, node_text, end_text, service_text};
 ghost use Rattle.hose_graph.specs.Naming.{NamesPlaces};
 ghost use Rattle.hose_proto.specs.ReplyWords.{IsOfKind, IsReply};
 ghost use Rattle.hose_words.specs.Words.{words_of};
 
-use hose_graph::{Amounts, Endpoint, Hose, Link, Reply, ReservedLink, Topology};
+use crate::pieces::{add_ends, add_link, add_node, add_pairs};
+use hose_graph::{Amounts, Hose, Reply, Topology};
 use hose_io::{Failed, GATHER_LIMIT, Gather, Sink};
 
 /// Writes a reply as a line. A line of up to 4,096 bytes is given to the sink as one piece, and
@@ -42,7 +43,7 @@ fn add_reply<S: Sink>(gather: &mut Gather, sink: &mut S, top: &Topology, reply: 
         (reply_text top.now reply.now) }
 {
     match reply {
-        Reply::Welcome { at } => add_number(gather, sink, b"welcome at ", *at),
+        Reply::Welcome { at } => gather.add_numbered(sink, b"welcome at ", *at),
         Reply::Admitted {
             id,
             cost,
@@ -56,7 +57,7 @@ fn add_reply<S: Sink>(gather: &mut Gather, sink: &mut S, top: &Topology, reply: 
             amounts,
         } => add_priced(gather, sink, b"quoted ", *quote, *cost, *at, amounts),
         Reply::Refused { at, side } => {
-            add_number(gather, sink, b"refused at ", *at);
+            gather.add_numbered(sink, b"refused at ", *at);
             gather.add(sink, b" side");
             add_side(gather, sink, top, side.nodes());
         }
@@ -66,7 +67,7 @@ fn add_reply<S: Sink>(gather: &mut Gather, sink: &mut S, top: &Topology, reply: 
         Reply::NoQuote { quote, at } => {
             add_numbers(gather, sink, b"no quote ", *quote, b" at ", *at);
         }
-        Reply::TooMany { at } => add_number(gather, sink, b"too many quotes at ", *at),
+        Reply::TooMany { at } => gather.add_numbered(sink, b"too many quotes at ", *at),
         Reply::Shown {
             id,
             cost,
@@ -75,7 +76,7 @@ fn add_reply<S: Sink>(gather: &mut Gather, sink: &mut S, top: &Topology, reply: 
             amounts,
         } => {
             add_numbers(gather, sink, b"vpn ", *id, b" cost ", *cost);
-            add_number(gather, sink, b" at ", *at);
+            gather.add_numbered(sink, b" at ", *at);
             add_lists(gather, sink, top, hose, amounts);
         }
         Reply::LinkState {
@@ -87,23 +88,15 @@ fn add_reply<S: Sink>(gather: &mut Gather, sink: &mut S, top: &Topology, reply: 
         Reply::Down { link, at } => add_numbers(gather, sink, b"down ", *link, b" at ", *at),
         Reply::Up { link, at } => add_numbers(gather, sink, b"up ", *link, b" at ", *at),
         Reply::Already { link, at } => add_numbers(gather, sink, b"already ", *link, b" at ", *at),
-        Reply::Denied { at } => add_number(gather, sink, b"denied at ", *at),
-        Reply::Full { at } => add_number(gather, sink, b"full at ", *at),
-        Reply::Spent { at } => add_number(gather, sink, b"spent at ", *at),
-        Reply::Disk { at } => add_number(gather, sink, b"disk at ", *at),
+        Reply::Denied { at } => gather.add_numbered(sink, b"denied at ", *at),
+        Reply::Full { at } => gather.add_numbered(sink, b"full at ", *at),
+        Reply::Spent { at } => gather.add_numbered(sink, b"spent at ", *at),
+        Reply::Disk { at } => gather.add_numbered(sink, b"disk at ", *at),
         Reply::Memory => gather.add(sink, b"memory"),
-        Reply::Bad { word } => add_number(gather, sink, b"bad ", *word),
+        Reply::Bad { word } => gather.add_numbered(sink, b"bad ", *word),
         Reply::Long => gather.add(sink, b"long"),
         Reply::Bye => gather.add(sink, b"bye"),
     }
-}
-
-// Adds some words and the number after them.
-fn add_number<S: Sink>(gather: &mut Gather, sink: &mut S, words: &[u8], number: u64)
-    ensures { IsAdded S.Sink gather.old sink.old gather.new sink.new (words.now ++ decimal number) }
-{
-    gather.add(sink, words);
-    gather.add_number(sink, number);
 }
 
 // Adds some words and the number after them, and once more.
@@ -118,8 +111,8 @@ fn add_numbers<S: Sink>(
     ensures { IsAdded S.Sink gather.old sink.old gather.new sink.new
         (words.now ++ decimal number ++ more.now ++ decimal other) }
 {
-    add_number(gather, sink, words, number);
-    add_number(gather, sink, more, other);
+    gather.add_numbered(sink, words, number);
+    gather.add_numbered(sink, more, other);
 }
 
 // Adds some words, a number, a cost, an epoch, and links with their amounts.
@@ -135,10 +128,10 @@ fn add_priced<S: Sink>(
     ensures { IsAdded S.Sink gather.old sink.old gather.new sink.new
         (words.now ++ decimal id ++ priced_text cost at amounts.now) }
 {
-    add_number(gather, sink, words, id);
+    gather.add_numbered(sink, words, id);
     add_numbers(gather, sink, b" cost ", cost, b" at ", at);
     gather.add(sink, b" links");
-    add_links(gather, sink, amounts.pairs());
+    add_pairs(gather, sink, amounts.pairs());
 }
 
 // Adds the endpoints of a hose, and links with their amounts.
@@ -157,7 +150,7 @@ fn add_lists<S: Sink>(
     gather.add(sink, b" ends");
     add_ends(gather, sink, top, hose.ends());
     gather.add(sink, b" links");
-    add_links(gather, sink, amounts.pairs());
+    add_pairs(gather, sink, amounts.pairs());
 }
 
 // Adds what there is to tell of a link.
@@ -176,9 +169,9 @@ fn add_state<S: Sink>(
 {
     // The call tells the proof that each network has few links, so that their numbers fit.
     let _links = top.links();
-    add_number(gather, sink, b"link ", link);
+    gather.add_numbered(sink, b"link ", link);
     add_link(gather, sink, top, &top.link(link as u32));
-    add_number(gather, sink, b" load ", load);
+    gather.add_numbered(sink, b" load ", load);
     add_service(gather, sink, out, at);
 }
 
@@ -187,28 +180,10 @@ fn add_service<S: Sink>(gather: &mut Gather, sink: &mut S, out: bool, at: u64)
     ensures { IsAdded S.Sink gather.old sink.old gather.new sink.new (service_text out at) }
 {
     if out {
-        add_number(gather, sink, b" out at ", at);
+        gather.add_numbered(sink, b" out at ", at);
     } else {
-        add_number(gather, sink, b" at ", at);
+        gather.add_numbered(sink, b" at ", at);
     }
-}
-
-// Adds links with their amounts.
-fn add_links<S: Sink>(gather: &mut Gather, sink: &mut S, pairs: &[ReservedLink])
-    ensures { IsAdded S.Sink gather.old sink.old gather.new sink.new
-        (flat_map pair_text pairs.now) }
-{
-    for pair in pairs {
-        add_pair(gather, sink, pair);
-    }
-}
-
-// Adds one link with its amount.
-fn add_pair<S: Sink>(gather: &mut Gather, sink: &mut S, pair: &ReservedLink)
-    ensures { IsAdded S.Sink gather.old sink.old gather.new sink.new (pair_text pair.now) }
-{
-    add_number(gather, sink, b" ", u64::from(pair.0));
-    add_number(gather, sink, b":", pair.1);
 }
 
 // Adds the names of a side's nodes.
@@ -220,46 +195,4 @@ fn add_side<S: Sink>(gather: &mut Gather, sink: &mut S, top: &Topology, nodes: &
     for node in nodes {
         add_node(gather, sink, top, *node);
     }
-}
-
-// Adds endpoints with their rates.
-fn add_ends<S: Sink>(gather: &mut Gather, sink: &mut S, top: &Topology, ends: &[Endpoint])
-    requires { All (λ end. IsNodeOf top.now (node_of end)) ends.now }
-    ensures { IsAdded S.Sink gather.old sink.old gather.new sink.new
-        (flat_map (end_text top.now) ends.now) }
-{
-    for end in ends {
-        add_end(gather, sink, top, end);
-    }
-}
-
-// Adds one endpoint with its rate.
-fn add_end<S: Sink>(gather: &mut Gather, sink: &mut S, top: &Topology, end: &Endpoint)
-    requires { IsNodeOf top.now (node_of end.now) }
-    ensures { IsAdded S.Sink gather.old sink.old gather.new sink.new (end_text top.now end.now) }
-{
-    add_node(gather, sink, top, end.0);
-    add_number(gather, sink, b":", end.1);
-}
-
-// Adds the name of one node.
-fn add_node<S: Sink>(gather: &mut Gather, sink: &mut S, top: &Topology, node: u32)
-    requires { IsNodeOf top.now node }
-    ensures { IsAdded S.Sink gather.old sink.old gather.new sink.new (node_text top.now node) }
-{
-    gather.add(sink, b" ");
-    gather.add(sink, top.name(node).bytes());
-}
-
-// Adds the nodes of a link, and what it can carry and costs.
-fn add_link<S: Sink>(gather: &mut Gather, sink: &mut S, top: &Topology, link: &Link)
-    requires a { IsNodeOf top.now link.now.a }
-    requires b { IsNodeOf top.now link.now.b }
-    ensures { IsAdded S.Sink gather.old sink.old gather.new sink.new
-        (link_text top.now (Some link.now)) }
-{
-    add_node(gather, sink, top, link.a);
-    add_node(gather, sink, top, link.b);
-    add_number(gather, sink, b" capacity ", link.capacity);
-    add_number(gather, sink, b" cost ", link.cost);
 }

@@ -4,10 +4,10 @@ use Rattle.std.specs.List.{flat_map}
 use Rattle.std.proofs.lemmas.Fmt.{length-decimal-le}
 use Rattle.std.proofs.lemmas.List.{length-append, get_or_append_left, get_or_at}
 use Rattle.hose_words.proofs.Spaced.{AreWords, IsWord, IsWord-allowed, IsWord-decimal, IsWord-known, line_no_feed, spaced}
-use Rattle.hose_words.specs.declared.limits.TheConstants.{LINE_LIMIT}
+use Rattle.hose_words.specs.declared.lines.TheConstants.{LINE_LIMIT}
 use Rattle.hose_graph.specs.Name.{IsName, is_name_byte}
 use Rattle.hose_graph.specs.Network.{Network, IsNetwork, IsLink, name_of}
-use Rattle.hose_graph.specs.declared.link.Link.{Link}
+use Rattle.hose_graph.specs.declared.topology.Link.{Link}
 use Rattle.hose_topo.specs.Canonical.{node_line, link_line, canonical_text}
 use Rattle.hose_topo.specs.TopologyText.{AddsNode, AddsLink, AddsLine, AddLines, no_more, one_more, no_network, IsTopologyText, link_words}
 use Rattle.hose_topo.proofs.FirstLineText.{after_feed, spelled_line}

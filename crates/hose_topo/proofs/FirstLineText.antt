@@ -6,7 +6,7 @@ use Rattle.std.proofs.lemmas.List.{length-append, get_or_append_left, get_or_at}
 use Rattle.std.proofs.lemmas.List.Sums.{position_or_len_is}
 use Rattle.hose_words.specs.Words.{words_of}
 use Rattle.hose_words.specs.Lines.{is_line_feed}
-use Rattle.hose_words.specs.declared.limits.TheConstants.{LINE_LIMIT}
+use Rattle.hose_words.specs.declared.lines.TheConstants.{LINE_LIMIT}
 use Rattle.hose_words.proofs.Spaced.{AreWords, IsWithout, line_no_feed, spaced, words_of-line}
 use Rattle.hose_topo.specs.TopologyText.{HasLine}
 

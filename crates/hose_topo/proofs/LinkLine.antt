@@ -3,7 +3,7 @@ use Rattle.std.proofs.Common.{◌≡◌, ◌≢◌, ◌∙◌, ℕ, List, [], �
 use Rattle.std.specs.List.{AllPairs}
 use Rattle.std.proofs.lemmas.Fmt.{decimal_injective}
 use Rattle.hose_graph.specs.Network.{Network, IsLink, name_of}
-use Rattle.hose_graph.specs.declared.link.Link.{Link}
+use Rattle.hose_graph.specs.declared.topology.Link.{Link}
 use Rattle.hose_graph.proofs.NodesByName.{same_name}
 use Rattle.hose_topo.specs.TopologyText.{TellsLink, link_words}
 

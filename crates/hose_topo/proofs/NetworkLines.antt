@@ -3,7 +3,7 @@ use Rattle.std.proofs.Common.{ℕ, List, [], ◌∷◌, ◌++◌, subst, inl, in
 use Rattle.std.proofs.lemmas.List.Elements.{All-nil, All-push}
 use Rattle.hose_graph.specs.Name.{IsName}
 use Rattle.hose_graph.specs.Network.{Network, IsNetwork, IsLink}
-use Rattle.hose_graph.specs.declared.link.Link.{Link}
+use Rattle.hose_graph.specs.declared.topology.Link.{Link}
 use Rattle.hose_topo.specs.TopologyText.{AddsLine, AddLines, no_more, one_more, no_network, IsTopologyText}
 use Rattle.hose_topo.proofs.TopologyLines.{HasDistinctNames, no_names, distinct_more}
 

@@ -8,7 +8,7 @@ use Rattle.hose_words.specs.Reading.{ReadsOn, WhereTold}
 use Rattle.hose_words.specs.declared.lines.Line.{Line}
 use Rattle.hose_words.specs.declared.lines.Line.TheVariants.{Text, Long}
 use Rattle.hose_words.specs.declared.lines.LineFault.{LineFault}
-use Rattle.hose_words.specs.declared.limits.TheConstants.{INPUT_LIMIT}
+use Rattle.hose_words.specs.declared.lines.TheConstants.{INPUT_LIMIT}
 use Rattle.hose_words.proofs.OnReading.{ReadsOn-next, ReadsOn-start, ReadsOn-then, WhereTold-both, WhereTold-map, WhereTold-same, WhereTold-then}
 use Rattle.hose_graph.specs.Network.{Network, IsNetwork}
 use Rattle.hose_words.specs.declared.lines.LineFault.TheVariants.{Read, TooLong}

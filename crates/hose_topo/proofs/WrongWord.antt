@@ -6,12 +6,12 @@ use Rattle.hose_words.proofs.Forms.{AreApart, apart_by}
 use Rattle.hose_words.proofs.Keywords.{choice_of}
 use Rattle.hose_words.proofs.Passing.{Passes, pass_branch, pass_finish, pass_maybe, pass_nothing, pass_place}
 use Rattle.hose_graph.specs.Network.{Network, IsNetwork, IsNodeOf, name_of}
-use Rattle.hose_graph.specs.declared.link.Link.{Link}
+use Rattle.hose_graph.specs.declared.topology.Link.{Link}
 use Rattle.hose_graph.specs.declared.limits.TheConstants.{MOST_COST}
 use Rattle.hose_graph.proofs.NodesByName.{same_name}
 use Rattle.hose_topo.specs.TopologyText.{AddsLine, AddsLink, AddsNode, EndsText, HasLine, IsOtherNode, IsPassedOver, IsWrongLine, MayCome, TellsLink, kind_word, line_form, line_grammar, number_form}
-use Rattle.hose_topo.specs.declared.kind.Kind.{Kind}
-use Rattle.hose_topo.specs.declared.kind.Kind.TheVariants as kind
+use Rattle.hose_topo.specs.declared.line.Kind.{Kind}
+use Rattle.hose_topo.specs.declared.line.Kind.TheVariants as kind
 use Rattle.hose_topo.proofs.TopologyLines.{line_same}
 
 -- ---- each choice has a word of its own

@@ -3,7 +3,7 @@
 use Rattle.std.specs.Prelude.{ℕ, List, ◌++◌, codes, decimal}
 use Rattle.std.specs.List.{flat_map}
 use Rattle.hose_graph.specs.Network.{Network, name_of}
-use Rattle.hose_graph.specs.declared.link.Link.{Link}
+use Rattle.hose_graph.specs.declared.topology.Link.{Link}
 
 -- the line of a node, by its name
 abbrev pub node_line : List ℕ → List ℕ

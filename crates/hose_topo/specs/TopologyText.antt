@@ -6,14 +6,14 @@ use Rattle.hose_words.specs.Words.{words_of}
 use Rattle.hose_words.specs.Lines.{is_line_feed}
 use Rattle.hose_words.specs.Form.{Form, finish, place, branch, maybe, TellsNumber, grammar_of}
 use Rattle.hose_words.specs.Grammar.{Grammar, IsFirstNotAllowed}
-use Rattle.hose_words.specs.declared.limits.TheConstants.{LINE_LIMIT}
+use Rattle.hose_words.specs.declared.lines.TheConstants.{LINE_LIMIT}
 use Rattle.hose_graph.specs.Name.{IsName}
 use Rattle.hose_graph.specs.Limit.{IsUpTo}
 use Rattle.hose_graph.specs.Network.{Network, IsLink, IsNodeOf, HasNodeRoom, HasLinkRoom, name_of}
-use Rattle.hose_graph.specs.declared.link.Link.{Link}
+use Rattle.hose_graph.specs.declared.topology.Link.{Link}
 use Rattle.hose_graph.specs.declared.limits.TheConstants.{MOST_CAPACITY, MOST_LENGTH, MOST_COST}
-use Rattle.hose_topo.specs.declared.kind.Kind.{Kind}
-use Rattle.hose_topo.specs.declared.kind.Kind.TheVariants as kind
+use Rattle.hose_topo.specs.declared.line.Kind.{Kind}
+use Rattle.hose_topo.specs.declared.line.Kind.TheVariants as kind
 
 -- ---- what a line does
 

@@ -12,8 +12,8 @@ use hose_graph::{Link, Topology};
 use hose_io::{Failed, Gather, Sink};
 use sha2::{Digest, Sha256};
 
-/// Writes the canonical text of a topology: its nodes, then its links, in order, each link with its
-/// cost.
+/// Writes the canonical text of a topology, for tests and embeddings: its nodes, then its links, in
+/// order, each link with its cost.
 ///
 /// It takes no memory, and goes out in pieces of up to 4,096 bytes.
 pub fn put_canonical<S: Sink>(sink: &mut S, top: &Topology) -> Result<(), Failed>

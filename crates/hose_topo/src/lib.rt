@@ -10,7 +10,6 @@
 
 mod canonical;
 mod fault;
-mod kind;
 mod line;
 mod pieces;
 mod reading;

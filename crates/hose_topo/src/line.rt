@@ -8,11 +8,31 @@ ghost use Rattle.hose_graph.specs.Network.{IsLink, IsNetwork, IsNodeOf, HasLinkR
 ghost use Rattle.hose_topo.specs.Taken.{TakesWords};
 ghost use Rattle.hose_topo.specs.TopologyText.{AddsLink, AddsNode, IsNewName, IsOtherNode, MayCome, TellsLink, TellsLine, kind_word, line_form, link_form, node_form, number_form};
 
-use crate::kind::Kind;
 use hose_graph::{
     Link, MOST_CAPACITY, MOST_COST, MOST_LENGTH, MOST_LINKS, MOST_NODES, Name, Topology,
 };
-use hose_words::{Cursor, WrongWord};
+use hose_words::{Cursor, Keyword, WrongWord};
+
+/// What a line is that is not passed over.
+#[derive(Clone, Copy, Debug)]
+pub enum Kind {
+    Node,
+    Link,
+    End,
+}
+
+impl Keyword for Kind {
+    ghost word_of = { kind_word };
+
+    fn of(word: &[u8]) -> Option<Kind> {
+        match word {
+            b"node" => Some(Kind::Node),
+            b"link" => Some(Kind::Link),
+            b"end" => Some(Kind::End),
+            _ => None,
+        }
+    }
+}
 
 /// What a line of the text did.
 pub enum Taken {

@@ -4,12 +4,12 @@ use Rattle.std.specs.List.{AllZip}
 use Rattle.std.proofs.lemmas.Option.{same_Some}
 use Rattle.serde_json.specs.Data.{Data}
 use Rattle.hose_graph.specs.Network.{Network}
-use Rattle.hose_graph.specs.declared.link.Link.{Link}
+use Rattle.hose_graph.specs.declared.topology.Link.{Link}
 use Rattle.hose_topo_json.specs.JsonValue.{ReadsObject}
-use Rattle.hose_topo_json.specs.JsonTopology.{HasLinks, HasNodes, IsJsonTopology, NameNodes, TellsLink}
-use Rattle.hose_topo_json.specs.Refused.{IsRefused, IsWrongLink, IsWrongNode}
-use Rattle.hose_topo_json.specs.declared.fault.JsonFault.{JsonFault}
-use Rattle.hose_topo_json.specs.declared.fault.JsonFault.TheVariants.{Json, Nodes, Node, Links, Link as LinkAt, Memory}
+use Rattle.hose_topo_json.specs.JsonTopology.{HasLinks, HasNodes, IsJsonTopology, NameNodes, TellsJsonLink}
+use Rattle.hose_topo_json.specs.Refused.{IsJsonFault, IsWrongLink, IsWrongNode}
+use Rattle.hose_topo_json.specs.declared.reading.JsonFault.{JsonFault}
+use Rattle.hose_topo_json.specs.declared.reading.JsonFault.TheVariants.{Json, Nodes, Node, Links, Link as LinkAt, Memory}
 use Rattle.hose_topo_json.proofs.OneLink as link
 use Rattle.hose_topo_json.proofs.OneNode as node
 
@@ -39,7 +39,7 @@ abbrev NoLinks : List (List ℕ) → List Data → Answer → Type 0
 NoLinks names values answer = (place : ℕ) × IsWrongLink names values place × (answer ≡ Err (LinkAt place))
 
 abbrev OfLinks : List (List ℕ) → List Data → Answer → Type 0
-OfLinks names values = Chooses (AllZip (TellsLink names) values) (IsOf names) (NoLinks names values)
+OfLinks names values = Chooses (AllZip (TellsJsonLink names) values) (IsOf names) (NoLinks names values)
 
 abbrev NoLinkList : Data → Answer → Type 0
 NoLinkList value answer = ((links : List Data) → ¬ HasLinks value links) × (answer ≡ Err Links)
@@ -69,7 +69,7 @@ OfBytes bytes = Chooses (ReadsObject bytes) OfValue (NoObject bytes)
 
 of_links : (nodes : List Data) (names : List (List ℕ)) (values : List Data) (one other : Answer) → NameNodes nodes names → OfLinks names values one → OfLinks names values other → one ≡ other
 of_links nodes names values one other named =
-    one_choice (AllZip (TellsLink names) values) (IsOf names) (NoLinks names values) (link.one_linking names named.differ values)
+    one_choice (AllZip (TellsJsonLink names) values) (IsOf names) (NoLinks names values) (link.one_linking names named.differ values)
     (λ links first second told is is'. is ∙ sym is') (λ links answer told none. link.not_wrong names values links none.0 told none.1)
     (λ first second x y. x.2 ∙ ap (λ place. Err (LinkAt place)) (link.one_wrong names values x.0 y.0 x.1 y.1) ∙ sym y.2) one other
 
@@ -99,7 +99,7 @@ of_bytes bytes one other =
 of_topology : (bytes : List ℕ) (network : Network) → IsJsonTopology bytes network → OfBytes bytes (Ok network)
 of_topology bytes network is = inl (is.value, is.is_read, inl (is.nodes, is.has_nodes, inl (network.nodes, is.are_nodes, inl (is.links, is.has_links, inl (network.links, is.are_links, refl)))))
 
-of_refusal : (bytes : List ℕ) (fault : JsonFault) → fault ≢ Memory → IsRefused bytes fault → OfBytes bytes (Err fault)
+of_refusal : (bytes : List ℕ) (fault : JsonFault) → fault ≢ Memory → IsJsonFault bytes fault → OfBytes bytes (Err fault)
 of_refusal bytes Json other is = inr (is, refl)
 of_refusal bytes Nodes other is = inl (is.0, is.1, inr (is.2, refl))
 of_refusal bytes (Node place) other is = inl (is.0, is.2.is_read, inl (is.1, is.2.has_nodes, inr (place, is.3, refl)))
@@ -110,7 +110,7 @@ of_refusal bytes Memory other is = absurd (other refl)
 -- what was answered
 abbrev Answers : List ℕ → Answer → Type 0
 Answers bytes (Ok network) = IsJsonTopology bytes network
-Answers bytes (Err fault) = IsRefused bytes fault
+Answers bytes (Err fault) = IsJsonFault bytes fault
 
 -- what may be answered is answered, but for want of memory
 one_of : (bytes : List ℕ) (answer other : Answer) → Answers bytes answer → OfBytes bytes other → (answer ≡ other) ⊎ (answer ≡ Err Memory)
@@ -125,5 +125,5 @@ one_of bytes (Err Memory) other is may = inr refl
 pub accepts : (bytes : List ℕ) (answer : Answer) → Answers bytes answer → (network : Network) → IsJsonTopology bytes network → (answer ≡ Ok network) ⊎ (answer ≡ Err Memory)
 accepts bytes answer is network told = one_of bytes answer (Ok network) is (of_topology bytes network told)
 
-pub refuses : (bytes : List ℕ) (answer : Answer) → Answers bytes answer → (fault : JsonFault) → fault ≢ Memory → IsRefused bytes fault → (answer ≡ Err fault) ⊎ (answer ≡ Err Memory)
+pub refuses : (bytes : List ℕ) (answer : Answer) → Answers bytes answer → (fault : JsonFault) → fault ≢ Memory → IsJsonFault bytes fault → (answer ≡ Err fault) ⊎ (answer ≡ Err Memory)
 refuses bytes answer is fault other told = one_of bytes answer (Err fault) is (of_refusal bytes fault other told)

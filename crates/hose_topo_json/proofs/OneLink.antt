@@ -7,10 +7,10 @@ use Rattle.std.proofs.lemmas.List.{take_all}
 use Rattle.std.proofs.lemmas.Option.{same_Some, slice_get_within}
 use Rattle.serde_json.specs.Data.{Data}
 use Rattle.serde_json.specs.Find.{as_number, as_u64, get}
-use Rattle.hose_graph.specs.declared.link.Link.{Link}
+use Rattle.hose_graph.specs.declared.topology.Link.{Link}
 use Rattle.hose_graph.proofs.NodesByName.{same_name}
 use Rattle.hose_topo_json.specs.JsonValue.{number_at}
-use Rattle.hose_topo_json.specs.JsonTopology.{TellsCost, TellsLink, unlinked}
+use Rattle.hose_topo_json.specs.JsonTopology.{TellsCost, TellsJsonLink, unlinked}
 use Rattle.hose_topo_json.specs.Refused.{IsWrongLink}
 use Rattle.hose_topo_json.proofs.Fronts.{told_at, told_once}
 
@@ -27,7 +27,7 @@ one_cost value link other same (inr here) (inl none) = absurd (no_number (codes 
 one_cost value link other same (inr here) (inr there) = same_Some link.cost other.cost (sym here ∙ there)
 
 -- a value tells one link
-one_link : (names : List (List ℕ)) → AllPairs ◌≢◌ names → (value : Data) (link other : Link) → TellsLink names value link → TellsLink names value other → link ≡ other
+one_link : (names : List (List ℕ)) → AllPairs ◌≢◌ names → (value : Data) (link other : Link) → TellsJsonLink names value link → TellsJsonLink names value other → link ≡ other
 one_link names differ value link other first second =
     let a = same_name (unlinked names) link.a other.a differ first.is_link.in_range.a second.is_link.in_range.a (same_Some _ _ (sym first.a ∙ second.a)) in
     let b = same_name (unlinked names) link.b other.b differ first.is_link.in_range.b second.is_link.in_range.b (same_Some _ _ (sym first.b ∙ second.b)) in
@@ -36,19 +36,19 @@ one_link names differ value link other first second =
     let cost = one_cost value link other distance first.cost second.cost in
     λ i. record { a = a i; b = b i; capacity = capacity i; length = distance i; cost = cost i }
 
-pub one_linking : (names : List (List ℕ)) → AllPairs ◌≢◌ names → (values : List Data) (links others : List Link) → AllZip (TellsLink names) values links → AllZip (TellsLink names) values others → links ≡ others
-one_linking names differ values links others first second = told_once (TellsLink names) values links others (one_link names differ) first second
+pub one_linking : (names : List (List ℕ)) → AllPairs ◌≢◌ names → (values : List Data) (links others : List Link) → AllZip (TellsJsonLink names) values links → AllZip (TellsJsonLink names) values others → links ≡ others
+one_linking names differ values links others first second = told_once (TellsJsonLink names) values links others (one_link names differ) first second
 
 -- no value is wrong among those that tell links
-not_wrong_within : (names : List (List ℕ)) (values : List Data) (links : List Link) (end place : ℕ) → AllZip (TellsLink names) (take end values) links → IsWrongLink names values place → place < end → ⊥
+not_wrong_within : (names : List (List ℕ)) (values : List Data) (links : List Link) (end place : ℕ) → AllZip (TellsJsonLink names) (take end values) links → IsWrongLink names values place → place < end → ⊥
 not_wrong_within names values links end place all wrong below =
-    let told = told_at (TellsLink names) values links end place wrong.value all below wrong.here in
+    let told = told_at (TellsJsonLink names) values links end place wrong.value all below wrong.here in
     wrong.wrong told.0 told.2
 
-pub not_wrong : (names : List (List ℕ)) (values : List Data) (links : List Link) (place : ℕ) → AllZip (TellsLink names) values links → IsWrongLink names values place → ⊥
+pub not_wrong : (names : List (List ℕ)) (values : List Data) (links : List Link) (place : ℕ) → AllZip (TellsJsonLink names) values links → IsWrongLink names values place → ⊥
 not_wrong names values links place all wrong =
     let whole : take (length values) values ≡ values = take_all (length values) values (omega arith) in
-    not_wrong_within names values links (length values) place (subst (λ list. AllZip (TellsLink names) list links) (sym whole) all) wrong (slice_get_within values place wrong.value wrong.here)
+    not_wrong_within names values links (length values) place (subst (λ list. AllZip (TellsJsonLink names) list links) (sym whole) all) wrong (slice_get_within values place wrong.value wrong.here)
 
 pub one_wrong : (names : List (List ℕ)) (values : List Data) (place other : ℕ) → IsWrongLink names values place → IsWrongLink names values other → place ≡ other
 one_wrong names values place other first second =

@@ -6,7 +6,7 @@ use Rattle.serde_json.specs.Data.{Data}
 use Rattle.serde_json.specs.Find.{as_str, get}
 use Rattle.hose_graph.specs.Name.{IsName}
 use Rattle.hose_graph.specs.Network.{Network, IsLink, name_of}
-use Rattle.hose_graph.specs.declared.link.Link.{Link}
+use Rattle.hose_graph.specs.declared.topology.Link.{Link}
 use Rattle.hose_graph.specs.declared.limits.TheConstants.{MOST_NODES, MOST_LINKS}
 use Rattle.hose_topo_json.specs.JsonValue.{ReadsObject, list_at, number_at, text_at}
 
@@ -42,7 +42,7 @@ TellsCost value link =
     ⊎ (number_at (codes "cost") value ≡ Some link.cost)
 
 -- a value tells a link of nodes of these names, which a network of them can have
-pub record TellsLink (names : List (List ℕ)) (value : Data) (link : Link) : Type 0 where
+pub record TellsJsonLink (names : List (List ℕ)) (value : Data) (link : Link) : Type 0 where
   pub a : text_at (codes "a") value ≡ Some (name_of (unlinked names) link.a)
   pub b : text_at (codes "b") value ≡ Some (name_of (unlinked names) link.b)
   pub capacity : number_at (codes "capacity") value ≡ Some link.capacity
@@ -59,4 +59,4 @@ pub record IsJsonTopology (bytes : List ℕ) (network : Network) : Type 0 where
   pub has_nodes : HasNodes value nodes
   pub are_nodes : NameNodes nodes network.nodes
   pub has_links : HasLinks value links
-  pub are_links : AllZip (TellsLink network.nodes) links network.links
+  pub are_links : AllZip (TellsJsonLink network.nodes) links network.links

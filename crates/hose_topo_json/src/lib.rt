@@ -10,11 +10,9 @@
 #![tactic(auto)]
 
 mod by_name;
-mod fault;
 mod links;
 mod member;
 mod nodes;
 mod reading;
 
-pub use fault::JsonFault;
-pub use reading::read_json;
+pub use reading::{JsonFault, read_json};

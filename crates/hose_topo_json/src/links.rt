@@ -5,10 +5,10 @@ ghost use Rattle.serde_json.specs.Find.{get};
 ghost use Rattle.serde_json.specs.View.{view};
 ghost use Rattle.hose_graph.specs.Limit.{IsUpTo};
 ghost use Rattle.hose_graph.specs.Network.{IsNetwork, IsNodeOf, name_of};
-ghost use Rattle.hose_graph.specs.declared.link.Link.{Link};
+ghost use Rattle.hose_graph.specs.declared.topology.Link.{Link};
 ghost use Rattle.hose_graph.specs.declared.limits.TheConstants.{MOST_COST, MOST_LINKS};
 ghost use Rattle.hose_topo_json.specs.JsonValue.{number_at, text_at};
-ghost use Rattle.hose_topo_json.specs.JsonTopology.{TellsLink, unlinked};
+ghost use Rattle.hose_topo_json.specs.JsonTopology.{TellsJsonLink, unlinked};
 ghost use Rattle.hose_topo_json.specs.Refused.{IsWrongLink};
 
 use crate::by_name::NodesByName;
@@ -21,7 +21,7 @@ pub fn add_links(top: &mut Topology, by_name: &NodesByName, values: &[Value]) ->
     requires unlinked { top.old ≡ unlinked top.old.nodes }
     requires few { length values.now ≤ MOST_LINKS }
     ensures ok { OnOk result
-        (AllZip (TellsLink top.new.nodes) (map view values.now) top.new.links) }
+        (AllZip (TellsJsonLink top.new.nodes) (map view values.now) top.new.links) }
     ensures nodes { OnOk result (top.new.nodes ≡ top.old.nodes) }
     ensures wrong { IfErr result (IsWrongLink top.old.nodes (map view values.now)) }
 {
@@ -36,9 +36,9 @@ pub fn add_links(top: &mut Topology, by_name: &NodesByName, values: &[Value]) ->
 
 // The link that a value tells.
 fn read_link(top: &Topology, by_name: &NodesByName, value: &Value) -> Option<Link>
-    ensures some { IfSome result (TellsLink top.now.nodes (view value.now)) }
+    ensures some { IfSome result (TellsJsonLink top.now.nodes (view value.now)) }
     ensures none { IfNone result
-        ((link : Link) → ¬ TellsLink top.now.nodes (view value.now) link) }
+        ((link : Link) → ¬ TellsJsonLink top.now.nodes (view value.now) link) }
 {
     // The call tells the proof what holds of each network.
     let _nodes = top.nodes();

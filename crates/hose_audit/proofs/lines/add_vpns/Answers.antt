@@ -1,7 +1,7 @@
 use Rattle.std.proofs.Common.{[], subst}
 use Rattle.hose_io.specs.Gather.{IsAdded}
 use Rattle.hose_io.proofs.Gathering.{IsAdded-item}
-use Rattle.hose_graph.specs.declared.vpn.Vpn.{Vpn}
+use Rattle.hose_graph.specs.declared.entry.Vpn.{Vpn}
 use Rattle.hose_audit.specs.Audit.{vpn_line}
 use Rattle.hose_audit.proofs.lines.add_vpns.Goals as goal
 

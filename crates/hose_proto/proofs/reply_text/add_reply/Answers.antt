@@ -1,6 +1,5 @@
 use Rattle.std.proofs.Common.{codes, decimal}
-use Rattle.hose_io.proofs.Gathering.{IsAdded-next}
-use Rattle.hose_proto.proofs.Adding.{IsAdded-four, IsAdded-two}
+use Rattle.hose_io.proofs.Gathering.{IsAdded-four, IsAdded-next, IsAdded-two}
 use Rattle.hose_proto.proofs.reply_text.add_reply.Goals as goal
 
 pub returns-in-Admitted : goal.returns-in-Admitted
@@ -12,7 +11,7 @@ returns-in-Quoted g c = rw c.in-Quoted.is c.add_priced-in-Quoted.ensures
 pub returns-in-Refused : goal.returns-in-Refused
 returns-in-Refused g c =
     rw c.in-Refused.is
-    (IsAdded-next (IsAdded-next c.add_number-in-Refused.ensures c.add.ensures) (rw c.nodes.ensures.value at c.add_side.ensures))
+    (IsAdded-next (IsAdded-next c.add_numbered-in-Refused.ensures c.add.ensures) (rw c.nodes.ensures.value at c.add_side.ensures))
 
 pub returns-in-Stale : goal.returns-in-Stale
 returns-in-Stale g c = rw c.in-Stale.is c.add_numbers.ensures
@@ -27,11 +26,11 @@ pub returns-in-NoQuote : goal.returns-in-NoQuote
 returns-in-NoQuote g c = rw c.in-NoQuote.is c.add_numbers-in-NoQuote.ensures
 
 pub returns-in-TooMany : goal.returns-in-TooMany
-returns-in-TooMany g c = rw c.in-TooMany.is c.add_number-in-TooMany.ensures
+returns-in-TooMany g c = rw c.in-TooMany.is c.add_numbered-in-TooMany.ensures
 
 pub returns-in-Shown : goal.returns-in-Shown
 returns-in-Shown g c =
-    let at = IsAdded-two (codes " at ") (decimal c.in-Shown.at) c.add_numbers-in-Shown.ensures c.add_number-in-Shown.ensures in
+    let at = IsAdded-two (codes " at ") (decimal c.in-Shown.at) c.add_numbers-in-Shown.ensures c.add_numbered-in-Shown.ensures in
     rw c.in-Shown.is (IsAdded-four (codes " ends") _ (codes " links") _ at c.add_lists.ensures)
 
 pub returns-in-LinkState : goal.returns-in-LinkState

@@ -1,6 +1,6 @@
 use Rattle.std.proofs.Common.{◌≡◌, get_or, sym, arith}
 use Rattle.std.proofs.lemmas.Option.{get_or_from_slice_get}
-use Rattle.hose_graph.specs.declared.link.Link.{Link}
+use Rattle.hose_graph.specs.declared.topology.Link.{Link}
 use Rattle.hose_io.proofs.Gathering.{flat_map-take}
 use Rattle.hose_topo.specs.Canonical.{link_line}
 use Rattle.hose_topo.proofs.canonical.add_links.Goals as goal

@@ -1,7 +1,11 @@
 use Rattle.std.proofs.Common.{◌≡◌, Ok, Err, rules}
 use Rattle.std.proofs.lemmas.Result.{err_from_is_err_and}
+use Rattle.hose_words.proofs.OnReading.{ReadsOn-start}
 use Rattle.hose_topo.proofs.TopologyReading.{HasRead-start, fault_of_is, reads_on, added, ended, ended_alone, no_text, stopped, wrong}
 use Rattle.hose_topo.proofs.reading.read.Goals as goal
+
+pub returns-in_err-top-clause-reads_on : goal.returns-in_err-top-clause-reads_on
+returns-in_err-top-clause-reads_on g c = ReadsOn-start g.S.Source c.args.lines.now
 
 pub loop-top-init : goal.loop-top-init
 loop-top-init g c = rw c.in_ok-top.ensures.empty (HasRead-start g.S.Source c.args.lines.now)

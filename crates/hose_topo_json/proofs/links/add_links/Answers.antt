@@ -1,7 +1,7 @@
 use Rattle.std.proofs.Common.{◌≡◌, length, map, subst, sym, arith, length-take}
 use Rattle.std.proofs.lemmas.List.{length-map}
 use Rattle.serde_json.specs.View.{view}
-use Rattle.hose_topo_json.specs.JsonTopology.{TellsLink}
+use Rattle.hose_topo_json.specs.JsonTopology.{TellsJsonLink}
 use Rattle.hose_topo_json.proofs.LinkEnds.{IsLink-linked}
 use Rattle.hose_topo_json.proofs.Values.{length-AllZip, told_more, value_here}
 use Rattle.hose_topo_json.proofs.links.add_links.Goals as goal
@@ -12,7 +12,7 @@ returns-in_default-clause-wrong c = record {
   value = view c.index-values-place.result;
   front = c.loop-place.invariant.1;
   here = value_here c.args.values.now c.loop-place.place c.index-values-place.result c.loop-place-test.true c.index-values-place.is;
-  wrong = λ link told. c.in_default.ensures.none link (subst (λ nodes. TellsLink nodes (view c.index-values-place.result) link) (sym c.loop-place.invariant.0) told);
+  wrong = λ link told. c.in_default.ensures.none link (subst (λ nodes. TellsJsonLink nodes (view c.index-values-place.result) link) (sym c.loop-place.invariant.0) told);
 }
 
 pub push_link-requires-clause-room : goal.push_link-requires-clause-room
@@ -29,9 +29,9 @@ pub loop-place-preserved : goal.loop-place-preserved
 loop-place-preserved c =
     let added = c.push_link.ensures.added in
     let link = c.in-Some.link in
-    let told = subst (λ nodes. TellsLink nodes (view c.index-values-place.result) link) c.loop-place.invariant.0 c.in-Some.ensures.some in
+    let told = subst (λ nodes. TellsJsonLink nodes (view c.index-values-place.result) link) c.loop-place.invariant.0 c.in-Some.ensures.some in
     rw added (
       c.loop-place.invariant.0,
-      told_more (TellsLink c.args.top.now.nodes) c.args.values.now c.loop-place.top.links c.loop-place.place c.index-values-place.result link c.loop-place-test.true c.index-values-place.is
+      told_more (TellsJsonLink c.args.top.now.nodes) c.args.values.now c.loop-place.top.links c.loop-place.place c.index-values-place.result link c.loop-place-test.true c.index-values-place.is
           c.loop-place.invariant.1 told,
     )
