@@ -15,7 +15,7 @@ use Rattle.hose_law.specs.Row.{IsRow}
 use Rattle.hose_law.specs.Walk.{all_links}
 use Rattle.hose_cert.specs.Adding.{AddsRoots}
 use Rattle.hose_cert.specs.CertLine.{CertLine}
-use Rattle.hose_cert.specs.Written.{numbers_of, root_lines, roots_lines, text_of}
+use Rattle.hose_cert.specs.Written.{numbers_of, root_lines, roots_lines, certificate_text}
 
 -- ---- numbers one after the other
 
@@ -45,7 +45,7 @@ flat_map_range {X} f n =
     ap (λ (m : ℕ). flat_map f (range_with_len 0 m)) one ∙ ap (flat_map f) (range_more 0 n n (omega arith)) ∙ flat_map-append f (range_with_len 0 n) (n ∷ [])
     ∙ ap (λ (ys : List X). flat_map f (range_with_len 0 n) ++ ys) (append-nil (f n))
 
--- the same comes of functions that agree on the numbers
+-- functions that agree on the numbers make one list of them
 pub flat_map_agree : {X : Type 0} (f g : ℕ → List X) (a n : ℕ) → ((k : ℕ) → a ≤ k → k < a + n → f k ≡ g k) → flat_map f (range_with_len a n) ≡ flat_map g (range_with_len a n)
 flat_map_agree f g a zero same = refl
 flat_map_agree f g a (suc n) same =
@@ -53,7 +53,7 @@ flat_map_agree f g a (suc n) same =
 
 -- ---- texts
 
-pub text_append : (network : Network) (lines more : List CertLine) → text_of network (lines ++ more) ≡ text_of network lines ++ text_of network more
+pub text_append : (network : Network) (lines more : List CertLine) → certificate_text network (lines ++ more) ≡ certificate_text network lines ++ certificate_text network more
 text_append network lines more = flat_map-append _ lines more
 
 -- the text of one number more was added
@@ -83,7 +83,7 @@ module _ {S : Type 0} (sink : Ghosts S) (network : Network) (most : ℕ) where
 
   -- the lines of one root more were added
   pub roots_more : (g0 g1 g2 : Gathered) (s0 s1 s2 : S) (made : ℕ) (row : Distances) → AddsRoots sink network most g0 s0 g1 s1 made → IsRow network (all_links network) made row
-      → IsAdded sink g1 s1 g2 s2 (text_of network (root_lines network made (numbers_of most row.dist))) → AddsRoots sink network most g0 s0 g2 s2 (made + 1)
+      → IsAdded sink g1 s1 g2 s2 (certificate_text network (root_lines network made (numbers_of most row.dist))) → AddsRoots sink network most g0 s0 g2 s2 (made + 1)
   roots_more g0 g1 g2 s0 s1 s2 made row before is_row now = record {
     row_of = next;
     rows = is_next;
@@ -110,8 +110,8 @@ module _ {S : Type 0} (sink : Ghosts S) (network : Network) (most : ℕ) where
       lines_at : (ℕ → Distances) → ℕ → List CertLine
       lines_at row_of root = root_lines network root (numbers_of most (row_of root).dist)
 
-      text : text_of network (roots_lines network most next (made + 1)) ≡ text_of network (roots_lines network most before.row_of made) ++ text_of network (root_lines network made (numbers_of most row.dist))
+      text : certificate_text network (roots_lines network most next (made + 1)) ≡ certificate_text network (roots_lines network most before.row_of made) ++ certificate_text network (root_lines network made (numbers_of most row.dist))
       text =
-          ap (text_of network) (flat_map_range (lines_at next) made) ∙ text_append network (roots_lines network most next made) (lines_at next made)
-          ∙ (λ i. text_of network (flat_map_agree (lines_at next) (lines_at before.row_of) 0 made (λ k least below. ap (λ (r : Distances). root_lines network k (numbers_of most r.dist)) (older k (omega (arith, below)))) i)
-          ++ text_of network (root_lines network made (numbers_of most (newest i).dist)))
+          ap (certificate_text network) (flat_map_range (lines_at next) made) ∙ text_append network (roots_lines network most next made) (lines_at next made)
+          ∙ (λ i. certificate_text network (flat_map_agree (lines_at next) (lines_at before.row_of) 0 made (λ k least below. ap (λ (r : Distances). root_lines network k (numbers_of most r.dist)) (older k (omega (arith, below)))) i)
+          ++ certificate_text network (root_lines network made (numbers_of most (newest i).dist)))

@@ -3,12 +3,12 @@ use Rattle.std.proofs.Common.{◌≡◌, ◌∙◌, ◌↔◌, ℕ, ◌+◌, ◌
 use Rattle.std.specs.List.{slice_get, slice_index, slice_index_or}
 use Rattle.std.proofs.lemmas.Bool.{cases_lt, false≢true, leb-true, le-leb}
 use Rattle.std.proofs.lemmas.List.{get_or-map, get_or_past, length-map}
-use Rattle.hose_graph.specs.declared.link.Link.{Link}
+use Rattle.hose_graph.specs.declared.topology.Link.{Link}
 use Rattle.hose_graph.specs.Network.{Network}
 use Rattle.hose_law.specs.Walk.{IsIn}
 use Rattle.hose_law.proofs.Joined.{cost_of_link, joins_ends, joins_its_ends}
 use Rattle.hose_law.proofs.Walks.{joins_turned}
-use Rattle.hose_cert.specs.Judging.{ChangesWithin, IsKept}
+use Rattle.hose_cert.specs.Judging.{ChangesWithin, ChangesWithinKept}
 use Rattle.hose_cert.specs.Rules.{DifferWithinCosts, others_of}
 
 module _ (network : Network) (l : ℕ) (row : List ℕ) (link : Link) (there : slice_get network.links l ≡ Some link) where
@@ -59,6 +59,6 @@ others_below set l is = elim (cases_lt l (length set)) [
 
 -- where each of the links is kept, the numbers change by no more than costs
 pub all_kept : (network : Network) (set : List Bool) (row : List ℕ) (links : ℕ) → length set ≡ length network.links → length network.links ≤ links
-    → ((l : ℕ) → l < links → IsKept network set l row) → DifferWithinCosts network (others_of set) row
+    → ((l : ℕ) → l < links → ChangesWithinKept network set l row) → DifferWithinCosts network (others_of set) row
 all_kept network set row links places all each l u v is joins =
     each l (omega (arith, others_below set l is, places, all)) is u v joins

@@ -15,11 +15,11 @@ use Rattle.hose_graph.specs.Network.{Network}
 use Rattle.hose_graph.specs.declared.limits.TheConstants.{MOST_TREE_LINKS}
 use Rattle.hose_cert.specs.CertLine.{CertLine, cost_line, end_line, hose_line, numbers_from, pot_line, use_line, without_line}
 use Rattle.hose_cert.specs.Certificate.{FollowAll, MayFollow, last_of, left_out_by, left_out_in, numbers_by, numbers_in, place_after, used_by, used_in}
-use Rattle.hose_cert.specs.Draft.{AreRows, IsBody, IsLast, IsRefused, IsSaid, IsUse, TellsBelow}
+use Rattle.hose_cert.specs.Draft.{AreDraftRows, IsBody, IsLast, IsRefusedLine, IsSaid, IsUse, TellsBelow}
 use Rattle.hose_cert.specs.Following.{MayLeaveOut, MayNumber, MayUse}
-use Rattle.hose_cert.specs.Judging.{AlsoTells, AreUpTo, IsJudged}
+use Rattle.hose_cert.specs.Judging.{AlsoTells, AreUpToMost, IsRootJudged}
 use Rattle.hose_cert.specs.Rules.{DifferWithinCosts, HasNamed, others_of, weighed_by}
-use Rattle.hose_cert.specs.declared.limits.TheConstants.{LINE_NUMBERS}
+use Rattle.hose_cert.specs.declared.statement.TheConstants.{LINE_NUMBERS}
 use Rattle.hose_cert.specs.declared.draft.Body.{Body}
 use Rattle.hose_cert.specs.declared.draft.Last.{Last}
 use Rattle.hose_cert.specs.declared.draft.Last.TheVariants as last
@@ -42,7 +42,7 @@ module _ (network : Network) where
   last_more last (first ∷ lines) line = last_more (Some first) lines line
 
   -- no certificate goes on with a line that may not follow
-  pub refused : (lines : List CertLine) (line : CertLine) → (MayFollow network (last_of None lines) line → ⊥) → IsRefused network lines line
+  pub refused : (lines : List CertLine) (line : CertLine) → (MayFollow network (last_of None lines) line → ⊥) → IsRefusedLine network lines line
   refused lines line none more whole = none (follow_split None lines (line ∷ more) whole.follow).0
 
 -- ---- what may come next
@@ -154,8 +154,8 @@ tells_more end flag new P tells also = (
 )
 
 module _ (network : Network) (numbers others : ℕ → List ℕ) (cost : ℕ) (hose : List (ℕ × ℕ)) (without : List Bool) where
-  -- the same numbers by another list of lines
-  pub rows_same : (rows : Rows) → ((k : ℕ) → others k ≡ numbers k) → AreRows network numbers cost hose without rows → AreRows network others cost hose without rows
+  -- rows stand by their numbers alone, whichever list of lines these come from
+  pub rows_same : (rows : Rows) → ((k : ℕ) → others k ≡ numbers k) → AreDraftRows network numbers cost hose without rows → AreDraftRows network others cost hose without rows
   rows_same rows same are = record {
     bound = are.bound;
     row = same rows.root ∙ are.row;
@@ -168,7 +168,7 @@ module _ (network : Network) (numbers others : ℕ → List ℕ) (cost : ℕ) (h
   }
 
   module _ (old mid : Rows) (more : List ℕ) (root : mid.root ≡ old.root) (row : mid.row.items ≡ old.row.items ++ more) (starts : mid.starts ≡ old.starts) (changes : mid.changes ≡ old.changes)
-      (weighs : mid.weighs ≡ old.weighs) (here : others old.root ≡ numbers old.root ++ more) (else : (k : ℕ) → k ≢ old.root → others k ≡ numbers k) (are : AreRows network numbers cost hose without old) where
+      (weighs : mid.weighs ≡ old.weighs) (here : others old.root ≡ numbers old.root ++ more) (else : (k : ℕ) → k ≢ old.root → others k ≡ numbers k) (are : AreDraftRows network numbers cost hose without old) where
     row_is : mid.row.items ≡ others old.root
     row_is = row ∙ ap (λ (ns : List ℕ). ns ++ more) (sym are.row) ∙ sym here
 
@@ -190,11 +190,11 @@ module _ (network : Network) (numbers others : ℕ → List ℕ) (cost : ℕ) (h
     later_on : (k : ℕ) → old.root < k → others k ≡ []
     later_on k past = else k (λ same. absurd (omega (arith, past, same))) ∙ are.later k past
 
-    pub up_on : AreUpTo more → AreUpTo mid.row.items
-    up_on up = subst AreUpTo (sym row) (All-append (λ number. number ≤ 40000000000000000) old.row.items more are.up_to up)
+    pub up_on : AreUpToMost more → AreUpToMost mid.row.items
+    up_on up = subst AreUpToMost (sym row) (All-append (λ number. number ≤ 40000000000000000) old.row.items more are.up_to up)
 
     -- more numbers of the root
-    pub rows_on : AreUpTo more → length mid.row.items < length network.nodes → AreRows network others cost hose without mid
+    pub rows_on : AreUpToMost more → length mid.row.items < length network.nodes → AreDraftRows network others cost hose without mid
     rows_on up few = record {
       bound = rw root are.bound;
       row = ap others root ∙ sym row_is;
@@ -207,13 +207,13 @@ module _ (network : Network) (numbers others : ℕ → List ℕ) (cost : ℕ) (h
     }
 
     -- all numbers of the root, which were judged
-    pub rows_judged : (new : Rows) → old.root < length network.nodes → IsJudged network cost hose without mid new → AreRows network others cost hose without new
+    pub rows_judged : (new : Rows) → old.root < length network.nodes → IsRootJudged network cost hose without mid new → AreDraftRows network others cost hose without new
     rows_judged new below judged =
         let next : new.root ≡ old.root + 1 = judged.root ∙ ap (λ (r : ℕ). r + 1) root in
         record {
           bound = omega (arith, below, next);
           row = ap others next ∙ later_on (old.root + 1) (omega arith) ∙ sym judged.row;
-          up_to = subst AreUpTo (sym judged.row) (All-nil (λ number. number ≤ 40000000000000000));
+          up_to = subst AreUpToMost (sym judged.row) (All-nil (λ number. number ≤ 40000000000000000));
           later = λ k past. later_on k (omega (arith, past, next));
           few = λ there. omega (arith, there, ap length judged.row);
           starts = rw next (tells_more old.root old.starts new.starts (λ k. slice_index (others k) k ≡ 0) starts_on
@@ -355,7 +355,7 @@ module _ (network : Network) (lines : List CertLine) (old : Body) (is : IsBody n
   vacuous : (end : ℕ) (flag : Bool) (P Q : ℕ → Type 0) → end ≡ 0 → TellsBelow end flag P → TellsBelow end flag Q
   vacuous end flag P Q none tells = tells_same end flag P Q (λ k below _. absurd (omega (arith, none, below))) (λ k below _. absurd (omega (arith, none, below))) tells
 
-  rows_begun : (numbers : ℕ → List ℕ) (set other : List Bool) (rows : Rows) → rows.root ≡ 0 → AreRows network numbers old.cost old.hose set rows → AreRows network numbers old.cost old.hose other rows
+  rows_begun : (numbers : ℕ → List ℕ) (set other : List Bool) (rows : Rows) → rows.root ≡ 0 → AreDraftRows network numbers old.cost old.hose set rows → AreDraftRows network numbers old.cost old.hose other rows
   rows_begun numbers set other rows none are = record {
     bound = are.bound;
     row = are.row;
@@ -400,7 +400,7 @@ module _ (network : Network) (lines : List CertLine) (old : Body) (is : IsBody n
 
   -- ---- numbers
 
-  pub pot_few : (root from : ℕ) (more : List ℕ) → IsSaid network (pot_line root from more) → (root < length network.nodes) × (from < length network.nodes) × (length more ≡ numbers_from network from) × AreUpTo more
+  pub pot_few : (root from : ℕ) (more : List ℕ) → IsSaid network (pot_line root from more) → (root < length network.nodes) × (from < length network.nodes) × (length more ≡ numbers_from network from) × AreUpToMost more
   pot_few root from more said = (said.1.1, said.1.2, said.1.3, said.1.4)
 
   module _ (root from : ℕ) (more : List ℕ) (said : IsSaid network (pot_line root from more)) (may : MayNumber old.last) (same : root ≡ old.rows.root) (begun : from ≡ length old.rows.row.items)
@@ -417,11 +417,11 @@ module _ (network : Network) (lines : List CertLine) (old : Body) (is : IsBody n
     pub places : length mid.row.items ≡ from + numbers_from network from
     places = omega (arith, ap length mid_row, length-append old.rows.row.items more, begun, said.1.3)
 
-    pub mid_up : AreUpTo mid.row.items
+    pub mid_up : AreUpToMost mid.row.items
     mid_up = up_on network (λ k. numbers_in k lines) (λ k. numbers_in k with_pot) old.cost old.hose old.without old.rows mid more mid_root mid_row mid_starts mid_changes mid_weighs here else is.rows said.1.4
 
     module _ (new : Body) (cost : new.cost ≡ old.cost) (hose : new.hose ≡ old.hose) (last : new.last ≡ last.Pot) (pairs : new.pairs ≡ old.pairs) (without : new.without ≡ old.without) where
-      with_rows : AreRows network (λ k. numbers_in k with_pot) old.cost old.hose old.without new.rows → place_after network (pot_line root from more) ≡ (new.rows.root, length new.rows.row.items) → IsBody network with_pot new
+      with_rows : AreDraftRows network (λ k. numbers_in k with_pot) old.cost old.hose old.without new.rows → place_after network (pot_line root from more) ≡ (new.rows.root, length new.rows.row.items) → IsBody network with_pot new
       with_rows rows place = record {
         more = is.more ++ pot_line root from more ∷ [];
         front = front_more lines (pot_line root from more) old.cost new.cost old.hose new.hose is.more cost hose is.front;
@@ -452,7 +452,7 @@ module _ (network : Network) (lines : List CertLine) (old : Body) (is : IsBody n
           place_on : from + LINE_NUMBERS < length network.nodes → place_after network (pot_line root from more) ≡ (root, from + LINE_NUMBERS)
           place_on below = cond-true (nat_lt (from + LINE_NUMBERS) (length network.nodes)) _ _ (lt-ltb (from + LINE_NUMBERS) (length network.nodes) below)
 
-      pub body_judged : IsJudged network old.cost old.hose old.without mid new.rows → length network.nodes ≤ length mid.row.items → IsBody network with_pot new
+      pub body_judged : IsRootJudged network old.cost old.hose old.without mid new.rows → length network.nodes ≤ length mid.row.items → IsBody network with_pot new
       body_judged judged full =
           with_rows (rows_judged network (λ k. numbers_in k lines) (λ k. numbers_in k with_pot) old.cost old.hose old.without old.rows mid more mid_root mid_row mid_starts mid_changes mid_weighs here else is.rows new.rows (omega (arith, same, said.1.1)) judged)
           (place_past (omega (arith, places, full, said.1.2)) ∙ (λ i. (next i, none i)))
@@ -490,7 +490,7 @@ module _ (network : Network) (lines : List CertLine) (old : Body) (is : IsBody n
 
   -- ---- what is refused for its links
 
-  pub too_many : (pair : ℕ × ℕ) → MOST_TREE_LINKS ≤ length old.pairs.items → IsRefused network lines (use_line pair)
+  pub too_many : (pair : ℕ × ℕ) → MOST_TREE_LINKS ≤ length old.pairs.items → IsRefusedLine network lines (use_line pair)
   too_many pair many more whole =
       omega (
         arith,
@@ -501,7 +501,7 @@ module _ (network : Network) (lines : List CertLine) (old : Body) (is : IsBody n
         length-append (used_in lines) (pair ∷ used_in more),
       )
 
-  pub used_twice : (link : ℕ) → Any (λ (p : ℕ × ℕ). p.0 ≡ link) old.pairs.items → IsRefused network lines (without_line link)
+  pub used_twice : (link : ℕ) → Any (λ (p : ℕ × ℕ). p.0 ≡ link) old.pairs.items → IsRefusedLine network lines (without_line link)
   used_twice link there more whole =
       whole.apart link
       (subst (λ (ls : List ℕ). Contains ls link) (sym (flat_map-append left_out_by lines (without_line link ∷ more)))

@@ -18,7 +18,7 @@ use Rattle.hose_law.specs.Row.{IsRow}
 use Rattle.hose_law.specs.Walk.{all_links}
 use Rattle.hose_cert.specs.Adding.{AddsRoots}
 use Rattle.hose_cert.specs.CertLine.{CertLine, end_line}
-use Rattle.hose_cert.specs.Written.{AreRootRows, IsPlanText, Writes, first_lines, numbers_of, plan_lines, root_lines, roots_lines, text_of}
+use Rattle.hose_cert.specs.Written.{AreRootRows, IsPlanText, Writes, first_lines, numbers_of, plan_lines, root_lines, roots_lines, certificate_text}
 use Rattle.hose_cert.specs.declared.fault.ProveFault.TheVariants.{Write, Memory}
 use Rattle.hose_cert.proofs.Added.{flat_map_agree, range_split, text_append}
 use Rattle.hose_cert.proofs.Numbered.{one_dist}
@@ -61,21 +61,21 @@ module _ {S : Type 0} (sink : Ghosts S) (network : Network) (is : IsNetwork netw
 
   -- the first lines were added, and then those of some roots
   module _ (g0 g1 g2 : Gathered) (s0 s1 s2 : S) (pairs : List (ℕ × ℕ)) (cost made : ℕ) (fresh : g0 ≡ none_gathered) (same : pairs ≡ plan) (costs : cost ≡ most)
-      (first : IsAdded sink g0 s0 g1 s1 (text_of network (first_lines network hose pairs))) (roots : AddsRoots sink network cost g1 s1 g2 s2 made) where
-    pub all_added : IsAdded sink none_gathered s0 g2 s2 (text_of network (made_lines roots.row_of made))
+      (first : IsAdded sink g0 s0 g1 s1 (certificate_text network (first_lines network hose pairs))) (roots : AddsRoots sink network cost g1 s1 g2 s2 made) where
+    pub all_added : IsAdded sink none_gathered s0 g2 s2 (certificate_text network (made_lines roots.row_of made))
     all_added =
-        let start : IsAdded sink none_gathered s0 g1 s1 (text_of network (first_lines network hose plan)) =
-        subst (λ (g : Gathered). IsAdded sink g s0 g1 s1 (text_of network (first_lines network hose plan))) fresh
-        (subst (λ (ps : List (ℕ × ℕ)). IsAdded sink g0 s0 g1 s1 (text_of network (first_lines network hose ps))) same first) in
-        let more : IsAdded sink g1 s1 g2 s2 (text_of network (roots_lines network most roots.row_of made)) =
-        subst (λ (n : ℕ). IsAdded sink g1 s1 g2 s2 (text_of network (roots_lines network n roots.row_of made))) costs roots.added in
+        let start : IsAdded sink none_gathered s0 g1 s1 (certificate_text network (first_lines network hose plan)) =
+        subst (λ (g : Gathered). IsAdded sink g s0 g1 s1 (certificate_text network (first_lines network hose plan))) fresh
+        (subst (λ (ps : List (ℕ × ℕ)). IsAdded sink g0 s0 g1 s1 (certificate_text network (first_lines network hose ps))) same first) in
+        let more : IsAdded sink g1 s1 g2 s2 (certificate_text network (roots_lines network most roots.row_of made)) =
+        subst (λ (n : ℕ). IsAdded sink g1 s1 g2 s2 (certificate_text network (roots_lines network n roots.row_of made))) costs roots.added in
         subst (IsAdded sink none_gathered s0 g2 s2) (sym (text_append network (first_lines network hose plan) (roots_lines network most roots.row_of made))) (IsAdded-next start more)
 
     -- and the end after those of all
-    pub end_added : made ≡ length network.nodes → (g3 : Gathered) (s3 : S) → IsAdded sink g2 s2 g3 s3 (codes "end\n") → IsAdded sink none_gathered s0 g3 s3 (text_of network (plan_lines network hose plan roots.row_of))
+    pub end_added : made ≡ length network.nodes → (g3 : Gathered) (s3 : S) → IsAdded sink g2 s2 g3 s3 (codes "end\n") → IsAdded sink none_gathered s0 g3 s3 (certificate_text network (plan_lines network hose plan roots.row_of))
     end_added all g3 s3 end =
         subst (IsAdded sink none_gathered s0 g3 s3) (sym (text_append network (made_lines roots.row_of (length network.nodes)) (end_line ∷ [])))
-        (IsAdded-next (subst (λ (n : ℕ). IsAdded sink none_gathered s0 g2 s2 (text_of network (made_lines roots.row_of n))) all all_added) end)
+        (IsAdded-next (subst (λ (n : ℕ). IsAdded sink none_gathered s0 g2 s2 (certificate_text network (made_lines roots.row_of n))) all all_added) end)
 
   module _ (row_of : ℕ → Distances) (made : ℕ) (within : made ≤ length network.nodes) (rows : (root : ℕ) → root < made → IsRow network (all_links network) root (row_of root)) where
     front_lines : (other : ℕ → Distances) → AreRootRows network other → (more : List CertLine) × (plan_lines network hose plan other ≡ made_lines row_of made ++ more)
@@ -88,23 +88,23 @@ module _ {S : Type 0} (sink : Ghosts S) (network : Network) (is : IsNetwork netw
         )
 
     -- the sink failed in these lines
-    pub cut_in_lines : (was now : S) (error : Failed) → IsPut {T = ⊤} sink was now (text_of network (made_lines row_of made)) (Err error) → Writes sink network hose was now (Err Write)
+    pub cut_in_lines : (was now : S) (error : Failed) → IsPut {T = ⊤} sink was now (certificate_text network (made_lines row_of made)) (Err error) → Writes sink network hose was now (Err Write)
     cut_in_lines was now error put = (record { plan = plan; canonical = canonical; out = out }, put.met.failed refl)
       where
         out : (text : List ℕ) → IsPlanText network hose plan text → GrowsInPart (sink.content was) (sink.content now) text
         out text is_text =
             let at = front_lines is_text.row_of is_text.rows in
-            let whole : text ≡ text_of network (made_lines row_of made) ++ text_of network at.0 =
-            is_text.spelled ∙ ap (text_of network) at.1 ∙ text_append network (made_lines row_of made) at.0 in
-            subst (GrowsInPart (sink.content was) (sink.content now)) (sym whole) (GrowsInPart-append _ _ (text_of network (made_lines row_of made)) (text_of network at.0) put.err)
+            let whole : text ≡ certificate_text network (made_lines row_of made) ++ certificate_text network at.0 =
+            is_text.spelled ∙ ap (certificate_text network) at.1 ∙ text_append network (made_lines row_of made) at.0 in
+            subst (GrowsInPart (sink.content was) (sink.content now)) (sym whole) (GrowsInPart-append _ _ (certificate_text network (made_lines row_of made)) (certificate_text network at.0) put.err)
 
     -- these lines are out, and memory was wanting
-    pub ends_by_lines : (was now : S) → IsPut {T = ⊤} sink was now (text_of network (made_lines row_of made)) (Ok tt) → Writes sink network hose was now (Err Memory)
+    pub ends_by_lines : (was now : S) → IsPut {T = ⊤} sink was now (certificate_text network (made_lines row_of made)) (Ok tt) → Writes sink network hose was now (Err Memory)
     ends_by_lines was now put = (inr (record { plan = plan; canonical = canonical; lines = made_lines row_of made; out = put.ok; front = front_lines }), put.met.ok)
 
   module _ (row_of : ℕ → Distances) (rows : AreRootRows network row_of) where
     abbrev whole_text : List ℕ
-    whole_text = text_of network (plan_lines network hose plan row_of)
+    whole_text = certificate_text network (plan_lines network hose plan row_of)
 
     is_plan_text : IsPlanText network hose plan whole_text
     is_plan_text = record { canonical = canonical; row_of = row_of; rows = rows; spelled = refl }
@@ -112,7 +112,7 @@ module _ {S : Type 0} (sink : Ghosts S) (network : Network) (is : IsNetwork netw
     one_text : (text : List ℕ) → IsPlanText network hose plan text → text ≡ whole_text
     one_text text is_text =
         is_text.spelled
-        ∙ ap (λ (ls : List CertLine). text_of network (first_lines network hose plan ++ ls ++ end_line ∷ [])) (all_same network is most is_text.row_of row_of is_text.rows rows)
+        ∙ ap (λ (ls : List CertLine). certificate_text network (first_lines network hose plan ++ ls ++ end_line ∷ [])) (all_same network is most is_text.row_of row_of is_text.rows rows)
 
     -- the sink failed in the whole text
     pub cut_in_text : (was now : S) (error : Failed) → IsPut {T = ⊤} sink was now whole_text (Err error) → Writes sink network hose was now (Err Write)

@@ -11,7 +11,7 @@ use Rattle.hose_graph.specs.Network.{Network}
 use Rattle.hose_cert.specs.CertLine.{CertLine, cost_line, end_line, hose_line, numbers_from, pot_line, use_line}
 use Rattle.hose_cert.specs.Certificate.{FollowAll, MayFollow, last_of, left_out_by, left_out_in, numbers_by, numbers_in, place_after, used_by, used_in}
 use Rattle.hose_cert.specs.Written.{block_line, blocks_of, root_lines}
-use Rattle.hose_cert.specs.declared.limits.TheConstants.{LINE_NUMBERS}
+use Rattle.hose_cert.specs.declared.statement.TheConstants.{LINE_NUMBERS}
 
 -- ---- lists of lists
 

@@ -2,16 +2,16 @@
 use Rattle.std.proofs.Common.{◌≡◌, ◌∙◌, ℕ, List, refl, sym, ap, arith}
 use Rattle.std.specs.List.{All}
 use Rattle.hose_words.proofs.Keywords.{choice_of}
-use Rattle.hose_cert.specs.Statement.{kind_word}
+use Rattle.hose_cert.specs.Statement.{statement_word}
 use Rattle.hose_cert.specs.declared.statement.Kind.{Kind}
 use Rattle.hose_cert.specs.declared.statement.Kind.TheVariants as kind
 use Rattle.hose_cert.specs.declared.statement.TheConstants.{KINDS}
 
 -- the kind that a word tells
 abbrev pub kind_of_word : List ℕ → Kind
-kind_of_word word = choice_of kind_word KINDS kind.End word
+kind_of_word word = choice_of statement_word KINDS kind.End word
 
-pub kind_of_word-word : (one : Kind) → kind_of_word (kind_word one) ≡ one
+pub kind_of_word-word : (one : Kind) → kind_of_word (statement_word one) ≡ one
 kind_of_word-word kind.Cost = refl
 kind_of_word-word kind.Hose = refl
 kind_of_word-word kind.Use = refl
@@ -20,7 +20,7 @@ kind_of_word-word kind.Pot = refl
 kind_of_word-word kind.End = refl
 
 -- no two kinds have one word
-pub kinds_apart : (one other : Kind) → kind_word one ≡ kind_word other → one ≡ other
+pub kinds_apart : (one other : Kind) → statement_word one ≡ statement_word other → one ≡ other
 kinds_apart one other same = sym (kind_of_word-word one) ∙ ap kind_of_word same ∙ kind_of_word-word other
 
 pub every_kind : (P : Kind → Type 0) → All P KINDS → (one : Kind) → P one

@@ -22,9 +22,9 @@ use Rattle.hose_proto.specs.Places.{IsHoseOf, end_word}
 use Rattle.hose_proto.specs.ReplyText.{end_text}
 use Rattle.hose_cert.specs.CertLine.{CertLine, IsLine, IsSpaced, IsSpelled, cost_line, end_line, hose_line, numbers_from, pot_line, use_line, without_line}
 use Rattle.hose_cert.specs.Certificate.{AreLines}
-use Rattle.hose_cert.specs.Judging.{AreUpTo}
-use Rattle.hose_cert.specs.Written.{line_text, number_text, text_of}
-use Rattle.hose_cert.specs.declared.limits.TheConstants.{MOST_NUMBER}
+use Rattle.hose_cert.specs.Judging.{AreUpToMost}
+use Rattle.hose_cert.specs.Written.{line_text, number_text, certificate_text}
+use Rattle.hose_cert.specs.declared.statement.TheConstants.{MOST_NUMBER}
 
 -- ---- words
 
@@ -65,7 +65,7 @@ IsFine network (hose_line hose) = IsHoseOf network hose
 IsFine network (use_line pair) = IsLinkOf network (link_of pair) × IsWithin 1 MOST_AMOUNT (amount_of pair)
 IsFine network (without_line link) = IsLinkOf network link
 IsFine network (pot_line root from numbers) =
-    IsNodeOf network root × IsNodeOf network from × (length numbers ≡ numbers_from network from) × AreUpTo numbers
+    IsNodeOf network root × IsNodeOf network from × (length numbers ≡ numbers_from network from) × AreUpToMost numbers
 IsFine network end_line = ⊤
 
 abbrev first_word : CertLine → List ℕ
@@ -225,27 +225,27 @@ module _ (network : Network) (is : IsNetwork network) where
   fine_both (line ∷ lines) more fine others = (fine.0, fine_both lines more fine.1 others)
 
   -- the text of lines is these lines
-  pub are_lines : (lines : List CertLine) → AreFine lines → AreLines network (text_of network lines) lines
+  pub are_lines : (lines : List CertLine) → AreFine lines → AreLines network (certificate_text network lines) lines
   are_lines [] fine = refl
   are_lines (line ∷ lines) fine = (some, first, rest (are_lines lines fine.1))
     where
       text : List ℕ
       text = line_text network line
 
-      cut : text_of network (line ∷ lines) ≡ text ++ (10 ∷ [] ++ text_of network lines)
-      cut = append_assoc text (10 ∷ []) (text_of network lines)
+      cut : certificate_text network (line ∷ lines) ≡ text ++ (10 ∷ [] ++ certificate_text network lines)
+      cut = append_assoc text (10 ∷ []) (certificate_text network lines)
 
-      some : text_of network (line ∷ lines) ≢ []
-      some none = absurd (omega (arith, ap (λ (bytes : List ℕ). length bytes) (sym cut ∙ none), length-append text (10 ∷ [] ++ text_of network lines)))
+      some : certificate_text network (line ∷ lines) ≢ []
+      some none = absurd (omega (arith, ap (λ (bytes : List ℕ). length bytes) (sym cut ∙ none), length-append text (10 ∷ [] ++ certificate_text network lines)))
 
-      before : before_first is_line_feed (text_of network (line ∷ lines)) ≡ text
-      before = ap (before_first is_line_feed) cut ∙ before_first-found text (10 ∷ []) (text_of network lines) (is_plain line fine.0) (omega arith) ∙ append-nil text
+      before : before_first is_line_feed (certificate_text network (line ∷ lines)) ≡ text
+      before = ap (before_first is_line_feed) cut ∙ before_first-found text (10 ∷ []) (certificate_text network lines) (is_plain line fine.0) (omega arith) ∙ append-nil text
 
-      after : after_first is_line_feed (text_of network (line ∷ lines)) ≡ text_of network lines
-      after = ap (after_first is_line_feed) cut ∙ after_first-found text (10 ∷ []) (text_of network lines) (is_plain line fine.0) (omega arith)
+      after : after_first is_line_feed (certificate_text network (line ∷ lines)) ≡ certificate_text network lines
+      after = ap (after_first is_line_feed) cut ∙ after_first-found text (10 ∷ []) (certificate_text network lines) (is_plain line fine.0) (omega arith)
 
-      first : IsLine network (before_first is_line_feed (text_of network (line ∷ lines))) line
+      first : IsLine network (before_first is_line_feed (certificate_text network (line ∷ lines))) line
       first = subst (λ (bytes : List ℕ). IsLine network bytes line) (sym before) (is_line line fine.0)
 
-      rest : AreLines network (text_of network lines) lines → AreLines network (after_first is_line_feed (text_of network (line ∷ lines))) lines
+      rest : AreLines network (certificate_text network lines) lines → AreLines network (after_first is_line_feed (certificate_text network (line ∷ lines))) lines
       rest = subst (λ (bytes : List ℕ). AreLines network bytes lines) (sym after)

@@ -11,15 +11,15 @@ use Rattle.hose_words.specs.declared.lines.Line.{Line}
 use Rattle.hose_words.specs.declared.lines.Line.TheVariants.{Text, Long}
 use Rattle.hose_words.specs.declared.lines.LineFault.{LineFault}
 use Rattle.hose_words.specs.declared.lines.LineFault.TheVariants as line
-use Rattle.hose_words.specs.declared.limits.TheConstants.{INPUT_LIMIT}
+use Rattle.hose_words.specs.declared.lines.TheConstants.{INPUT_LIMIT}
 use Rattle.hose_words.proofs.OnReading.{ReadsOn-next, ReadsOn-start, ReadsOn-then, WhereTold-same, WhereTold-then}
 use Rattle.hose_io.specs.Frame.{Rose}
 use Rattle.hose_graph.specs.Network.{Network, IsNetwork}
 use Rattle.hose_cert.specs.CertLine.{CertLine, IsLine, SaysLine}
-use Rattle.hose_cert.specs.Certificate.{AreLines, IsCertText, IsWhole}
-use Rattle.hose_cert.specs.Draft.{IsRefused, IsWholeIf, Stands}
-use Rattle.hose_cert.specs.Fault.{of_line}
-use Rattle.hose_cert.specs.Taking.{Comes, IsTextOf, KeepsFault, PassesOne, ReadsText, ReadsUpTo, TakesNext, fault_in}
+use Rattle.hose_cert.specs.Certificate.{AreLines, IsCertText, IsCertificate}
+use Rattle.hose_cert.specs.Draft.{IsRefusedLine, IsWholeIf, IsDraftOf}
+use Rattle.hose_cert.specs.Fault.{fault_of_line}
+use Rattle.hose_cert.specs.Taking.{Comes, IsTextOf, KeepsLineFault, PassesOne, ReadsCertText, ReadsUpTo, IsNextStep, fault_in}
 use Rattle.hose_cert.specs.declared.draft.Body.{Body}
 use Rattle.hose_cert.specs.declared.draft.Draft.{Draft}
 use Rattle.hose_cert.specs.declared.draft.Draft.TheVariants.{Start}
@@ -51,13 +51,13 @@ module _ (network : Network) where
           (more, cut ∙ ap (λ (l : CertLine). lines ++ l ∷ more) same ∙ sym (append_assoc lines (line ∷ []) more), are)
 
   -- no certificate goes on as the text does
-  comes_refused : (text rest : List ℕ) (lines : List CertLine) → Comes network text lines rest → rest ≢ [] → ((line : CertLine) → IsLine network (before_first is_line_feed rest) line → IsRefused network lines line)
+  comes_refused : (text rest : List ℕ) (lines : List CertLine) → Comes network text lines rest → rest ≢ [] → ((line : CertLine) → IsLine network (before_first is_line_feed rest) line → IsRefusedLine network lines line)
       → (all : List CertLine) → IsCertText network text all → ⊥
   comes_refused text rest lines comes some refuse all is = let left = comes.back all is.are in at left.0 left.1 left.2
     where
       at : (more : List CertLine) → all ≡ lines ++ more → AreLines network rest more → ⊥
       at [] cut none = some none
-      at (first ∷ more) cut (_, there, are) = refuse first there more (subst (IsWhole network) cut is.whole)
+      at (first ∷ more) cut (_, there, are) = refuse first there more (subst (IsCertificate network) cut is.whole)
 
   -- nothing comes after the lines
   comes_all : (text : List ℕ) (lines : List CertLine) → Comes network text lines [] → (all : List CertLine) → AreLines network text all → all ≡ lines
@@ -67,14 +67,14 @@ module _ (network : Network) where
       at [] cut none = cut ∙ append-nil lines
       at (first ∷ more) cut are = absurd (are.0 refl)
 
-  comes_whole : (text : List ℕ) (lines : List CertLine) → Comes network text lines [] → IsWhole network lines → IsTextOf network text lines
+  comes_whole : (text : List ℕ) (lines : List CertLine) → Comes network text lines [] → IsCertificate network lines → IsTextOf network text lines
   comes_whole text lines comes whole = record {
     is_text = record { are = subst (AreLines network text) (append-nil lines) (comes.on [] refl); whole = whole };
     alone = λ others is. comes_all text lines comes others is.are;
   }
 
-  comes_no_text : (text : List ℕ) (lines : List CertLine) → Comes network text lines [] → (IsWhole network lines → ⊥) → (all : List CertLine) → IsCertText network text all → ⊥
-  comes_no_text text lines comes none all is = none (subst (IsWhole network) (comes_all text lines comes all is.are) is.whole)
+  comes_no_text : (text : List ℕ) (lines : List CertLine) → Comes network text lines [] → (IsCertificate network lines → ⊥) → (all : List CertLine) → IsCertText network text all → ⊥
+  comes_no_text text lines comes none all is = none (subst (IsCertificate network) (comes_all text lines comes all is.are) is.whole)
 
 -- ---- the reader
 
@@ -91,7 +91,7 @@ module _ {S : Type 0} (source : Ghosts S) where
   -- the fault of a line that was read
   abbrev fault_of : Result (Option Line) LineFault → Option CertFault
   fault_of (Ok line) = None
-  fault_of (Err fault) = Some (of_line fault)
+  fault_of (Err fault) = Some (fault_of_line fault)
 
   pub up_to_next : (old new : Reader S) (read : Result (Option Line) LineFault) → IsNext source old new read → ReadsUpTo source old new (fault_of read)
   up_to_next old new (Ok line) next = record {
@@ -116,7 +116,7 @@ module _ {S : Type 0} (source : Ghosts S) where
     limit = λ _. next.limit;
   }
 
-  kept_then : (a b c : Option LineFault) (end : Option CertFault) → b ≡ a → KeepsFault b c end → KeepsFault a c end
+  kept_then : (a b c : Option LineFault) (end : Option CertFault) → b ≡ a → KeepsLineFault b c end → KeepsLineFault a c end
   kept_then a b c None same kept = kept ∙ same
   kept_then a b c (Some Read) same kept = kept
   kept_then a b c (Some TooLong) same kept = kept
@@ -158,7 +158,7 @@ module _ {S : Type 0} (source : Ghosts S) where
   }
 
   -- the next line came to a fault
-  pub up_to_taken : (network : Network) (draft : Draft) (old new : Reader S) (step : Result Step CertFault) → TakesNext source network draft old new step → ReadsUpTo source old new (fault_in step)
+  pub up_to_taken : (network : Network) (draft : Draft) (old new : Reader S) (step : Result Step CertFault) → IsNextStep source network draft old new step → ReadsUpTo source old new (fault_in step)
   up_to_taken network draft old new (Ok step) (Ok read, next, takes) = up_to_next old new (Ok read) next
   up_to_taken network draft old new (Err fault) (Ok (Some (Text shown)), next, takes) =
       subst (λ (f : CertFault). ReadsUpTo source old new (Some f)) (sym takes) (up_to_memory old new (up_to_next old new (Ok (Some (Text shown))) next))
@@ -187,7 +187,7 @@ module _ {S : Type 0} (source : Ghosts S) where
   -- the lines that were read made this draft, and are the text's up to here
   pub record HasRead (network : Network) (old now : Reader S) (draft : Draft) : Type 0 where
     pub lines : List CertLine
-    pub stands : Stands network lines draft
+    pub stands : IsDraftOf network lines draft
     pub up_to : ReadsUpTo source old now None
     pub comes : WhereTold (source.content old.source) (source.content now.source) (λ was left. Comes network (old.pending ++ was) lines (now.pending ++ left))
 
@@ -209,7 +209,7 @@ module _ {S : Type 0} (source : Ghosts S) where
         (λ was between. Comes network (old.pending ++ was) has.lines (now.pending ++ between)) (λ between left. GivesLine read (now.pending ++ between) (new.pending ++ left)) R
         has.up_to.on.takes.1 has.comes (next.answer next.fault.0) then
 
-    pub has_more : (more : Draft) → TakesNext source network draft now new (Ok (More more)) → HasRead network old new more
+    pub has_more : (more : Draft) → IsNextStep source network draft now new (Ok (More more)) → HasRead network old new more
     has_more more (Ok (Some (Text shown)), next, takes) = record {
       lines = has.lines ++ takes.0 ∷ [];
       stands = takes.2 has.lines has.stands;
@@ -223,7 +223,7 @@ module _ {S : Type 0} (source : Ghosts S) where
     has_more more (Ok None, next, takes) = absurd takes
     has_more more (Err fault, next, takes) = absurd takes
 
-    pub has_refused : TakesNext source network draft now new (Ok Refused)
+    pub has_refused : IsNextStep source network draft now new (Ok Refused)
         → WhereTold (source.content old.source) (source.content new.source) (λ was _. (lines : List CertLine) → IsCertText network (old.pending ++ was) lines → ⊥)
     has_refused (Ok (Some (Text shown)), next, refuse) = told_line (Some (Text shown)) _ next (λ was between left comes gives.
         comes_refused network (old.pending ++ was) (now.pending ++ between) has.lines comes gives.0
@@ -234,11 +234,11 @@ module _ {S : Type 0} (source : Ghosts S) where
     has_refused (Err fault, next, takes) = absurd takes
 
     -- all was read, so the draft is the text's, if it is whole
-    pub has_all : (last : Draft) (whole : Option Body) → TakesNext source network draft now new (Ok (Over last)) → IsWholeIf network last whole → ReadsText source network old new (Ok whole)
+    pub has_all : (last : Draft) (whole : Option Body) → IsNextStep source network draft now new (Ok (Over last)) → IsWholeIf network last whole → ReadsCertText source network old new (Ok whole)
     has_all last None (Ok None, next, same) whole_if = told_line None _ next (λ was between left comes gives.
-        comes_no_text network (old.pending ++ was) has.lines (subst (Comes network (old.pending ++ was) has.lines) gives.0 comes) (whole_if has.lines (subst (Stands network has.lines) (sym same) has.stands)))
+        comes_no_text network (old.pending ++ was) has.lines (subst (Comes network (old.pending ++ was) has.lines) gives.0 comes) (whole_if has.lines (subst (IsDraftOf network has.lines) (sym same) has.stands)))
     has_all last (Some body) (Ok None, next, same) whole_if =
-        let made = whole_if has.lines (subst (Stands network has.lines) (sym same) has.stands) in (
+        let made = whole_if has.lines (subst (IsDraftOf network has.lines) (sym same) has.stands) in (
           has.lines,
           made.0,
           made.2,

@@ -17,10 +17,10 @@ use Rattle.hose_law.proofs.Joined.{joins_nodes}
 use Rattle.hose_law.proofs.PlanWeight.{plan_weight}
 use Rattle.hose_law.proofs.Rows.{row_bound}
 use Rattle.hose_law.proofs.Walks.{joins_turned, reaches_along, reaches_itself, reaches_on}
-use Rattle.hose_cert.specs.Judging.{AreUpTo}
+use Rattle.hose_cert.specs.Judging.{AreUpToMost}
 use Rattle.hose_cert.specs.Rules.{DifferWithinCosts, weighed_by}
 use Rattle.hose_cert.specs.Written.{numbers_of}
-use Rattle.hose_cert.specs.declared.limits.TheConstants.{MOST_NUMBER}
+use Rattle.hose_cert.specs.declared.statement.TheConstants.{MOST_NUMBER}
 
 module _ (network : Network) (is : IsNetwork network) (set : List Bool) (most root : ℕ) (row : Distances) (is_row : IsRow network set root row) where
   abbrev numbers : List ℕ
@@ -78,7 +78,7 @@ module _ (network : Network) (is : IsNetwork network) (set : List Bool) (most ro
       by (Some d) same distance below rate (inr enough) = inr (omega (arith, sum, enough))
 
   -- numbers are within the limit where the one in place of a distance is
-  pub up_to : most ≤ MOST_NUMBER → AreUpTo numbers
+  pub up_to : most ≤ MOST_NUMBER → AreUpToMost numbers
   up_to few k d below = subst (λ (n : ℕ). n ≤ MOST_NUMBER) (sym is_number) (by (get_or row.dist k None) refl)
     where
       inside : k < length row.dist

@@ -7,7 +7,7 @@ use Rattle.hose_graph.specs.Network.{Network, IsNetwork}
 use Rattle.hose_cert.specs.CertLine.{CertLine}
 use Rattle.hose_cert.specs.Certificate.{AreLines, left_out_in}
 use Rattle.hose_cert.specs.Rules.{BreaksFirst, Claim, Claims, HasNamed, MeetsRules}
-use Rattle.hose_cert.specs.Verdict.{IsFound, IsValid, IsYesOf}
+use Rattle.hose_cert.specs.Verdict.{IsVerdict, IsValid, IsYesOf}
 use Rattle.hose_cert.specs.declared.Verdict.{Verdict}
 use Rattle.hose_cert.specs.declared.Verdict.TheVariants.{Yes, No}
 use Rattle.hose_cert.proofs.Spelling.{line_once}
@@ -54,7 +54,7 @@ breaks_no_rule network lines claim rule meets (inr (inr (inr (inl five)))) = fiv
 breaks_no_rule network lines claim rule meets (inr (inr (inr (inr six)))) = six.5 meets.weighs
 
 -- a valid certificate is found valid
-pub found_valid : (network : Network) → IsNetwork network → (text : List ℕ) (verdict : Verdict) (claim : Claim) → IsFound network text verdict → IsValid network text claim → IsYesOf verdict claim
+pub found_valid : (network : Network) → IsNetwork network → (text : List ℕ) (verdict : Verdict) (claim : Claim) → IsVerdict network text verdict → IsValid network text claim → IsYesOf verdict claim
 found_valid network is text (Yes hose without amounts cost) claim found valid =
     let same = lines_once network is text valid.lines found.lines valid.is_text.are found.is_text.are in
     claims_once network found.lines claim (record { cost = cost; hose = hose; pairs = amounts; without = without }) (subst (λ ls. Claims network ls claim) same valid.claims) found.claims

@@ -11,14 +11,14 @@ use Rattle.hose_graph.specs.declared.limits.TheConstants.{MOST_AMOUNT}
 use Rattle.hose_proto.specs.Command.{AreEndsOf}
 use Rattle.hose_proto.proofs.Back.{number_back, number_spelled, map_back}
 use Rattle.hose_proto.proofs.OneCommand.{command_unique}
-use Rattle.hose_cert.specs.CertLine.{CertLine, IsLine, IsSpaced, IsSpelled, SaysLine, cost_line, end_line, hose_line, line_of, numbers_from, pot_line, use_line, without_line}
-use Rattle.hose_cert.specs.Judging.{AreUpTo}
-use Rattle.hose_cert.specs.Reading.{IsFrom, IsTold, IsToldAfter}
+use Rattle.hose_cert.specs.CertLine.{CertLine, IsLine, IsSpaced, IsSpelled, SaysLine, cost_line, end_line, hose_line, statement_line, numbers_from, pot_line, use_line, without_line}
+use Rattle.hose_cert.specs.Judging.{AreUpToMost}
+use Rattle.hose_cert.specs.Reading.{IsFrom, IsLineTold, IsToldAfter}
 use Rattle.hose_cert.specs.declared.fault.CertFault.{CertFault}
 use Rattle.hose_cert.specs.declared.statement.Statement.{Statement}
 use Rattle.hose_words.specs.Cursor.{Position}
-use Rattle.hose_cert.specs.Statement.{kind_word}
-use Rattle.hose_cert.specs.declared.limits.TheConstants.{MOST_NUMBER}
+use Rattle.hose_cert.specs.Statement.{statement_word}
+use Rattle.hose_cert.specs.declared.statement.TheConstants.{MOST_NUMBER}
 use Rattle.hose_cert.specs.declared.statement.Kind.{Kind}
 use Rattle.hose_cert.specs.declared.statement.Kind.TheVariants as kind
 use Rattle.hose_cert.proofs.KindWords.{kinds_apart}
@@ -44,7 +44,7 @@ not_from words more least end n cut small fits out number rest is from =
     at (inr below) same = absurd (omega (arith, below, same, from))
 
 -- what is left of the words of numbers, after the first ones
-pub numbers_left : (front numbers : List ℕ) (left : List (List ℕ)) → map decimal front ++ left ≡ map decimal numbers → AreUpTo numbers → length front < length numbers
+pub numbers_left : (front numbers : List ℕ) (left : List (List ℕ)) → map decimal front ++ left ≡ map decimal numbers → AreUpToMost numbers → length front < length numbers
     → (n : ℕ) × (rest : List (List ℕ)) × (left ≡ decimal n ∷ rest) × (n ≤ MOST_NUMBER)
 numbers_left front [] left cut all more = absurd (omega (arith, more))
 numbers_left [] (n ∷ numbers) left cut all more = (n, map decimal numbers, cut, all 0 n (omega arith))
@@ -68,7 +68,7 @@ kind_of (pot_line root from numbers) = kind.Pot
 kind_of end_line = kind.End
 
 -- the first word of a line tells its kind
-pub begins : (network : Network) (words : List (List ℕ)) (line : CertLine) → IsSpelled network words line → (more : List (List ℕ)) × (words ≡ kind_word (kind_of line) ∷ more)
+pub begins : (network : Network) (words : List (List ℕ)) (line : CertLine) → IsSpelled network words line → (more : List (List ℕ)) × (words ≡ statement_word (kind_of line) ∷ more)
 begins network words (cost_line cost) is = (_, is.0)
 begins network words (hose_line hose) is = (is.0, is.1)
 begins network words (use_line pair) is = (_, is.0)
@@ -77,7 +77,7 @@ begins network words (pot_line root from numbers) is = (_, is.0)
 begins network words end_line is = ([], is)
 
 -- so it is of this kind
-pub is_of_kind : (network : Network) (words more : List (List ℕ)) (one : Kind) (line : CertLine) → words ≡ kind_word one ∷ more → IsSpelled network words line → kind_of line ≡ one
+pub is_of_kind : (network : Network) (words more : List (List ℕ)) (one : Kind) (line : CertLine) → words ≡ statement_word one ∷ more → IsSpelled network words line → kind_of line ≡ one
 is_of_kind network words more one line cut is =
     let first = begins network words line is in
     kinds_apart (kind_of line) one (ap (λ ws. get_or ws 0 []) (sym first.1 ∙ cut))
@@ -140,10 +140,10 @@ module _ (network : Network) (is : IsNetwork network) where
 
 module _ (network : Network) (more : List (List ℕ)) where
   abbrev Says : Kind → CertLine → Type 0
-  Says one line = IsSpelled network (kind_word one ∷ more) line
+  Says one line = IsSpelled network (statement_word one ∷ more) line
 
   same_kind : (one : Kind) (line : CertLine) → Says one line → kind_of line ≡ one
-  same_kind one line is = is_of_kind network (kind_word one ∷ more) more one line refl is
+  same_kind one line is = is_of_kind network (statement_word one ∷ more) more one line refl is
 
   pub no_cost : ((cost : ℕ) → more ≡ decimal cost ∷ [] → IsFrom 0 (MOST_NUMBER + 1) cost → ⊥) → (line : CertLine) → Says kind.Cost line → ⊥
   no_cost none line spelled = at line (same_kind kind.Cost line spelled) spelled
@@ -190,7 +190,7 @@ module _ (network : Network) (more : List (List ℕ)) where
       at end_line same is = absurd (cc same)
 
   pub no_pot : ((root from : ℕ) (numbers : List ℕ) → more ≡ decimal root ∷ decimal from ∷ map decimal numbers → root < length network.nodes → from < length network.nodes
-      → length numbers ≡ numbers_from network from → AreUpTo numbers → ⊥) → (line : CertLine) → Says kind.Pot line → ⊥
+      → length numbers ≡ numbers_from network from → AreUpToMost numbers → ⊥) → (line : CertLine) → Says kind.Pot line → ⊥
   no_pot none line spelled = at line (same_kind kind.Pot line spelled) spelled
     where
       at : (line : CertLine) → kind_of line ≡ kind.Pot → Says kind.Pot line → ⊥
@@ -213,17 +213,17 @@ module _ (network : Network) (more : List (List ℕ)) where
       at end_line same is = none (ap (drop 1) is)
 
 -- what was told of the words after the first one is told of all
-pub told_after : (network : Network) (words more : List (List ℕ)) (one other : Kind) → words ≡ kind_word one ∷ more → one ≡ other → (told : Option Statement) → IsToldAfter network other more told → IsTold (IsSpelled network words) told
+pub told_after : (network : Network) (words more : List (List ℕ)) (one other : Kind) → words ≡ statement_word one ∷ more → one ≡ other → (told : Option Statement) → IsToldAfter network other more told → IsLineTold (IsSpelled network words) told
 told_after network words more one other cut same told is =
-    subst (λ ws. IsTold (IsSpelled network ws) told) (sym cut) (subst (λ k. IsToldAfter network k more told) (sym same) is)
+    subst (λ ws. IsLineTold (IsSpelled network ws) told) (sym cut) (subst (λ k. IsToldAfter network k more told) (sym same) is)
 
 -- and of the line
 pub told_line : (network : Network) (bytes : List ℕ) (start : Position) → start ≡ record { left = words_of bytes; read = 0 } → (told : Result (Option Statement) CertFault) → IsSpaced bytes
-    → IfOk told (IsTold (IsSpelled network start.left)) → IfOk told (IsTold (SaysLine network bytes))
+    → IfOk told (IsLineTold (IsSpelled network start.left)) → IfOk told (IsLineTold (SaysLine network bytes))
 told_line network bytes start same (Err fault) spaced is = tt
 told_line network bytes start same (Ok None) spaced is = λ line there. is line (subst (λ (p : Position). IsSpelled network p.left line) (sym same) there.spelled)
 told_line network bytes start same (Ok (Some told)) spaced is =
-    record { spaced = spaced; spelled = subst (λ (p : Position). IsSpelled network p.left (line_of told)) same is }
+    record { spaced = spaced; spelled = subst (λ (p : Position). IsSpelled network p.left (statement_line told)) same is }
 
 -- the words of a root, a node and the numbers, one after the other
 pub pot_cut : (words first second : List (List ℕ)) (other node root from : ℕ) (numbers : List ℕ) → words ≡ decimal other ∷ first → first ≡ decimal node ∷ second → words ≡ decimal root ∷ decimal from ∷ map decimal numbers

@@ -9,7 +9,7 @@ use Rattle.hose_graph.specs.Hose.{IsHose}
 use Rattle.hose_graph.specs.Network.{Network, IsNetwork}
 use Rattle.hose_graph.specs.Row.{Distances}
 use Rattle.hose_graph.specs.declared.limits.TheConstants.{MOST_AMOUNT, MOST_COST, MOST_TREE_LINKS}
-use Rattle.hose_graph.specs.declared.link.Link.{Link}
+use Rattle.hose_graph.specs.declared.topology.Link.{Link}
 use Rattle.hose_law.specs.CanonicalPlan.{IsCanonicalPlan}
 use Rattle.hose_law.specs.Plan.{AreNodes, plan_cost}
 use Rattle.hose_law.specs.Tree.{IsTreeReservation}
@@ -17,12 +17,12 @@ use Rattle.hose_law.specs.Walk.{IsIn, all_links, cost_of}
 use Rattle.hose_law.proofs.Bounds.{reserved_few, reserved_links, reserved_most, reserved_ranges}
 use Rattle.hose_law.proofs.CanonicalPlans.{plan_reserves}
 use Rattle.hose_cert.specs.CertLine.{CertLine, end_line, numbers_from, use_line}
-use Rattle.hose_cert.specs.Certificate.{IsWhole, left_out_in, numbers_in, used_in}
-use Rattle.hose_cert.specs.Judging.{AreUpTo}
+use Rattle.hose_cert.specs.Certificate.{IsCertificate, left_out_in, numbers_in, used_in}
+use Rattle.hose_cert.specs.Judging.{AreUpToMost}
 use Rattle.hose_cert.specs.Rules.{Claims, DifferWithinCosts, HasNamed, MeetsRules, others_of, weighed_by}
 use Rattle.hose_cert.specs.Verdict.{IsValid}
-use Rattle.hose_cert.specs.Written.{AreRootRows, IsPlanText, block_line, blocks_of, first_lines, numbers_of, plan_claim, plan_lines, root_lines, roots_lines, text_of}
-use Rattle.hose_cert.specs.declared.limits.TheConstants.{LINE_NUMBERS, MOST_NUMBER}
+use Rattle.hose_cert.specs.Written.{AreRootRows, IsPlanText, block_line, blocks_of, first_lines, numbers_of, plan_claim, plan_lines, root_lines, roots_lines, certificate_text}
+use Rattle.hose_cert.specs.declared.statement.TheConstants.{LINE_NUMBERS, MOST_NUMBER}
 use Rattle.hose_cert.proofs.InOrder.{follow_plan, last_plan, left_out_none, said_by_plan, used_plan}
 use Rattle.hose_cert.proofs.LineTexts.{AreFine, IsFine, are_lines, fine_both}
 use Rattle.hose_cert.proofs.Numbered.{at_root, differ, enough, places, up_to}
@@ -85,7 +85,7 @@ module _ (network : Network) (is : IsNetwork network) (hose plan : List (ℕ × 
   first_fine : AreFine network is (first_lines network hose plan)
   first_fine = (cost_few, (record { is_hose = is_hose; nodes = nodes }, uses_fine plan use_fine))
 
-  module _ (numbers : ℕ → List ℕ) (long : (root : ℕ) → root < length network.nodes → length (numbers root) ≡ length network.nodes) (small : (root : ℕ) → root < length network.nodes → AreUpTo (numbers root)) where
+  module _ (numbers : ℕ → List ℕ) (long : (root : ℕ) → root < length network.nodes → length (numbers root) ≡ length network.nodes) (small : (root : ℕ) → root < length network.nodes → AreUpToMost (numbers root)) where
     block_fine : (root : ℕ) → root < length network.nodes → (block : ℕ) → block < blocks_of network → IsFine network (block_line network root (numbers root) block)
     block_fine root node block below =
         let from : ℕ = block * LINE_NUMBERS in
@@ -136,7 +136,7 @@ module _ (network : Network) (is : IsNetwork network) (hose plan : List (ℕ × 
     said : (root : ℕ) → root < length network.nodes → numbers_in root lines ≡ numbers root
     said root node = said_by_plan network numbers most hose plan root node (places network is all most root (row_of root) (rows root node))
 
-    whole : IsWhole network lines
+    whole : IsCertificate network lines
     whole = record {
       follow = follow_plan network numbers most hose plan any some on.reserves.ascending;
       ends = last_plan network numbers most hose plan;
@@ -170,7 +170,7 @@ module _ (network : Network) (is : IsNetwork network) (hose plan : List (ℕ × 
       weighs = λ root node. subst (λ (ns : List ℕ). most ≤ weighed_by ns hose) (sym (said root node)) (enough network is hose plan is_hose nodes canonical root node (row_of root) (rows root node));
     }
 
-    lines_valid : IsValid network (text_of network lines) (plan_claim network hose plan)
+    lines_valid : IsValid network (certificate_text network lines) (plan_claim network hose plan)
     lines_valid = record { lines = lines; is_text = record { are = are_lines network is lines fine; whole = whole }; claims = claims; meets = meets }
 
   -- the plan's text is a valid certificate of the plan

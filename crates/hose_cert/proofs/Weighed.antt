@@ -6,9 +6,9 @@ use Rattle.std.proofs.lemmas.List.{take_more}
 use Rattle.std.proofs.lemmas.List.Sums.{sum_by_push}
 use Rattle.hose_graph.specs.Hose.{IsEnd}
 use Rattle.hose_graph.specs.declared.limits.TheConstants.{MOST_RATE}
-use Rattle.hose_cert.specs.Judging.{AreUpTo}
+use Rattle.hose_cert.specs.Judging.{AreUpToMost}
 use Rattle.hose_cert.specs.Rules.{weighed_by}
-use Rattle.hose_cert.specs.declared.limits.TheConstants.{MOST_NUMBER}
+use Rattle.hose_cert.specs.declared.statement.TheConstants.{MOST_NUMBER}
 
 -- the share of an endpoint
 pub share_is : (row : List ℕ) (items : List (ℕ × ℕ)) (i rate number : ℕ) → rate ≡ (get_or items i (0, 0)).1 → number ≡ get_or row (get_or items i (0, 0)).0 0
@@ -23,7 +23,7 @@ weighed_more row hose items same i inside =
     (ap (weighed_by row) (take_more items i (0, 0) inside) ∙ sum_by_push (λ (e : ℕ × ℕ). e.1 * slice_index row e.0) (take i items) (get_or items i (0, 0)))
 
 -- which is little
-pub weighs_little : (row : List ℕ) (hose items : List (ℕ × ℕ)) → items ≡ hose → AreUpTo row → All IsEnd hose → All (λ (e : ℕ × ℕ). e.0 < length row) hose → (i : ℕ) → i < length items
+pub weighs_little : (row : List ℕ) (hose items : List (ℕ × ℕ)) → items ≡ hose → AreUpToMost row → All IsEnd hose → All (λ (e : ℕ × ℕ). e.0 < length row) hose → (i : ℕ) → i < length items
     → (get_or items i (0, 0)).1 * slice_index row (get_or items i (0, 0)).0 ≤ MOST_RATE * MOST_NUMBER
 weighs_little row hose items same up ends nodes i inside =
     let each : All IsEnd items = subst (All IsEnd) (sym same) ends in

@@ -3,13 +3,13 @@ use Rattle.std.specs.Prelude.{◌≡◌, ◌<◌, ◌≤◌, ◌-◌, ◌==◌, 
 use Rattle.std.specs.List.{slice_split}
 use Rattle.hose_words.specs.Form.{IsWithin}
 use Rattle.hose_words.specs.Words.{words_of}
-use Rattle.hose_words.specs.declared.limits.TheConstants.{LINE_LIMIT}
+use Rattle.hose_words.specs.declared.lines.TheConstants.{LINE_LIMIT}
 use Rattle.hose_graph.specs.Amounts.{ReservedLink, amount_of, link_of}
 use Rattle.hose_graph.specs.Hose.{Endpoint}
 use Rattle.hose_graph.specs.Network.{Network, IsLinkOf, IsNodeOf}
 use Rattle.hose_graph.specs.declared.limits.TheConstants.{MOST_AMOUNT}
 use Rattle.hose_proto.specs.Command.{AreEndsOf}
-use Rattle.hose_cert.specs.declared.limits.TheConstants.{LINE_NUMBERS, MOST_NUMBER}
+use Rattle.hose_cert.specs.declared.statement.TheConstants.{LINE_NUMBERS, MOST_NUMBER}
 use Rattle.hose_cert.specs.declared.statement.Statement.{Statement}
 use Rattle.hose_cert.specs.declared.statement.Statement.TheVariants as statement
 
@@ -67,10 +67,10 @@ pub record IsLine (network : Network) (bytes : List ℕ) (line : CertLine) : Typ
   pub says : SaysLine network bytes line
 
 -- what a statement that was read says
-abbrev pub line_of : Statement → CertLine
-line_of (statement.Cost cost) = cost_line cost
-line_of (statement.Hose hose) = hose_line hose
-line_of (statement.Use pair) = use_line pair
-line_of (statement.Without link) = without_line link
-line_of (statement.Pot pot) = pot_line pot.root pot.from pot.numbers.items
-line_of statement.End = end_line
+abbrev pub statement_line : Statement → CertLine
+statement_line (statement.Cost cost) = cost_line cost
+statement_line (statement.Hose hose) = hose_line hose
+statement_line (statement.Use pair) = use_line pair
+statement_line (statement.Without link) = without_line link
+statement_line (statement.Pot pot) = pot_line pot.root pot.from pot.numbers.items
+statement_line statement.End = end_line

@@ -7,7 +7,7 @@ use Rattle.hose_graph.specs.Ascending.{firsts}
 use Rattle.hose_graph.specs.Network.{Network}
 use Rattle.hose_graph.specs.declared.limits.TheConstants.{MOST_TREE_LINKS}
 use Rattle.hose_cert.specs.CertLine.{CertLine, IsLine, cost_line, end_line, hose_line, pot_line, use_line, without_line}
-use Rattle.hose_cert.specs.declared.limits.TheConstants.{LINE_NUMBERS}
+use Rattle.hose_cert.specs.declared.statement.TheConstants.{LINE_NUMBERS}
 
 -- The text is these lines. A line feed ends each of them, but for the last one, which may end with
 -- the text.
@@ -86,7 +86,7 @@ numbers_in root lines = flat_map (numbers_by root) lines
 
 -- Lines are those of a certificate: they stand in order up to `end`, the plan has no more links
 -- than a tree, and none of them was left out.
-pub record IsWhole (network : Network) (lines : List CertLine) : Type 0 where
+pub record IsCertificate (network : Network) (lines : List CertLine) : Type 0 where
   pub follow : FollowAll network None lines
   pub ends : last_of None lines ≡ Some end_line
   pub few : length (used_in lines) ≤ MOST_TREE_LINKS
@@ -97,4 +97,4 @@ pub record IsWhole (network : Network) (lines : List CertLine) : Type 0 where
 pub record IsCertText (network : Network) (text : List ℕ) (lines : List CertLine)
     : Type 0 where
   pub are : AreLines network text lines
-  pub whole : IsWhole network lines
+  pub whole : IsCertificate network lines

@@ -8,10 +8,10 @@ use Rattle.hose_graph.specs.Network.{Network, IsLinkOf}
 use Rattle.hose_graph.specs.declared.limits.TheConstants.{MOST_AMOUNT, MOST_TREE_LINKS}
 use Rattle.hose_proto.specs.Places.{IsHoseOf}
 use Rattle.hose_cert.specs.CertLine.{CertLine, IsSpelled, cost_line, end_line, hose_line, pot_line, use_line, without_line}
-use Rattle.hose_cert.specs.Certificate.{FollowAll, IsWhole, last_of, left_out_in, numbers_in, place_after, used_in}
-use Rattle.hose_cert.specs.Judging.{AreUpTo}
+use Rattle.hose_cert.specs.Certificate.{FollowAll, IsCertificate, last_of, left_out_in, numbers_in, place_after, used_in}
+use Rattle.hose_cert.specs.Judging.{AreUpToMost}
 use Rattle.hose_cert.specs.Rules.{DifferWithinCosts, HasNamed, others_of, weighed_by}
-use Rattle.hose_cert.specs.declared.limits.TheConstants.{MOST_NUMBER}
+use Rattle.hose_cert.specs.declared.statement.TheConstants.{MOST_NUMBER}
 use Rattle.hose_cert.specs.declared.draft.Body.{Body}
 use Rattle.hose_cert.specs.declared.draft.Draft.{Draft}
 use Rattle.hose_cert.specs.declared.draft.Draft.TheVariants as draft
@@ -30,11 +30,11 @@ abbrev pub TellsBelow : ℕ → Bool → (ℕ → Type 0) → Type 0
 TellsBelow end flag Is = IsTrue flag ↔ ((k : ℕ) → k < end → Is k)
 
 -- The numbers of the roots below one were judged, and those of this root are being read.
-pub record AreRows (network : Network) (numbers : ℕ → List ℕ) (cost : ℕ) (hose : List Endpoint)
+pub record AreDraftRows (network : Network) (numbers : ℕ → List ℕ) (cost : ℕ) (hose : List Endpoint)
     (without : List Bool) (rows : Rows) : Type 0 where
   pub bound : rows.root ≤ length network.nodes
   pub row : numbers rows.root ≡ rows.row.items
-  pub up_to : AreUpTo rows.row.items
+  pub up_to : AreUpToMost rows.row.items
   pub later : (k : ℕ) → rows.root < k → numbers k ≡ []
   pub few : rows.root < length network.nodes → length rows.row.items < length network.nodes
   pub starts : TellsBelow rows.root rows.starts (λ k. slice_index (numbers k) k ≡ 0)
@@ -87,41 +87,41 @@ pub record IsBody (network : Network) (lines : List CertLine) (body : Body) : Ty
   pub without : HasNamed network (left_out_in lines) body.without
   pub apart : (link : ℕ) → Contains (left_out_in lines) link
       → Contains (firsts (used_in lines)) link → ⊥
-  pub rows : AreRows network (λ root. numbers_in root lines) body.cost body.hose body.without
+  pub rows : AreDraftRows network (λ root. numbers_in root lines) body.cost body.hose body.without
       body.rows
 
 -- ---- the draft
 
 -- the lines that were read so far made this draft
-abbrev pub Stands : Network → List CertLine → Draft → Type 0
-Stands network lines draft.Start = lines ≡ []
-Stands network lines (draft.Cost cost) = (lines ≡ cost_line cost ∷ []) × (cost ≤ MOST_NUMBER)
-Stands network lines (draft.Body body) = IsBody network lines body
+abbrev pub IsDraftOf : Network → List CertLine → Draft → Type 0
+IsDraftOf network lines draft.Start = lines ≡ []
+IsDraftOf network lines (draft.Cost cost) = (lines ≡ cost_line cost ∷ []) × (cost ≤ MOST_NUMBER)
+IsDraftOf network lines (draft.Body body) = IsBody network lines body
 
 -- some lines made it
 abbrev pub StandsSomehow : Network → Draft → Type 0
-StandsSomehow network draft = (lines : List CertLine) × Stands network lines draft
+StandsSomehow network draft = (lines : List CertLine) × IsDraftOf network lines draft
 
 abbrev pub IsBodySomehow : Network → Body → Type 0
 IsBodySomehow network body = (lines : List CertLine) × IsBody network lines body
 
 -- no certificate goes on with this line
-abbrev pub IsRefused : Network → List CertLine → CertLine → Type 0
-IsRefused network lines line =
-    (more : List CertLine) → IsWhole network (lines ++ line ∷ more) → ⊥
+abbrev pub IsRefusedLine : Network → List CertLine → CertLine → Type 0
+IsRefusedLine network lines line =
+    (more : List CertLine) → IsCertificate network (lines ++ line ∷ more) → ⊥
 
 -- a line was taken, or no certificate goes on with it
-abbrev pub TakesLine : Network → Draft → CertLine → Option Draft → Type 0
-TakesLine network old line next = (lines : List CertLine) → Stands network lines old
-    → MatchOption next (IsRefused network lines line) (Stands network (lines ++ line ∷ []))
+abbrev pub TakesCertLine : Network → Draft → CertLine → Option Draft → Type 0
+TakesCertLine network old line next = (lines : List CertLine) → IsDraftOf network lines old
+    → MatchOption next (IsRefusedLine network lines line) (IsDraftOf network (lines ++ line ∷ []))
 
 abbrev pub TakesInto : Network → Body → CertLine → Option Body → Type 0
 TakesInto network old line next = (lines : List CertLine) → IsBody network lines old
-    → MatchOption next (IsRefused network lines line) (IsBody network (lines ++ line ∷ []))
+    → MatchOption next (IsRefusedLine network lines line) (IsBody network (lines ++ line ∷ []))
 
 -- the draft is a whole certificate, or is none
 abbrev pub IsWholeIf : Network → Draft → Option Body → Type 0
-IsWholeIf network draft whole = (lines : List CertLine) → Stands network lines draft
-    → MatchOption whole (IsWhole network lines → ⊥)
-    (λ body. IsBody network lines body × IsWhole network lines
+IsWholeIf network draft whole = (lines : List CertLine) → IsDraftOf network lines draft
+    → MatchOption whole (IsCertificate network lines → ⊥)
+    (λ body. IsBody network lines body × IsCertificate network lines
     × (body.rows.root ≡ length network.nodes))

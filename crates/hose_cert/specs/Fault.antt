@@ -4,6 +4,6 @@ use Rattle.hose_words.specs.declared.lines.LineFault.TheVariants as line
 use Rattle.hose_cert.specs.declared.fault.CertFault.{CertFault}
 use Rattle.hose_cert.specs.declared.fault.CertFault.TheVariants.{Read, TooLong}
 
-abbrev pub of_line : LineFault → CertFault
-of_line line.Read = Read
-of_line line.TooLong = TooLong
+abbrev pub fault_of_line : LineFault → CertFault
+fault_of_line line.Read = Read
+fault_of_line line.TooLong = TooLong

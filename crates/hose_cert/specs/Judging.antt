@@ -4,12 +4,12 @@ use Rattle.hose_graph.specs.Hose.{Endpoint}
 use Rattle.hose_graph.specs.Network.{Network}
 use Rattle.hose_law.specs.Walk.{IsIn, Joins, cost_of}
 use Rattle.hose_cert.specs.Rules.{DifferWithinCosts, others_of, weighed_by}
-use Rattle.hose_cert.specs.declared.limits.TheConstants.{MOST_NUMBER}
+use Rattle.hose_cert.specs.declared.statement.TheConstants.{MOST_NUMBER}
 use Rattle.hose_cert.specs.declared.rows.Rows.{Rows}
 
 -- no number is above the limit
-abbrev pub AreUpTo : List ℕ → Type 0
-AreUpTo numbers = All (λ number. number ≤ MOST_NUMBER) numbers
+abbrev pub AreUpToMost : List ℕ → Type 0
+AreUpToMost numbers = All (λ number. number ≤ MOST_NUMBER) numbers
 
 -- the numbers at the two nodes of a link differ by no more than its cost
 abbrev pub ChangesWithin : Network → ℕ → List ℕ → Type 0
@@ -17,8 +17,8 @@ ChangesWithin network link numbers = (u v : ℕ) → Joins network link u v
     → slice_index numbers v ≤ slice_index numbers u + cost_of network link
 
 -- where a link is not one of those that were left out
-abbrev pub IsKept : Network → List Bool → ℕ → List ℕ → Type 0
-IsKept network without link numbers =
+abbrev pub ChangesWithinKept : Network → List Bool → ℕ → List ℕ → Type 0
+ChangesWithinKept network without link numbers =
     IsIn (others_of without) link → ChangesWithin network link numbers
 
 -- a flag is true where it was and this holds
@@ -26,7 +26,7 @@ abbrev pub AlsoTells : Bool → Bool → Type 0 → Type 0
 AlsoTells was now P = IsTrue now ↔ (IsTrue was × P)
 
 -- The numbers of a root were judged, and the next root has none yet.
-pub record IsJudged (network : Network) (cost : ℕ) (hose : List Endpoint) (without : List Bool)
+pub record IsRootJudged (network : Network) (cost : ℕ) (hose : List Endpoint) (without : List Bool)
     (old new : Rows) : Type 0 where
   pub root : new.root ≡ old.root + 1
   pub row : new.row.items ≡ []

@@ -1,19 +1,21 @@
 -- What is read of the words of a certificate's lines.
 use Rattle.std.specs.Prelude.{◌≡◌, ◌<◌, ◌≤◌, ℕ, List, ◌∷◌, All, Option, MatchOption, decimal, length, map}
 use Rattle.hose_graph.specs.Network.{Network}
-use Rattle.hose_cert.specs.CertLine.{CertLine, IsSpelled, line_of}
-use Rattle.hose_cert.specs.Statement.{kind_word}
-use Rattle.hose_cert.specs.declared.limits.TheConstants.{MOST_NUMBER}
+use Rattle.hose_cert.specs.CertLine.{CertLine, IsSpelled, statement_line}
+use Rattle.hose_cert.specs.Statement.{statement_word}
+use Rattle.hose_cert.specs.declared.statement.TheConstants.{MOST_NUMBER}
 use Rattle.hose_cert.specs.declared.statement.Kind.{Kind}
 use Rattle.hose_cert.specs.declared.statement.Statement.{Statement}
 
 -- what was read is so, or nothing is
-abbrev pub IsTold : (CertLine → Type 0) → Option Statement → Type 0
-IsTold Is told = MatchOption told ((line : CertLine) → Is line → ⊥) (λ one. Is (line_of one))
+abbrev pub IsLineTold : (CertLine → Type 0) → Option Statement → Type 0
+IsLineTold Is told =
+    MatchOption told ((line : CertLine) → Is line → ⊥) (λ one. Is (statement_line one))
 
--- the same of the words after one that tells a kind of lines
+-- what was read of the words after one that tells a kind of lines is so, or nothing is
 abbrev pub IsToldAfter : Network → Kind → List (List ℕ) → Option Statement → Type 0
-IsToldAfter network kind words told = IsTold (IsSpelled network (kind_word kind ∷ words)) told
+IsToldAfter network kind words told =
+    IsLineTold (IsSpelled network (statement_word kind ∷ words)) told
 
 -- a number from the least to below the end
 abbrev pub IsFrom : ℕ → ℕ → ℕ → Type 0

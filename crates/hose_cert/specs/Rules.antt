@@ -51,8 +51,8 @@ module _ (network : Network) (lines : List CertLine) (claim : Claim) where
   AtEachRoot Is = (root : ℕ) → root < length network.nodes → Is root (numbers_in root lines)
 
   -- rule 2: the amounts are what the hose reserves on some tree that joins it
-  abbrev pub AreOnTree : Type 0
-  AreOnTree = IsTreeReservation network (all_links network) claim.hose claim.pairs
+  abbrev pub ClaimsTree : Type 0
+  ClaimsTree = IsTreeReservation network (all_links network) claim.hose claim.pairs
 
   -- rule 3: they cost what is claimed
   abbrev pub CostAsClaimed : Type 0
@@ -73,7 +73,7 @@ module _ (network : Network) (lines : List CertLine) (claim : Claim) where
 
   -- The claim meets the rules 2 to 6.
   pub record MeetsRules : Type 0 where
-    pub tree : AreOnTree
+    pub tree : ClaimsTree
     pub costs : CostAsClaimed
     pub roots : StartAtRoots
     pub changes : ChangeWithinCosts
@@ -82,9 +82,9 @@ module _ (network : Network) (lines : List CertLine) (claim : Claim) where
   -- The claim breaks this rule, and meets those before it.
   abbrev pub BreaksFirst : ℕ → Type 0
   BreaksFirst rule =
-      ((rule ≡ 2) × (¬ AreOnTree))
-      ⊎ ((rule ≡ 3) × AreOnTree × (¬ CostAsClaimed))
-      ⊎ ((rule ≡ 4) × AreOnTree × CostAsClaimed × (¬ StartAtRoots))
-      ⊎ ((rule ≡ 5) × AreOnTree × CostAsClaimed × StartAtRoots × (¬ ChangeWithinCosts))
-      ⊎ ((rule ≡ 6) × AreOnTree × CostAsClaimed × StartAtRoots × ChangeWithinCosts
+      ((rule ≡ 2) × (¬ ClaimsTree))
+      ⊎ ((rule ≡ 3) × ClaimsTree × (¬ CostAsClaimed))
+      ⊎ ((rule ≡ 4) × ClaimsTree × CostAsClaimed × (¬ StartAtRoots))
+      ⊎ ((rule ≡ 5) × ClaimsTree × CostAsClaimed × StartAtRoots × (¬ ChangeWithinCosts))
+      ⊎ ((rule ≡ 6) × ClaimsTree × CostAsClaimed × StartAtRoots × ChangeWithinCosts
       × (¬ WeighEnough))

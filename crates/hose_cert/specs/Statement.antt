@@ -3,10 +3,10 @@ use Rattle.std.specs.Prelude.{ℕ, List, codes}
 use Rattle.hose_cert.specs.declared.statement.Kind.{Kind}
 use Rattle.hose_cert.specs.declared.statement.Kind.TheVariants as kind
 
-abbrev pub kind_word : Kind → List ℕ
-kind_word kind.Cost = codes "cost"
-kind_word kind.Hose = codes "hose"
-kind_word kind.Use = codes "use"
-kind_word kind.Without = codes "without"
-kind_word kind.Pot = codes "pot"
-kind_word kind.End = codes "end"
+abbrev pub statement_word : Kind → List ℕ
+statement_word kind.Cost = codes "cost"
+statement_word kind.Hose = codes "hose"
+statement_word kind.Use = codes "use"
+statement_word kind.Without = codes "without"
+statement_word kind.Pot = codes "pot"
+statement_word kind.End = codes "end"

@@ -8,12 +8,12 @@ use Rattle.hose_words.specs.declared.lines.Line.{Line}
 use Rattle.hose_words.specs.declared.lines.Line.TheVariants.{Text, Long}
 use Rattle.hose_words.specs.declared.lines.LineFault.{LineFault}
 use Rattle.hose_words.specs.declared.lines.LineFault.TheVariants as line
-use Rattle.hose_words.specs.declared.limits.TheConstants.{INPUT_LIMIT}
+use Rattle.hose_words.specs.declared.lines.TheConstants.{INPUT_LIMIT}
 use Rattle.hose_graph.specs.Network.{Network}
 use Rattle.hose_cert.specs.CertLine.{CertLine, SaysLine}
-use Rattle.hose_cert.specs.Certificate.{AreLines, IsCertText, IsWhole}
-use Rattle.hose_cert.specs.Draft.{IsBody, IsRefused, Stands}
-use Rattle.hose_cert.specs.Fault.{of_line}
+use Rattle.hose_cert.specs.Certificate.{AreLines, IsCertText, IsCertificate}
+use Rattle.hose_cert.specs.Draft.{IsBody, IsRefusedLine, IsDraftOf}
+use Rattle.hose_cert.specs.Fault.{fault_of_line}
 use Rattle.hose_cert.specs.declared.draft.Body.{Body}
 use Rattle.hose_cert.specs.declared.draft.Draft.{Draft}
 use Rattle.hose_cert.specs.declared.fault.CertFault.{CertFault}
@@ -30,17 +30,17 @@ fault_in (Err fault) = Some fault
 
 -- A fault of reading is kept. Else the reader has the fault that it had, which is none where the
 -- input was read to its end.
-abbrev pub KeepsFault : Option LineFault → Option LineFault → Option CertFault → Type 0
-KeepsFault old new None = new ≡ old
-KeepsFault old new (Some Read) = new ≡ Some line.Read
-KeepsFault old new (Some TooLong) = new ≡ Some line.TooLong
-KeepsFault old new (Some Memory) = new ≡ old
+abbrev pub KeepsLineFault : Option LineFault → Option LineFault → Option CertFault → Type 0
+KeepsLineFault old new None = new ≡ old
+KeepsLineFault old new (Some Read) = new ≡ Some line.Read
+KeepsLineFault old new (Some TooLong) = new ≡ Some line.TooLong
+KeepsLineFault old new (Some Memory) = new ≡ old
 
 -- Lines were read, up to this fault if there is one.
 pub record ReadsUpTo {S : Type 0} (source : Ghosts S) (old new : Reader S)
     (fault : Option CertFault) : Type 0 where
   pub on : ReadsOn source old new
-  pub kept : KeepsFault old.fault new.fault fault
+  pub kept : KeepsLineFault old.fault new.fault fault
   -- a call of the source failed, now or before
   pub read : fault ≡ Some Read
       → (old.fault ≡ Some line.Read) ⊎ Rose (source.frame old.source) (source.frame new.source)
@@ -56,29 +56,29 @@ IsAllRead source old new = WhereTold (source.content old.source) (source.content
 -- ---- the next line
 
 -- what a line that is shown came to
-abbrev pub IsStep : Network → Draft → List ℕ → Step → Type 0
-IsStep network old bytes (More new) = (line : CertLine) × SaysLine network bytes line
-    × ((lines : List CertLine) → Stands network lines old
-    → Stands network (lines ++ line ∷ []) new)
-IsStep network old bytes Refused = (lines : List CertLine) → Stands network lines old
-    → (line : CertLine) → SaysLine network bytes line → IsRefused network lines line
-IsStep network old bytes (Over new) = ⊥
+abbrev pub IsDraftStep : Network → Draft → List ℕ → Step → Type 0
+IsDraftStep network old bytes (More new) = (line : CertLine) × SaysLine network bytes line
+    × ((lines : List CertLine) → IsDraftOf network lines old
+    → IsDraftOf network (lines ++ line ∷ []) new)
+IsDraftStep network old bytes Refused = (lines : List CertLine) → IsDraftOf network lines old
+    → (line : CertLine) → SaysLine network bytes line → IsRefusedLine network lines line
+IsDraftStep network old bytes (Over new) = ⊥
 
 -- what was read as the next line, and what it came to
-abbrev pub TakesRead : Network → Draft → Result (Option Line) LineFault → Result Step CertFault
+abbrev pub IsReadStep : Network → Draft → Result (Option Line) LineFault → Result Step CertFault
     → Type 0
-TakesRead network old (Ok (Some (Text line))) (Ok step) = IsStep network old line.now step
-TakesRead network old (Ok (Some (Text line))) (Err fault) = fault ≡ Memory
-TakesRead network old (Ok (Some Long)) (Ok Refused) = ⊤
-TakesRead network old (Ok None) (Ok (Over new)) = new ≡ old
-TakesRead network old (Err met) (Err fault) = fault ≡ of_line met
-TakesRead network old read step = ⊥
+IsReadStep network old (Ok (Some (Text line))) (Ok step) = IsDraftStep network old line.now step
+IsReadStep network old (Ok (Some (Text line))) (Err fault) = fault ≡ Memory
+IsReadStep network old (Ok (Some Long)) (Ok Refused) = ⊤
+IsReadStep network old (Ok None) (Ok (Over new)) = new ≡ old
+IsReadStep network old (Err met) (Err fault) = fault ≡ fault_of_line met
+IsReadStep network old read step = ⊥
 
 -- the next line of a reader
-abbrev pub TakesNext : {S : Type 0} → Ghosts S → Network → Draft → Reader S → Reader S
+abbrev pub IsNextStep : {S : Type 0} → Ghosts S → Network → Draft → Reader S → Reader S
     → Result Step CertFault → Type 0
-TakesNext source network draft old new step = (read : Result (Option Line) LineFault)
-    × IsNext source old new read × TakesRead network draft read step
+IsNextStep source network draft old new step = (read : Result (Option Line) LineFault)
+    × IsNext source old new read × IsReadStep network draft read step
 
 -- ---- the text
 
@@ -97,24 +97,24 @@ pub record IsTextOf (network : Network) (text : List ℕ) (lines : List CertLine
 
 -- All was read and is a certificate's text; or what comes next, or that nothing does, shows that it
 -- is none.
-abbrev pub ReadsText : {S : Type 0} → Ghosts S → Network → Reader S → Reader S
+abbrev pub ReadsCertText : {S : Type 0} → Ghosts S → Network → Reader S → Reader S
     → Result (Option Body) CertFault → Type 0
-ReadsText source network old new (Ok (Some body)) = (lines : List CertLine)
+ReadsCertText source network old new (Ok (Some body)) = (lines : List CertLine)
     × IsBody network lines body × (body.rows.root ≡ length network.nodes)
-    × IsWhole network lines
+    × IsCertificate network lines
     × WhereTold (source.content old.source) (source.content new.source)
     (λ was _. IsTextOf network (old.pending ++ was) lines)
     × IsAllRead source old new
-ReadsText source network old new (Ok None) =
+ReadsCertText source network old new (Ok None) =
     WhereTold (source.content old.source) (source.content new.source) (λ was _.
     (lines : List CertLine) → IsCertText network (old.pending ++ was) lines → ⊥)
-ReadsText source network old new (Err fault) = ⊤
+ReadsCertText source network old new (Err fault) = ⊤
 
 -- the next line was passed over, or there was none
 abbrev pub PassesRead : Result (Option Line) LineFault → Result Bool CertFault → Type 0
 PassesRead (Ok (Some line)) (Ok more) = more ≡ true
 PassesRead (Ok None) (Ok more) = more ≡ false
-PassesRead (Err met) (Err fault) = fault ≡ of_line met
+PassesRead (Err met) (Err fault) = fault ≡ fault_of_line met
 PassesRead read passed = ⊥
 
 abbrev pub PassesOne : {S : Type 0} → Ghosts S → Reader S → Reader S → Result Bool CertFault

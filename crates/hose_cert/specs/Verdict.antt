@@ -37,10 +37,10 @@ abbrev pub IsNoText : Network → List ℕ → Type 0
 IsNoText network text = (lines : List CertLine) → IsCertText network text lines → ⊥
 
 -- A text is found to be a valid certificate, or to break this rule first.
-abbrev pub IsFound : Network → List ℕ → Verdict → Type 0
-IsFound network text (Yes hose without amounts cost) = IsValid network text
+abbrev pub IsVerdict : Network → List ℕ → Verdict → Type 0
+IsVerdict network text (Yes hose without amounts cost) = IsValid network text
     (record { cost = cost; hose = hose; pairs = amounts; without = without })
-IsFound network text (No rule) =
+IsVerdict network text (No rule) =
     ((rule ≡ 1) × IsNoText network text) ⊎ IsBroken network text rule
 
 -- the verdict is yes, to this claim

@@ -19,7 +19,7 @@ use Rattle.hose_cert.specs.Rules.{Claim}
 use Rattle.hose_cert.specs.Verdict.{IsValid}
 use Rattle.hose_cert.specs.declared.fault.ProveFault.{ProveFault}
 use Rattle.hose_cert.specs.declared.fault.ProveFault.TheVariants.{Write, Memory}
-use Rattle.hose_cert.specs.declared.limits.TheConstants.{LINE_NUMBERS}
+use Rattle.hose_cert.specs.declared.statement.TheConstants.{LINE_NUMBERS}
 
 -- ---- texts
 
@@ -46,8 +46,8 @@ line_text network (pot_line root from numbers) = pot_text root from numbers
 line_text network end_line = codes "end"
 
 -- the text of lines, each of which a line feed ends
-abbrev pub text_of : Network → List CertLine → List ℕ
-text_of network lines = flat_map (λ line. line_of (line_text network line)) lines
+abbrev pub certificate_text : Network → List CertLine → List ℕ
+certificate_text network lines = flat_map (λ line. line_of (line_text network line)) lines
 
 -- ---- the lines of a plan
 
@@ -103,7 +103,7 @@ pub record IsPlanText (network : Network) (hose : List Endpoint) (plan : List Re
   pub canonical : IsCanonicalPlan network (all_links network) hose plan
   pub row_of : ℕ → Distances
   pub rows : AreRootRows network row_of
-  pub spelled : text ≡ text_of network (plan_lines network hose plan row_of)
+  pub spelled : text ≡ certificate_text network (plan_lines network hose plan row_of)
 
 -- it claims this: the plan is the hose's, with no link left out
 abbrev pub plan_claim : Network → List Endpoint → List ReservedLink → Claim
@@ -142,7 +142,7 @@ pub record GrowsByLines (network : Network) (hose : List Endpoint) (old new : Op
   pub plan : List ReservedLink
   pub canonical : IsCanonicalPlan network (all_links network) hose plan
   pub lines : List CertLine
-  pub out : Grows old new (text_of network lines)
+  pub out : Grows old new (certificate_text network lines)
   pub front : (row_of : ℕ → Distances) → AreRootRows network row_of
       → (more : List CertLine) × (plan_lines network hose plan row_of ≡ lines ++ more)
 

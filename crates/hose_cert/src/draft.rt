@@ -2,8 +2,8 @@
 ghost use Rattle.std.specs.Prelude.{◌≡◌, ◌<◌, ◌≤◌, ◌↔◌, ℕ, [], Any, IfErr, IfOk, IfSome, IsTrue, MatchOption, length};
 ghost use Rattle.hose_graph.specs.Amounts.{link_of};
 ghost use Rattle.hose_graph.specs.Network.{Network, IsNetwork};
-ghost use Rattle.hose_cert.specs.CertLine.{cost_line, end_line, hose_line, line_of, pot_line, use_line, without_line};
-ghost use Rattle.hose_cert.specs.Draft.{IsBodySomehow, IsSaid, IsWholeIf, StandsSomehow, TakesInto, TakesLine};
+ghost use Rattle.hose_cert.specs.CertLine.{cost_line, end_line, hose_line, statement_line, pot_line, use_line, without_line};
+ghost use Rattle.hose_cert.specs.Draft.{IsBodySomehow, IsSaid, IsWholeIf, StandsSomehow, TakesInto, TakesCertLine};
 ghost use Rattle.hose_cert.specs.Following.{MayBeCost, MayBeHose, MayLeaveOut, MayNumber, MayUse};
 
 use crate::fault::CertFault;
@@ -50,8 +50,8 @@ pub(crate) fn take_line(
     told: Statement,
 ) -> Result<Option<Draft>, CertFault>
     requires stands { StandsSomehow top.now draft }
-    requires said { IsSaid top.now (line_of told) }
-    ensures takes { IfOk result (TakesLine top.now draft (line_of told)) }
+    requires said { IsSaid top.now (statement_line told) }
+    ensures takes { IfOk result (TakesCertLine top.now draft (statement_line told)) }
     ensures memory { IfErr result (λ fault. fault ≡ CertFault.Memory) }
 {
     match draft {
@@ -63,8 +63,8 @@ pub(crate) fn take_line(
 
 // What a statement of the cost says.
 fn as_cost(told: Statement) -> Option<u64>
-    ensures { MatchOption result ((network : Network) → MayBeCost network (line_of told) → ⊥)
-        (λ cost. line_of told ≡ cost_line cost) }
+    ensures { MatchOption result ((network : Network) → MayBeCost network (statement_line told) → ⊥)
+        (λ cost. statement_line told ≡ cost_line cost) }
 {
     match told {
         Statement::Cost(cost) => Some(cost),
@@ -79,8 +79,8 @@ fn as_cost(told: Statement) -> Option<u64>
 // What a statement of the hose says.
 fn as_hose(told: Statement) -> Option<Hose>
     ensures { MatchOption result ((network : Network) (cost : ℕ)
-        → MayBeHose network cost (line_of told) → ⊥)
-        (λ hose. line_of told ≡ hose_line hose) }
+        → MayBeHose network cost (statement_line told) → ⊥)
+        (λ hose. statement_line told ≡ hose_line hose) }
 {
     match told {
         Statement::Hose(hose) => Some(hose),
@@ -94,8 +94,8 @@ fn as_hose(told: Statement) -> Option<Hose>
 
 // The draft of nothing with one line more.
 fn take_cost(top: &Topology, told: Statement) -> Option<Draft>
-    requires { IsSaid top.now (line_of told) }
-    ensures { TakesLine top.now Draft.Start (line_of told) result }
+    requires { IsSaid top.now (statement_line told) }
+    ensures { TakesCertLine top.now Draft.Start (statement_line told) result }
 {
     let Some(cost) = as_cost(told) else {
         return None;
@@ -111,8 +111,8 @@ fn take_hose(
     told: Statement,
 ) -> Result<Option<Draft>, CertFault>
     requires stands { StandsSomehow top.now (Draft.Cost cost) }
-    requires said { IsSaid top.now (line_of told) }
-    ensures takes { IfOk result (TakesLine top.now (Draft.Cost cost) (line_of told)) }
+    requires said { IsSaid top.now (statement_line told) }
+    ensures takes { IfOk result (TakesCertLine top.now (Draft.Cost cost) (statement_line told)) }
     ensures memory { IfErr result (λ fault. fault ≡ CertFault.Memory) }
 {
     let Some(hose) = as_hose(told) else {
@@ -138,8 +138,8 @@ fn take_hose(
 // What was read with one line more.
 fn take_into(top: &Topology, body: Body, told: Statement) -> Result<Option<Body>, CertFault>
     requires stands { IsBodySomehow top.now body }
-    requires said { IsSaid top.now (line_of told) }
-    ensures takes { IfOk result (TakesInto top.now body (line_of told)) }
+    requires said { IsSaid top.now (statement_line told) }
+    ensures takes { IfOk result (TakesInto top.now body (statement_line told)) }
     ensures memory { IfErr result (λ fault. fault ≡ CertFault.Memory) }
 {
     match told {
@@ -152,7 +152,7 @@ fn take_into(top: &Topology, body: Body, told: Statement) -> Result<Option<Body>
     }
 }
 
-// The same with a line of the plan.
+// What was read with one line more, which is of the plan.
 fn take_use(top: &Topology, body: Body, pair: ReservedLink) -> Result<Option<Body>, CertFault>
     requires stands { IsBodySomehow top.now body }
     requires said { IsSaid top.now (use_line pair) }
@@ -171,7 +171,7 @@ fn take_use(top: &Topology, body: Body, pair: ReservedLink) -> Result<Option<Bod
     Ok(Some(body))
 }
 
-// The same with a line of a link that was left out.
+// What was read with one line more, which is of a link that was left out.
 fn take_without(top: &Topology, body: Body, link: u32) -> Option<Body>
     requires stands { IsBodySomehow top.now body }
     requires said { IsSaid top.now (without_line link) }
@@ -189,7 +189,7 @@ fn take_without(top: &Topology, body: Body, link: u32) -> Option<Body>
     Some(body)
 }
 
-// The same with a line of numbers.
+// What was read with one line more, which is of numbers.
 fn take_pot(top: &Topology, body: Body, pot: Pot) -> Result<Option<Body>, CertFault>
     requires stands { IsBodySomehow top.now body }
     requires said { IsSaid top.now (pot_line pot.root pot.from pot.numbers.items) }
@@ -216,7 +216,7 @@ fn take_pot(top: &Topology, body: Body, pot: Pot) -> Result<Option<Body>, CertFa
     Ok(Some(body))
 }
 
-// The same with the line that ends it.
+// What was read with one line more, which ends it.
 fn take_end(top: &Topology, body: Body) -> Option<Body>
     requires stands { IsBodySomehow top.now body }
     ensures { TakesInto top.now body end_line result }

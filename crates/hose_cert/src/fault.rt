@@ -1,6 +1,6 @@
 // Why a certificate was not judged, or not written.
 ghost use Rattle.std.specs.Prelude.{◌≡◌};
-ghost use Rattle.hose_cert.specs.Fault.{of_line};
+ghost use Rattle.hose_cert.specs.Fault.{fault_of_line};
 ghost use Rattle.hose_cert.specs.declared.fault.CertFault.TheVariants.{Memory};
 ghost use Rattle.hose_cert.specs.declared.fault.ProveFault.TheVariants as prove;
 
@@ -36,7 +36,7 @@ impl From<AllocError> for CertFault {
 }
 
 impl From<LineFault> for CertFault {
-    ghost from_gives = { λ line fault. fault ≡ of_line line };
+    ghost from_gives = { λ line fault. fault ≡ fault_of_line line };
 
     fn from(fault: LineFault) -> CertFault {
         match fault {

@@ -42,13 +42,12 @@ ghost use Rattle.hose_cert.specs.CertLine.{CertLine};
 ghost use Rattle.hose_cert.specs.Certificate.{IsCertText};
 ghost use Rattle.hose_cert.specs.Taking.{IsAllRead, ReadsUpTo, fault_in};
 ghost use Rattle.hose_cert.specs.Rules.{Claim};
-ghost use Rattle.hose_cert.specs.Verdict.{AreCheapestFound, IsFound, IsValid, IsYesOf};
+ghost use Rattle.hose_cert.specs.Verdict.{AreCheapestFound, IsVerdict, IsValid, IsYesOf};
 ghost use Rattle.hose_cert.specs.Written.{Writes};
 
 mod draft;
 mod fault;
 mod judging;
-mod limits;
 mod parsing;
 mod reading;
 mod rows;
@@ -63,8 +62,8 @@ use hose_paths::{RowMaker, all_links};
 use hose_plan::plan;
 use hose_words::LineReader;
 use judging::judge;
-pub use limits::{LINE_NUMBERS, MOST_NUMBER};
 use reading::{read_text, refuse};
+pub use statement::{LINE_NUMBERS, MOST_NUMBER};
 use std::alloc::Global;
 use writing::put_plan;
 
@@ -101,7 +100,7 @@ pub fn check_certificate<S: Source>(
 ) -> Result<Verdict, CertFault>
     // All that was to come is a certificate that is valid, or breaks this rule first.
     ensures found { WhereTold (S.content lines.old.source) (S.content lines.new.source)
-        (λ before _. IfOk result (IsFound top.now (lines.old.pending ++ before))) }
+        (λ before _. IfOk result (IsVerdict top.now (lines.old.pending ++ before))) }
     ensures all { OnOk result (IsAllRead S.Source lines.old lines.new) }
 
     // It is found valid exactly where it is so. A text has the lines of one certificate at most.

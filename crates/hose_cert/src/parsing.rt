@@ -2,11 +2,10 @@
 ghost use Rattle.std.specs.Prelude.{◌≡◌, ◌≤◌, ◌↔◌, ℕ, List, [], ◌∷◌, IfErr, IfOk, IfNone, IfSome, IsTrue, MatchOption, decimal, length};
 ghost use Rattle.hose_graph.specs.Network.{Network, IsNetwork};
 ghost use Rattle.hose_cert.specs.CertLine.{IsSpaced, IsSpelled, SaysLine};
-ghost use Rattle.hose_cert.specs.Reading.{AreNumbers, IsFrom, IsTold, IsToldAfter};
+ghost use Rattle.hose_cert.specs.Reading.{AreNumbers, IsFrom, IsLineTold, IsToldAfter};
 
 use crate::fault::CertFault;
-use crate::limits::{LINE_NUMBERS, MOST_NUMBER};
-use crate::statement::{Kind, Pot, Statement};
+use crate::statement::{Kind, LINE_NUMBERS, MOST_NUMBER, Pot, Statement};
 use hose_graph::{MOST_AMOUNT, Topology};
 use hose_proto::{ReadFault, read_hose};
 use hose_words::Cursor;
@@ -18,7 +17,7 @@ pub(crate) fn read_line(
     top: &Topology,
     line: &[u8],
 ) -> Result<Option<Statement>, CertFault>
-    ensures told { IfOk result (IsTold (SaysLine top.now line.now)) }
+    ensures told { IfOk result (IsLineTold (SaysLine top.now line.now)) }
     ensures memory { IfErr result (λ fault. fault ≡ CertFault.Memory) }
     ensures network { IsNetwork top.now }
 {
@@ -46,7 +45,7 @@ fn read_words(
     words: &mut Cursor<'_>,
 ) -> Result<Option<Statement>, CertFault>
     requires { IsNetwork top.now }
-    ensures told { IfOk result (IsTold (IsSpelled top.now words.old.left)) }
+    ensures told { IfOk result (IsLineTold (IsSpelled top.now words.old.left)) }
     ensures memory { IfErr result (λ fault. fault ≡ CertFault.Memory) }
 {
     let Ok(kind) = words.keyword::<Kind>() else {

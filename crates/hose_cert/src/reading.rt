@@ -2,7 +2,7 @@
 ghost use Rattle.std.specs.Prelude.{◌≡◌, IfErr, IfOk, OnOk};
 ghost use Rattle.hose_graph.specs.Network.{IsNetwork};
 ghost use Rattle.hose_cert.specs.Draft.{StandsSomehow};
-ghost use Rattle.hose_cert.specs.Taking.{IsAllRead, IsStep, PassesOne, ReadsText, ReadsUpTo, TakesNext, fault_in};
+ghost use Rattle.hose_cert.specs.Taking.{IsAllRead, IsDraftStep, PassesOne, ReadsCertText, ReadsUpTo, IsNextStep, fault_in};
 
 use crate::Verdict;
 use crate::draft::{Body, Draft, take_line};
@@ -31,7 +31,7 @@ pub(crate) fn read_text<S: Source>(
     top: &Topology,
     lines: &mut LineReader<S>,
 ) -> Result<Option<Body>, CertFault>
-    ensures text { ReadsText S.Source top.now lines.old lines.new result }
+    ensures text { ReadsCertText S.Source top.now lines.old lines.new result }
     ensures reads { ReadsUpTo S.Source lines.old lines.new (fault_in result) }
     ensures network { IsNetwork top.now }
 {
@@ -56,7 +56,7 @@ fn take_next<S: Source>(
     lines: &mut LineReader<S>,
 ) -> Result<Step, CertFault>
     requires { StandsSomehow top.now draft }
-    ensures { TakesNext S.Source top.now draft lines.old lines.new result }
+    ensures { IsNextStep S.Source top.now draft lines.old lines.new result }
 {
     match lines.next()? {
         Some(Line::Text(line)) => take_text(alloc, top, draft, line),
@@ -68,7 +68,7 @@ fn take_next<S: Source>(
 // Takes a line that is shown into the draft.
 fn take_text(alloc: Global, top: &Topology, draft: Draft, line: &[u8]) -> Result<Step, CertFault>
     requires { StandsSomehow top.now draft }
-    ensures step { IfOk result (IsStep top.now draft line.now) }
+    ensures step { IfOk result (IsDraftStep top.now draft line.now) }
     ensures memory { IfErr result (λ fault. fault ≡ CertFault.Memory) }
 {
     let Some(told) = read_line(alloc, top, line)? else {

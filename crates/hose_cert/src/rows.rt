@@ -4,9 +4,9 @@ ghost use Rattle.hose_graph.specs.Hose.{node_of};
 ghost use Rattle.hose_graph.specs.Network.{IsLinkOf};
 ghost use Rattle.hose_law.specs.Plan.{AreNodes};
 ghost use Rattle.hose_cert.specs.Rules.{DifferWithinCosts, others_of, weighed_by};
-ghost use Rattle.hose_cert.specs.Judging.{AreUpTo, ChangesWithin, IsJudged, IsKept};
+ghost use Rattle.hose_cert.specs.Judging.{AreUpToMost, ChangesWithin, IsRootJudged, ChangesWithinKept};
 
-use crate::limits::MOST_NUMBER;
+use crate::statement::MOST_NUMBER;
 use hose_graph::{Hose, Topology};
 use hose_links::LinkSet;
 
@@ -29,10 +29,10 @@ pub struct Rows {
 pub(crate) fn judge_row(top: &Topology, cost: u64, hose: &Hose, without: &LinkSet, rows: &mut Rows)
     requires root { rows.old.root < length top.now.nodes }
     requires places { length rows.old.row.items ≡ length top.now.nodes }
-    requires numbers { AreUpTo rows.old.row.items }
+    requires numbers { AreUpToMost rows.old.row.items }
     requires nodes { AreNodes top.now hose.now }
     requires links { length without.now ≡ length top.now.links }
-    ensures { IsJudged top.now cost hose.now without.now rows.old rows.new }
+    ensures { IsRootJudged top.now cost hose.now without.now rows.old rows.new }
 {
     // There are few enough of them that the next root's number fits.
     let _nodes = top.nodes();
@@ -50,7 +50,7 @@ pub(crate) fn judge_row(top: &Topology, cost: u64, hose: &Hose, without: &LinkSe
 // Whether along no link that is not left out numbers change by more than its cost.
 fn change_within(top: &Topology, without: &LinkSet, row: &[u64]) -> bool
     requires places { length row.now ≡ length top.now.nodes }
-    requires numbers { AreUpTo row.now }
+    requires numbers { AreUpToMost row.now }
     requires links { length without.now ≡ length top.now.links }
     ensures { IsTrue result ↔ DifferWithinCosts top.now (others_of without.now) row.now }
 {
@@ -66,9 +66,9 @@ fn change_within(top: &Topology, without: &LinkSet, row: &[u64]) -> bool
 fn is_kept(top: &Topology, without: &LinkSet, link: u32, row: &[u64]) -> bool
     requires link { IsLinkOf top.now link }
     requires places { length row.now ≡ length top.now.nodes }
-    requires numbers { AreUpTo row.now }
+    requires numbers { AreUpToMost row.now }
     requires links { length without.now ≡ length top.now.links }
-    ensures { IsTrue result ↔ IsKept top.now without.now link row.now }
+    ensures { IsTrue result ↔ ChangesWithinKept top.now without.now link row.now }
 {
     if without.has(link) {
         return true;
@@ -80,7 +80,7 @@ fn is_kept(top: &Topology, without: &LinkSet, link: u32, row: &[u64]) -> bool
 fn changes_within(top: &Topology, link: u32, row: &[u64]) -> bool
     requires link { IsLinkOf top.now link }
     requires places { length row.now ≡ length top.now.nodes }
-    requires numbers { AreUpTo row.now }
+    requires numbers { AreUpToMost row.now }
     ensures { IsTrue result ↔ ChangesWithin top.now link row.now }
 {
     let link = top.link(link);
@@ -91,7 +91,7 @@ fn changes_within(top: &Topology, link: u32, row: &[u64]) -> bool
 
 // What a hose weighs by the numbers of a root.
 fn weight(hose: &Hose, row: &[u64]) -> u128
-    requires numbers { AreUpTo row.now }
+    requires numbers { AreUpToMost row.now }
     requires nodes { All (λ end. node_of end < length row.now) hose.now }
     ensures { result ≡ weighed_by row.now hose.now }
 {

@@ -1,9 +1,15 @@
-// What a line of a certificate says, and the words that begin it.
+// What a line of a certificate says, the words that begin it, and the limits of its numbers.
 ghost use Rattle.std.specs.Prelude.{◌≡◌};
-ghost use Rattle.hose_cert.specs.Statement.{kind_word};
+ghost use Rattle.hose_cert.specs.Statement.{statement_word};
 
 use hose_graph::{Hose, ReservedLink};
 use hose_words::Keyword;
+
+/// The greatest cost and the greatest number of a certificate, above each cost of a plan.
+pub const MOST_NUMBER: u64 = 40_000_000_000_000_000;
+
+/// How many numbers of a root stand in a line at most.
+pub const LINE_NUMBERS: u32 = 64;
 
 /// What a line of a certificate says.
 #[derive(Drop)]
@@ -45,7 +51,7 @@ const KINDS: [Kind; 6] = [
 ];
 
 impl Keyword for Kind {
-    ghost word_of = { kind_word };
+    ghost word_of = { statement_word };
 
     fn of(word: &[u8]) -> Option<Kind> {
         for kind in KINDS {
@@ -59,7 +65,7 @@ impl Keyword for Kind {
 
 impl Kind {
     fn word(self) -> &'static [u8]
-        ensures { result.now ≡ kind_word self }
+        ensures { result.now ≡ statement_word self }
     {
         match self {
             Kind::Cost => b"cost",

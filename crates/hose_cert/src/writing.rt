@@ -13,10 +13,10 @@ ghost use Rattle.hose_tree.specs.Amounts.{AreOnLinks};
 ghost use Rattle.hose_proto.specs.ReplyText.{end_text, line_of, node_text};
 ghost use Rattle.hose_cert.specs.CertLine.{cost_line, hose_line};
 ghost use Rattle.hose_cert.specs.Adding.{AddsRoots};
-ghost use Rattle.hose_cert.specs.Written.{Writes, block_line, blocks_of, first_lines, line_text, number_text, numbers_of, root_lines, text_of, use_text};
+ghost use Rattle.hose_cert.specs.Written.{Writes, block_line, blocks_of, first_lines, line_text, number_text, numbers_of, root_lines, certificate_text, use_text};
 
 use crate::fault::ProveFault;
-use crate::limits::LINE_NUMBERS;
+use crate::statement::LINE_NUMBERS;
 use hose_graph::{Amounts, Endpoint, Hose, MOST_AMOUNT, MOST_TREE_LINKS, ReservedLink, Topology};
 use hose_io::{Gather, Sink};
 use hose_links::LinkSet;
@@ -70,7 +70,7 @@ fn add_first_lines<S: Sink>(
     requires nodes { AreNodes top.now hose.now }
     requires cost { cost ≡ plan_cost top.now pairs.now }
     ensures { IsAdded S.Sink gather.old sink.old gather.new sink.new
-        (text_of top.now (first_lines top.now hose.now pairs.now)) }
+        (certificate_text top.now (first_lines top.now hose.now pairs.now)) }
 {
     add_number(gather, sink, b"cost ", cost);
     gather.add(sink, b"\n");
@@ -165,7 +165,7 @@ fn add_root<S: Sink>(
 )
     requires { length dist.now ≡ length top.now.nodes }
     ensures { IsAdded S.Sink gather.old sink.old gather.new sink.new
-        (text_of top.now (root_lines top.now root (numbers_of most dist.now))) }
+        (certificate_text top.now (root_lines top.now root (numbers_of most dist.now))) }
 {
     let blocks = (top.nodes() + (LINE_NUMBERS - 1)) / LINE_NUMBERS;
     for block in 0..blocks {

@@ -1,6 +1,9 @@
 use Rattle.std.proofs.Common.{None, Some, Ok, Err}
-use Rattle.hose_cert.proofs.LinesRead.{still_up_to, up_to_passed, up_to_then}
+use Rattle.hose_cert.proofs.LinesRead.{still_up_to, up_to_passed, up_to_start, up_to_then}
 use Rattle.hose_cert.proofs.reading.pass_over.Goals as goal
+
+pub loop-init : goal.loop-init
+loop-init g c = up_to_start g.S.Source c.args.lines.now
 
 pub returns-in_err-pass_one-clause-reads : goal.returns-in_err-pass_one-clause-reads
 returns-in_err-pass_one-clause-reads g c =

@@ -1,5 +1,5 @@
 use Rattle.std.proofs.Common.{None, ◌+◌, ◌-◌, length}
-use Rattle.hose_words.specs.declared.limits.TheConstants.{INPUT_LIMIT}
+use Rattle.hose_words.specs.declared.lines.TheConstants.{INPUT_LIMIT}
 use Rattle.hose_cert.specs.Taking.{ReadsUpTo}
 use Rattle.hose_cert.proofs.reading.pass_over.Given as goal
 

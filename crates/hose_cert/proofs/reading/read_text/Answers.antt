@@ -1,6 +1,9 @@
 use Rattle.std.proofs.Common.{None, Some, Ok, Err}
-use Rattle.hose_cert.proofs.LinesRead.{has_all, has_more, has_refused, still_up_to, up_to_taken, up_to_then}
+use Rattle.hose_cert.proofs.LinesRead.{has_all, has_more, has_none, has_refused, still_up_to, up_to_taken, up_to_then}
 use Rattle.hose_cert.proofs.reading.read_text.Goals as goal
+
+pub loop-more-init : goal.loop-more-init
+loop-more-init g c = has_none g.S.Source c.args.top.now c.args.lines.now
 
 pub returns-in_err-more-clause-reads : goal.returns-in_err-more-clause-reads
 returns-in_err-more-clause-reads g c =

@@ -1,7 +1,7 @@
 use Rattle.std.proofs.Common.{subst}
 use Rattle.hose_words.specs.Words.{words_of}
-use Rattle.hose_cert.specs.CertLine.{line_of}
-use Rattle.hose_cert.specs.Draft.{IsRefused}
+use Rattle.hose_cert.specs.CertLine.{statement_line}
+use Rattle.hose_cert.specs.Draft.{IsRefusedLine}
 use Rattle.hose_cert.proofs.Spelling.{spelled_once}
 use Rattle.hose_cert.proofs.reading.take_text.Goals as goal
 
@@ -14,11 +14,11 @@ pub returns-in-Some-2-clause-step : goal.returns-in-Some-2-clause-step
 returns-in-Some-2-clause-step c =
     let says = rw c.in-Some.is at c.in_ok-told.ensures.told in
     let takes = rw c.in-Some-2.is at c.in_ok-more.ensures.takes in
-    (line_of c.in-Some.told, says, takes)
+    (statement_line c.in-Some.told, says, takes)
 
 pub returns-in-None-clause-step : goal.returns-in-None-clause-step
 returns-in-None-clause-step c = λ lines stands line there.
     let says = rw c.in-Some.is at c.in_ok-told.ensures.told in
     let takes = rw c.in-None.is at c.in_ok-more.ensures.takes in
-    subst (IsRefused c.args.top.now lines) (spelled_once c.args.top.now c.read_line.ensures.network (words_of c.args.line.now) (line_of c.in-Some.told) line says.spelled there.spelled)
+    subst (IsRefusedLine c.args.top.now lines) (spelled_once c.args.top.now c.read_line.ensures.network (words_of c.args.line.now) (statement_line c.in-Some.told) line says.spelled there.spelled)
     (takes lines stands)

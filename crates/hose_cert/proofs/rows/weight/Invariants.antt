@@ -2,7 +2,7 @@
 use Rattle.std.proofs.Common.{◌≡◌, ◌*◌, ◌≤◌, take}
 use Rattle.hose_graph.specs.declared.limits.TheConstants.{MOST_RATE}
 use Rattle.hose_cert.specs.Rules.{weighed_by}
-use Rattle.hose_cert.specs.declared.limits.TheConstants.{MOST_NUMBER}
+use Rattle.hose_cert.specs.declared.statement.TheConstants.{MOST_NUMBER}
 use Rattle.hose_cert.proofs.rows.weight.Given as goal
 
 abbrev pub invariant-loop-node : goal.invariant-loop-node

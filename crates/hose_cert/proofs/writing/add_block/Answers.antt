@@ -1,7 +1,7 @@
 use Rattle.std.proofs.Common.{ℕ, ◌+◌, ◌-◌, ◌*◌, arith}
 use Rattle.hose_io.proofs.Gathering.{IsAdded-next}
 use Rattle.hose_cert.specs.CertLine.{numbers_from}
-use Rattle.hose_cert.specs.declared.limits.TheConstants.{LINE_NUMBERS}
+use Rattle.hose_cert.specs.declared.statement.TheConstants.{LINE_NUMBERS}
 use Rattle.hose_cert.proofs.Added.{numbers_between}
 use Rattle.hose_cert.proofs.writing.add_block.Goals as goal
 

@@ -1,7 +1,6 @@
 use Rattle.std.proofs.Common.{[], arith, codes}
-use Rattle.hose_io.proofs.Gathering.{IsAdded-item}
+use Rattle.hose_io.proofs.Gathering.{IsAdded-item, IsAdded-two}
 use Rattle.hose_proto.specs.ReplyText.{end_text}
-use Rattle.hose_proto.proofs.Adding.{IsAdded-two}
 use Rattle.hose_cert.proofs.writing.add_ends.Goals as goal
 
 pub loop-end-preserved : goal.loop-end-preserved
