@@ -11,7 +11,7 @@ use Rattle.hose_journal.specs.Chain.{chain}
 use Rattle.hose_journal.specs.Entries.{Item, closed_record, entered, entries_format, entries_in, entries_reader, entry_bytes, front_of, item_bytes, record_bytes, seal_bytes, sealed, IsListOf}
 use Rattle.hose_journal.specs.Gates.{Starts, IsDoubtful}
 use Rattle.hose_journal.specs.Image.{IsClosed}
-use Rattle.hose_journal.specs.Journal.{Account, Stands, IsKept, IsListWith, IsAmid, with_doubt, with_entry}
+use Rattle.hose_journal.specs.Journal.{Account, Stands, IsStopImage, IsListWith, IsListAmid, with_doubt, account_with}
 use Rattle.hose_journal.specs.Moments.{Images, LeavesOnly}
 use Rattle.hose_journal.proofs.Chains.{length-chain}
 use Rattle.hose_journal.proofs.Items.{chained_entry, chained_seal, entries_push, entries_seal, length-front, length-item, length-seal}
@@ -22,7 +22,7 @@ module _ {D : Type 0} (disk : Ghosts D) where
   -- ---- what the doubt says
 
   doubt_by : (version : ℕ) (items : List Item) (digest : List ℕ) (entries : List Entry) (doubt : Option Entry) (flag : Bool) (now : D) → is_some doubt ≡ flag → IsTrue flag → IfSome doubt IsEntry
-      → Images disk now (IsKept version items (record { digest = digest; entries = entries; doubt = doubt }))
+      → Images disk now (IsStopImage version items (record { digest = digest; entries = entries; doubt = doubt }))
       → (entry : Entry) × (doubt ≡ Some entry) × IsEntry entry × Images disk now (IsDoubtful (front_of version digest items) (closed_record version digest items (entered entry)))
   doubt_by version items digest entries None flag now some raised is images = absurd (let clash : false ≡ true = some ∙ raised in cc)
   doubt_by version items digest entries (Some entry) flag now some raised is images = (entry, refl, is, images)
@@ -48,7 +48,7 @@ module _ {D : Type 0} (disk : Ghosts D) where
 
     -- where none is in doubt
     pub closed_now : account.doubt ≡ None → Images disk journal.disk (IsClosed here)
-    closed_now none image is = subst (λ (doubt : Option Entry). IsKept stands.version stands.items (with_doubt account doubt) image) none (stands.images image is)
+    closed_now none image is = subst (λ (doubt : Option Entry). IsStopImage stands.version stands.items (with_doubt account doubt) image) none (stands.images image is)
 
     pub closed_sure : IsFalse journal.doubt → Images disk journal.disk (IsClosed here)
     closed_sure clear = closed_now (sure_by account.doubt journal.doubt stands.doubt clear)
@@ -77,22 +77,22 @@ module _ {D : Type 0} (disk : Ghosts D) where
         subst (λ (l : List Entry). IsListOf account.digest l image) stands.entries
         (doubtful_seal stands.version account.digest image stands.items stands.is_version stands.are (stands.sealed ∙ plain) doubtful)
 
-    pub amid_closed : (writing : Option Entry) (image : List ℕ) → IsClosed here image → IsAmid account writing image
+    pub amid_closed : (writing : Option Entry) (image : List ℕ) → IsClosed here image → IsListAmid account writing image
     amid_closed writing image closed = inl (list_closed image closed)
 
-    pub amid_writing : (entry : Entry) (image : List ℕ) → IsEntry entry → IsDoubtful here (closed_here (entered entry)) image → IsAmid account (Some entry) image
+    pub amid_writing : (entry : Entry) (image : List ℕ) → IsEntry entry → IsDoubtful here (closed_here (entered entry)) image → IsListAmid account (Some entry) image
     amid_writing entry image is doubtful = ⊎_elim (λ list. inl list) (λ more. inr (inr more)) (list_doubtful entry image is doubtful)
 
-    pub amid_in_doubt : (entry : Entry) (writing : Option Entry) (image : List ℕ) → account.doubt ≡ Some entry → IsEntry entry → IsDoubtful here (closed_here (entered entry)) image → IsAmid account writing image
+    pub amid_in_doubt : (entry : Entry) (writing : Option Entry) (image : List ℕ) → account.doubt ≡ Some entry → IsEntry entry → IsDoubtful here (closed_here (entered entry)) image → IsListAmid account writing image
     amid_in_doubt entry writing image same is doubtful =
         ⊎_elim (λ list. inl list) (λ more. inr (inl (subst (λ (doubt : Option Entry). IsListWith account doubt image) (sym same) more))) (list_doubtful entry image is doubtful)
 
     -- each image stands for the entries, with that in doubt or without it
-    kept_amid : (doubt : Option Entry) (image : List ℕ) → account.doubt ≡ doubt → IfSome doubt IsEntry → IsKept stands.version stands.items (with_doubt account doubt) image → IsAmid account None image
+    kept_amid : (doubt : Option Entry) (image : List ℕ) → account.doubt ≡ doubt → IfSome doubt IsEntry → IsStopImage stands.version stands.items (with_doubt account doubt) image → IsListAmid account None image
     kept_amid None image same is kept = amid_closed None image kept
     kept_amid (Some entry) image same is kept = amid_in_doubt entry None image same is kept
 
-    pub stands_amid : Images disk journal.disk (IsAmid account None)
+    pub stands_amid : Images disk journal.disk (IsListAmid account None)
     stands_amid image is = kept_amid account.doubt image refl stands.doubt_is (stands.images image is)
 
     -- where none is in doubt, each stands for the entries
@@ -103,7 +103,7 @@ module _ {D : Type 0} (disk : Ghosts D) where
 
     -- the journal with another doubt, and nothing else changed
     pub stands_on : (new : Journal D) (doubt : Option Entry) → new.gate ≡ journal.gate → is_some doubt ≡ new.doubt → new.sealed ≡ journal.sealed → new.chain ≡ journal.chain → BUFFER_BYTES ≤ vec_capacity new.buffer
-        → IfSome doubt IsEntry → Images disk new.disk (IsKept stands.version stands.items (with_doubt account doubt)) → Stands disk new (with_doubt account doubt)
+        → IfSome doubt IsEntry → Images disk new.disk (IsStopImage stands.version stands.items (with_doubt account doubt)) → Stands disk new (with_doubt account doubt)
     stands_on new doubt gate flag as_sealed as_chain room is images = record {
       version = stands.version;
       items = stands.items;
@@ -126,7 +126,7 @@ module _ {D : Type 0} (disk : Ghosts D) where
         → Images disk new.disk (IsDoubtful here (closed_here (entered entry))) → Stands disk new account
     stands_kept new entry same gate flag as_sealed as_chain room images =
         stands_on new account.doubt gate (stands.doubt ∙ sym flag) as_sealed as_chain room stands.doubt_is
-        (λ image is. subst (λ (doubt : Option Entry). IsKept stands.version stands.items (with_doubt account doubt) image) (sym same) (images image is))
+        (λ image is. subst (λ (doubt : Option Entry). IsStopImage stands.version stands.items (with_doubt account doubt) image) (sym same) (images image is))
 
     -- the record of an entry in a sealed journal is by what the journal knows
     closed_is : (entry : Entry) → IsTrue journal.sealed → closed_here (entered entry) ≡ entry_bytes true account.digest account.entries entry ++ CLOSED ∷ []
@@ -157,7 +157,7 @@ module _ {D : Type 0} (disk : Ghosts D) where
 
     pub stands_added : (new : Journal D) (entry : Entry) → IsEntry entry → length account.entries < MOST_EPOCH → new.gate ≡ journal.gate + length (closed_here (entered entry)) → false ≡ new.doubt → new.sealed ≡ journal.sealed
         → new.chain ≡ chain account.digest (account.entries ++ entry ∷ []) → BUFFER_BYTES ≤ vec_capacity new.buffer
-        → Images disk new.disk (Starts (here ++ OPEN ∷ closed_here (entered entry))) → Stands disk new (with_entry account entry)
+        → Images disk new.disk (Starts (here ++ OPEN ∷ closed_here (entered entry))) → Stands disk new (account_with account entry)
     stands_added new entry is few gate flag as_sealed is_chain room images =
         let format = entries_format stands.version account.digest in
         let bytes = item_bytes stands.version account.digest stands.items (entered entry) in
@@ -199,7 +199,7 @@ module _ {D : Type 0} (disk : Ghosts D) where
           chain = as_chain ∙ stands.chain;
           room = room;
           images = λ image is_image.
-              subst (λ (doubt : Option Entry). IsKept stands.version (stands.items ++ sealed ∷ []) (with_doubt account doubt) image) (sym none)
+              subst (λ (doubt : Option Entry). IsStopImage stands.version (stands.items ++ sealed ∷ []) (with_doubt account doubt) image) (sym none)
               (opened_is_closed format stands.version account.digest image stands.items sealed (images image is_image));
         }
 
@@ -212,24 +212,24 @@ module _ {D : Type 0} (disk : Ghosts D) where
 
     -- ---- the moments
 
-    pub revoked : (old now : D) (entry : Entry) → account.doubt ≡ Some entry → IsEntry entry → LeavesOnly disk old now (IsDoubtful here (closed_here (entered entry))) → LeavesOnly disk old now (IsAmid account None)
-    revoked old now entry same is run = weaker disk old now _ (IsAmid account None) (λ image. amid_in_doubt entry None image same is) run
+    pub revoked : (old now : D) (entry : Entry) → account.doubt ≡ Some entry → IsEntry entry → LeavesOnly disk old now (IsDoubtful here (closed_here (entered entry))) → LeavesOnly disk old now (IsListAmid account None)
+    revoked old now entry same is run = weaker disk old now _ (IsListAmid account None) (λ image. amid_in_doubt entry None image same is) run
 
-  amid_more : (account : Account) (entry : Entry) (image : List ℕ) → IsAmid account None image → IsAmid account (Some entry) image
+  amid_more : (account : Account) (entry : Entry) (image : List ℕ) → IsListAmid account None image → IsListAmid account (Some entry) image
   amid_more account entry image (inl list) = inl list
   amid_more account entry image (inr (inl doubt)) = inr (inl doubt)
   amid_more account entry image (inr (inr none)) = absurd none
 
   -- an image amid the writing of an entry after the doubt was cleared
-  amid_cleared : (account : Account) (entry : Entry) (image : List ℕ) → IsAmid (with_doubt account None) (Some entry) image → IsAmid account (Some entry) image
+  amid_cleared : (account : Account) (entry : Entry) (image : List ℕ) → IsListAmid (with_doubt account None) (Some entry) image → IsListAmid account (Some entry) image
   amid_cleared account entry image (inl list) = inl list
   amid_cleared account entry image (inr (inl none)) = absurd none
   amid_cleared account entry image (inr (inr more)) = inr (inr more)
 
-  pub settled_then : (account : Account) (old now : D) (entry : Entry) → LeavesOnly disk old now (IsAmid account None) → LeavesOnly disk old now (IsAmid account (Some entry))
-  settled_then account old now entry run = weaker disk old now _ (IsAmid account (Some entry)) (amid_more account entry) run
+  pub settled_then : (account : Account) (old now : D) (entry : Entry) → LeavesOnly disk old now (IsListAmid account None) → LeavesOnly disk old now (IsListAmid account (Some entry))
+  settled_then account old now entry run = weaker disk old now _ (IsListAmid account (Some entry)) (amid_more account entry) run
 
-  pub cleared_then : (account : Account) (old mid now : D) (entry : Entry) (P : List ℕ → Type 0) → ((image : List ℕ) → P image → IsAmid (with_doubt account None) (Some entry) image)
-      → LeavesOnly disk old mid (IsAmid account (Some entry)) → LeavesOnly disk mid now P → LeavesOnly disk old now (IsAmid account (Some entry))
+  pub cleared_then : (account : Account) (old mid now : D) (entry : Entry) (P : List ℕ → Type 0) → ((image : List ℕ) → P image → IsListAmid (with_doubt account None) (Some entry) image)
+      → LeavesOnly disk old mid (IsListAmid account (Some entry)) → LeavesOnly disk mid now P → LeavesOnly disk old now (IsListAmid account (Some entry))
   cleared_then account old mid now entry P to first second =
-      joined disk old mid now (IsAmid account (Some entry)) first (weaker disk mid now P (IsAmid account (Some entry)) (λ image is. amid_cleared account entry image (to image is)) second)
+      joined disk old mid now (IsListAmid account (Some entry)) first (weaker disk mid now P (IsListAmid account (Some entry)) (λ image is. amid_cleared account entry image (to image is)) second)

@@ -2,7 +2,7 @@
 use Rattle.std.proofs.Common.{◌≡◌, ◌≢◌, inl, inr, ℕ, ◌+◌, ◌≤◌, List, [], ◌∷◌, ◌++◌, length, get_or, take, drop, refl, sym, ◌∙◌, ap, subst, arith, length-append, append-nil}
 use Rattle.std.proofs.lemmas.Bool.{cases_eq, cases_lt}
 use Rattle.std.proofs.lemmas.List.{take_all, drop_all, length-take}
-use Rattle.hose_disk.specs.Disk.{Torn, IsCut, IsTaken, StepsTo, NoneNew, Elapses}
+use Rattle.hose_disk.specs.Disk.{Torn, IsCut, IsTruncated, StepsTo, NoneNew, Elapses}
 use Rattle.hose_disk.specs.Images.{overwritten}
 use Rattle.hose_disk.specs.declared.disk.Disk.{Ghosts}
 use Rattle.hose_journal.specs.declared.layout.TheConstants.{OPEN, CLOSED, MARK, CHAINED, DIGEST_BYTES, EMPTY_BYTES, HEAD_BYTES}
@@ -92,7 +92,7 @@ head_moments disk old mid new digest tail size tail_is closed first lands second
     begun_list digest image tail gate.0 size tail_is gate.1) second)
 
 module _ {D : Type 0} (disk : Ghosts D) (old new : D) where
-  pub cut_empties : ((image : List ℕ) → disk.may_leave new image → (was : List ℕ) × disk.may_leave old was × IsTaken 0 was image) → Images disk new (λ image. image ≡ [])
+  pub cut_empties : ((image : List ℕ) → disk.may_leave new image → (was : List ℕ) × disk.may_leave old was × IsTruncated 0 was image) → Images disk new (λ image. image ≡ [])
   cut_empties step image is_image = (step image is_image).2
 
   pub first_keeps : Images disk old (λ image. image ≡ []) → (image : List ℕ) → IsTornFrom disk old 0 1 image → IsUnbegun image

@@ -1,4 +1,5 @@
 pub mod Accounts
+pub mod Appends
 pub mod Beginnings
 pub mod Chains
 pub mod Gates

@@ -3,8 +3,8 @@ use Rattle.std.proofs.Common.{◌≡◌, inl, inr, ℕ, ◌≤◌, List, [], ◌
 use Rattle.hose_graph.specs.declared.entry.Entry.{Entry}
 use Rattle.hose_codec.specs.Spelling.{IsEntry}
 use Rattle.hose_journal.specs.declared.layout.TheConstants.{OPEN, DIGEST_BYTES}
-use Rattle.hose_journal.specs.Entries.{AreTaken, IsListOf, IsTaken, Item, entered, entries_format, entries_in, entries_reader, front_of, item_bytes, narrow_reader, sealed}
-use Rattle.hose_journal.specs.Image.{AreItems, Format, IsBroken, IsClosed, StandsFor, front, head, listed, records}
+use Rattle.hose_journal.specs.Entries.{AreAllowed, IsListOf, MayBeNext, Item, entered, entries_format, entries_in, entries_reader, front_of, item_bytes, narrow_reader, sealed}
+use Rattle.hose_journal.specs.Image.{AreItems, Format, IsDamaged, IsClosed, HasMeaning, front, head, listed, records}
 use Rattle.hose_journal.specs.Reading.{IsFoundAt, IsReadUpTo}
 use Rattle.hose_journal.proofs.Items.{entries_push, entries_seal}
 use Rattle.hose_journal.proofs.Lists.{front_more}
@@ -25,15 +25,15 @@ module _ (Takes : List Entry → Entry → Type 0) (version : ℕ) (digest : Lis
   pub front_same : (items : List Item) → front narrow version digest items ≡ front_of version digest items
   front_same items = ap (λ (l : List ℕ). head version digest ++ l) (records_same [] items)
 
-  pub items_narrow : (before items : List Item) → AreItems wide before items → AreTaken Takes (entries_in before) (entries_in items) → AreItems narrow before items
+  pub items_narrow : (before items : List Item) → AreItems wide before items → AreAllowed Takes (entries_in before) (entries_in items) → AreItems narrow before items
   items_narrow before [] are taken = tt
   items_narrow before (entered entry ∷ items) are taken = (
     (are.0, taken.0),
-    items_narrow (before ++ entered entry ∷ []) items are.1 (subst (λ (l : List Entry). AreTaken Takes l (entries_in items)) (sym (entries_push before entry)) taken.1),
+    items_narrow (before ++ entered entry ∷ []) items are.1 (subst (λ (l : List Entry). AreAllowed Takes l (entries_in items)) (sym (entries_push before entry)) taken.1),
   )
   items_narrow before (sealed ∷ items) are taken = (
     (are.0, tt),
-    items_narrow (before ++ sealed ∷ []) items are.1 (subst (λ (l : List Entry). AreTaken Takes l (entries_in items)) (sym (entries_seal before)) taken),
+    items_narrow (before ++ sealed ∷ []) items are.1 (subst (λ (l : List Entry). AreAllowed Takes l (entries_in items)) (sym (entries_seal before)) taken),
   )
 
   pub items_wide : (before items : List Item) → AreItems narrow before items → AreItems wide before items
@@ -46,11 +46,11 @@ module _ (Takes : List Entry → Entry → Type 0) (version : ℕ) (digest : Lis
   last_entry before (first ∷ items) entry are = let rest = last_entry (before ++ first ∷ []) items entry are.1 in (rest.0, (are.0, rest.1))
 
 module _ (Takes : List Entry → Entry → Type 0) (digest : List ℕ) where
-  taken_first : (list all : List Entry) → all ≡ list → AreTaken Takes [] list → AreTaken Takes [] all
-  taken_first list all same taken = subst (λ (l : List Entry). AreTaken Takes [] l) (sym same) taken
+  taken_first : (list all : List Entry) → all ≡ list → AreAllowed Takes [] list → AreAllowed Takes [] all
+  taken_first list all same taken = subst (λ (l : List Entry). AreAllowed Takes [] l) (sym same) taken
 
   -- an image of a list all of whose entries are taken
-  pub narrowed : (list : List Entry) (image : List ℕ) → AreTaken Takes [] list → IsListOf digest list image → StandsFor (narrow_reader Takes) digest image (listed list)
+  pub narrowed : (list : List Entry) (image : List ℕ) → AreAllowed Takes [] list → IsListOf digest list image → HasMeaning (narrow_reader Takes) digest image (listed list)
   narrowed list image taken (inl unbegun) = inl unbegun
   narrowed list image taken (inr is) = inr (record {
     version = is.version;
@@ -61,7 +61,7 @@ module _ (Takes : List Entry → Entry → Type 0) (digest : List ℕ) where
     closed = subst (λ (l : List ℕ). IsClosed l image) (sym (front_same Takes is.version digest is.items)) is.closed;
   })
 
-  pub widened : (list : List Entry) (image : List ℕ) → StandsFor (narrow_reader Takes) digest image (listed list) → IsListOf digest list image
+  pub widened : (list : List Entry) (image : List ℕ) → HasMeaning (narrow_reader Takes) digest image (listed list) → IsListOf digest list image
   widened list image (inl unbegun) = inl unbegun
   widened list image (inr is) = inr (record {
     version = is.version;
@@ -73,7 +73,7 @@ module _ (Takes : List Entry → Entry → Type 0) (digest : List ℕ) where
   })
 
   -- damage after entries that are taken
-  pub broken_narrowed : (place : ℕ) (list : List Entry) (image : List ℕ) → AreTaken Takes [] list → IsBroken entries_reader digest place list image → IsBroken (narrow_reader Takes) digest place list image
+  pub broken_narrowed : (place : ℕ) (list : List Entry) (image : List ℕ) → AreAllowed Takes [] list → IsDamaged entries_reader digest place list image → IsDamaged (narrow_reader Takes) digest place list image
   broken_narrowed place list image taken is =
       let same = front_same Takes is.version digest is.items in
       record {
@@ -89,9 +89,9 @@ module _ (Takes : List Entry → Entry → Type 0) (digest : List ℕ) where
       }
 
   -- an entry that is not taken, after entries that are
-  module _ (content : Option (List ℕ)) (entries : List Entry) (entry : Entry) (place end : ℕ) (size : length digest ≡ DIGEST_BYTES) (taken : AreTaken Takes [] entries) (refused : ¬ Takes entries entry)
+  module _ (content : Option (List ℕ)) (entries : List Entry) (entry : Entry) (place end : ℕ) (size : length digest ≡ DIGEST_BYTES) (taken : AreAllowed Takes [] entries) (refused : ¬ Takes entries entry)
       (found : IsFoundAt content digest entries entry place end) (bytes : List ℕ) where
-    refused_from : (rest : List ℕ) → 1 ≤ length rest → bytes ≡ front_of found.version digest (found.before ++ entered entry ∷ []) ++ rest → IsBroken (narrow_reader Takes) digest place entries bytes
+    refused_from : (rest : List ℕ) → 1 ≤ length rest → bytes ≡ front_of found.version digest (found.before ++ entered entry ∷ []) ++ rest → IsDamaged (narrow_reader Takes) digest place entries bytes
     refused_from [] some whole = absurd (omega (arith, some))
     refused_from (gate ∷ more) some whole =
         let version = found.version in
@@ -112,11 +112,11 @@ module _ (Takes : List Entry → Entry → Type 0) (digest : List ℕ) where
           is = whole ∙ parts ∙ ap (λ (l : List ℕ). l ++ OPEN ∷ (bytes_are ++ gate ∷ more)) (sym same);
           none = λ item other rest may same_bytes.
               let one = same_item version digest size before (entered entry) item (gate ∷ more) (other ∷ rest) last.0 may.0 same_bytes in
-              let takes : Takes (entries_in before) entry = subst (λ (i : Item). IsTaken Takes before i) (sym one.0) may.1 in
+              let takes : Takes (entries_in before) entry = subst (λ (i : Item). MayBeNext Takes before i) (sym one.0) may.1 in
               refused (subst (λ (l : List Entry). Takes l entry) found.entries_are takes);
         }
 
-    pub refused_at : IsReadUpTo found.version digest (found.before ++ entered entry ∷ []) end bytes → IsBroken (narrow_reader Takes) digest place entries bytes
+    pub refused_at : IsReadUpTo found.version digest (found.before ++ entered entry ∷ []) end bytes → IsDamaged (narrow_reader Takes) digest place entries bytes
     refused_at upto =
         let some : 1 ≤ length upto.rest =
         omega (arith, found.within, upto.long, ap length upto.is, length-append (front_of found.version digest (found.before ++ entered entry ∷ [])) upto.rest) in

@@ -10,7 +10,7 @@ use Rattle.hose_codec.proofs.Lengths.{length-spelling}
 use Rattle.hose_codec.proofs.Numbers.{same_numbers, same_parts}
 use Rattle.hose_journal.specs.Chain.{chain}
 use Rattle.hose_journal.specs.declared.layout.TheConstants.{OPEN, MARK, DIGEST_BYTES, SEAL, SEAL_BYTES}
-use Rattle.hose_journal.specs.Entries.{IsListOf, Item, MayFollow, entered, entries_format, entries_in, entries_reader, front_of, is_chained, item_bytes, record_bytes, seal_bytes, sealed}
+use Rattle.hose_journal.specs.Entries.{IsListOf, Item, MayFollowItems, entered, entries_format, entries_in, entries_reader, front_of, is_chained, item_bytes, record_bytes, seal_bytes, sealed}
 use Rattle.hose_journal.specs.Image.{AreItems, records, head, IsListed, IsUnbegun}
 use Rattle.hose_journal.proofs.Chains.{length-chain}
 
@@ -47,7 +47,7 @@ module _ (version : ℕ) (digest : List ℕ) (size : length digest ≡ DIGEST_BY
   values one other = length-chain digest one size ∙ sym (length-chain digest other size)
 
   -- two items that begin the same bytes
-  pub same_item : (before : List Item) (x y : Item) (r s : List ℕ) → MayFollow version before x → MayFollow version before y → item_bytes version digest before x ++ r ≡ item_bytes version digest before y ++ s → (x ≡ y) × (r ≡ s)
+  pub same_item : (before : List Item) (x y : Item) (r s : List ℕ) → MayFollowItems version before x → MayFollowItems version before y → item_bytes version digest before x ++ r ≡ item_bytes version digest before y ++ s → (x ≡ y) × (r ≡ s)
   same_item before (entered x) (entered y) r s is_x is_y same =
       let before_it = entries_in before in
       let parts = same_record (is_chained version before) (chain digest (before_it ++ x ∷ [])) (chain digest (before_it ++ y ∷ [])) x y r s (values (before_it ++ x ∷ []) (before_it ++ y ∷ [])) is_x is_y same in

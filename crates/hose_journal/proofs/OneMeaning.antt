@@ -2,7 +2,7 @@
 use Rattle.std.proofs.Common.{◌≡◌, ◌≢◌, inl, inr, ℕ, ◌≤◌, List, [], ◌∷◌, ◌++◌, length, get_or, take, drop, refl, sym, ap, ◌∙◌, subst, arith, length-append, append_assoc, append-nil}
 use Rattle.hose_codec.proofs.Numbers.{same_parts}
 use Rattle.hose_journal.specs.declared.layout.TheConstants.{OPEN, MARK, DIGEST_BYTES}
-use Rattle.hose_journal.specs.Image.{AreItems, BeginsNoRecord, Format, IsBroken, IsHeadless, IsOther, IsUnbegun, IsUnmarked, IsVersion, Meaning, Reader, StandsFor, damaged, front, head, listed, other, records}
+use Rattle.hose_journal.specs.Image.{AreItems, BeginsNoRecord, Format, IsDamaged, IsHeadless, IsOther, IsUnbegun, IsUnmarked, IsVersion, Meaning, RecordReader, HasMeaning, damaged, front, head, listed, other, records}
 
 -- no record of a format begins as another does
 abbrev pub AreAlone : {X : Type 0} → Format X → Type 0
@@ -77,7 +77,7 @@ same_heads v w one two r s long same =
     let parts = same_parts (head v one) (head w two) r s (omega (arith, long, length-append MARK (v ∷ one), length-append MARK (w ∷ two))) same in
     (ap (λ (l : List ℕ). get_or l 5 0) parts.0, (ap (λ (l : List ℕ). drop 6 l) parts.0, parts.1))
 
-module _ {X Y : Type 0} (reader : Reader X Y) (digest : List ℕ) (size : length digest ≡ DIGEST_BYTES)
+module _ {X Y : Type 0} (reader : RecordReader X Y) (digest : List ℕ) (size : length digest ≡ DIGEST_BYTES)
     (alone : (version : ℕ) → AreAlone (reader.format version digest)) (image : List ℕ) where
   -- what follows the head
   after_head : (version : ℕ) (items : List X) (tail : List ℕ) → image ≡ front (reader.format version digest) version digest items ++ tail
@@ -110,7 +110,7 @@ module _ {X Y : Type 0} (reader : Reader X Y) (digest : List ℕ) (size : length
       let heads = same_heads v w digest digest (records (reader.format v digest) [] xs ++ r) (records (reader.format w digest) [] ys ++ s) refl (sym (after_head v xs r is) ∙ after_head w ys s also) in
       (heads.0, heads.1.1)
 
-  listed_listed : (one two : List Y) → StandsFor reader digest image (listed one) → StandsFor reader digest image (listed two) → one ≡ two
+  listed_listed : (one two : List Y) → HasMeaning reader digest image (listed one) → HasMeaning reader digest image (listed two) → one ≡ two
   listed_listed one two (inl none) (inl nothing) = none.1 ∙ sym nothing.1
   listed_listed one two (inl none) (inr b) =
       absurd (not_unbegun b.version digest (records (reader.format b.version digest) [] b.items ++ b.closed.gate ∷ b.closed.rest) size
@@ -125,11 +125,11 @@ module _ {X Y : Type 0} (reader : Reader X Y) (digest : List ℕ) (size : length
       (ap (λ (v : ℕ). records (reader.format v digest) [] a.items ++ a.closed.gate ∷ a.closed.rest) (sym same.0) ∙ same.1) in
       sym a.view ∙ ap reader.view items ∙ b.view
 
-  listed_other : (one : List Y) (kept : List ℕ) → StandsFor reader digest image (listed one) → ¬ IsOther digest kept image
+  listed_other : (one : List Y) (kept : List ℕ) → HasMeaning reader digest image (listed one) → ¬ IsOther digest kept image
   listed_other one kept (inl none) is = not_unbegun is.version kept is.rest is.size is.some is.is none.0
   listed_other one kept (inr a) is = not_other a.version kept (records (reader.format a.version digest) [] a.items ++ a.closed.gate ∷ a.closed.rest) (after_head a.version a.items (a.closed.gate ∷ a.closed.rest) a.closed.is) is
 
-  listed_damaged : (one : List Y) (at : ℕ) → StandsFor reader digest image (listed one) → ¬ StandsFor reader digest image (damaged at)
+  listed_damaged : (one : List Y) (at : ℕ) → HasMeaning reader digest image (listed one) → ¬ HasMeaning reader digest image (damaged at)
   listed_damaged one at (inl none) (inl (headless, zero_at)) = elim none.0 [
     | inl short ↦ omega (arith, short, headless.long)
     | inr exact ↦ omega (arith, exact.0, headless.long)
@@ -150,18 +150,18 @@ module _ {X Y : Type 0} (reader : Reader X Y) (digest : List ℕ) (size : length
       (subst (λ (v : ℕ). AreItems (reader.format v digest) [] a.items) same.0 a.are) b.are a.closed.shut b.none
       (ap (λ (v : ℕ). records (reader.format v digest) [] a.items ++ a.closed.gate ∷ a.closed.rest) (sym same.0) ∙ same.1)
 
-  other_damaged : (kept : List ℕ) (at : ℕ) → IsOther digest kept image → ¬ StandsFor reader digest image (damaged at)
+  other_damaged : (kept : List ℕ) (at : ℕ) → IsOther digest kept image → ¬ HasMeaning reader digest image (damaged at)
   other_damaged kept at is (inl (headless, zero_at)) = not_headless is.version kept is.rest is.is headless
   other_damaged kept at is (inr (inl (unmarked, one_at))) = not_unmarked is.version kept is.rest is.is_version is.is unmarked
   other_damaged kept at is (inr (inr (list, b))) = not_other b.version kept (records (reader.format b.version digest) [] b.items ++ OPEN ∷ b.rest) (after_head b.version b.items (OPEN ∷ b.rest) b.is) is
 
-  broken_headless : (at : ℕ) (list : List Y) → IsBroken reader digest at list image → ¬ IsHeadless image
+  broken_headless : (at : ℕ) (list : List Y) → IsDamaged reader digest at list image → ¬ IsHeadless image
   broken_headless at list b is = not_headless b.version digest (records (reader.format b.version digest) [] b.items ++ OPEN ∷ b.rest) (after_head b.version b.items (OPEN ∷ b.rest) b.is) is
 
-  broken_unmarked : (at : ℕ) (list : List Y) → IsBroken reader digest at list image → ¬ IsUnmarked image
+  broken_unmarked : (at : ℕ) (list : List Y) → IsDamaged reader digest at list image → ¬ IsUnmarked image
   broken_unmarked at list b is = not_unmarked b.version digest (records (reader.format b.version digest) [] b.items ++ OPEN ∷ b.rest) b.is_version (after_head b.version b.items (OPEN ∷ b.rest) b.is) is
 
-  damaged_once : (one two : ℕ) → StandsFor reader digest image (damaged one) → StandsFor reader digest image (damaged two) → one ≡ two
+  damaged_once : (one two : ℕ) → HasMeaning reader digest image (damaged one) → HasMeaning reader digest image (damaged two) → one ≡ two
   damaged_once one two (inl (headless, zero_at)) (inl (also, is_zero)) = zero_at ∙ sym is_zero
   damaged_once one two (inl (headless, zero_at)) (inr (inl (unmarked, one_at))) = absurd (headless.shut unmarked.begun)
   damaged_once one two (inl (headless, zero_at)) (inr (inr (list, b))) = absurd (broken_headless two list b headless)
@@ -179,7 +179,7 @@ module _ {X Y : Type 0} (reader : Reader X Y) (digest : List ℕ) (size : length
       a.here ∙ ap (λ (v : ℕ). length (front (reader.format v digest) v digest a.items)) same.0
       ∙ ap (λ (all : List X). length (front (reader.format b.version digest) b.version digest all)) items ∙ sym b.here
 
-  pub one_meaning : (one two : Meaning Y) → StandsFor reader digest image one → StandsFor reader digest image two → one ≡ two
+  pub one_meaning : (one two : Meaning Y) → HasMeaning reader digest image one → HasMeaning reader digest image two → one ≡ two
   one_meaning (listed one) (listed two) is also = ap (λ (list : List Y). listed list) (listed_listed one two is also)
   one_meaning (listed one) (other kept) is also = absurd (listed_other one kept is also)
   one_meaning (listed one) (damaged at) is also = absurd (listed_damaged one at is also)

@@ -12,7 +12,7 @@ use Rattle.hose_journal.specs.declared.piece.Piece.{Piece}
 use Rattle.hose_journal.specs.Entries.{entries_reader, front_of, IsListOf}
 use Rattle.hose_journal.specs.Image.{IsUnbegun, IsVersion, IsHeadless, IsUnmarked, IsOther, IsClosed, head}
 use Rattle.hose_journal.specs.Moments.{Images, LeavesOnly, ReadsItsImages}
-use Rattle.hose_journal.specs.Opening.{HasHead, IsFront, IsHeadOf, IsOpened, IsRefused, KeepsList}
+use Rattle.hose_journal.specs.Opening.{HasHead, IsFront, IsHeadOf, IsOpened, IsRefusedJournal, KeepsList}
 use Rattle.hose_journal.specs.Reading.{IsOpen, IsReadUpTo, OnlyRead}
 use Rattle.hose_journal.proofs.Lists.{closed_is_list}
 use Rattle.hose_journal.proofs.Readings.{both, closed_images}
@@ -110,7 +110,7 @@ module _ {D : Type 0} (disk : Ghosts D) where
   unbegun_told now piece end front unbegun = each (disk.content now) _ IsUnbegun (λ bytes is. unbegun_whole (held piece) bytes is unbegun) (front_told now piece end front)
 
   -- a head that is refused
-  pub head_refused : (old now : D) (piece : Piece) (end : ℕ) (digest : List ℕ) (fault : JournalFault) → disk.content now ≡ disk.content old → IsFront disk now piece end → HasHead (held piece) digest (Err fault) → IsRefused disk old now digest fault
+  pub head_refused : (old now : D) (piece : Piece) (end : ℕ) (digest : List ℕ) (fault : JournalFault) → disk.content now ≡ disk.content old → IsFront disk now piece end → HasHead (held piece) digest (Err fault) → IsRefusedJournal disk old now digest fault
   head_refused old now piece end digest (Damaged at) same front (inl (headless, zero_at)) =
       along _ _ _ (sym same) (each (disk.content now) _ _ (λ bytes is. inl (subst IsHeadless (sym (front_more (held piece) bytes is)) (headless_more (held piece) (drop PIECE_BYTES bytes) headless), zero_at)) (front_told now piece end front))
   head_refused old now piece end digest (Damaged at) same front (inr (unmarked, one_at)) =
@@ -208,7 +208,7 @@ module _ {D : Type 0} (disk : Ghosts D) where
 
   -- ---- moments
 
-  pub loaded_run : (old synced loaded : D) → ((image : List ℕ) → disk.left_since old (disk.moment old) image → disk.may_leave old image)
+  loaded_run : (old synced loaded : D) → ((image : List ℕ) → disk.left_since old (disk.moment old) image → disk.may_leave old image)
       → Elapses (disk.moment old) (disk.moment synced) (disk.left_since old) (disk.left_since synced) (disk.may_leave synced) → NoneNew (disk.may_leave old) (disk.may_leave synced)
       → OnlyRead disk synced loaded → LeavesOnly disk old loaded (disk.may_leave old)
   loaded_run old synced loaded only_now time same only =
@@ -216,16 +216,27 @@ module _ {D : Type 0} (disk : Ghosts D) where
       let sync_run = goes_on disk old old synced (disk.may_leave old) begin time same in
       joined disk old synced loaded (disk.may_leave old) sync_run (weaker disk synced loaded _ (disk.may_leave old) same only.run)
 
-  pub begun_run : (old loaded begun : D) (digest : List ℕ) → LeavesOnly disk old loaded (disk.may_leave old) → disk.content loaded ≡ disk.content old → IfSome (disk.content loaded) IsUnbegun → LeavesOnly disk loaded begun (IsListOf digest [])
+  begun_run : (old loaded begun : D) (digest : List ℕ) → LeavesOnly disk old loaded (disk.may_leave old) → disk.content loaded ≡ disk.content old → IfSome (disk.content loaded) IsUnbegun → LeavesOnly disk loaded begun (IsListOf digest [])
       → LeavesOnly disk old begun (IsOpened disk old digest)
   begun_run old loaded begun digest first same unbegun second =
       joined disk old loaded begun (IsOpened disk old digest) (weaker disk old loaded _ (IsOpened disk old digest) (λ image was. inl was) first)
       (weaker disk loaded begun _ (IsOpened disk old digest) (λ image list. inr (along _ _ _ (sym same) unbegun, list)) second)
 
-  pub reloaded_run : (old loaded begun now : D) (digest : List ℕ) → ((t : ℕ) (image : List ℕ) → t ≤ disk.moment begun → disk.may_leave begun image → disk.left_since begun t image)
+  reloaded_run : (old loaded begun now : D) (digest : List ℕ) → ((t : ℕ) (image : List ℕ) → t ≤ disk.moment begun → disk.may_leave begun image → disk.left_since begun t image)
       → LeavesOnly disk old loaded (disk.may_leave old) → disk.content loaded ≡ disk.content old → IfSome (disk.content loaded) IsUnbegun → LeavesOnly disk loaded begun (IsListOf digest []) → OnlyRead disk begun now
       → LeavesOnly disk old now (IsOpened disk old digest)
   reloaded_run old loaded begun now digest counts first same unbegun second only =
       let lists = now_too disk loaded begun (IsListOf digest []) counts second in
       joined disk old begun now (IsOpened disk old digest) (begun_run old loaded begun digest first same unbegun second)
       (weaker disk begun now _ (IsOpened disk old digest) (λ image is_image. inr (along _ _ _ (sym same) unbegun, lists image is_image)) only.run)
+
+  -- from before the sync of an opening up to the writes that begin a journal, and to the read after them
+  module _ (old synced loaded begun : D) (piece : Piece) (end : ℕ) (digest : List ℕ) (only_now : (image : List ℕ) → disk.left_since old (disk.moment old) image → disk.may_leave old image)
+      (time : Elapses (disk.moment old) (disk.moment synced) (disk.left_since old) (disk.left_since synced) (disk.may_leave synced)) (none_new : NoneNew (disk.may_leave old) (disk.may_leave synced)) (same : disk.content synced ≡ disk.content old)
+      (only : OnlyRead disk synced loaded) (front : IsFront disk loaded piece end) (unbegun : IsUnbegun (held piece)) (begin : LeavesOnly disk loaded begun (IsListOf digest [])) where
+    pub until_begun : LeavesOnly disk old begun (IsOpened disk old digest)
+    until_begun = begun_run old loaded begun digest (loaded_run old synced loaded only_now time none_new only) (only.same ∙ same) (unbegun_told loaded piece end front unbegun) begin
+
+    pub until_reloaded : (now : D) → ((t : ℕ) (image : List ℕ) → t ≤ disk.moment begun → disk.may_leave begun image → disk.left_since begun t image) → OnlyRead disk begun now → LeavesOnly disk old now (IsOpened disk old digest)
+    until_reloaded now counts again =
+        reloaded_run old loaded begun now digest counts (loaded_run old synced loaded only_now time none_new only) (only.same ∙ same) (unbegun_told loaded piece end front unbegun) begin again

@@ -6,14 +6,14 @@ use Rattle.byteorder.specs.Endian.{big_bytes}
 use Rattle.byteorder.specs.Numbers.{length-bytes_high_first}
 use Rattle.hose_graph.specs.declared.entry.Entry.{Entry}
 use Rattle.hose_codec.specs.Spelling.{spelling, IsSpelling, IsNoSpelling}
-use Rattle.hose_codec.specs.declared.fault.CodecFault.{CodecFault}
-use Rattle.hose_codec.specs.declared.fault.CodecFault.TheVariants.{Bad, Memory}
+use Rattle.hose_codec.specs.declared.limits.CodecFault.{CodecFault}
+use Rattle.hose_codec.specs.declared.limits.CodecFault.TheVariants.{Bad, Memory}
 use Rattle.hose_codec.specs.declared.limits.TheConstants.{MOST_SPELLING}
 use Rattle.hose_codec.proofs.Lengths.{length-spelling}
 use Rattle.hose_codec.proofs.Numbers.{same_numbers, same_parts}
 use Rattle.hose_journal.specs.declared.layout.TheConstants.{OPEN, DIGEST_BYTES}
 use Rattle.hose_journal.specs.declared.part.Found.{Found}
-use Rattle.hose_journal.specs.AtGate.{BeginsEntry, BeginsNoEntry, BeginsSeal, HasFields, HasNoFields, IsFound, IsFoundIn, IsPart}
+use Rattle.hose_journal.specs.AtGate.{BeginsEntry, BeginsNoEntry, BeginsSeal, HasFields, HasNoFields, IsFoundEntry, IsFoundIn, IsPart}
 use Rattle.hose_journal.specs.Chain.{chain}
 use Rattle.hose_journal.specs.Entries.{entry_bytes, seal_bytes, value_in}
 use Rattle.hose_journal.proofs.Chains.{length-chain}
@@ -130,7 +130,7 @@ module _ (chained : Bool) (digest : List ℕ) (entries : List Entry) (size : len
     begins_by : (entry : Entry) → value ≡ value_in chained next → IsSpelling entry body → BeginsEntry chained digest entries bytes entry
     begins_by entry is_value spelled = fields_entry value body entry has spelled (is_value ∙ ap (λ (l : List ℕ). value_in chained l) (is_next entry spelled.spelled))
 
-    pub found_by : (found : Found) → value ≡ value_in chained next → IsSpelling found.entry body → found.value ≡ next → found.distance ≡ 5 + length value + length body → IsFound chained digest entries bytes found
+    pub found_by : (found : Found) → value ≡ value_in chained next → IsSpelling found.entry body → found.value ≡ next → found.distance ≡ 5 + length value + length body → IsFoundEntry chained digest entries bytes found
     found_by found is_value spelled is far = record {
       begins = begins_by found.entry is_value spelled;
       value = is ∙ is_next found.entry spelled.spelled;

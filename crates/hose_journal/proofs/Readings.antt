@@ -4,8 +4,8 @@ use Rattle.std.specs.Prelude.{Result, Ok, Err}
 use Rattle.std.proofs.lemmas.Bool.{cases_lt}
 use Rattle.std.proofs.lemmas.List.{take_all, drop_all, take_at, drop_at, drop-take, drop-drop, length-take, length-take-le, take-append-le}
 use Rattle.hose_graph.specs.declared.entry.Entry.{Entry}
-use Rattle.hose_codec.specs.declared.fault.CodecFault.{CodecFault}
-use Rattle.hose_codec.specs.declared.fault.CodecFault.TheVariants.{Bad, Memory as Wanting}
+use Rattle.hose_codec.specs.declared.limits.CodecFault.{CodecFault}
+use Rattle.hose_codec.specs.declared.limits.CodecFault.TheVariants.{Bad, Memory as Wanting}
 use Rattle.hose_disk.specs.declared.disk.Disk.{Ghosts}
 use Rattle.hose_journal.specs.declared.layout.TheConstants.{OPEN, DIGEST_BYTES, MOST_PART, PIECE_BYTES}
 use Rattle.hose_journal.specs.declared.fault.JournalFault.{JournalFault}
@@ -16,9 +16,9 @@ use Rattle.hose_journal.specs.declared.reading.Reading.{Reading}
 use Rattle.hose_journal.specs.AtGate.{BeginsEntry, BeginsNoEntry, BeginsSeal, IsOpenBefore, IsPart, IsShut}
 use Rattle.hose_journal.specs.Chain.{chain}
 use Rattle.hose_journal.specs.Entries.{Item, entered, entries_format, entries_in, entries_reader, entry_bytes, front_of, item_bytes, seal_bytes, sealed, IsListOf}
-use Rattle.hose_journal.specs.Image.{BeginsNoRecord, IsBroken, IsClosed}
+use Rattle.hose_journal.specs.Image.{BeginsNoRecord, IsDamaged, IsClosed}
 use Rattle.hose_journal.specs.Journal.{Stands}
-use Rattle.hose_journal.specs.Reading.{AtGate, HasRead, IsAtNoSeal, IsEnd, IsNext, IsPiece, IsReadUpTo, Reaches, Reads, held_from}
+use Rattle.hose_journal.specs.Reading.{AtGate, HasRead, IsAtNoSeal, IsAtClosedGate, IsAtEntry, IsPiece, IsReadUpTo, CoversRecord, Reads, held_from}
 use Rattle.hose_journal.proofs.Chains.{length-chain}
 use Rattle.hose_journal.proofs.Gates.{told_so}
 use Rattle.hose_journal.proofs.Items.{chained_entry, chained_seal, entries_push, entries_seal, length-entry, length-seal}
@@ -106,7 +106,7 @@ pub both : (content : Option (List ℕ)) (P Q R : List ℕ → Type 0) → ((byt
 both None P Q R to p q = tt
 both (Some bytes) P Q R to p q = to bytes p q
 
-module _ {D : Type 0} (disk : Ghosts D) (reading : Reading D) (digest : List ℕ) (entries : List Entry) (reads : Reads disk reading digest entries) (reaches : Reaches reading.piece reading.gate) where
+module _ {D : Type 0} (disk : Ghosts D) (reading : Reading D) (digest : List ℕ) (entries : List Entry) (reads : Reads disk reading digest entries) (reaches : CoversRecord reading.piece reading.gate) where
   abbrev held : List ℕ
   held = held_from reading.piece reading.gate
 
@@ -160,7 +160,7 @@ module _ {D : Type 0} (disk : Ghosts D) (reading : Reading D) (digest : List ℕ
   record_is entry =
       ap (λ (b : Bool). entry_bytes b digest (entries_in reads.items) entry) reads.sealed ∙ ap (λ (l : List Entry). entry_bytes reading.sealed digest l entry) reads.entries_are
 
-  next_at : (entry : Entry) → IsOpenBefore (λ rest. BeginsEntry reading.sealed digest entries rest entry) held → IsNext disk reading digest entries entry
+  next_at : (entry : Entry) → IsOpenBefore (λ rest. BeginsEntry reading.sealed digest entries rest entry) held → IsAtEntry disk reading digest entries entry
   next_at entry opened =
       let begins = opened.holds in
       let is : held ≡ OPEN ∷ (item_bytes reads.version digest reads.items (entered entry) ++ begins.gate ∷ begins.rest) =
@@ -179,7 +179,7 @@ module _ {D : Type 0} (disk : Ghosts D) (reading : Reading D) (digest : List ℕ
         sealed = reads.sealed;
       }
 
-  end_at : IsShut held → IsEnd disk reading digest entries
+  end_at : IsShut held → IsAtClosedGate disk reading digest entries
   end_at is = record {
     reads = reads;
     closed = told (IsClosed here) (λ bytes upto seen. record {
@@ -190,7 +190,7 @@ module _ {D : Type 0} (disk : Ghosts D) (reading : Reading D) (digest : List ℕ
     });
   }
 
-  broken : (rest : List ℕ) → BeginsNoRecord (entries_format reads.version digest) reads.items rest → (bytes : List ℕ) → bytes ≡ here ++ OPEN ∷ rest → IsBroken entries_reader digest reading.gate entries bytes
+  broken : (rest : List ℕ) → BeginsNoRecord (entries_format reads.version digest) reads.items rest → (bytes : List ℕ) → bytes ≡ here ++ OPEN ∷ rest → IsDamaged entries_reader digest reading.gate entries bytes
   broken rest none bytes is = record {
     version = reads.version;
     is_version = reads.is_version;
@@ -217,7 +217,7 @@ module _ {D : Type 0} (disk : Ghosts D) (reading : Reading D) (digest : List ℕ
       no_seal (sym reads.sealed ∙ plain) gate more (same ∙ ap (λ (l : List ℕ). seal_bytes l ++ gate ∷ more) value)
 
   bad_told : (held ≡ []) ⊎ IsOpenBefore (BeginsNoEntry reading.sealed digest entries) held → IsAtNoSeal reading → (bytes : List ℕ) (upto : IsReadUpTo reads.version digest reads.items reading.end bytes) → Sees upto.rest held
-      → IsBroken entries_reader digest reading.gate entries bytes
+      → IsDamaged entries_reader digest reading.gate entries bytes
   bad_told (inl nothing) no_seal bytes upto seen =
       let size : length held ≡ 0 = ap length nothing in
       let some : 1 ≤ length upto.rest = omega (arith, reads.within, reads.place, upto.long, ap length upto.is, length-append here upto.rest) in
@@ -241,7 +241,7 @@ module _ {D : Type 0} (disk : Ghosts D) (reading : Reading D) (digest : List ℕ
   at_gate (Ok (Some found)) no_seal is =
       let it = is.holds in (next_at found.entry (record { rest = is.rest; is = is.is; holds = it.begins }), it.value, it.far)
   at_gate (Ok None) no_seal is = end_at is
-  at_gate (Err Bad) no_seal is = told (IsBroken entries_reader digest reading.gate entries) (bad_told is no_seal)
+  at_gate (Err Bad) no_seal is = told (IsDamaged entries_reader digest reading.gate entries) (bad_told is no_seal)
   at_gate (Err Wanting) no_seal is = (is.0, next_at is.0 is.1)
 
   -- ---- past a seal
@@ -275,31 +275,11 @@ module _ {D : Type 0} (disk : Ghosts D) (reading : Reading D) (digest : List ℕ
 -- ---- the next entry
 
 module _ {D : Type 0} (disk : Ghosts D) (reading : Reading D) (digest : List ℕ) (entries : List Entry) (reads : Reads disk reading digest entries) where
-  -- the gate at which was read last and the fault say nothing
-  pub reads_told : (last : ℕ) (fault : Option JournalFault) → Reads disk (record reading { last = last; fault = fault }) digest entries
-  reads_told last fault = record {
-    version = reads.version;
-    items = reads.items;
-    is_version = reads.is_version;
-    entries_are = reads.entries_are;
-    size = reads.size;
-    are = reads.are;
-    place = reads.place;
-    within = reads.within;
-    small = reads.small;
-    sealed = reads.sealed;
-    chain = reads.chain;
-    room = reads.room;
-    piece = reads.piece;
-    only = reads.only;
-    told = reads.told;
-    closed = reads.closed;
-  }
-
-  -- another piece of the same content
-  pub reads_piece : (now : D) (piece : Piece) → disk.content now ≡ disk.content reading.disk → ((image : List ℕ) → disk.may_leave now image → disk.may_leave reading.disk image) → IsPiece (disk.content now) reading.end piece
-      → Reads disk (record reading { disk = now; piece = piece }) digest entries
-  reads_piece now piece same only is_piece = record {
+  -- other parts of the reading, of the same content
+  reads_with : (now : D) (piece : Piece) (last : ℕ) (fault : Option JournalFault) (closed : Bool) → IsPiece (disk.content now) reading.end piece → ((image : List ℕ) → disk.may_leave now image → disk.content now ≡ Some image)
+      → IfSome (disk.content now) (IsReadUpTo reads.version digest reads.items reading.end) → (IsTrue closed → IfSome (disk.content now) (IsClosed (front_of reads.version digest reads.items)))
+      → Reads disk (record reading { disk = now; piece = piece; last = last; fault = fault; closed = closed }) digest entries
+  reads_with now piece last fault closed is_piece only told is_closed = record {
     version = reads.version;
     items = reads.items;
     is_version = reads.is_version;
@@ -313,10 +293,26 @@ module _ {D : Type 0} (disk : Ghosts D) (reading : Reading D) (digest : List ℕ
     chain = reads.chain;
     room = reads.room;
     piece = is_piece;
-    only = λ image is_image. same ∙ reads.only image (only image is_image);
-    told = subst (λ (content : Option (List ℕ)). IfSome content (IsReadUpTo reads.version digest reads.items reading.end)) (sym same) reads.told;
-    closed = λ closed. subst (λ (content : Option (List ℕ)). IfSome content (IsClosed (front_of reads.version digest reads.items))) (sym same) (reads.closed closed);
+    only = only;
+    told = told;
+    closed = is_closed;
   }
+
+  -- the gate at which was read last and the fault say nothing
+  pub reads_told : (last : ℕ) (fault : Option JournalFault) → Reads disk (record reading { last = last; fault = fault }) digest entries
+  reads_told last fault = reads_with reading.disk reading.piece last fault reading.closed reads.piece reads.only reads.told reads.closed
+
+  -- another piece of the same content
+  pub reads_piece : (now : D) (piece : Piece) → disk.content now ≡ disk.content reading.disk → ((image : List ℕ) → disk.may_leave now image → disk.may_leave reading.disk image) → IsPiece (disk.content now) reading.end piece
+      → Reads disk (record reading { disk = now; piece = piece }) digest entries
+  reads_piece now piece same only is_piece =
+      reads_with now piece reading.last reading.fault reading.closed is_piece (λ image is_image. same ∙ reads.only image (only image is_image))
+      (subst (λ (content : Option (List ℕ)). IfSome content (IsReadUpTo reads.version digest reads.items reading.end)) (sym same) reads.told)
+      (λ closed. subst (λ (content : Option (List ℕ)). IfSome content (IsClosed (front_of reads.version digest reads.items))) (sym same) (reads.closed closed))
+
+  -- a gate that is not open ends it
+  reads_shut : IfSome (disk.content reading.disk) (IsClosed (front_of reads.version digest reads.items)) → Reads disk (record reading { last = reading.gate; closed = true }) digest entries
+  reads_shut closed = reads_with reading.disk reading.piece reading.gate reading.fault true reads.piece reads.only reads.told (λ yes_closed. closed)
 
 pub reads_next : {D : Type 0} (disk : Ghosts D) (reading : Reading D) (digest : List ℕ) (entries : List Entry) (found : Found) → Reads disk reading digest entries → IsFalse reading.closed → AtGate disk reading digest entries (Ok (Some found))
     → Reads disk (record reading { gate = reading.gate + found.distance; last = reading.gate; chain = found.value }) digest (entries ++ found.entry ∷ [])
@@ -356,27 +352,8 @@ gate_as disk reading digest entries one other same at_it = subst (λ (result : R
 
 -- ---- the end
 
-pub reads_end : {D : Type 0} (disk : Ghosts D) (reading : Reading D) (digest : List ℕ) (entries : List Entry) → IsEnd disk reading digest entries → Reads disk (record reading { last = reading.gate; closed = true }) digest entries
-reads_end disk reading digest entries is =
-    let reads = is.reads in
-    record {
-      version = reads.version;
-      items = reads.items;
-      is_version = reads.is_version;
-      entries_are = reads.entries_are;
-      size = reads.size;
-      are = reads.are;
-      place = reads.place;
-      within = reads.within;
-      small = reads.small;
-      sealed = reads.sealed;
-      chain = reads.chain;
-      room = reads.room;
-      piece = reads.piece;
-      only = reads.only;
-      told = reads.told;
-      closed = λ closed. is.closed;
-    }
+pub reads_end : {D : Type 0} (disk : Ghosts D) (reading : Reading D) (digest : List ℕ) (entries : List Entry) → IsAtClosedGate disk reading digest entries → Reads disk (record reading { last = reading.gate; closed = true }) digest entries
+reads_end disk reading digest entries is = reads_shut disk reading digest entries is.reads is.closed
 
 pub closed_images : (found : Option (List ℕ)) (P : List ℕ → Type 0) (image : List ℕ) → IfSome found P → found ≡ Some image → P image
 closed_images found P image told same = subst (λ (found : Option (List ℕ)). IfSome found P) same told

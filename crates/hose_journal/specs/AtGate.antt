@@ -4,8 +4,8 @@ use Rattle.byteorder.specs.Endian.{big_bytes}
 use Rattle.hose_graph.specs.declared.entry.Entry.{Entry}
 use Rattle.hose_codec.specs.Spelling.{IsEntry}
 use Rattle.hose_codec.specs.declared.limits.TheConstants.{MOST_SPELLING}
-use Rattle.hose_codec.specs.declared.fault.CodecFault.{CodecFault}
-use Rattle.hose_codec.specs.declared.fault.CodecFault.TheVariants.{Bad, Memory}
+use Rattle.hose_codec.specs.declared.limits.CodecFault.{CodecFault}
+use Rattle.hose_codec.specs.declared.limits.CodecFault.TheVariants.{Bad, Memory}
 use Rattle.hose_journal.specs.declared.layout.TheConstants.{OPEN, LENGTH_BYTES}
 use Rattle.hose_journal.specs.declared.part.Found.{Found}
 use Rattle.hose_journal.specs.Chain.{chain}
@@ -45,7 +45,7 @@ pub record BeginsSeal (value bytes : List ℕ) : Type 0 where
 
 -- the entry whose record begins these bytes, the chain value with it, and how far on the next gate
 -- is from the one before
-pub record IsFound (chained : Bool) (digest : List ℕ) (entries : List Entry) (bytes : List ℕ)
+pub record IsFoundEntry (chained : Bool) (digest : List ℕ) (entries : List Entry) (bytes : List ℕ)
     (found : Found) : Type 0 where
   pub begins : BeginsEntry chained digest entries bytes found.entry
   pub value : found.value ≡ chain digest (entries ++ found.entry ∷ [])
@@ -53,7 +53,7 @@ pub record IsFound (chained : Bool) (digest : List ℕ) (entries : List Entry) (
 
 -- What is read of these bytes. Memory is wanted only for an entry whose record begins them.
 abbrev pub IsFoundIn : Bool → List ℕ → List Entry → List ℕ → Result Found CodecFault → Type 0
-IsFoundIn chained digest entries bytes (Ok found) = IsFound chained digest entries bytes found
+IsFoundIn chained digest entries bytes (Ok found) = IsFoundEntry chained digest entries bytes found
 IsFoundIn chained digest entries bytes (Err Bad) = BeginsNoEntry chained digest entries bytes
 IsFoundIn chained digest entries bytes (Err Memory) =
     (entry : Entry) × BeginsEntry chained digest entries bytes entry
@@ -75,7 +75,7 @@ pub record IsShut (bytes : List ℕ) : Type 0 where
 abbrev pub IsPart : Bool → List ℕ → List Entry → List ℕ → Result (Option Found) CodecFault →
     Type 0
 IsPart chained digest entries bytes (Ok (Some found)) =
-    IsOpenBefore (λ rest. IsFound chained digest entries rest found) bytes
+    IsOpenBefore (λ rest. IsFoundEntry chained digest entries rest found) bytes
 IsPart chained digest entries bytes (Ok None) = IsShut bytes
 IsPart chained digest entries bytes (Err Bad) =
     (bytes ≡ []) ⊎ IsOpenBefore (BeginsNoEntry chained digest entries) bytes

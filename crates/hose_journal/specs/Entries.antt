@@ -6,7 +6,7 @@ use Rattle.hose_graph.specs.declared.entry.Entry.{Entry}
 use Rattle.hose_codec.specs.Spelling.{spelling, IsEntry}
 use Rattle.hose_journal.specs.declared.layout.TheConstants.{CHAINED, CLOSED, LENGTH_BYTES, SEAL, SEAL_BYTES}
 use Rattle.hose_journal.specs.Chain.{chain}
-use Rattle.hose_journal.specs.Image.{Format, Reader, Meaning, StandsFor, front, listed}
+use Rattle.hose_journal.specs.Image.{Format, RecordReader, Meaning, HasMeaning, front, listed}
 
 -- ---- what stands in a journal
 
@@ -57,14 +57,14 @@ item_bytes version digest before (entered entry) =
 item_bytes version digest before sealed = seal_bytes (chain digest (entries_in before))
 
 -- an entry with a spelling, or a seal where records have no chain values yet
-abbrev pub MayFollow : ℕ → List Item → Item → Type 0
-MayFollow version before (entered entry) = IsEntry entry
-MayFollow version before sealed = is_chained version before ≡ false
+abbrev pub MayFollowItems : ℕ → List Item → Item → Type 0
+MayFollowItems version before (entered entry) = IsEntry entry
+MayFollowItems version before sealed = is_chained version before ≡ false
 
 abbrev pub entries_format : ℕ → List ℕ → Format Item
 entries_format version digest = record {
   bytes = item_bytes version digest;
-  MayBe = MayFollow version;
+  MayBe = MayFollowItems version;
 }
 
 -- what stands before the gate after these items
@@ -77,12 +77,12 @@ closed_record version digest before item = item_bytes version digest before item
 
 -- ---- lists of entries
 
-abbrev pub entries_reader : Reader Item Entry
+abbrev pub entries_reader : RecordReader Item Entry
 entries_reader = record { format = entries_format; view = entries_in }
 
 -- what an image stands for
 abbrev pub Means : List ℕ → List ℕ → Meaning Entry → Type 0
-Means digest image meaning = StandsFor entries_reader digest image meaning
+Means digest image meaning = HasMeaning entries_reader digest image meaning
 
 -- the image stands for this list of entries
 abbrev pub IsListOf : List ℕ → List Entry → List ℕ → Type 0
@@ -91,23 +91,23 @@ IsListOf digest entries image = Means digest image (listed entries)
 -- ---- fewer entries
 
 -- an item that is taken: a seal, or an entry that may follow the entries before it
-abbrev pub IsTaken : (List Entry → Entry → Type 0) → List Item → Item → Type 0
-IsTaken Takes before (entered entry) = Takes (entries_in before) entry
-IsTaken Takes before sealed = ⊤
+abbrev pub MayBeNext : (List Entry → Entry → Type 0) → List Item → Item → Type 0
+MayBeNext Takes before (entered entry) = Takes (entries_in before) entry
+MayBeNext Takes before sealed = ⊤
 
--- The same records, of which fewer are taken: for a book, the entries that are sound after those
--- before them.
-abbrev pub narrow_reader : (List Entry → Entry → Type 0) → Reader Item Entry
+-- The records are those of a journal, but fewer of them may stand: for a book, the entries that are
+-- sound after those before them.
+abbrev pub narrow_reader : (List Entry → Entry → Type 0) → RecordReader Item Entry
 narrow_reader Takes = record {
   format = λ version digest. record {
     bytes = item_bytes version digest;
-    MayBe = λ before item. MayFollow version before item × IsTaken Takes before item;
+    MayBe = λ before item. MayFollowItems version before item × MayBeNext Takes before item;
   };
   view = entries_in;
 }
 
 -- each of these entries is taken after those before it
-abbrev pub AreTaken : (List Entry → Entry → Type 0) → List Entry → List Entry → Type 0
-AreTaken Takes before [] = ⊤
-AreTaken Takes before (entry ∷ entries) =
-    Takes before entry × AreTaken Takes (before ++ entry ∷ []) entries
+abbrev pub AreAllowed : (List Entry → Entry → Type 0) → List Entry → List Entry → Type 0
+AreAllowed Takes before [] = ⊤
+AreAllowed Takes before (entry ∷ entries) =
+    Takes before entry × AreAllowed Takes (before ++ entry ∷ []) entries

@@ -88,12 +88,12 @@ BeginsNoRecord {X} format before bytes = (item : X) (gate : ℕ) (rest : List �
     format.MayBe before item → bytes ≢ format.bytes before item ++ gate ∷ rest
 
 -- The records of a head, by its version and digest, and the list that items say to those who call.
-pub record Reader (X Y : Type 0) : Type 1 where
+pub record RecordReader (X Y : Type 0) : Type 1 where
   pub format : ℕ → List ℕ → Format X
   pub view : List X → List Y
 
 -- After items that say this list, an open gate at this place, which begins no whole record.
-pub record IsBroken {X Y : Type 0} (reader : Reader X Y) (digest : List ℕ) (place : ℕ)
+pub record IsDamaged {X Y : Type 0} (reader : RecordReader X Y) (digest : List ℕ) (place : ℕ)
     (list : List Y) (image : List ℕ) : Type 0 where
   pub version : ℕ
   pub is_version : IsVersion version
@@ -106,7 +106,7 @@ pub record IsBroken {X Y : Type 0} (reader : Reader X Y) (digest : List ℕ) (pl
   pub none : BeginsNoRecord (reader.format version digest) items rest
 
 -- Items that say this list, each after an open gate, and then a gate that is not open.
-pub record IsListed {X Y : Type 0} (reader : Reader X Y) (digest : List ℕ) (list : List Y)
+pub record IsListed {X Y : Type 0} (reader : RecordReader X Y) (digest : List ℕ) (list : List Y)
     (image : List ℕ) : Type 0 where
   pub version : ℕ
   pub is_version : IsVersion version
@@ -116,11 +116,11 @@ pub record IsListed {X Y : Type 0} (reader : Reader X Y) (digest : List ℕ) (li
   pub closed : IsClosed (front (reader.format version digest) version digest items) image
 
 -- What an image stands for under the digest of a topology.
-abbrev pub StandsFor : {X Y : Type 0} → Reader X Y → List ℕ → List ℕ → Meaning Y → Type 0
-StandsFor reader digest image (listed list) =
+abbrev pub HasMeaning : {X Y : Type 0} → RecordReader X Y → List ℕ → List ℕ → Meaning Y → Type 0
+HasMeaning reader digest image (listed list) =
     (IsUnbegun image × (list ≡ [])) ⊎ IsListed reader digest list image
-StandsFor reader digest image (other kept) = IsOther digest kept image
-StandsFor {X} {Y} reader digest image (damaged place) =
+HasMeaning reader digest image (other kept) = IsOther digest kept image
+HasMeaning {X} {Y} reader digest image (damaged place) =
     (IsHeadless image × (place ≡ 0))
     ⊎ ((IsUnmarked image × (place ≡ 1))
-    ⊎ ((list : List Y) × IsBroken reader digest place list image))
+    ⊎ ((list : List Y) × IsDamaged reader digest place list image))

@@ -24,14 +24,14 @@ abbrev pub with_doubt : Account → Option Entry → Account
 with_doubt account doubt = record account { doubt = doubt }
 
 -- the account with one entry more, and none in doubt
-abbrev pub with_entry : Account → Entry → Account
-with_entry account entry =
+abbrev pub account_with : Account → Entry → Account
+account_with account entry =
     record account { entries = account.entries ++ entry ∷ []; doubt = None }
 
 -- an image that a stop may leave, byte by byte: a closed gate after the items, or any gate and
 -- after it the record in doubt
-abbrev pub IsKept : ℕ → List Item → Account → List ℕ → Type 0
-IsKept version items account image = MatchOption account.doubt
+abbrev pub IsStopImage : ℕ → List Item → Account → List ℕ → Type 0
+IsStopImage version items account image = MatchOption account.doubt
     (IsClosed (front_of version account.digest items) image)
     (λ entry. IsDoubtful (front_of version account.digest items)
     (closed_record version account.digest items (entered entry)) image)
@@ -53,7 +53,7 @@ pub record Stands {D : Type 0} (disk : Ghosts D) (journal : Journal D) (account 
   pub sealed : is_chained version items ≡ journal.sealed
   pub chain : journal.chain ≡ chain account.digest account.entries
   pub room : BUFFER_BYTES ≤ vec_capacity journal.buffer
-  pub images : Images disk journal.disk (IsKept version items account)
+  pub images : Images disk journal.disk (IsStopImage version items account)
 
 -- the image stands for the entries and one more
 abbrev pub IsListWith : Account → Option Entry → List ℕ → Type 0
@@ -63,8 +63,8 @@ IsListWith account (Some entry) image =
 
 -- an image at some moment while an entry is revoked or written: it stands for the entries, or for
 -- them and the one in doubt or the one that is written
-abbrev pub IsAmid : Account → Option Entry → List ℕ → Type 0
-IsAmid account writing image = IsListOf account.digest account.entries image
+abbrev pub IsListAmid : Account → Option Entry → List ℕ → Type 0
+IsListAmid account writing image = IsListOf account.digest account.entries image
     ⊎ (IsListWith account account.doubt image ⊎ IsListWith account writing image)
 
 -- the bytes that are ready are the spelling of this entry

@@ -53,13 +53,13 @@ HasHead front digest (Err Disk) = ⊥
 HasHead front digest (Err Memory) = ⊥
 
 -- Why a journal is not opened. A fault of the disk has raised its count.
-abbrev pub IsRefused : {D : Type 0} → Ghosts D → D → D → List ℕ → JournalFault → Type 0
-IsRefused disk old new digest (Damaged at) =
+abbrev pub IsRefusedJournal : {D : Type 0} → Ghosts D → D → D → List ℕ → JournalFault → Type 0
+IsRefusedJournal disk old new digest (Damaged at) =
     IfSome (disk.content old) (λ bytes. HasNoHead bytes at)
-IsRefused disk old new digest (Other kept given) = (given ≡ digest)
+IsRefusedJournal disk old new digest (Other kept given) = (given ≡ digest)
     × IfSome (disk.content old) (λ bytes. Means digest bytes (other kept))
-IsRefused disk old new digest Disk = HasFailed disk old new
-IsRefused disk old new digest Memory = new ≡ old
+IsRefusedJournal disk old new digest Disk = HasFailed disk old new
+IsRefusedJournal disk old new digest Memory = new ≡ old
 
 -- What an opening keeps of the disk: its count does not fall, and it is the one that it was.
 pub record KeepsDisk {D : Type 0} (disk : Ghosts D) (old new : D) : Type 0 where

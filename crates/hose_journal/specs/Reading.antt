@@ -2,14 +2,14 @@
 use Rattle.std.specs.Prelude.{◌≡◌, ◌⊎◌, ℕ, ◌+◌, ◌-◌, ◌<◌, ◌≤◌, ◌^◌, List, [], ◌∷◌, ◌++◌, length, take, drop, Option, Some, None, Result, Ok, Err, IfSome, IsFalse, IsTrue, true, vec_capacity}
 use Rattle.hose_io.specs.Frame.{Rose, Stays}
 use Rattle.hose_graph.specs.declared.entry.Entry.{Entry}
-use Rattle.hose_codec.specs.declared.fault.CodecFault.{CodecFault}
-use Rattle.hose_codec.specs.declared.fault.CodecFault.TheVariants.{Bad, Memory as Wanting}
+use Rattle.hose_codec.specs.declared.limits.CodecFault.{CodecFault}
+use Rattle.hose_codec.specs.declared.limits.CodecFault.TheVariants.{Bad, Memory as Wanting}
 use Rattle.hose_disk.specs.Disk.{NoneNew, object_frame}
 use Rattle.hose_disk.specs.declared.disk.Disk.{Ghosts}
 use Rattle.hose_journal.specs.AtGate.{BeginsSeal}
 use Rattle.hose_journal.specs.Chain.{chain}
 use Rattle.hose_journal.specs.Entries.{Item, entered, entries_format, entries_in, entries_reader, entry_bytes, front_of, is_chained}
-use Rattle.hose_journal.specs.Image.{AreItems, IsBroken, IsClosed, IsVersion}
+use Rattle.hose_journal.specs.Image.{AreItems, IsDamaged, IsClosed, IsVersion}
 use Rattle.hose_journal.specs.Moments.{LeavesOnly, ReadsItsImages}
 use Rattle.hose_journal.specs.declared.fault.JournalFault.{JournalFault}
 use Rattle.hose_journal.specs.declared.fault.JournalFault.TheVariants.{Disk, Other, Damaged, Memory}
@@ -41,7 +41,7 @@ pub record IsPiece (content : Option (List ℕ)) (end : ℕ) (piece : Piece) : T
       take piece.len piece.bytes.items ≡ take PIECE_BYTES (drop piece.from bytes))
 
 -- It has all that a record at this place needs, or all up to the disk's end.
-pub record Reaches (piece : Piece) (at : ℕ) : Type 0 where
+pub record CoversRecord (piece : Piece) (at : ℕ) : Type 0 where
   pub from : piece.from ≤ at
   pub far : (piece.len < PIECE_BYTES) ⊎ (at - piece.from + MOST_PART ≤ PIECE_BYTES)
 
@@ -92,13 +92,13 @@ pub record IsFoundAt (content : Option (List ℕ)) (digest : List ℕ) (entries 
   pub told : IfSome content (IsReadUpTo version digest (before ++ entered entry ∷ []) end)
 
 -- an entry's record stands at the gate, and the next gate is this far on
-pub record IsNext {D : Type 0} (disk : Ghosts D) (reading : Reading D) (digest : List ℕ)
+pub record IsAtEntry {D : Type 0} (disk : Ghosts D) (reading : Reading D) (digest : List ℕ)
     (entries : List Entry) (entry : Entry) : Type 0 where
   pub found : IsFoundAt (disk.content reading.disk) digest entries entry reading.gate reading.end
   pub sealed : is_chained found.version found.before ≡ reading.sealed
 
 -- a gate that is not open is next
-pub record IsEnd {D : Type 0} (disk : Ghosts D) (reading : Reading D) (digest : List ℕ)
+pub record IsAtClosedGate {D : Type 0} (disk : Ghosts D) (reading : Reading D) (digest : List ℕ)
     (entries : List Entry) : Type 0 where
   pub reads : Reads disk reading digest entries
   pub closed : IfSome (disk.content reading.disk)
@@ -108,14 +108,14 @@ pub record IsEnd {D : Type 0} (disk : Ghosts D) (reading : Reading D) (digest : 
 abbrev pub AtGate : {D : Type 0} → Ghosts D → Reading D → List ℕ → List Entry →
     Result (Option Found) CodecFault → Type 0
 AtGate disk reading digest entries (Ok (Some found)) =
-    IsNext disk reading digest entries found.entry
+    IsAtEntry disk reading digest entries found.entry
     × (found.value ≡ chain digest (entries ++ found.entry ∷ []))
     × (found.distance ≡ length (entry_bytes reading.sealed digest entries found.entry) + 1)
-AtGate disk reading digest entries (Ok None) = IsEnd disk reading digest entries
+AtGate disk reading digest entries (Ok None) = IsAtClosedGate disk reading digest entries
 AtGate disk reading digest entries (Err Bad) = IfSome (disk.content reading.disk)
-    (IsBroken entries_reader digest reading.gate entries)
+    (IsDamaged entries_reader digest reading.gate entries)
 AtGate disk reading digest entries (Err Wanting) =
-    (entry : Entry) × IsNext disk reading digest entries entry
+    (entry : Entry) × IsAtEntry disk reading digest entries entry
 
 -- no seal stands at the gate where one might
 abbrev pub IsAtNoSeal : {D : Type 0} → Reading D → Type 0
@@ -133,7 +133,7 @@ HasRead disk old new digest entries (Ok (Some entry)) =
 HasRead disk old new digest entries (Ok None) =
     Reads disk new digest entries × (new.last ≡ new.gate) × IsTrue new.closed
 HasRead disk old new digest entries (Err (Damaged at)) = (new.last ≡ at)
-    × IfSome (disk.content old.disk) (IsBroken entries_reader digest at entries)
+    × IfSome (disk.content old.disk) (IsDamaged entries_reader digest at entries)
 HasRead disk old new digest entries (Err Disk) =
     HasFailed disk old.disk new.disk × (new.last ≡ old.last)
 HasRead disk old new digest entries (Err Memory) =
@@ -143,12 +143,12 @@ HasRead disk old new digest entries (Err Memory) =
 HasRead disk old new digest entries (Err (Other kept given)) = ⊥
 
 -- a fault is told from then on, but for want of memory
-abbrev pub KeepsFault : {T : Type 0} → Result T JournalFault → Option JournalFault → Type 0
-KeepsFault (Ok value) fault = fault ≡ None
-KeepsFault (Err Disk) fault = fault ≡ Some Disk
-KeepsFault (Err (Damaged at)) fault = fault ≡ Some (Damaged at)
-KeepsFault (Err (Other kept given)) fault = fault ≡ Some (Other kept given)
-KeepsFault (Err Memory) fault = fault ≡ None
+abbrev pub KeepsJournalFault : {T : Type 0} → Result T JournalFault → Option JournalFault → Type 0
+KeepsJournalFault (Ok value) fault = fault ≡ None
+KeepsJournalFault (Err Disk) fault = fault ≡ Some Disk
+KeepsJournalFault (Err (Damaged at)) fault = fault ≡ Some (Damaged at)
+KeepsJournalFault (Err (Other kept given)) fault = fault ≡ Some (Other kept given)
+KeepsJournalFault (Err Memory) fault = fault ≡ None
 
 -- a journal whose head was read: the disk's length, and whether records have chain values
 pub record IsOpen {D : Type 0} (disk : Ghosts D) (now : D) (piece : Piece) (begun : Begun)

@@ -7,7 +7,7 @@ ghost use Rattle.hose_journal.specs.declared.layout.TheConstants.{CHAINED};
 ghost use Rattle.hose_journal.specs.Moments.{Images, LeavesOnly, ReadsItsImages, TellsAsBefore};
 
 use crate::layout::{CHAINED, CLOSED, DIGEST_BYTES, HEAD_BYTES, MARK, OPEN, VERSION_AT};
-use crate::putting::put;
+use crate::steps::put;
 use hose_disk::{Disk, Failed};
 
 /// Makes a journal without an entry of a disk on which none was begun.

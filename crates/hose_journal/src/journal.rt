@@ -1,20 +1,22 @@
 // A journal to which entries are added.
-ghost use Rattle.std.specs.Prelude.{◌≡◌, ◌⊎◌, ◌<◌, ◌≤◌, ◌+◌, ◌∷◌, [], Option, Some, None, false, length, IsFalse, IsTrue, IsOk, OnErr, OnOk};
+ghost use Rattle.std.specs.Prelude.{◌≡◌, ◌⊎◌, ◌<◌, ◌≤◌, ◌+◌, ◌∷◌, [], Option, Some, None, false, length, IfOk, IsFalse, IsTrue, IsOk, OnErr, OnOk};
 ghost use Rattle.hose_graph.specs.declared.entry.Entry.{Entry};
+ghost use Rattle.hose_graph.specs.Ranges.{IsInRanges};
 ghost use Rattle.hose_disk.specs.Disk.{IsCalled};
 ghost use Rattle.hose_journal.specs.Chain.{chain};
 ghost use Rattle.hose_journal.specs.Entries.{IsListOf};
-ghost use Rattle.hose_journal.specs.Journal.{Account, IsAmid, IsReady, Stands, with_doubt, with_entry};
+ghost use Rattle.hose_journal.specs.Journal.{Account, IsListAmid, IsReady, Stands, with_doubt, account_with};
 ghost use Rattle.hose_journal.specs.Moments.{Images, Lands, LeavesOnly, TellsAsBefore};
 ghost use Rattle.hose_journal.specs.declared.layout.TheConstants.{CLOSED};
 
 use crate::chaining::chain_after;
-use crate::filling::{fill_record, fill_seal};
 use crate::layout::{CLOSED, DIGEST_BYTES, OPEN};
-use crate::prepared::Ready;
+use crate::prepared::{Ready, fill_record, fill_seal};
 use crate::steps::{set_gate, stage};
+use hose_codec::encode;
 use hose_disk::{Disk, Failed};
-use hose_graph::MOST_EPOCH;
+use hose_graph::{Entry, MOST_EPOCH};
+use std::alloc::{AllocError, Global};
 
 /// A journal to which entries are added, one at a time.
 ///
@@ -86,7 +88,7 @@ impl<D: Disk> Journal<D> {
         requires { (account : Account) × Stands D.Disk self.old account }
         // At every moment each image stands for the entries, with the one in doubt or without it.
         ensures any_moment { (account : Account) → Stands D.Disk self.old account →
-            LeavesOnly D.Disk self.old.disk self.new.disk (IsAmid account None) }
+            LeavesOnly D.Disk self.old.disk self.new.disk (IsListAmid account None) }
         ensures settled { OnOk result ((account : Account) → Stands D.Disk self.old account →
             Stands D.Disk self.new (with_doubt account None)) }
         // Its gate is closed by the byte that a new journal's has.
@@ -119,16 +121,16 @@ impl<D: Disk> Journal<D> {
         ensures any_moment { (account : Account) → (entry : Entry) →
             Stands D.Disk self.old account → IsReady entry ready.now →
             length account.entries < MOST_EPOCH →
-            LeavesOnly D.Disk self.old.disk self.new.disk (IsAmid account (Some entry)) }
+            LeavesOnly D.Disk self.old.disk self.new.disk (IsListAmid account (Some entry)) }
         ensures added { OnOk result ((account : Account) → (entry : Entry) →
             Stands D.Disk self.old account → IsReady entry ready.now →
             length account.entries < MOST_EPOCH →
-            Stands D.Disk self.new (with_entry account entry)) }
+            Stands D.Disk self.new (account_with account entry)) }
         ensures durable { OnOk result ((account : Account) → (entry : Entry) →
             Stands D.Disk self.old account → IsReady entry ready.now →
             length account.entries < MOST_EPOCH →
             Images D.Disk self.new.disk
-            (IsListOf account.digest (with_entry account entry).entries)) }
+            (IsListOf account.digest (account_with account entry).entries)) }
         // The entry in doubt is the one of before where it could not be revoked; else it is none,
         // or this one.
         ensures failed { OnErr result ((account : Account) → (entry : Entry) →
@@ -188,4 +190,13 @@ impl<D: Disk> Journal<D> {
     {
         self.disk
     }
+}
+
+/// Takes the memory that an append of this entry needs.
+pub fn ready(alloc: Global, entry: &Entry) -> Result<Ready, AllocError>
+    requires { IsInRanges entry.now }
+    ensures { IfOk result (IsReady entry.now) }
+{
+    let bytes = encode(alloc, entry)?;
+    Ok(Ready { bytes })
 }

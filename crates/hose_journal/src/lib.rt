@@ -25,25 +25,19 @@
 
 mod beginning;
 mod chaining;
-mod comparing;
 mod fault;
-mod filling;
 mod journal;
-mod laws;
 mod layout;
 mod opening;
 mod part;
 mod piece;
 mod prepared;
-mod putting;
 mod reading;
-mod readying;
 mod steps;
 
+pub use chaining::law_chain;
 pub use fault::JournalFault;
-pub use journal::Journal;
-pub use laws::{law_chain, law_one_list};
+pub use journal::{Journal, ready};
 pub use opening::open;
 pub use prepared::Ready;
-pub use reading::Reading;
-pub use readying::ready;
+pub use reading::{Reading, law_one_list};

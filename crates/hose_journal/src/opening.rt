@@ -2,16 +2,16 @@
 ghost use Rattle.std.specs.Prelude.{◌≡◌, ◌⊎◌, ◌↔◌, [], ◌++◌, List, ℕ, IfErr, IfOk, IfSome, IsErr, IsTrue, MatchResult, OnOk, length};
 ghost use Rattle.hose_journal.specs.Image.{IsUnbegun};
 ghost use Rattle.hose_journal.specs.Moments.{KeepsCount, LeavesOnly};
-ghost use Rattle.hose_journal.specs.Opening.{HasHead, IsFront, IsOpened, IsRefused, KeepsDisk, KeepsList};
+ghost use Rattle.hose_journal.specs.Opening.{HasHead, IsFront, IsOpened, IsRefusedJournal, KeepsDisk, KeepsList};
 ghost use Rattle.hose_journal.specs.Reading.{HasFailed, IsOpen, OnlyRead, Reads};
 
 use crate::beginning::begin;
-use crate::comparing::is_same;
 use crate::fault::JournalFault;
 use crate::layout::{
     BUFFER_BYTES, CHAINED, DIGEST_BYTES, EMPTY_BYTES, HEAD_BYTES, MARK, OPEN, PIECE_BYTES, PLAIN,
     VERSION_AT,
 };
+use crate::part::is_same;
 use crate::piece::Piece;
 use crate::reading::Reading;
 use hose_disk::{Disk, Failed};
@@ -42,7 +42,7 @@ pub fn open<D: Disk>(
     ensures fault { IfOk result (λ reading. reading.fault ≡ None) }
     ensures count { IfOk result (λ reading. KeepsCount D.Disk disk reading.disk) }
     ensures refused { IfErr result (λ refused.
-        IsRefused D.Disk disk refused.1 digest refused.0) }
+        IsRefusedJournal D.Disk disk refused.1 digest refused.0) }
     ensures keeps { MatchResult result
         (λ reading. KeepsDisk D.Disk disk reading.disk)
         (λ refused. KeepsDisk D.Disk disk refused.1) }
@@ -72,7 +72,7 @@ fn prepare<D: Disk>(
     ensures list { OnOk result
         (KeepsList (D.content disk.old) (D.content disk.new) digest.now) }
     ensures count { OnOk result (KeepsCount D.Disk disk.old disk.new) }
-    ensures refused { IfErr result (IsRefused D.Disk disk.old disk.new digest.now) }
+    ensures refused { IfErr result (IsRefusedJournal D.Disk disk.old disk.new digest.now) }
     ensures keeps { KeepsDisk D.Disk disk.old disk.new }
 {
     disk.sync()?;

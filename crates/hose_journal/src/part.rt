@@ -7,7 +7,6 @@ ghost use Rattle.hose_journal.specs.Chain.{chain};
 ghost use Rattle.hose_journal.specs.Entries.{seal_bytes};
 
 use crate::chaining::{chain_after, value_part};
-use crate::comparing::is_same;
 use crate::layout::{DIGEST_BYTES, LENGTH_BYTES, OPEN, SEAL, SEAL_BYTES, SEAL_RECORD};
 use byteorder::{BigEndian, ByteOrder};
 use hose_codec::{CodecFault, MOST_SPELLING, decode};
@@ -133,4 +132,11 @@ fn sealing(value: &[u8; DIGEST_BYTES]) -> [u8; SEAL_RECORD]
     bytes[1 + LENGTH_BYTES] = SEAL;
     bytes[2 + LENGTH_BYTES..].copy_from_slice(value);
     bytes
+}
+
+/// Whether these are the same bytes.
+pub fn is_same(one: &[u8], other: &[u8]) -> bool
+    ensures { IsTrue result ↔ (one.now ≡ other.now) }
+{
+    one == other
 }

@@ -1,7 +1,7 @@
 // The piece of a disk's content that was read last.
 ghost use Rattle.std.specs.Prelude.{◌≡◌, ◌+◌, ◌-◌, ◌<◌, ◌≤◌, ◌^◌, ◌↔◌, ◌⊎◌, IfOk, IfSome, IsErr, IsTrue, OnOk, drop, length, take};
 ghost use Rattle.hose_journal.specs.Moments.{KeepsCount};
-ghost use Rattle.hose_journal.specs.Reading.{HasFailed, IsPiece, OnlyRead, Reaches};
+ghost use Rattle.hose_journal.specs.Reading.{HasFailed, IsPiece, OnlyRead, CoversRecord};
 
 use crate::layout::{MOST_PART, PIECE_BYTES};
 use hose_disk::{Disk, Failed};
@@ -46,7 +46,7 @@ impl Piece {
 
     /// Whether it has all that a record at this place needs, or all up to the disk's end.
     pub fn reaches(&self, at: u64) -> bool
-        ensures { IsTrue result ↔ Reaches self.now at }
+        ensures { IsTrue result ↔ CoversRecord self.now at }
     {
         if at < self.from {
             return false;

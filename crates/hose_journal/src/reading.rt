@@ -1,11 +1,13 @@
-// A journal whose entries are read, one after another.
-ghost use Rattle.std.specs.Prelude.{◌≡◌, ◌≤◌, [], List, ℕ, None, Some, IfSome, IsErr, IsFalse, IsTrue, OnOk, true, vec_capacity};
+// A journal whose entries are read, one after another, and that it is read as one list.
+ghost use Rattle.std.specs.Prelude.{◌≡◌, ◌≤◌, ◌++◌, [], List, ℕ, None, Some, IfSome, IsErr, IsFalse, IsTrue, OnOk, true, vec_capacity};
 ghost use Rattle.hose_graph.specs.declared.entry.Entry.{Entry};
 ghost use Rattle.hose_journal.specs.AtGate.{BeginsSeal};
 ghost use Rattle.hose_journal.specs.Chain.{chain};
+ghost use Rattle.hose_journal.specs.Entries.{IsListOf, Item, entries_format, entries_in};
+ghost use Rattle.hose_journal.specs.Image.{AreItems, IsVersion, journal_of};
 ghost use Rattle.hose_journal.specs.Journal.{Stands};
 ghost use Rattle.hose_journal.specs.Moments.{KeepsCount};
-ghost use Rattle.hose_journal.specs.Reading.{AtGate, HasFailed, HasRead, IsAtNoSeal, IsOpen, KeepsFault, OnlyRead, Reaches, Reads, held_from};
+ghost use Rattle.hose_journal.specs.Reading.{AtGate, HasFailed, HasRead, IsAtNoSeal, IsOpen, KeepsJournalFault, OnlyRead, CoversRecord, Reads, held_from};
 ghost use Rattle.hose_journal.specs.declared.layout.TheConstants.{BUFFER_BYTES, HEAD_BYTES};
 
 use crate::fault::JournalFault;
@@ -77,7 +79,7 @@ impl<D: Disk> Reading<D> {
         ensures read { self.old.fault ≡ None → (digest : List ℕ) → (entries : List Entry) →
             Reads D.Disk self.old digest entries →
             HasRead D.Disk self.old self.new digest entries result }
-        ensures fault { self.old.fault ≡ None → KeepsFault result self.new.fault }
+        ensures fault { self.old.fault ≡ None → KeepsJournalFault result self.new.fault }
         ensures again { IfSome self.old.fault (λ fault.
             (result ≡ Err fault) × (self.new ≡ self.old)) }
         ensures only { OnlyRead D.Disk self.old.disk self.new.disk }
@@ -176,9 +178,9 @@ impl<D: Disk> Reading<D> {
     // What stands at the gate, in the piece that was read.
     fn here(&self) -> Result<Option<Found>, CodecFault>
         requires { (digest : List ℕ) × (entries : List Entry) × Reads D.Disk self.now digest entries
-            × Reaches self.now.piece self.now.gate × IsAtNoSeal self.now }
+            × CoversRecord self.now.piece self.now.gate × IsAtNoSeal self.now }
         ensures { (digest : List ℕ) → (entries : List Entry) →
-            Reads D.Disk self.now digest entries → Reaches self.now.piece self.now.gate →
+            Reads D.Disk self.now digest entries → CoversRecord self.now.piece self.now.gate →
             IsAtNoSeal self.now → AtGate D.Disk self.now digest entries result }
     {
         part(
@@ -196,7 +198,7 @@ impl<D: Disk> Reading<D> {
         requires going { IsFalse self.old.closed }
         ensures approached { OnOk result ((digest : List ℕ) → (entries : List Entry) →
             Reads D.Disk self.old digest entries → Reads D.Disk self.new digest entries) }
-        ensures reaches { OnOk result (Reaches self.new.piece self.new.gate) }
+        ensures reaches { OnOk result (CoversRecord self.new.piece self.new.gate) }
         ensures past { OnOk result (IsAtNoSeal self.new) }
         ensures kept { self.new ≡ record self.old {
           disk = self.new.disk;
@@ -219,7 +221,7 @@ impl<D: Disk> Reading<D> {
     // Whether a seal stands at the gate, where one may.
     fn is_at_seal(&self) -> bool
         requires { (digest : List ℕ) × (entries : List Entry) × Reads D.Disk self.now digest entries
-            × Reaches self.now.piece self.now.gate }
+            × CoversRecord self.now.piece self.now.gate }
         ensures seal { IsTrue result → IsFalse self.now.sealed
             × BeginsSeal self.now.chain (held_from self.now.piece self.now.gate) }
         ensures none { IsFalse result → IsAtNoSeal self.now }
@@ -235,7 +237,7 @@ impl<D: Disk> Reading<D> {
         requires { (digest : List ℕ) × (entries : List Entry)
             × Reads D.Disk self.old digest entries }
         ensures passed { (digest : List ℕ) → (entries : List Entry) →
-            Reads D.Disk self.old digest entries → Reaches self.old.piece self.old.gate →
+            Reads D.Disk self.old digest entries → CoversRecord self.old.piece self.old.gate →
             IsFalse self.old.closed → IsFalse self.old.sealed →
             BeginsSeal self.old.chain (held_from self.old.piece self.old.gate) →
             Reads D.Disk self.new digest entries }
@@ -251,7 +253,7 @@ impl<D: Disk> Reading<D> {
             × Reads D.Disk self.old digest entries }
         ensures filled { OnOk result ((digest : List ℕ) → (entries : List Entry) →
             Reads D.Disk self.old digest entries → Reads D.Disk self.new digest entries) }
-        ensures reaches { OnOk result (Reaches self.new.piece self.new.gate) }
+        ensures reaches { OnOk result (CoversRecord self.new.piece self.new.gate) }
         ensures kept { self.new ≡ record self.old { disk = self.new.disk; piece = self.new.piece } }
         ensures only { OnlyRead D.Disk self.old.disk self.new.disk }
         ensures count { OnOk result (KeepsCount D.Disk self.old.disk self.new.disk) }
@@ -263,3 +265,14 @@ impl<D: Disk> Reading<D> {
         Ok(())
     }
 }
+
+/// The journal of a list is read as this list, in both versions and whatever follows it, and no
+/// image is read as two.
+pub fn law_one_list(digest: &[u8; DIGEST_BYTES])
+    ensures read { (version : ℕ) → (items : List Item) → (rest : List ℕ) → IsVersion version →
+        AreItems (entries_format version digest.now) [] items →
+        IsListOf digest.now (entries_in items)
+        (journal_of (entries_format version digest.now) version digest.now items ++ rest) }
+    ensures alone { (image : List ℕ) → (one other : List Entry) → IsListOf digest.now one image →
+        IsListOf digest.now other image → one ≡ other }
+{}

@@ -7,11 +7,11 @@ use Rattle.hose_law.specs.History.{book_of, opening_book, next_book, IsSound, Is
 use Rattle.hose_law.proofs.Scripts.{book_after_push}
 use Rattle.hose_law.specs.Tracks.{Tracks}
 use Rattle.hose_book.specs.Ledger.{TracksOn, next_ledger}
-use Rattle.hose_book.specs.declared.committed.Committed.{Committed}
-use Rattle.hose_book.specs.declared.committed.Committed.TheVariants.{Done, Disk}
+use Rattle.hose_book.specs.declared.books.Committed.{Committed}
+use Rattle.hose_book.specs.declared.books.Committed.TheVariants.{Done, Disk}
 use Rattle.hose_disk.specs.declared.disk.Disk.{Ghosts}
 use Rattle.hose_journal.specs.Entries.{IsListOf}
-use Rattle.hose_journal.specs.Journal.{Account, Stands, IsReady, with_doubt, with_entry, IsAmid as IsListAmid}
+use Rattle.hose_journal.specs.Journal.{Account, Stands, IsReady, with_doubt, account_with, IsListAmid}
 use Rattle.hose_journal.specs.Moments.{Images, LeavesOnly, TellsAsBefore}
 use Rattle.hose_journal.specs.declared.journal.Journal.{Journal}
 use Rattle.hose_journal.specs.declared.prepared.Ready.{Ready}
@@ -63,7 +63,7 @@ module _ {D : Type 0} (disk : Ghosts D) where
         (λ image is. history_amid network history doubt (Some entry) image has.sound has.sound_doubt sound_at is)
         (moments (account_of network history doubt) entry has.journal is_ready (few_entries network old.ledger.book history entry has.book at))
 
-    pub went_done : TracksOn old.ledger entry (next_ledger old.ledger entry) → ((account : Account) (one : Entry) → Stands disk old.journal account → IsReady one ready → length account.entries < MOST_EPOCH → Stands disk journal (with_entry account one))
+    pub went_done : TracksOn old.ledger entry (next_ledger old.ledger entry) → ((account : Account) (one : Entry) → Stands disk old.journal account → IsReady one ready → length account.entries < MOST_EPOCH → Stands disk journal (account_with account one))
         → (disk.frame journal.disk).has_failed ≡ false → Went disk old entry Done (record { ledger = next_ledger old.ledger entry; journal = journal })
     went_done tracks added told = record {
       commits = refl;

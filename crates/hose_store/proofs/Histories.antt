@@ -9,8 +9,8 @@ use Rattle.hose_law.specs.History.{book_of, book_after, opening_book, next_book,
 use Rattle.hose_law.proofs.LiveIds.{next_epoch}
 use Rattle.hose_law.proofs.Scripts.{book_after_push, sound_push}
 use Rattle.hose_topo.specs.Canonical.{canonical_text}
-use Rattle.hose_journal.specs.Entries.{AreTaken, IsListOf}
-use Rattle.hose_journal.specs.Journal.{IsListWith, IsAmid as IsListAmid}
+use Rattle.hose_journal.specs.Entries.{AreAllowed, IsListOf}
+use Rattle.hose_journal.specs.Journal.{IsListWith, IsListAmid}
 use Rattle.hose_journal.proofs.Narrow.{narrowed, widened}
 use Rattle.hose_store.specs.Recovery.{digest_of, IsHistoryOf, IsSoundAfter}
 use Rattle.hose_store.specs.Store.{account_of, IsAmid, IsHistoryWith}
@@ -59,24 +59,24 @@ sound_with network history entry sound at = sound_push network (opening_book 0) 
 
 -- ---- entries that are sound one after another
 
-pub taken_sound : (network : Network) (before items : List Entry) → IsSoundFrom network (book_of 0 before) items → AreTaken (IsSoundAfter network) before items
+pub taken_sound : (network : Network) (before items : List Entry) → IsSoundFrom network (book_of 0 before) items → AreAllowed (IsSoundAfter network) before items
 taken_sound network before [] sound = tt
 taken_sound network before (item ∷ items) sound =
     let next = subst (λ (book : Book). IsSoundFrom network book items) (sym (book_after_push (opening_book 0) before item)) sound.1 in
     (sound.0, taken_sound network (before ++ item ∷ []) items next)
 
-sound_taken : (network : Network) (before items : List Entry) → AreTaken (IsSoundAfter network) before items → IsSoundFrom network (book_of 0 before) items
+sound_taken : (network : Network) (before items : List Entry) → AreAllowed (IsSoundAfter network) before items → IsSoundFrom network (book_of 0 before) items
 sound_taken network before [] taken = tt
 sound_taken network before (item ∷ items) taken =
     let next = sound_taken network (before ++ item ∷ []) items taken.1 in
     (taken.0, subst (λ (book : Book). IsSoundFrom network book items) (book_after_push (opening_book 0) before item) next)
 
 -- they are a sound history
-pub sound_items : (network : Network) (items : List Entry) → AreTaken (IsSoundAfter network) [] items → IsSound network 0 items
+pub sound_items : (network : Network) (items : List Entry) → AreAllowed (IsSoundAfter network) [] items → IsSound network 0 items
 sound_items network items taken = sound_taken network [] items taken
 
 -- and one more
-pub taken_more : (network : Network) (before items : List Entry) (item : Entry) → AreTaken (IsSoundAfter network) before items → IsSoundAt network (book_of 0 (before ++ items)) item → AreTaken (IsSoundAfter network) before (items ++ item ∷ [])
+pub taken_more : (network : Network) (before items : List Entry) (item : Entry) → AreAllowed (IsSoundAfter network) before items → IsSoundAt network (book_of 0 (before ++ items)) item → AreAllowed (IsSoundAfter network) before (items ++ item ∷ [])
 taken_more network before [] item taken at = (subst (λ (l : List Entry). IsSoundAt network (book_of 0 l) item) (append-nil before) at, tt)
 taken_more network before (first ∷ items) item taken at =
     (taken.0, taken_more network (before ++ first ∷ []) items item taken.1 (subst (λ (l : List Entry). IsSoundAt network (book_of 0 l) item) (sym (append_assoc before (first ∷ []) items)) at))

@@ -4,8 +4,7 @@ use Rattle.hose_io.proofs.Frames.{Rose-later}
 use Rattle.hose_graph.specs.Network.{Network}
 use Rattle.hose_graph.specs.declared.entry.Entry.{Entry}
 use Rattle.hose_law.specs.History.{IsSound}
-use Rattle.hose_law.specs.Tracks.{Tracks}
-use Rattle.hose_book.specs.Ledger.{Ledger, opening_ledger}
+use Rattle.hose_book.specs.Ledger.{Ledger}
 use Rattle.hose_disk.specs.Disk.{object_frame}
 use Rattle.hose_disk.specs.declared.disk.Disk.{Ghosts}
 use Rattle.hose_journal.specs.declared.layout.TheConstants.{DIGEST_BYTES}
@@ -17,15 +16,15 @@ use Rattle.hose_journal.specs.Entries.{IsListOf}
 use Rattle.hose_journal.specs.Image.{IsOther, IsUnbegun, head, damaged, listed}
 use Rattle.hose_journal.specs.Journal.{Stands}
 use Rattle.hose_journal.specs.Moments.{LeavesOnly}
-use Rattle.hose_journal.specs.Opening.{HasNoHead, IsOpened, KeepsDisk, KeepsList, IsRefused as IsRefusedThere}
-use Rattle.hose_journal.specs.Reading.{OnlyRead, Reads}
+use Rattle.hose_journal.specs.Opening.{HasNoHead, IsOpened, KeepsDisk, KeepsList, IsRefusedJournal as IsRefusedThere}
+use Rattle.hose_journal.specs.Reading.{OnlyRead}
 use Rattle.hose_journal.proofs.OneList.{one_list}
 use Rattle.hose_journal.proofs.Readings.{read_list}
 use Rattle.hose_journal.proofs.Runs.{started, joined, weaker, now_too}
 use Rattle.hose_store.specs.declared.fault.StoreFault.{StoreFault}
 use Rattle.hose_store.specs.declared.fault.StoreFault.TheVariants as store
 use Rattle.hose_store.specs.Faults.{store_fault}
-use Rattle.hose_store.specs.Opening.{IsAtOpening, IsOpenedOn, IsRecovering, IsRefused, IsStopped, IsUnchanged}
+use Rattle.hose_store.specs.Opening.{HasGiven, IsAtOpening, IsOpenedOn, IsRefusedStore, IsStopped, IsUnchanged}
 use Rattle.hose_store.specs.Recovery.{digest_of, IsHistoryOf, IsRecoveredAs}
 use Rattle.hose_store.specs.Store.{HasHistory, account_of}
 use Rattle.hose_store.proofs.Commits.{has_history}
@@ -112,7 +111,7 @@ module _ {D : Type 0} (disk : Ghosts D) where
   -- the journal was not opened
   pub refused_head : (old new : D) (top : Network) (fault : JournalFault) → ((image : List ℕ) → disk.left_since old (disk.moment old) image → disk.may_leave old image)
       → ((t : ℕ) (image : List ℕ) → disk.content new ≡ None → disk.left_since new t image → ⊥) → KeepsDisk disk old new
-      → LeavesOnly disk old new (IsOpened disk old (digest_of top)) → IsRefusedThere disk old new (digest_of top) fault → IsRefused disk old new top (store_fault fault)
+      → LeavesOnly disk old new (IsOpened disk old (digest_of top)) → IsRefusedThere disk old new (digest_of top) fault → IsRefusedStore disk old new top (store_fault fault)
   refused_head old new top journal.Disk only_now untold keeps run refused = refused
   refused_head old new top (journal.Other kept given) only_now untold keeps run refused = (
     unchanged old new (digest_of top) untold keeps.tells run (told_each (disk.content old) _ (λ bytes. ¬ IsUnbegun bytes) (λ bytes is. other_begun (digest_of top) kept bytes is) refused.1),
@@ -128,7 +127,7 @@ module _ {D : Type 0} (disk : Ghosts D) where
   -- its entries were read no further
   pub refused_entries : (old mid new : D) (top : Network) (fault : StoreFault) → length (digest_of top) ≡ DIGEST_BYTES → ((t : ℕ) (image : List ℕ) → disk.content new ≡ None → disk.left_since new t image → ⊥)
       → KeepsDisk disk old mid → KeepsList (disk.content old) (disk.content mid) (digest_of top) → disk.content new ≡ disk.content mid
-      → LeavesOnly disk old new (IsOpened disk old (digest_of top)) → IsStopped disk mid new top fault → IsRefused disk old new top fault
+      → LeavesOnly disk old new (IsOpened disk old (digest_of top)) → IsStopped disk mid new top fault → IsRefusedStore disk old new top fault
   refused_entries old mid new top store.Disk size untold keeps list same run stopped =
       record { rose = Rose-later (object_frame (disk.frame old)) (object_frame (disk.frame mid)) (object_frame (disk.frame new)) keeps.stays stopped.rose; told = stopped.told }
   refused_entries old mid new top (store.Other kept given) size untold keeps list same run stopped = absurd stopped
@@ -147,42 +146,31 @@ module _ {D : Type 0} (disk : Ghosts D) where
 
   -- ---- the store that is opened
 
-  -- before the first entry
-  pub first_recovering : (ledger : Ledger) (top : Network) (reading : Reading D) → ledger ≡ opening_ledger top 0 → Tracks 0 [] ledger.recent → Reads disk reading (digest_of top) [] → reading.fault ≡ None → IsRecovering disk ledger reading
-  first_recovering ledger top reading is tracks reads fault = record {
-    entries = [];
-    reads = subst (λ (network : Network). Reads disk reading (digest_of network) []) (sym (ap (λ (l : Ledger). l.network) is)) reads;
-    sound = tt;
-    book = ap (λ (l : Ledger). l.book) is;
-    tracks = tracks;
-    fault = fault;
-  }
-
   -- after the last one, once its journal is sealed
-  pub has_recovered : (ledger : Ledger) (reading : Reading D) (journal : Journal D) (recovering : IsRecovering disk ledger reading)
-      → Stands disk journal (account_of ledger.network recovering.entries None) → IsTrue journal.sealed → HasHistory disk (record { ledger = ledger; journal = journal }) recovering.entries None
-  has_recovered ledger reading journal recovering stands sealed =
-      has_history disk (record { ledger = ledger; journal = journal }) recovering.entries None recovering.book recovering.tracks (sound_items ledger.network recovering.entries recovering.sound) tt stands sealed
+  pub has_recovered : (ledger : Ledger) (reading : Reading D) (journal : Journal D) (entries : List Entry) (given : HasGiven disk ledger reading entries)
+      → Stands disk journal (account_of ledger.network entries None) → IsTrue journal.sealed → HasHistory disk (record { ledger = ledger; journal = journal }) entries None
+  has_recovered ledger reading journal entries given stands sealed =
+      has_history disk (record { ledger = ledger; journal = journal }) entries None given.book given.tracks (sound_items ledger.network entries given.sound) tt stands sealed
 
   -- the entries that were read are the history for which the disk stood
-  pub read_history : (old mid : D) (ledger : Ledger) (reading : Reading D) (recovering : IsRecovering disk ledger reading) → is_some (disk.content mid) ≡ is_some (disk.content old)
-      → KeepsList (disk.content old) (disk.content mid) (digest_of ledger.network) → disk.content reading.disk ≡ disk.content mid → IsTrue reading.closed → IfSome (disk.content old) (IsHistoryOf ledger.network recovering.entries)
-  read_history old mid ledger reading recovering tells list same closed =
+  pub read_history : (old mid : D) (ledger : Ledger) (reading : Reading D) (entries : List Entry) (given : HasGiven disk ledger reading entries) → is_some (disk.content mid) ≡ is_some (disk.content old)
+      → KeepsList (disk.content old) (disk.content mid) (digest_of ledger.network) → disk.content reading.disk ≡ disk.content mid → IsTrue reading.closed → IfSome (disk.content old) (IsHistoryOf ledger.network entries)
+  read_history old mid ledger reading entries given tells list same closed =
       let network = ledger.network in
-      let reads = recovering.reads in
-      let told = subst (λ (content : Option (List ℕ)). IfSome content (IsListOf (digest_of network) recovering.entries)) same (read_list disk reading (digest_of network) recovering.entries reads closed) in
-      history_from network recovering.entries (disk.content old) (disk.content mid) reads.size tells list (sound_items network recovering.entries recovering.sound) told
+      let reads = given.reads in
+      let told = subst (λ (content : Option (List ℕ)). IfSome content (IsListOf (digest_of network) entries)) same (read_list disk reading (digest_of network) entries reads closed) in
+      history_from network entries (disk.content old) (disk.content mid) reads.size tells list (sound_items network entries given.sound) told
 
-  pub opened_on : (old : D) (ledger : Ledger) (reading : Reading D) (journal : Journal D) (recovering : IsRecovering disk ledger reading) → IfSome (disk.content old) (IsHistoryOf ledger.network recovering.entries)
-      → Stands disk journal (account_of ledger.network recovering.entries None) → IsTrue journal.sealed → IsOpenedOn disk old ledger.network (record { ledger = ledger; journal = journal })
-  opened_on old ledger reading journal recovering read stands sealed =
-      let has = has_recovered ledger reading journal recovering stands sealed in
+  pub opened_on : (old : D) (ledger : Ledger) (reading : Reading D) (journal : Journal D) (entries : List Entry) (given : HasGiven disk ledger reading entries) → IfSome (disk.content old) (IsHistoryOf ledger.network entries)
+      → Stands disk journal (account_of ledger.network entries None) → IsTrue journal.sealed → IsOpenedOn disk old ledger.network (record { ledger = ledger; journal = journal })
+  opened_on old ledger reading journal entries given read stands sealed =
+      let has = has_recovered ledger reading journal entries given stands sealed in
       record {
-        history = recovering.entries;
+        history = entries;
         network = refl;
         has = has;
         read = read;
-        images = λ image is. amid_none ledger.network recovering.entries image (has.images image is);
+        images = λ image is. amid_none ledger.network entries image (has.images image is);
       }
 
 -- ---- images at an opening
@@ -202,3 +190,16 @@ pub sealing_at : {D : Type 0} (disk : Ghosts D) (old mid new : D) (network : Net
 sealing_at disk old mid new network history sound read first second =
     joined disk old mid new (IsAtOpening disk old network) first
     (weaker disk mid new (IsListOf (digest_of network) history) (IsAtOpening disk old network) (λ image list. inr (history, read, history_of_list network history image sound list)) second)
+
+-- from before an opening up to its seal and within it
+pub sealing_run : {D : Type 0} (disk : Ghosts D) (old mid from new : D) (top : Network) (digest : List ℕ) (ledger : Ledger) (reading : Reading D) (entries : List Entry) (given : HasGiven disk ledger reading entries) → digest ≡ digest_of top → ledger.network ≡ top
+    → ((t : ℕ) (image : List ℕ) → t ≤ disk.moment mid → disk.may_leave mid image → disk.left_since mid t image) → KeepsDisk disk old mid → KeepsList (disk.content old) (disk.content mid) digest → LeavesOnly disk old mid (IsOpened disk old digest)
+    → OnlyRead disk mid reading.disk → IsTrue reading.closed → from ≡ reading.disk → LeavesOnly disk from new (IsListOf (digest_of ledger.network) entries) → LeavesOnly disk old new (IsAtOpening disk old top)
+sealing_run {D} disk old mid from new top digest ledger reading entries given is is_network counts keeps list run only closed is_from within =
+    let network = ledger.network in
+    let same = is ∙ ap digest_of (sym is_network) in
+    let keeps_list = subst (λ (d : List ℕ). KeepsList (disk.content old) (disk.content mid) d) same list in
+    let opened = opened_then disk old mid reading.disk (digest_of network) counts (subst (λ (d : List ℕ). LeavesOnly disk old mid (IsOpened disk old d)) same run) only in
+    subst (λ (n : Network). LeavesOnly disk old new (IsAtOpening disk old n)) is_network
+    (sealing_at disk old reading.disk new network entries (sound_items network entries given.sound) (read_history disk old mid ledger reading entries given keeps.tells keeps_list only.same closed)
+    (at_opening disk old reading.disk network opened) (subst (λ (d : D). LeavesOnly disk d new (IsListOf (digest_of network) entries)) is_from within))

@@ -3,19 +3,23 @@ use Rattle.std.proofs.Common.{◌≡◌, inr, ℕ, ◌≤◌, List, [], ◌∷�
 use Rattle.std.specs.Prelude.{Ok, Err}
 use Rattle.hose_io.proofs.Frames.{Stays-none, Stays-next, Rose-later}
 use Rattle.hose_graph.specs.Network.{Network}
+use Rattle.hose_graph.specs.Ranges.{IsInRanges}
 use Rattle.hose_graph.specs.declared.entry.Entry.{Entry}
+use Rattle.hose_graph.specs.declared.entry.Entry.TheVariants.{Admit, Release, Down, Up}
 use Rattle.hose_law.specs.Book.{Book}
 use Rattle.hose_law.specs.History.{opening_book, next_book, IsSoundAt}
 use Rattle.hose_law.proofs.Scripts.{book_after_push}
-use Rattle.hose_book.specs.Ledger.{Ledger, TracksOn}
+use Rattle.hose_law.specs.Tracks.{Tracks}
+use Rattle.hose_book.specs.Ledger.{Ledger, TracksOn, opening_ledger}
 use Rattle.hose_disk.specs.Disk.{object_frame}
 use Rattle.hose_disk.specs.declared.disk.Disk.{Ghosts}
 use Rattle.hose_journal.specs.declared.layout.TheConstants.{DIGEST_BYTES}
 use Rattle.hose_journal.specs.declared.fault.JournalFault.{JournalFault}
 use Rattle.hose_journal.specs.declared.fault.JournalFault.TheVariants as journal
 use Rattle.hose_journal.specs.declared.reading.Reading.{Reading}
-use Rattle.hose_journal.specs.Entries.{AreTaken, IsListOf, entered, entries_in, entries_reader, front_of}
-use Rattle.hose_journal.specs.Image.{IsBroken, damaged}
+use Rattle.hose_codec.specs.Spelling.{IsEntry}
+use Rattle.hose_journal.specs.Entries.{AreAllowed, IsListOf, Item, entered, entries_format, entries_in, entries_reader, front_of}
+use Rattle.hose_journal.specs.Image.{AreItems, IsDamaged, damaged}
 use Rattle.hose_journal.specs.Reading.{HasFailed, HasRead, IsFoundAt, IsReadUpTo, OnlyRead, Reads}
 use Rattle.hose_journal.proofs.Items.{entries_push}
 use Rattle.hose_journal.proofs.Narrow.{broken_narrowed, refused_at}
@@ -24,7 +28,7 @@ use Rattle.hose_journal.proofs.Runs.{started, joined, weaker}
 use Rattle.hose_store.specs.declared.fault.StoreFault.{StoreFault}
 use Rattle.hose_store.specs.declared.fault.StoreFault.TheVariants as store
 use Rattle.hose_store.specs.Faults.{store_fault}
-use Rattle.hose_store.specs.Opening.{IsRecovering, IsStopped, IsNotEmpty}
+use Rattle.hose_store.specs.Opening.{HasGiven, HasReadOn, IsNotEmpty, IsStopped}
 use Rattle.hose_store.specs.Recovery.{digest_of, IsRecoveredAs, IsSoundAfter}
 use Rattle.hose_store.proofs.Histories.{taken_more}
 
@@ -50,59 +54,87 @@ read_not_empty content digest entries entry place end size found =
     let few = no_fewer found.version digest bytes upto.rest items [] size found.are some upto.is list in
     omega (arith, few, ap length (entries_push found.before entry), length-append (entries_in found.before) (entry ∷ []))) found.told
 
+-- the last of the items of the format is one that it has
+last_entry : (version : ℕ) (digest : List ℕ) (before items : List Item) (entry : Entry) → AreItems (entries_format version digest) before (items ++ entered entry ∷ []) → IsEntry entry
+last_entry version digest before [] entry are = are.0
+last_entry version digest before (item ∷ items) entry are = last_entry version digest (before ++ item ∷ []) items entry are.1
+
+entry_ranges : (entry : Entry) → IsEntry entry → IsInRanges entry
+entry_ranges (Admit customer hose amounts) is = is.2.fit
+entry_ranges (Release customer id) is = is.1
+entry_ranges (Down link) is = is
+entry_ranges (Up link) is = is
+
+found_ranges : (content : Option (List ℕ)) (digest : List ℕ) (entries : List Entry) (entry : Entry) (place end : ℕ) → IsFoundAt content digest entries entry place end → IsInRanges entry
+found_ranges content digest entries entry place end found = entry_ranges entry (last_entry found.version digest [] found.before entry found.are)
+
 module _ {D : Type 0} (disk : Ghosts D) where
   -- ---- the next entry
 
-  pub next_recovering : (old : Ledger) (new : Ledger) (before after : Reading D) (recovering : IsRecovering disk old before) (entry : Entry) → HasRead disk before after (digest_of old.network) recovering.entries (Ok (Some entry))
-      → after.fault ≡ None → IsSoundAt old.network old.book entry → new.network ≡ old.network → new.book ≡ next_book old.book entry → TracksOn old entry new → IsRecovering disk new after
-  next_recovering old new before after recovering entry has fault at is_network is_book tracks =
-      let entries = recovering.entries in
-      let sound_at = subst (λ (book : Book). IsSoundAt old.network book entry) recovering.book at in
+  pub given_next : (old new : Ledger) (before after : Reading D) (entries : List Entry) (entry : Entry) → HasGiven disk old before entries → HasReadOn disk old after entries (Ok (Some entry)) → IsSoundAt old.network old.book entry
+      → new.network ≡ old.network → new.book ≡ next_book old.book entry → TracksOn old entry new → HasGiven disk new after (entries ++ entry ∷ [])
+  given_next old new before after entries entry given has at is_network is_book tracks =
+      let sound_at = subst (λ (book : Book). IsSoundAt old.network book entry) given.book at in
       record {
-        entries = entries ++ entry ∷ [];
-        reads = subst (λ (network : Network). Reads disk after (digest_of network) (entries ++ entry ∷ [])) (sym is_network) has.0;
-        sound = subst (λ (network : Network). AreTaken (IsSoundAfter network) [] (entries ++ entry ∷ [])) (sym is_network)
-            (taken_more old.network [] entries entry recovering.sound sound_at);
-        book = is_book ∙ ap (λ (book : Book). next_book book entry) recovering.book ∙ sym (book_after_push (opening_book 0) entries entry);
-        tracks = tracks 0 entries recovering.book recovering.tracks;
-        fault = fault;
+        reads = subst (λ (network : Network). Reads disk after (digest_of network) (entries ++ entry ∷ [])) (sym is_network) has.1;
+        sound = subst (λ (network : Network). AreAllowed (IsSoundAfter network) [] (entries ++ entry ∷ [])) (sym is_network) (taken_more old.network [] entries entry given.sound sound_at);
+        book = is_book ∙ ap (λ (book : Book). next_book book entry) given.book ∙ sym (book_after_push (opening_book 0) entries entry);
+        tracks = tracks 0 entries given.book given.tracks;
+        fault = has.2;
       }
 
-  pub none_recovering : (old : Ledger) (before after : Reading D) (recovering : IsRecovering disk old before) → HasRead disk before after (digest_of old.network) recovering.entries (Ok None) → after.fault ≡ None → IsRecovering disk old after
-  none_recovering old before after recovering has fault = record {
-    entries = recovering.entries;
+  pub given_none : (ledger : Ledger) (before after : Reading D) (entries : List Entry) → HasGiven disk ledger before entries → HasRead disk before after (digest_of ledger.network) entries (Ok None) → after.fault ≡ None → HasGiven disk ledger after entries
+  given_none ledger before after entries given has fault = record {
     reads = has.0;
-    sound = recovering.sound;
-    book = recovering.book;
-    tracks = recovering.tracks;
+    sound = given.sound;
+    book = given.book;
+    tracks = given.tracks;
     fault = fault;
   }
 
+  pub given_first : (ledger : Ledger) (top : Network) (reading : Reading D) → ledger ≡ opening_ledger top 0 → Tracks 0 [] ledger.recent → Reads disk reading (digest_of top) [] → reading.fault ≡ None → HasGiven disk ledger reading []
+  given_first ledger top reading is tracks reads fault = record {
+    reads = subst (λ (network : Network). Reads disk reading (digest_of network) []) (sym (ap (λ (l : Ledger). l.network) is)) reads;
+    sound = tt;
+    book = ap (λ (l : Ledger). l.book) is;
+    tracks = tracks;
+    fault = fault;
+  }
+
+  -- an entry was read
+  pub read_on : (ledger : Ledger) (before after : Reading D) (entries : List Entry) (entry : Entry) → HasGiven disk ledger before entries → HasRead disk before after (digest_of ledger.network) entries (Ok (Some entry)) → after.fault ≡ None
+      → HasReadOn disk ledger after entries (Ok (Some entry))
+  read_on ledger before after entries entry given has fault = (
+    found_ranges _ _ entries entry _ _ has.1,
+    has.0,
+    fault,
+    read_not_empty (disk.content after.disk) (digest_of ledger.network) entries entry _ _ given.reads.size has.1,
+  )
+
   -- a fault of the journal
-  pub stopped_by : (old : Ledger) (before after : Reading D) (recovering : IsRecovering disk old before) (fault : JournalFault) → disk.content after.disk ≡ disk.content before.disk
-      → HasRead disk before after (digest_of old.network) recovering.entries (Err fault) → IsStopped disk before.disk after.disk old.network (store_fault fault)
-  stopped_by old before after recovering journal.Disk same has = has.0
-  stopped_by old before after recovering (journal.Other kept given) same has = has
-  stopped_by old before after recovering (journal.Damaged at) same has =
+  pub stopped_by : (old : Ledger) (before after : Reading D) (entries : List Entry) (given : HasGiven disk old before entries) (fault : JournalFault) → disk.content after.disk ≡ disk.content before.disk
+      → HasRead disk before after (digest_of old.network) entries (Err fault) → IsStopped disk before.disk after.disk old.network (store_fault fault)
+  stopped_by old before after entries given journal.Disk same has = has.0
+  stopped_by old before after entries given (journal.Other kept other) same has = has
+  stopped_by old before after entries given (journal.Damaged at) same has =
       let digest = digest_of old.network in
-      told_each (disk.content before.disk) (IsBroken entries_reader digest at recovering.entries) (λ bytes. IsRecoveredAs old.network bytes (damaged at))
-      (λ bytes broken. inr (inr (recovering.entries, broken_narrowed (IsSoundAfter old.network) digest at recovering.entries bytes recovering.sound broken))) has.1
-  stopped_by old before after recovering journal.Memory same has =
+      told_each (disk.content before.disk) (IsDamaged entries_reader digest at entries) (λ bytes. IsRecoveredAs old.network bytes (damaged at))
+      (λ bytes broken. inr (inr (entries, broken_narrowed (IsSoundAfter old.network) digest at entries bytes given.sound broken))) has.1
+  stopped_by old before after entries given journal.Memory same has =
       let next = has.2 in
-      subst (IsNotEmpty old.network) same (read_not_empty (disk.content after.disk) (digest_of old.network) recovering.entries next.0 after.gate after.end recovering.reads.size next.1)
+      subst (IsNotEmpty old.network) same (read_not_empty (disk.content after.disk) (digest_of old.network) entries next.0 after.gate after.end given.reads.size next.1)
 
   -- an entry that is not sound
-  pub stopped_unsound : (old : Ledger) (before after : Reading D) (recovering : IsRecovering disk old before) (entry : Entry) (at : ℕ) → disk.content after.disk ≡ disk.content before.disk
-      → HasRead disk before after (digest_of old.network) recovering.entries (Ok (Some entry)) → ¬ IsSoundAt old.network old.book entry → at ≡ after.last → IsStopped disk before.disk after.disk old.network (store.Damaged at)
-  stopped_unsound old before after recovering entry at same has unsound is_at =
-      let entries = recovering.entries in
+  pub stopped_unsound : (old : Ledger) (before after : Reading D) (entries : List Entry) (given : HasGiven disk old before entries) (entry : Entry) (at : ℕ) → disk.content after.disk ≡ disk.content before.disk
+      → HasRead disk before after (digest_of old.network) entries (Ok (Some entry)) → ¬ IsSoundAt old.network old.book entry → at ≡ after.last → IsStopped disk before.disk after.disk old.network (store.Damaged at)
+  stopped_unsound old before after entries given entry at same has unsound is_at =
       let network = old.network in
       let digest = digest_of network in
       let found = has.1 in
-      let not_sound : ¬ IsSoundAfter network entries entry = λ sound. unsound (subst (λ (book : Book). IsSoundAt network book entry) (sym recovering.book) sound) in
+      let not_sound : ¬ IsSoundAfter network entries entry = λ sound. unsound (subst (λ (book : Book). IsSoundAt network book entry) (sym given.book) sound) in
       let after_told = told_each (disk.content after.disk) (IsReadUpTo found.version digest (found.before ++ entered entry ∷ []) after.end) (λ bytes. IsRecoveredAs network bytes (damaged at))
       (λ bytes upto. subst (λ (place : ℕ). IsRecoveredAs network bytes (damaged place)) (sym is_at)
-      (inr (inr (entries, refused_at (IsSoundAfter network) digest (disk.content after.disk) entries entry after.last after.end recovering.reads.size recovering.sound not_sound found bytes upto)))) found.told in
+      (inr (inr (entries, refused_at (IsSoundAfter network) digest (disk.content after.disk) entries entry after.last after.end given.reads.size given.sound not_sound found bytes upto)))) found.told in
       subst (λ (content : Option (List ℕ)). IfSome content (λ bytes. IsRecoveredAs network bytes (damaged at))) same after_told
 
   -- ---- one call after another

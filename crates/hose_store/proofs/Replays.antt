@@ -1,55 +1,27 @@
 -- What a journal's entries that are read one after another make of a book, and what the disk held of them.
 use Rattle.std.proofs.Common.{◌≡◌, ◌⊎◌, inl, inr, ℕ, ◌≤◌, List, [], ◌∷◌, ◌++◌, length, Option, None, Some, IfErr, IfSome, OnOk, IsTrue, is_some, refl, sym, ap, ◌∙◌, subst, arith, length-append}
 use Rattle.std.specs.Prelude.{Ok, Err, Result}
-use Rattle.hose_io.proofs.Frames.{Stays-next, Rose-later}
+use Rattle.hose_io.proofs.Frames.{Stays-next}
 use Rattle.hose_graph.specs.Network.{Network}
-use Rattle.hose_graph.specs.Ranges.{IsInRanges}
 use Rattle.hose_graph.specs.declared.entry.Entry.{Entry}
-use Rattle.hose_graph.specs.declared.entry.Entry.TheVariants.{Admit, Release, Down, Up}
-use Rattle.hose_law.specs.Book.{Book}
-use Rattle.hose_law.specs.History.{IsSound, IsSoundAt, next_book, opening_book}
-use Rattle.hose_law.specs.Tracks.{Tracks}
-use Rattle.hose_law.proofs.Scripts.{book_after_push}
-use Rattle.hose_codec.specs.Spelling.{IsEntry}
-use Rattle.hose_book.specs.Ledger.{Ledger, TracksOn, opening_ledger}
-use Rattle.hose_disk.specs.Disk.{object_frame}
 use Rattle.hose_disk.specs.declared.disk.Disk.{Ghosts}
 use Rattle.hose_journal.specs.declared.layout.TheConstants.{DIGEST_BYTES}
 use Rattle.hose_journal.specs.declared.prepared.Ready.{Ready}
 use Rattle.hose_journal.specs.declared.reading.Reading.{Reading}
-use Rattle.hose_journal.specs.Entries.{AreTaken, IsListOf, Item, entered, entries_format, entries_in, front_of}
-use Rattle.hose_journal.specs.Image.{AreItems, IsUnbegun}
-use Rattle.hose_journal.specs.Journal.{IsReady}
+use Rattle.hose_journal.specs.Entries.{AreAllowed, Item, front_of}
 use Rattle.hose_journal.specs.Moments.{KeepsCount, LeavesOnly}
 use Rattle.hose_journal.specs.Opening.{IsOpened, KeepsDisk, KeepsList}
-use Rattle.hose_journal.specs.Reading.{HasRead, IsFoundAt, IsReadUpTo, OnlyRead, Reads}
-use Rattle.hose_journal.proofs.OneList.{no_fewer, one_list}
-use Rattle.hose_journal.proofs.Readings.{read_list}
+use Rattle.hose_journal.specs.Reading.{IsReadUpTo, OnlyRead, Reads}
+use Rattle.hose_journal.proofs.OneList.{no_fewer}
 use Rattle.hose_store.specs.declared.fault.StoreFault.{StoreFault}
 use Rattle.hose_store.specs.declared.replay.Replay.{Replay}
 use Rattle.hose_store.specs.Entries.{BeginsWith, HasEntries}
-use Rattle.hose_store.specs.Opening.{IsAtOpening, IsRecovering, IsStopped}
+use Rattle.hose_store.specs.Opening.{HasGiven, IsAtOpening, IsStopped}
 use Rattle.hose_store.specs.Recovery.{IsHistoryOf, IsSoundAfter, digest_of}
-use Rattle.hose_store.specs.Replaying.{GivesNext, HasGiven, HasReplayed, IsOnlyOpened, IsReplaying}
-use Rattle.hose_store.proofs.Histories.{history_of_list, sound_items, taken_more}
-use Rattle.hose_store.proofs.Openings.{at_opening, opened_then, refused_entries}
-use Rattle.hose_store.proofs.Readings.{only_next, stopped_later, told_each}
-
--- ---- an entry that was read
-
--- the last of the items of the format is one that it has
-last_entry : (version : ℕ) (digest : List ℕ) (before items : List Item) (entry : Entry) → AreItems (entries_format version digest) before (items ++ entered entry ∷ []) → IsEntry entry
-last_entry version digest before [] entry are = are.0
-last_entry version digest before (item ∷ items) entry are = last_entry version digest (before ++ item ∷ []) items entry are.1
-
-entry_ranges : (entry : Entry) → IsEntry entry → IsInRanges entry
-entry_ranges (Admit customer hose amounts) is = is.2.fit
-entry_ranges (Release customer id) is = is.1
-entry_ranges (Down link) is = is
-entry_ranges (Up link) is = is
-
-pub found_ranges : (content : Option (List ℕ)) (digest : List ℕ) (entries : List Entry) (entry : Entry) (place end : ℕ) → IsFoundAt content digest entries entry place end → IsInRanges entry
-found_ranges content digest entries entry place end found = entry_ranges entry (last_entry found.version digest [] found.before entry found.are)
+use Rattle.hose_store.specs.Replaying.{GivesNext, HasReplayed, IsOnlyOpened, IsReplaying}
+use Rattle.hose_store.proofs.Histories.{sound_items}
+use Rattle.hose_store.proofs.Openings.{at_opening, opened_then, read_history, refused_entries}
+use Rattle.hose_store.proofs.Readings.{only_next, stopped_later}
 
 -- ---- what the disk held before its opening
 
@@ -71,58 +43,7 @@ begins_before (Some was) (Some now) version digest items entries P size tells (i
         let few = no_fewer begun.version digest now begun.rest begun.items [] size begun.are begun.some begun.is list in
         absurd (omega (arith, few, ap length begun.entries_are))
 
--- it stood for these entries
-history_before : (network : Network) (history : List Entry) (was now : Option (List ℕ)) → length (digest_of network) ≡ DIGEST_BYTES → is_some now ≡ is_some was → KeepsList was now (digest_of network)
-    → IsSound network 0 history → IfSome now (IsListOf (digest_of network) history) → IfSome was (IsHistoryOf network history)
-history_before network history None now size tells keeps sound list = tt
-history_before network history (Some was) None size tells keeps sound list = absurd cc
-history_before network history (Some was) (Some now) size tells (inl same) sound list =
-    subst (λ (content : Option (List ℕ)). IfSome content (IsHistoryOf network history)) same (history_of_list network history now sound list)
-history_before network history (Some was) (Some now) size tells (inr (unbegun, empty)) sound list =
-    inl (unbegun, one_list (digest_of network) now history [] size list empty)
-
 module _ {D : Type 0} (disk : Ghosts D) where
-  -- what a recovery knows
-  abbrev pub as_recovering : (ledger : Ledger) (reading : Reading D) (entries : List Entry) → HasGiven disk ledger reading entries → IsRecovering disk ledger reading
-  as_recovering ledger reading entries given = record {
-    entries = entries;
-    reads = given.reads;
-    sound = given.sound;
-    book = given.book;
-    tracks = given.tracks;
-    fault = given.fault;
-  }
-
-  pub given_next : (old new : Ledger) (before after : Reading D) (entries : List Entry) (entry : Entry) → HasGiven disk old before entries → HasRead disk before after (digest_of old.network) entries (Ok (Some entry)) → after.fault ≡ None
-      → IsSoundAt old.network old.book entry → new.network ≡ old.network → new.book ≡ next_book old.book entry → TracksOn old entry new → HasGiven disk new after (entries ++ entry ∷ [])
-  given_next old new before after entries entry given has fault at is_network is_book tracks =
-      let sound_at = subst (λ (book : Book). IsSoundAt old.network book entry) given.book at in
-      record {
-        reads = subst (λ (network : Network). Reads disk after (digest_of network) (entries ++ entry ∷ [])) (sym is_network) has.0;
-        sound = subst (λ (network : Network). AreTaken (IsSoundAfter network) [] (entries ++ entry ∷ [])) (sym is_network) (taken_more old.network [] entries entry given.sound sound_at);
-        book = is_book ∙ ap (λ (book : Book). next_book book entry) given.book ∙ sym (book_after_push (opening_book 0) entries entry);
-        tracks = tracks 0 entries given.book given.tracks;
-        fault = fault;
-      }
-
-  pub given_none : (ledger : Ledger) (before after : Reading D) (entries : List Entry) → HasGiven disk ledger before entries → HasRead disk before after (digest_of ledger.network) entries (Ok None) → after.fault ≡ None → HasGiven disk ledger after entries
-  given_none ledger before after entries given has fault = record {
-    reads = has.0;
-    sound = given.sound;
-    book = given.book;
-    tracks = given.tracks;
-    fault = fault;
-  }
-
-  pub given_first : (ledger : Ledger) (top : Network) (reading : Reading D) → ledger ≡ opening_ledger top 0 → Tracks 0 [] ledger.recent → Reads disk reading (digest_of top) [] → reading.fault ≡ None → HasGiven disk ledger reading []
-  given_first ledger top reading is tracks reads fault = record {
-    reads = subst (λ (network : Network). Reads disk reading (digest_of network) []) (sym (ap (λ (l : Ledger). l.network) is)) reads;
-    sound = tt;
-    book = ap (λ (l : Ledger). l.book) is;
-    tracks = tracks;
-    fault = fault;
-  }
-
   -- ---- what the disk held of the entries
 
   begins_with : (reading : Reading D) (digest : List ℕ) (entries : List Entry) (reads : Reads disk reading digest entries) (bytes : List ℕ) → IsReadUpTo reads.version digest reads.items reading.end bytes → BeginsWith digest entries bytes
@@ -141,7 +62,7 @@ module _ {D : Type 0} (disk : Ghosts D) where
   has_entries was network replay entries replaying =
       let given = replaying.given in
       let reads = subst (λ (n : Network). Reads disk replay.reading (digest_of n) entries) replaying.is_network given.reads in
-      let sound = subst (λ (n : Network). AreTaken (IsSoundAfter n) [] entries) replaying.is_network given.sound in
+      let sound = subst (λ (n : Network). AreAllowed (IsSoundAfter n) [] entries) replaying.is_network given.sound in
       let digest = digest_of network in
       let told = subst (λ (content : Option (List ℕ)). IfSome content (IsReadUpTo reads.version digest reads.items replay.reading.end)) replaying.only.same reads.told in
       record {
@@ -183,10 +104,8 @@ module _ {D : Type 0} (disk : Ghosts D) where
     replayed_all : HasGiven disk new.book new.reading entries → IsTrue new.reading.closed → IfSome (disk.content was) (IsHistoryOf network entries)
     replayed_all given closed =
         let here = same_network ∙ replaying.is_network in
-        let reads = subst (λ (n : Network). Reads disk new.reading (digest_of n) entries) here given.reads in
-        let sound = subst (λ (n : Network). AreTaken (IsSoundAfter n) [] entries) here given.sound in
-        let told = subst (λ (content : Option (List ℕ)). IfSome content (IsListOf (digest_of network) entries)) all_only.same (read_list disk new.reading (digest_of network) entries reads closed) in
-        history_before network entries (disk.content was) (disk.content replaying.opened) reads.size replaying.keeps.tells replaying.list (sound_items network entries sound) told
+        let list = subst (λ (n : Network). KeepsList (disk.content was) (disk.content replaying.opened) (digest_of n)) (sym here) replaying.list in
+        subst (λ (n : Network). IfSome (disk.content was) (IsHistoryOf n entries)) here (read_history disk was replaying.opened new.book new.reading entries given replaying.keeps.tells list all_only.same closed)
 
     opened_only : IsOnlyOpened disk was new.reading.disk network
     opened_only = record {

@@ -9,8 +9,8 @@ use Rattle.hose_law.specs.Book.{Book}
 use Rattle.hose_law.specs.History.{AreFrom, EntryKind, book_of, opening_book}
 use Rattle.hose_law.proofs.Scripts.{from_end, from_push}
 use Rattle.hose_book.specs.Ledger.{Ledger}
-use Rattle.hose_book.specs.declared.committed.Committed.{Committed}
-use Rattle.hose_book.specs.declared.committed.Committed.TheVariants.{Done, Disk}
+use Rattle.hose_book.specs.declared.books.Committed.{Committed}
+use Rattle.hose_book.specs.declared.books.Committed.TheVariants.{Done, Disk}
 use Rattle.hose_disk.specs.declared.disk.Disk.{Ghosts}
 use Rattle.hose_journal.specs.declared.layout.TheConstants.{DIGEST_BYTES}
 use Rattle.hose_journal.specs.Moments.{LeavesOnly, TellsAsBefore}

@@ -2,29 +2,18 @@
 use Rattle.std.specs.Prelude.{◌≡◌, List, [], ◌∷◌, ◌++◌, Option, Some, None, IfSome, IsTrue, Result, Ok, Err, ⊤}
 use Rattle.hose_graph.specs.Network.{Network}
 use Rattle.hose_graph.specs.declared.entry.Entry.{Entry}
-use Rattle.hose_law.specs.Tracks.{Tracks}
-use Rattle.hose_book.specs.Ledger.{HasBookOf, Ledger}
+use Rattle.hose_book.specs.Ledger.{Ledger}
 use Rattle.hose_disk.specs.declared.disk.Disk.{Ghosts}
-use Rattle.hose_journal.specs.Entries.{AreTaken}
 use Rattle.hose_journal.specs.Journal.{IsReady}
 use Rattle.hose_journal.specs.Moments.{KeepsCount, LeavesOnly}
 use Rattle.hose_journal.specs.Opening.{IsOpened, KeepsDisk, KeepsList}
-use Rattle.hose_journal.specs.Reading.{OnlyRead, Reads}
+use Rattle.hose_journal.specs.Reading.{OnlyRead}
 use Rattle.hose_journal.specs.declared.prepared.Ready.{Ready}
 use Rattle.hose_journal.specs.declared.reading.Reading.{Reading}
-use Rattle.hose_store.specs.Opening.{IsAtOpening, IsRefused}
-use Rattle.hose_store.specs.Recovery.{IsHistoryOf, IsSoundAfter, digest_of}
+use Rattle.hose_store.specs.Opening.{HasGiven, IsAtOpening, IsRefusedStore}
+use Rattle.hose_store.specs.Recovery.{IsHistoryOf, digest_of}
 use Rattle.hose_store.specs.declared.fault.StoreFault.{StoreFault}
 use Rattle.hose_store.specs.declared.replay.Replay.{Replay}
-
--- the reading has given these entries, which are sound, and the book is that of them
-pub record HasGiven {D : Type 0} (disk : Ghosts D) (ledger : Ledger) (reading : Reading D)
-    (entries : List Entry) : Type 0 where
-  pub reads : Reads disk reading (digest_of ledger.network) entries
-  pub sound : AreTaken (IsSoundAfter ledger.network) [] entries
-  pub book : HasBookOf 0 entries ledger
-  pub tracks : Tracks 0 entries ledger.recent
-  pub fault : reading.fault ≡ None
 
 -- The journal of a disk was opened for a network, begun where none was, and only read since; these
 -- entries were given.
@@ -56,10 +45,10 @@ HasReplayed disk was network new entries (Ok None) = IsReplaying disk was networ
     × IfSome (disk.content was) (IsHistoryOf network entries)
     × KeepsCount disk was new.reading.disk × IsOnlyOpened disk was new.reading.disk network
 HasReplayed disk was network new entries (Err fault) =
-    IsRefused disk was new.reading.disk network fault
+    IsRefusedStore disk was new.reading.disk network fault
     × IsOnlyOpened disk was new.reading.disk network
 
--- the same of the book and the reading, where the entries before were given
+-- what a call that reads on gives of the book and the reading, where the entries before were given
 abbrev pub GivesNext : {D : Type 0} → Ghosts D → Ledger → Reading D → List Entry
     → Result (Option Ready) StoreFault → Type 0
 GivesNext disk ledger reading entries (Ok (Some ready)) = (entry : Entry)

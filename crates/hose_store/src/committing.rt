@@ -1,10 +1,12 @@
-// What a commit does to a book and to its journal.
-ghost use Rattle.std.specs.Prelude.{List, Option};
+// What a commit does to a book and to its journal, and what closing does to the journal.
+ghost use Rattle.std.specs.Prelude.{List, None, Option, OnOk};
 ghost use Rattle.hose_graph.specs.declared.entry.Entry.{Entry};
 ghost use Rattle.hose_law.specs.History.{IsSoundAt};
 ghost use Rattle.hose_book.specs.Commit.{IsMet};
-ghost use Rattle.hose_disk.specs.Disk.{object_frame};
-ghost use Rattle.hose_journal.specs.Journal.{IsReady};
+ghost use Rattle.hose_disk.specs.Disk.{IsCalled, object_frame};
+ghost use Rattle.hose_journal.specs.Entries.{IsListOf};
+ghost use Rattle.hose_journal.specs.Journal.{Account, IsListAmid, IsReady, Stands};
+ghost use Rattle.hose_journal.specs.Moments.{Images, LeavesOnly, TellsAsBefore};
 ghost use Rattle.hose_store.specs.Commit.{Went};
 ghost use Rattle.hose_store.specs.Store.{HasHistory};
 
@@ -36,4 +38,24 @@ pub fn add<D: Disk>(
         }
         Err(Failed) => Committed::Disk,
     }
+}
+
+/// Revokes the entry in doubt, or syncs once where none is.
+pub fn settle_or_sync<D: Disk>(journal: Journal<D>) -> (Result<(), Failed>, D)
+    requires { (account : Account) × Stands D.Disk journal account }
+    ensures any_moment { (account : Account) → Stands D.Disk journal account →
+        LeavesOnly D.Disk journal.disk result.1 (IsListAmid account None) }
+    ensures settled { OnOk result.0 ((account : Account) → Stands D.Disk journal account →
+        Images D.Disk result.1 (IsListOf account.digest account.entries)) }
+    ensures tells { TellsAsBefore D.Disk journal.disk result.1 }
+    ensures call { IsCalled (D.frame journal.disk) (D.frame result.1) result.0 }
+{
+    let mut journal = journal;
+    if journal.doubt() {
+        let result = journal.settle();
+        return (result, journal.stop());
+    }
+    let mut disk = journal.stop();
+    let result = disk.sync();
+    (result, disk)
 }

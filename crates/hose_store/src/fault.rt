@@ -5,7 +5,9 @@ ghost use Rattle.hose_store.specs.Faults.{store_fault};
 use hose_journal::JournalFault;
 use thiserror::Error;
 
-/// Why a store is not opened.
+/// Why a store is not opened. Its variants are those of a journal's fault, and it is a type of its
+/// own: here damage is also an entry that the book does not take, and who opens a store names no
+/// journal.
 #[derive(Clone, Copy, Debug, Error, PartialEq, Eq)]
 pub enum StoreFault {
     /// The disk failed.

@@ -16,7 +16,6 @@
 //! ```
 #![tactic(auto)]
 
-mod closing;
 mod committing;
 mod fault;
 mod laws;

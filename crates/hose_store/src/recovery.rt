@@ -1,10 +1,10 @@
-// Reading a journal's entries into a book.
-ghost use Rattle.std.specs.Prelude.{◌≡◌, ◌+◌, ◌≤◌, Ok, false, true, IfErr, IsFalse, IsOk, IsTrue, OnOk};
-ghost use Rattle.hose_law.specs.History.{IsSoundAt, last_epoch, next_book};
-ghost use Rattle.hose_book.specs.Ledger.{TracksOn};
+// Reading a journal's entries, and entering them in a book.
+ghost use Rattle.std.specs.Prelude.{◌≡◌, ◌+◌, ◌≤◌, List, Ok, false, true, IfErr, IfOk, IfSome, IsTrue, OnOk};
+ghost use Rattle.hose_graph.specs.declared.entry.Entry.{Entry};
+ghost use Rattle.hose_law.specs.History.{IsSoundAt, last_epoch};
 ghost use Rattle.hose_journal.specs.Moments.{KeepsCount};
 ghost use Rattle.hose_journal.specs.Reading.{OnlyRead};
-ghost use Rattle.hose_store.specs.Opening.{IsRecovering, IsStopped};
+ghost use Rattle.hose_store.specs.Opening.{HasGiven, HasReadOn, IsRecovering, IsStopped};
 
 use crate::fault::StoreFault;
 use hose_book::Book;
@@ -40,27 +40,34 @@ fn recover_next<D: Disk>(book: &mut Book, reading: &mut Reading<D>) -> Result<bo
     ensures only { OnlyRead D.Disk reading.old.disk reading.new.disk }
     ensures count { OnOk result (KeepsCount D.Disk reading.old.disk reading.new.disk) }
 {
-    let Some(entry) = reading.next()? else {
+    let Some(entry) = next_sound(book, reading)? else {
         return Ok(false);
     };
-    if !enter(book, entry) {
-        let at = reading.at();
-        return Err(StoreFault::Damaged { at });
-    }
+    book.apply(entry);
     Ok(true)
 }
 
-// Enters an entry where it is sound, and says whether it is.
-fn enter(book: &mut Book, entry: Entry) -> bool
-    ensures sound { IsTrue result → IsSoundAt book.old.network book.old.book entry }
-    ensures entered { IsTrue result → book.new.book ≡ next_book book.old.book entry }
-    ensures tracks { IsTrue result → TracksOn book.old entry book.new }
-    ensures unsound { IsFalse result → ¬ IsSoundAt book.old.network book.old.book entry }
-    ensures network { book.new.network ≡ book.old.network }
+/// Reads the next entry, and judges it by the book of those before it; none at the journal's end.
+pub fn next_sound<D: Disk>(
+    book: &Book,
+    reading: &mut Reading<D>,
+) -> Result<Option<Entry>, StoreFault>
+    requires { IsRecovering D.Disk book.now reading.old }
+    ensures sound { IfOk result (λ next. IfSome next
+        (IsSoundAt book.now.network book.now.book)) }
+    ensures read { (entries : List Entry) → HasGiven D.Disk book.now reading.old entries →
+        HasReadOn D.Disk book.now reading.new entries result }
+    ensures stopped { IfErr result
+        (IsStopped D.Disk reading.old.disk reading.new.disk book.now.network) }
+    ensures only { OnlyRead D.Disk reading.old.disk reading.new.disk }
+    ensures count { OnOk result (KeepsCount D.Disk reading.old.disk reading.new.disk) }
 {
+    let Some(entry) = reading.next()? else {
+        return Ok(None);
+    };
     if book.check(&entry).is_err() {
-        return false;
+        let at = reading.at();
+        return Err(StoreFault::Damaged { at });
     }
-    book.apply(entry);
-    true
+    Ok(Some(entry))
 }

@@ -7,11 +7,12 @@ ghost use Rattle.hose_journal.specs.Chain.{chain};
 ghost use Rattle.hose_journal.specs.Moments.{KeepsCount};
 ghost use Rattle.hose_journal.specs.Reading.{OnlyRead};
 ghost use Rattle.hose_store.specs.Entries.{HasEntries};
-ghost use Rattle.hose_store.specs.Opening.{IsRefused, IsStopped};
+ghost use Rattle.hose_store.specs.Opening.{HasGiven, IsRecovering, IsRefusedStore, IsStopped};
 ghost use Rattle.hose_store.specs.Recovery.{digest_of};
-ghost use Rattle.hose_store.specs.Replaying.{GivesNext, HasGiven, HasReplayed, IsOnlyOpened, IsReplaying};
+ghost use Rattle.hose_store.specs.Replaying.{GivesNext, HasReplayed, IsOnlyOpened, IsReplaying};
 
 use crate::fault::StoreFault;
+use crate::recovery::next_sound;
 use hose_book::Book;
 use hose_disk::Disk;
 use hose_graph::Topology;
@@ -33,7 +34,7 @@ impl<D: Disk> Replay<D> {
     pub fn open(alloc: Global, disk: D, top: Topology) -> Result<Replay<D>, (StoreFault, D)>
         ensures opened { IfOk result (λ replay. IsReplaying D.Disk disk top replay []) }
         ensures refused { IfErr result (λ refused.
-            IsRefused D.Disk disk refused.1 top refused.0
+            IsRefusedStore D.Disk disk refused.1 top refused.0
             × IsOnlyOpened D.Disk disk refused.1 top) }
     {
         let digest = digest(&top);
@@ -95,13 +96,13 @@ impl<D: Disk> Replay<D> {
     }
 }
 
-// Reads the next entry, judges it, spells it and enters it.
+// Reads the next entry, spells it and enters it.
 fn read_next<D: Disk>(
     alloc: Global,
     book: &mut Book,
     reading: &mut Reading<D>,
 ) -> Result<Option<Ready>, StoreFault>
-    requires { (entries : List Entry) × HasGiven D.Disk book.old reading.old entries }
+    requires { IsRecovering D.Disk book.old reading.old }
     ensures next { (entries : List Entry) → HasGiven D.Disk book.old reading.old entries →
         GivesNext D.Disk book.new reading.new entries result }
     ensures more { IfOk result (λ next. OnSome next
@@ -112,13 +113,9 @@ fn read_next<D: Disk>(
     ensures only { OnlyRead D.Disk reading.old.disk reading.new.disk }
     ensures count { OnOk result (KeepsCount D.Disk reading.old.disk reading.new.disk) }
 {
-    let Some(entry) = reading.next()? else {
+    let Some(entry) = next_sound(book, reading)? else {
         return Ok(None);
     };
-    if book.check(&entry).is_err() {
-        let at = reading.at();
-        return Err(StoreFault::Damaged { at });
-    }
     let Ok(spelling) = ready(alloc, &entry) else {
         return Err(StoreFault::Memory);
     };

@@ -8,12 +8,11 @@ ghost use Rattle.hose_journal.specs.Journal.{IsReady};
 ghost use Rattle.hose_journal.specs.Moments.{KeepsCount, LeavesOnly};
 ghost use Rattle.hose_journal.specs.Opening.{KeepsDisk};
 ghost use Rattle.hose_store.specs.Commit.{Closes, Went};
-ghost use Rattle.hose_store.specs.Opening.{IsAtOpening, IsOpenedOn, IsRefused};
+ghost use Rattle.hose_store.specs.Opening.{IsAtOpening, IsOpenedOn, IsRefusedStore};
 ghost use Rattle.hose_store.specs.Recovery.{digest_of};
 ghost use Rattle.hose_store.specs.Store.{HasHistory};
 
-use crate::closing::settle_or_sync;
-use crate::committing::add;
+use crate::committing::{add, settle_or_sync};
 use crate::fault::StoreFault;
 use crate::recovery::recover;
 use crate::sealing::seal_plain;
@@ -49,8 +48,9 @@ impl<D: Disk> Model for Store<D> {
 }
 
 impl<D: Disk> Store<D> {
-    /// Opens the store on a disk. Where no journal was begun there, it begins one; a journal that is
-    /// not sealed it seals, after its entries were read. Where it is refused the disk comes back.
+    /// Opens the store on a disk. Where no journal was begun there, it begins one; a journal that
+    /// is not sealed it seals, after its entries were read. Where it is refused the disk comes
+    /// back.
     pub fn open(alloc: Global, disk: D, top: Topology) -> Result<Store<D>, (StoreFault, D)>
         // At every moment an image is one of before, or stands for what the disk stood for.
         ensures any_moment { MatchResult result
@@ -59,7 +59,7 @@ impl<D: Disk> Store<D> {
         ensures opened { IfOk result (IsOpenedOn D.Disk disk top) }
         ensures count { IfOk result (λ store. KeepsCount D.Disk disk store.journal.disk) }
         ensures refused { IfErr result (λ refused.
-            IsRefused D.Disk disk refused.1 top refused.0) }
+            IsRefusedStore D.Disk disk refused.1 top refused.0) }
         ensures keeps { MatchResult result
             (λ store. KeepsDisk D.Disk disk store.journal.disk)
             (λ refused. KeepsDisk D.Disk disk refused.1) }

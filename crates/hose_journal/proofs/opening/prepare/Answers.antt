@@ -3,7 +3,7 @@ use Rattle.std.specs.Prelude.{Err}
 use Rattle.hose_journal.specs.declared.layout.TheConstants.{DIGEST_BYTES}
 use Rattle.hose_journal.specs.Image.{IsUnbegun}
 use Rattle.hose_journal.specs.Opening.{HasHead, IsHeadOf}
-use Rattle.hose_journal.proofs.Openings.{unbegun_told, head_refused, reads_kept, unbegun_images, open_begun, begun_told, open_new, list_new, short_new, loaded_run, begun_run, reloaded_run}
+use Rattle.hose_journal.proofs.Openings.{unbegun_told, head_refused, reads_kept, unbegun_images, open_begun, begun_told, open_new, list_new, short_new, until_begun, until_reloaded}
 use Rattle.hose_journal.proofs.Runs.{only_content}
 use Rattle.hose_journal.proofs.opening.prepare.Goals as goal
 
@@ -26,7 +26,6 @@ pub returns-in-Err-clause-refused : goal.returns-in-Err-clause-refused
 returns-in-Err-clause-refused g c =
     let disk = g.D.Disk in
     let old = c.args.disk.now in
-    let synced = c.sync.new.self in
     let loaded = c.load_front.new.disk in
     let piece = c.load_front.new.piece in
     let front = c.in_ok-end.ensures.front in
@@ -51,71 +50,31 @@ begin-requires g c =
 
 pub returns-in_err-begin-clause-any_moment : goal.returns-in_err-begin-clause-any_moment
 returns-in_err-begin-clause-any_moment g c =
-    let disk = g.D.Disk in
-    let old = c.args.disk.now in
-    let synced = c.sync.new.self in
-    let loaded = c.load_front.new.disk in
-    let piece = c.load_front.new.piece in
-    let front = c.in_ok-end.ensures.front in
-    let same = c.load_front.ensures.only.same ∙ c.sync.ensures.same in
-    let held = subst IsUnbegun c.rest.ensures (c.is_unbegun.ensures.0 c.if-not-is_unbegun.false) in
-    let unbegun = unbegun_told disk loaded piece c.in_ok-end.end front held in
-    let run = loaded_run disk old synced loaded (g.met.D.Disk.only_now old) c.sync.ensures.time c.sync.ensures.images c.load_front.ensures.only in
-    begun_run disk old loaded c.begin.new.disk c.args.digest.now run same unbegun c.begin.ensures.any_moment
+    until_begun g.D.Disk c.args.disk.now c.sync.new.self c.load_front.new.disk c.begin.new.disk c.load_front.new.piece c.in_ok-end.end c.args.digest.now (g.met.D.Disk.only_now c.args.disk.now) c.sync.ensures.time c.sync.ensures.images c.sync.ensures.same
+    c.load_front.ensures.only c.in_ok-end.ensures.front (subst IsUnbegun c.rest.ensures (c.is_unbegun.ensures.0 c.if-not-is_unbegun.false)) c.begin.ensures.any_moment
 
 pub returns-in_err-end-2-clause-any_moment : goal.returns-in_err-end-2-clause-any_moment
 returns-in_err-end-2-clause-any_moment g c =
-    let disk = g.D.Disk in
-    let old = c.args.disk.now in
-    let synced = c.sync.new.self in
-    let loaded = c.load_front.new.disk in
-    let piece = c.load_front.new.piece in
-    let front = c.in_ok-end.ensures.front in
-    let same = c.load_front.ensures.only.same ∙ c.sync.ensures.same in
-    let held = subst IsUnbegun c.rest.ensures (c.is_unbegun.ensures.0 c.if-not-is_unbegun.false) in
-    let unbegun = unbegun_told disk loaded piece c.in_ok-end.end front held in
-    let run = loaded_run disk old synced loaded (g.met.D.Disk.only_now old) c.sync.ensures.time c.sync.ensures.images c.load_front.ensures.only in
-    let begun = c.begin.new.disk in
-    let last = c.load_front-2.new.disk in
-    reloaded_run disk old loaded begun last c.args.digest.now (g.met.D.Disk.counts_now begun) run same unbegun c.begin.ensures.any_moment c.load_front-2.ensures.only
+    until_reloaded g.D.Disk c.args.disk.now c.sync.new.self c.load_front.new.disk c.begin.new.disk c.load_front.new.piece c.in_ok-end.end c.args.digest.now (g.met.D.Disk.only_now c.args.disk.now) c.sync.ensures.time c.sync.ensures.images c.sync.ensures.same
+    c.load_front.ensures.only c.in_ok-end.ensures.front (subst IsUnbegun c.rest.ensures (c.is_unbegun.ensures.0 c.if-not-is_unbegun.false)) c.begin.ensures.any_moment
+    c.load_front-2.new.disk (g.met.D.Disk.counts_now c.begin.new.disk) c.load_front-2.ensures.only
 
 pub returns-then-end-clause-any_moment : goal.returns-then-end-clause-any_moment
 returns-then-end-clause-any_moment g c =
-    let disk = g.D.Disk in
-    let old = c.args.disk.now in
-    let synced = c.sync.new.self in
-    let loaded = c.load_front.new.disk in
-    let piece = c.load_front.new.piece in
-    let front = c.in_ok-end.ensures.front in
-    let same = c.load_front.ensures.only.same ∙ c.sync.ensures.same in
-    let held = subst IsUnbegun c.rest.ensures (c.is_unbegun.ensures.0 c.if-not-is_unbegun.false) in
-    let unbegun = unbegun_told disk loaded piece c.in_ok-end.end front held in
-    let run = loaded_run disk old synced loaded (g.met.D.Disk.only_now old) c.sync.ensures.time c.sync.ensures.images c.load_front.ensures.only in
-    let begun = c.begin.new.disk in
-    let last = c.load_front-2.new.disk in
-    reloaded_run disk old loaded begun last c.args.digest.now (g.met.D.Disk.counts_now begun) run same unbegun c.begin.ensures.any_moment c.load_front-2.ensures.only
+    until_reloaded g.D.Disk c.args.disk.now c.sync.new.self c.load_front.new.disk c.begin.new.disk c.load_front.new.piece c.in_ok-end.end c.args.digest.now (g.met.D.Disk.only_now c.args.disk.now) c.sync.ensures.time c.sync.ensures.images c.sync.ensures.same
+    c.load_front.ensures.only c.in_ok-end.ensures.front (subst IsUnbegun c.rest.ensures (c.is_unbegun.ensures.0 c.if-not-is_unbegun.false)) c.begin.ensures.any_moment
+    c.load_front-2.new.disk (g.met.D.Disk.counts_now c.begin.new.disk) c.load_front-2.ensures.only
 
 pub returns-clause-any_moment : goal.returns-clause-any_moment
 returns-clause-any_moment g c =
-    let disk = g.D.Disk in
-    let old = c.args.disk.now in
-    let synced = c.sync.new.self in
-    let loaded = c.load_front.new.disk in
-    let piece = c.load_front.new.piece in
-    let front = c.in_ok-end.ensures.front in
-    let same = c.load_front.ensures.only.same ∙ c.sync.ensures.same in
-    let held = subst IsUnbegun c.rest.ensures (c.is_unbegun.ensures.0 c.if-not-is_unbegun.false) in
-    let unbegun = unbegun_told disk loaded piece c.in_ok-end.end front held in
-    let run = loaded_run disk old synced loaded (g.met.D.Disk.only_now old) c.sync.ensures.time c.sync.ensures.images c.load_front.ensures.only in
-    let begun = c.begin.new.disk in
-    let last = c.load_front-2.new.disk in
-    reloaded_run disk old loaded begun last c.args.digest.now (g.met.D.Disk.counts_now begun) run same unbegun c.begin.ensures.any_moment c.load_front-2.ensures.only
+    until_reloaded g.D.Disk c.args.disk.now c.sync.new.self c.load_front.new.disk c.begin.new.disk c.load_front.new.piece c.in_ok-end.end c.args.digest.now (g.met.D.Disk.only_now c.args.disk.now) c.sync.ensures.time c.sync.ensures.images c.sync.ensures.same
+    c.load_front.ensures.only c.in_ok-end.ensures.front (subst IsUnbegun c.rest.ensures (c.is_unbegun.ensures.0 c.if-not-is_unbegun.false)) c.begin.ensures.any_moment
+    c.load_front-2.new.disk (g.met.D.Disk.counts_now c.begin.new.disk) c.load_front-2.ensures.only
 
 pub returns-then-end-clause-refused : goal.returns-then-end-clause-refused
 returns-then-end-clause-refused g c =
     let disk = g.D.Disk in
     let old = c.args.disk.now in
-    let synced = c.sync.new.self in
     let loaded = c.load_front.new.disk in
     let piece = c.load_front.new.piece in
     let front = c.in_ok-end.ensures.front in
@@ -129,12 +88,8 @@ returns-then-end-clause-refused g c =
 pub returns-clause-open : goal.returns-clause-open
 returns-clause-open g c =
     let disk = g.D.Disk in
-    let old = c.args.disk.now in
-    let synced = c.sync.new.self in
-    let loaded = c.load_front.new.disk in
     let piece = c.load_front.new.piece in
     let front = c.in_ok-end.ensures.front in
-    let same = c.load_front.ensures.only.same ∙ c.sync.ensures.same in
     let size : length c.args.digest.now ≡ DIGEST_BYTES = search rules in
     let begun = c.begin.new.disk in
     let last = c.load_front-2.new.disk in
@@ -145,7 +100,6 @@ pub returns-clause-list : goal.returns-clause-list
 returns-clause-list g c =
     let disk = g.D.Disk in
     let old = c.args.disk.now in
-    let synced = c.sync.new.self in
     let loaded = c.load_front.new.disk in
     let piece = c.load_front.new.piece in
     let front = c.in_ok-end.ensures.front in

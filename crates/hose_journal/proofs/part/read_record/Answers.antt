@@ -1,6 +1,6 @@
 use Rattle.std.proofs.Common.{◌≡◌, ◌≢◌, ◌∙◌, ℕ, length, rules, sym, ap, subst, arith}
 use Rattle.std.specs.Prelude.{Err}
-use Rattle.hose_codec.specs.declared.fault.CodecFault.{CodecFault}
+use Rattle.hose_codec.specs.declared.limits.CodecFault.{CodecFault}
 use Rattle.hose_journal.specs.declared.layout.TheConstants.{DIGEST_BYTES}
 use Rattle.hose_journal.specs.AtGate.{HasNoFields}
 use Rattle.hose_journal.specs.Entries.{value_in}

@@ -1,6 +1,6 @@
 use Rattle.std.proofs.Common.{subst, sym}
 use Rattle.hose_book.specs.Ledger.{Ledger, TracksOn}
-use Rattle.hose_book.specs.declared.committed.Committed.TheVariants.{Done}
+use Rattle.hose_book.specs.declared.books.Committed.TheVariants.{Done}
 use Rattle.hose_store.specs.Commit.{Went}
 use Rattle.hose_store.specs.Store.{Kept, account_of}
 use Rattle.hose_store.proofs.Commits.{went_done, went_failed}

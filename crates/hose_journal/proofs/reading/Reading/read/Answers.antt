@@ -1,10 +1,10 @@
 use Rattle.std.proofs.Common.{◌∙◌, ◌+◌, ◌<◌, ◌^◌, Option, Some, None, IfSome, IsFalse, List, ℕ, rules, refl, ap, subst, arith}
 use Rattle.std.specs.Prelude.{Err, Ok}
-use Rattle.hose_codec.specs.declared.fault.CodecFault.{CodecFault}
+use Rattle.hose_codec.specs.declared.limits.CodecFault.{CodecFault}
 use Rattle.hose_journal.specs.declared.part.Found.{Found}
 use Rattle.hose_journal.specs.declared.reading.Reading.{Reading}
 use Rattle.hose_journal.specs.Entries.{entries_reader}
-use Rattle.hose_journal.specs.Image.{IsBroken}
+use Rattle.hose_journal.specs.Image.{IsDamaged}
 use Rattle.hose_journal.proofs.Readings.{gate_as, reads_end, reads_next, reads_told}
 use Rattle.hose_journal.proofs.reading.Reading.read.Goals as goal
 
@@ -56,7 +56,7 @@ returns-in-Err-Bad-clause-read g c = λ digest entries reads.
     let approached = c.in_ok-approach.ensures.approached digest entries reads in
     let seen = gate_as disk mid digest entries (Err c.in-Err-Bad.field-0) (Err _) (ap (λ (fault : CodecFault). Err fault) c.in-Err-Bad.field-0-is)
     (c.in-Err-Bad.ensures digest entries approached c.in_ok-approach.ensures.reaches c.in_ok-approach.ensures.past) in
-    (refl, subst (λ (content : Option (List ℕ)). IfSome content (IsBroken entries_reader digest mid.gate entries)) c.approach.ensures.only.same seen)
+    (refl, subst (λ (content : Option (List ℕ)). IfSome content (IsDamaged entries_reader digest mid.gate entries)) c.approach.ensures.only.same seen)
 
 pub returns-in-Err-Memory-clause-read : goal.returns-in-Err-Memory-clause-read
 returns-in-Err-Memory-clause-read g c = λ digest entries reads.

@@ -1,16 +1,16 @@
 use Rattle.std.proofs.Common.{◌≡◌, ◌∙◌, List, ℕ, [], sym, ap, subst, None}
 use Rattle.hose_graph.specs.Network.{Network}
 use Rattle.hose_book.specs.Ledger.{Ledger}
-use Rattle.hose_journal.specs.Entries.{IsListOf}
 use Rattle.hose_journal.specs.Moments.{LeavesOnly}
-use Rattle.hose_journal.specs.Opening.{IsOpened, KeepsList, IsRefused as IsRefusedThere}
+use Rattle.hose_journal.specs.Opening.{IsOpened, KeepsList, IsRefusedJournal as IsRefusedThere}
 use Rattle.hose_journal.specs.Reading.{Reads}
 use Rattle.hose_store.specs.declared.fault.StoreFault.{StoreFault}
-use Rattle.hose_store.specs.Opening.{IsAtOpening, IsOpenedOn, IsRefused, IsStopped}
+use Rattle.hose_store.specs.Opening.{IsAtOpening, IsOpenedOn, IsRefusedStore, IsStopped}
 use Rattle.hose_store.specs.Recovery.{digest_of}
 use Rattle.hose_store.specs.Store.{account_of}
 use Rattle.hose_store.proofs.Histories.{few_in_history, is_digest, sound_items}
-use Rattle.hose_store.proofs.Openings.{at_opening, first_recovering, has_recovered, opened_on, opened_then, read_history, refused_entries, refused_head, sealing_at}
+use Rattle.hose_store.proofs.Openings.{at_opening, has_recovered, opened_on, opened_then, read_history, refused_entries, refused_head, sealing_run}
+use Rattle.hose_store.proofs.Readings.{given_first}
 use Rattle.hose_store.proofs.store.Store.open.Goals as goal
 
 pub returns-in-Err-clause-any_moment : goal.returns-in-Err-clause-any_moment
@@ -27,63 +27,53 @@ returns-in-Err-clause-refused g c =
     let is = is_digest c.args.top c.digest-digest.result c.digest-digest.ensures in
     let run = subst (λ (digest : List ℕ). LeavesOnly disk old new (IsOpened disk old digest)) is c.in-Err.ensures.any_moment in
     let refused = subst (λ (digest : List ℕ). IsRefusedThere disk old new digest c.in-Err.refused.0) is c.in-Err.ensures.refused in
-    subst (λ (fault : StoreFault). IsRefused disk old new c.args.top fault) (sym c.from.ensures)
+    subst (λ (fault : StoreFault). IsRefusedStore disk old new c.args.top fault) (sym c.from.ensures)
     (refused_head disk old new c.args.top c.in-Err.refused.0 (g.met.D.Disk.only_now old) (g.met.D.Disk.untold new) c.in-Err.ensures.keeps run refused)
 
 pub recover-requires : goal.recover-requires
 recover-requires g c =
     let top = c.args.top in
     let is = is_digest top c.digest-digest.result c.digest-digest.ensures in
-    first_recovering g.D.Disk c.in-Ok.book top c.in-Ok-open.reading c.in-Ok.ensures.value c.in-Ok.ensures.tracks
-    (subst (λ (digest : List ℕ). Reads g.D.Disk c.in-Ok-open.reading digest []) is c.in-Ok-open.ensures.reads) c.in-Ok-open.ensures.fault
+    let reads = subst (λ (digest : List ℕ). Reads g.D.Disk c.in-Ok-open.reading digest []) is c.in-Ok-open.ensures.reads in
+    ([], given_first g.D.Disk c.in-Ok.book top c.in-Ok-open.reading c.in-Ok.ensures.value c.in-Ok.ensures.tracks reads c.in-Ok-open.ensures.fault)
 
 pub seal_plain-requires-clause-stands : goal.seal_plain-requires-clause-stands
 seal_plain-requires-clause-stands g c =
     let book = c.recover.new.book in
-    let recovering = c.in-Ok-recover.ensures.recovered in
-    let history = recovering.entries in
-    (account_of book.network history None, c.finish.ensures.stands (digest_of book.network) history recovering.reads, few_in_history book.network history (sound_items book.network history recovering.sound))
+    let history = c.in-Ok-recover.ensures.recovered.0 in
+    let given = c.in-Ok-recover.ensures.recovered.1 in
+    (account_of book.network history None, c.finish.ensures.stands (digest_of book.network) history given.reads, few_in_history book.network history (sound_items book.network history given.sound))
 
 pub seal_plain-requires-clause-sure : goal.seal_plain-requires-clause-sure
 seal_plain-requires-clause-sure g c =
-    let recovering = c.in-Ok-recover.ensures.recovered in
-    sym (c.finish.ensures.stands (digest_of c.recover.new.book.network) recovering.entries recovering.reads).doubt
+    let history = c.in-Ok-recover.ensures.recovered.0 in
+    let given = c.in-Ok-recover.ensures.recovered.1 in
+    sym (c.finish.ensures.stands (digest_of c.recover.new.book.network) history given.reads).doubt
 
 pub invariant_of-result : goal.invariant_of-result
 invariant_of-result g c =
     let book = c.recover.new.book in
-    let recovering = c.in-Ok-recover.ensures.recovered in
-    let history = recovering.entries in
-    let few = few_in_history book.network history (sound_items book.network history recovering.sound) in
-    let stands = c.finish.ensures.stands (digest_of book.network) history recovering.reads in (
+    let history = c.in-Ok-recover.ensures.recovered.0 in
+    let given = c.in-Ok-recover.ensures.recovered.1 in
+    let few = few_in_history book.network history (sound_items book.network history given.sound) in
+    let stands = c.finish.ensures.stands (digest_of book.network) history given.reads in (
       history,
       None,
-      has_recovered g.D.Disk book c.recover.new.reading c.in-Ok-seal_plain.journal recovering
+      has_recovered g.D.Disk book c.recover.new.reading c.in-Ok-seal_plain.journal history given
           (c.in-Ok-seal_plain.ensures.stands (account_of book.network history None) stands few) c.in-Ok-seal_plain.ensures.sealed,
     )
 
 pub returns-in-Ok-seal_plain-clause-any_moment : goal.returns-in-Ok-seal_plain-clause-any_moment
 returns-in-Ok-seal_plain-clause-any_moment g c =
-    let disk = g.D.Disk in
-    let old = c.args.disk in
-    let mid = c.in-Ok-open.reading.disk in
     let book = c.recover.new.book in
-    let reading = c.recover.new.reading in
-    let recovering = c.in-Ok-recover.ensures.recovered in
-    let history = recovering.entries in
+    let history = c.in-Ok-recover.ensures.recovered.0 in
+    let given = c.in-Ok-recover.ensures.recovered.1 in
     let is = is_digest c.args.top c.digest-digest.result c.digest-digest.ensures in
-    let network : book.network ≡ c.args.top = c.recover.ensures.network ∙ ap (λ (l : Ledger). l.network) c.in-Ok.ensures.value in
-    let list = subst (λ (digest : List ℕ). KeepsList (disk.content old) (disk.content mid) digest) (is ∙ ap digest_of (sym network)) c.in-Ok-open.ensures.list in
-    let read = read_history disk old mid book reading recovering c.in-Ok-open.ensures.keeps.tells list c.recover.ensures.only.same c.in-Ok-recover.ensures.closed in
-    let sound = sound_items book.network history recovering.sound in
-    let stands = c.finish.ensures.stands (digest_of book.network) history recovering.reads in
-    let few = few_in_history book.network history sound in
-    let run = subst (λ (digest : List ℕ). LeavesOnly disk old mid (IsOpened disk old digest)) (is ∙ ap digest_of (sym network)) c.in-Ok-open.ensures.any_moment in
-    let before = at_opening disk old reading.disk book.network (opened_then disk old mid reading.disk (digest_of book.network) (g.met.D.Disk.counts_now mid) run c.recover.ensures.only) in
-    let within = subst (λ (from : g.row.D.Denot). LeavesOnly disk from c.in-Ok-seal_plain.journal.disk (IsListOf (digest_of book.network) history)) c.finish.ensures.disk
-    (c.in-Ok-seal_plain.ensures.any_moment (account_of book.network history None) stands few) in
-    subst (λ (top : Network). LeavesOnly disk old c.in-Ok-seal_plain.journal.disk (IsAtOpening disk old top)) network
-    (sealing_at disk old reading.disk c.in-Ok-seal_plain.journal.disk book.network history sound read before within)
+    let stands = c.finish.ensures.stands (digest_of book.network) history given.reads in
+    let few = few_in_history book.network history (sound_items book.network history given.sound) in
+    sealing_run g.D.Disk c.args.disk c.in-Ok-open.reading.disk c.finish.result.disk c.in-Ok-seal_plain.journal.disk c.args.top c.digest-digest.result book c.recover.new.reading history given is
+    (c.recover.ensures.network ∙ ap (λ (l : Ledger). l.network) c.in-Ok.ensures.value) (g.met.D.Disk.counts_now c.in-Ok-open.reading.disk) c.in-Ok-open.ensures.keeps c.in-Ok-open.ensures.list
+    c.in-Ok-open.ensures.any_moment c.recover.ensures.only c.in-Ok-recover.ensures.closed c.finish.ensures.disk (c.in-Ok-seal_plain.ensures.any_moment (account_of book.network history None) stands few)
 
 pub returns-in-Ok-seal_plain-clause-opened : goal.returns-in-Ok-seal_plain-clause-opened
 returns-in-Ok-seal_plain-clause-opened g c =
@@ -92,41 +82,30 @@ returns-in-Ok-seal_plain-clause-opened g c =
     let mid = c.in-Ok-open.reading.disk in
     let book = c.recover.new.book in
     let reading = c.recover.new.reading in
-    let recovering = c.in-Ok-recover.ensures.recovered in
-    let history = recovering.entries in
+    let history = c.in-Ok-recover.ensures.recovered.0 in
+    let given = c.in-Ok-recover.ensures.recovered.1 in
     let is = is_digest c.args.top c.digest-digest.result c.digest-digest.ensures in
     let network : book.network ≡ c.args.top = c.recover.ensures.network ∙ ap (λ (l : Ledger). l.network) c.in-Ok.ensures.value in
     let list = subst (λ (digest : List ℕ). KeepsList (disk.content old) (disk.content mid) digest) (is ∙ ap digest_of (sym network)) c.in-Ok-open.ensures.list in
-    let read = read_history disk old mid book reading recovering c.in-Ok-open.ensures.keeps.tells list c.recover.ensures.only.same c.in-Ok-recover.ensures.closed in
-    let sound = sound_items book.network history recovering.sound in
-    let stands = c.finish.ensures.stands (digest_of book.network) history recovering.reads in
+    let read = read_history disk old mid book reading history given c.in-Ok-open.ensures.keeps.tells list c.recover.ensures.only.same c.in-Ok-recover.ensures.closed in
+    let sound = sound_items book.network history given.sound in
+    let stands = c.finish.ensures.stands (digest_of book.network) history given.reads in
     let few = few_in_history book.network history sound in
     let journal = c.in-Ok-seal_plain.journal in
     subst (λ (top : Network). IsOpenedOn disk old top (record { ledger = book; journal = journal })) network
-    (opened_on disk old book reading journal recovering read (c.in-Ok-seal_plain.ensures.stands (account_of book.network history None) stands few) c.in-Ok-seal_plain.ensures.sealed)
+    (opened_on disk old book reading journal history given read (c.in-Ok-seal_plain.ensures.stands (account_of book.network history None) stands few) c.in-Ok-seal_plain.ensures.sealed)
 
 pub returns-in-Err-seal_plain-clause-any_moment : goal.returns-in-Err-seal_plain-clause-any_moment
 returns-in-Err-seal_plain-clause-any_moment g c =
-    let disk = g.D.Disk in
-    let old = c.args.disk in
-    let mid = c.in-Ok-open.reading.disk in
     let book = c.recover.new.book in
-    let reading = c.recover.new.reading in
-    let recovering = c.in-Ok-recover.ensures.recovered in
-    let history = recovering.entries in
+    let history = c.in-Ok-recover.ensures.recovered.0 in
+    let given = c.in-Ok-recover.ensures.recovered.1 in
     let is = is_digest c.args.top c.digest-digest.result c.digest-digest.ensures in
-    let network : book.network ≡ c.args.top = c.recover.ensures.network ∙ ap (λ (l : Ledger). l.network) c.in-Ok.ensures.value in
-    let list = subst (λ (digest : List ℕ). KeepsList (disk.content old) (disk.content mid) digest) (is ∙ ap digest_of (sym network)) c.in-Ok-open.ensures.list in
-    let read = read_history disk old mid book reading recovering c.in-Ok-open.ensures.keeps.tells list c.recover.ensures.only.same c.in-Ok-recover.ensures.closed in
-    let sound = sound_items book.network history recovering.sound in
-    let stands = c.finish.ensures.stands (digest_of book.network) history recovering.reads in
-    let few = few_in_history book.network history sound in
-    let run = subst (λ (digest : List ℕ). LeavesOnly disk old mid (IsOpened disk old digest)) (is ∙ ap digest_of (sym network)) c.in-Ok-open.ensures.any_moment in
-    let before = at_opening disk old reading.disk book.network (opened_then disk old mid reading.disk (digest_of book.network) (g.met.D.Disk.counts_now mid) run c.recover.ensures.only) in
-    let within = subst (λ (from : g.row.D.Denot). LeavesOnly disk from c.in-Err-seal_plain.disk (IsListOf (digest_of book.network) history)) c.finish.ensures.disk
-    (c.in-Err-seal_plain.ensures.any_moment (account_of book.network history None) stands few) in
-    subst (λ (top : Network). LeavesOnly disk old c.in-Err-seal_plain.disk (IsAtOpening disk old top)) network
-    (sealing_at disk old reading.disk c.in-Err-seal_plain.disk book.network history sound read before within)
+    let stands = c.finish.ensures.stands (digest_of book.network) history given.reads in
+    let few = few_in_history book.network history (sound_items book.network history given.sound) in
+    sealing_run g.D.Disk c.args.disk c.in-Ok-open.reading.disk c.finish.result.disk c.in-Err-seal_plain.disk c.args.top c.digest-digest.result book c.recover.new.reading history given is
+    (c.recover.ensures.network ∙ ap (λ (l : Ledger). l.network) c.in-Ok.ensures.value) (g.met.D.Disk.counts_now c.in-Ok-open.reading.disk) c.in-Ok-open.ensures.keeps c.in-Ok-open.ensures.list
+    c.in-Ok-open.ensures.any_moment c.recover.ensures.only c.in-Ok-recover.ensures.closed c.finish.ensures.disk (c.in-Err-seal_plain.ensures.any_moment (account_of book.network history None) stands few)
 
 pub returns-in-Err-recover-clause-any_moment : goal.returns-in-Err-recover-clause-any_moment
 returns-in-Err-recover-clause-any_moment g c =
@@ -151,5 +130,5 @@ returns-in-Err-recover-clause-refused g c =
     let list = subst (λ (digest : List ℕ). KeepsList (disk.content old) (disk.content mid) digest) is c.in-Ok-open.ensures.list in
     let reads = subst (λ (digest : List ℕ). Reads disk c.in-Ok-open.reading digest []) is c.in-Ok-open.ensures.reads in
     let stopped = subst (λ (network : Network). IsStopped disk mid new network c.in-Err-recover.fault) (ap (λ (l : Ledger). l.network) c.in-Ok.ensures.value) c.in-Err-recover.ensures.stopped in
-    subst (λ (last : g.row.D.Denot). IsRefused disk old last top c.in-Err-recover.fault) (sym c.stop.ensures)
+    subst (λ (last : g.row.D.Denot). IsRefusedStore disk old last top c.in-Err-recover.fault) (sym c.stop.ensures)
     (refused_entries disk old mid new top c.in-Err-recover.fault reads.size (g.met.D.Disk.untold new) c.in-Ok-open.ensures.keeps list c.recover.ensures.only.same later stopped)

@@ -2,7 +2,7 @@ use Rattle.std.proofs.Common.{arith}
 use Rattle.hose_journal.specs.Entries.{entries_reader}
 use Rattle.hose_journal.proofs.Lists.{journal_is_list}
 use Rattle.hose_journal.proofs.OneList.{one_list}
-use Rattle.hose_journal.proofs.laws.law_one_list.Goals as goal
+use Rattle.hose_journal.proofs.reading.law_one_list.Goals as goal
 
 pub returns-clause-read : goal.returns-clause-read
 returns-clause-read c = λ version items rest is_version are. journal_is_list entries_reader version c.args.digest.now rest items is_version are

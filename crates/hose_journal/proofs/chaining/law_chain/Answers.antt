@@ -1,5 +1,5 @@
 use Rattle.hose_journal.proofs.Chains.{one_chain}
-use Rattle.hose_journal.proofs.laws.law_chain.Goals as goal
+use Rattle.hose_journal.proofs.chaining.law_chain.Goals as goal
 
 pub returns : goal.returns
 returns c =

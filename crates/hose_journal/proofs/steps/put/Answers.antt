@@ -2,7 +2,7 @@ use Rattle.std.proofs.Common.{length}
 use Rattle.hose_disk.specs.Disk.{IsOverwritten}
 use Rattle.hose_journal.specs.Moments.{IsTornFrom}
 use Rattle.hose_journal.proofs.Runs.{started, goes_on, torn_before, synced_step, only_content}
-use Rattle.hose_journal.proofs.putting.put.Goals as goal
+use Rattle.hose_journal.proofs.steps.put.Goals as goal
 
 pub returns-in_err-write_at-clause-any_moment : goal.returns-in_err-write_at-clause-any_moment
 returns-in_err-write_at-clause-any_moment g c =
