@@ -1,5 +1,5 @@
 -- Parts of a buffer, and what is taken behind them.
-use Rattle.std.proofs.Common.{◌≡◌, ◌∙◌, ℕ, ◌+◌, ◌-◌, ◌≤◌, ◌<◌, List, [], ◌∷◌, ◌++◌, Option, None, Some, length, take, drop, sym, ap, refl, subst, rules, arith, add-zero, Result, Ok, Err, MatchResult, IfOk}
+use Rattle.std.proofs.Common.{◌≡◌, ◌∙◌, ℕ, ◌+◌, ◌-◌, ◌≤◌, List, [], ◌++◌, Option, None, Some, length, take, drop, sym, ap, refl, subst, rules, arith, add-zero, Result, Ok, Err, MatchResult, IfOk}
 use Rattle.std.proofs.Math.Seq.{take-add}
 use Rattle.std.specs.List.{slice_range}
 use Rattle.std.specs.Result.{result_unwrap_or}
@@ -46,7 +46,7 @@ appended (Ok count) before after xs ys start end same ordered inside gives = rec
 appended (Err failed) before after xs ys start end same ordered inside kept =
     (kept, rw (add-zero) (slice_range-same xs ys start end same))
 
--- the same in a vector, into which a slice is written back
+-- what was appended in a slice is appended in the vector into which the slice is written back
 pub appended_back : (taken : Result ℕ Failed) (before after : Option Stream) (xs new : List ℕ) (len start end : ℕ) → length new ≡ len → take end new ≡ take end xs → start ≤ end → end + result_unwrap_or taken 0 ≤ length new
     → MatchResult taken (λ count. Gives before after (take count (drop end new))) (λ _. after ≡ before)
     → MatchResult taken (λ count. Appends before after (slice_range xs start end) (slice_range (take len (new ++ drop (length new) xs)) start (end + result_unwrap_or taken 0)) count)

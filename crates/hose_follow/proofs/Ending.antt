@@ -1,8 +1,6 @@
 -- How following an input ends.
-use Rattle.std.proofs.Common.{◌≡◌, ◌≢◌, ◌⊎◌, ◌∙◌, ℕ, ◌+◌, ◌≤◌, ◌<◌, ◌^◌, List, [], ◌∷◌, ◌++◌, Option, None, Some, length, refl, sym, ap, subst, inl, inr, arith, rules, All}
+use Rattle.std.proofs.Common.{[], refl, inl, arith}
 use Rattle.std.proofs.lemmas.List.Elements.{All-nil}
-use Rattle.hose_io.specs.Frame.{Frame, Rose, Stays}
-use Rattle.hose_io.specs.Stream.{Gives, Grows, IsAtEnd, Stream}
 use Rattle.hose_io.specs.declared.sink.Sink.{Ghosts as SinkGhosts}
 use Rattle.hose_io.specs.declared.source.Source.{Ghosts as SourceGhosts}
 use Rattle.hose_io.proofs.Frames.{Stays-none}
@@ -10,15 +8,14 @@ use Rattle.hose_disk.specs.Disk.{object_frame}
 use Rattle.hose_disk.specs.declared.disk.Disk.{Ghosts as DiskGhosts}
 use Rattle.hose_store.specs.Store.{Kept}
 use Rattle.hose_follow.proofs.Buffers.{gives_none}
-use Rattle.hose_follow.specs.Ends.{Follows}
+use Rattle.hose_follow.specs.Ends.{FollowsInput}
 use Rattle.hose_follow.specs.Offering.{none_yet}
-use Rattle.hose_follow.specs.Packet.{IsPacket, Packet}
-use Rattle.hose_follow.specs.declared.following.FollowEnd.{FollowEnd}
-use Rattle.hose_follow.specs.declared.following.FollowEnd.TheVariants.{End, Packet as BadPacket, Read, Write, TooLong, Memory}
+use Rattle.hose_follow.specs.Packet.{IsPacket}
+use Rattle.hose_follow.specs.declared.following.FollowEnd.TheVariants.{Memory}
 
 module _ {S O D : Type 0} (source : SourceGhosts S) (sink : SinkGhosts O) (disk : DiskGhosts D) where
   -- nothing was done
-  pub nothing_done : (input : S) (output : O) (store : Kept D) → Follows source sink disk input input output output store store Memory
+  pub nothing_done : (input : S) (output : O) (store : Kept D) → FollowsInput source sink disk input input output output store store Memory
   nothing_done input output store = record {
     bytes = [];
     gives = gives_none (source.content input);

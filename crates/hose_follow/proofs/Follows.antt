@@ -1,5 +1,5 @@
 -- What a follower has is a beginning of the leader's list, after any events.
-use Rattle.std.proofs.Common.{◌≡◌, ◌≢◌, ◌⊎◌, ◌∙◌, ℕ, ◌+◌, ◌≤◌, max, List, [], ◌∷◌, ◌++◌, Option, None, Some, length, take, refl, sym, ap, subst, inl, inr, arith, All, Contains, append-nil, length-append}
+use Rattle.std.proofs.Common.{◌≡◌, ◌∙◌, ℕ, ◌+◌, ◌≤◌, max, List, [], ◌∷◌, ◌++◌, Option, None, Some, length, take, refl, sym, ap, subst, inl, inr, arith, All, Contains, length-append}
 use Rattle.std.specs.List.{slice_get}
 use Rattle.std.specs.Option.{IfSome}
 use Rattle.std.proofs.lemmas.List.{take-append-le, length-take-le}
@@ -10,24 +10,23 @@ use Rattle.hose_graph.specs.Network.{Network}
 use Rattle.hose_graph.specs.declared.entry.Entry.{Entry}
 use Rattle.hose_law.specs.Book.{Book}
 use Rattle.hose_law.specs.History.{IsDecided, IsDecidedAt, IsSoundAt, book_of}
-use Rattle.hose_law.proofs.Fronts.{front_of, prefix_length, prefix_on, prefix_push, prefix_same}
+use Rattle.hose_law.proofs.Fronts.{front_of, prefix_push}
 use Rattle.hose_law.proofs.Scripts.{decided_push}
 use Rattle.hose_book.specs.Ledger.{Ledger}
-use Rattle.hose_book.specs.declared.committed.Committed.{Committed}
-use Rattle.hose_book.specs.declared.committed.Committed.TheVariants as committed
-use Rattle.hose_codec.specs.Spelling.{IsEntry, IsSpelling, spelling}
+use Rattle.hose_book.specs.declared.books.Committed.{Committed}
+use Rattle.hose_book.specs.declared.books.Committed.TheVariants as committed
+use Rattle.hose_codec.specs.Spelling.{IsEntry, spelling}
 use Rattle.hose_codec.proofs.Entries.{same_entry}
 use Rattle.hose_disk.specs.declared.disk.Disk.{Ghosts}
 use Rattle.hose_journal.specs.Chain.{chain}
 use Rattle.hose_journal.specs.Image.{Meaning, listed}
-use Rattle.hose_store.specs.Commit.{IsLeft, Went}
-use Rattle.hose_store.specs.Opening.{IsOpenedOn}
+use Rattle.hose_store.specs.Commit.{IsLeft}
 use Rattle.hose_store.specs.Recovery.{IsHistoryOf, IsRecoveredAs, digest_of}
 use Rattle.hose_store.specs.Store.{HasHistory, IsAmid, IsHistoryWith, Kept}
 use Rattle.hose_follow.specs.Event.{Event, accepts, sends, offers, stops, stops_within}
-use Rattle.hose_follow.specs.Offering.{Brings, Enters, IsChainOf, IsDue, IsOffered, epoch_of}
+use Rattle.hose_follow.specs.Offering.{Brings, Enters, IsDue, IsOffered, epoch_of}
 use Rattle.hose_follow.specs.Packet.{Packet, packet_after}
-use Rattle.hose_follow.specs.World.{Happens, IsBeginning, IsFollowing, IsLeader, IsOfLeader, IsReopened, IsSentOf, Lead, World, packet_at, told_after}
+use Rattle.hose_follow.specs.World.{Happens, IsBeginning, IsFollowing, IsOfLeader, IsReopened, IsSentOf, Lead, World, packet_at, told_after}
 use Rattle.hose_follow.specs.declared.answers.Offered.{Offered}
 use Rattle.hose_follow.specs.declared.answers.Offered.TheVariants.{Have, Want, Differs, Memory, Unsound, Disk}
 use Rattle.hose_follow.proofs.Beginnings.{all_at, decided_sound, epoch_is, get_longer, legal_front, prefix_next, sound_next}

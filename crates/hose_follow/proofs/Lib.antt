@@ -5,4 +5,5 @@ mod Follows
 mod Offers
 mod Packets
 mod Shipped
+pub mod Splits
 mod Turns

@@ -1,14 +1,14 @@
 -- Packets that are offered one after another.
-use Rattle.std.proofs.Common.{◌≡◌, ◌⊎◌, ◌∙◌, List, [], ◌∷◌, ◌++◌, Option, None, Some, refl, sym, ap, subst, inl, inr}
+use Rattle.std.proofs.Common.{◌≡◌, ◌∙◌, List, [], ◌∷◌, ◌++◌, Option, None, Some, refl, sym, ap, subst, inl, inr}
 use Rattle.hose_graph.specs.Network.{Network}
 use Rattle.hose_graph.specs.declared.entry.Entry.{Entry}
 use Rattle.hose_law.specs.Book.{Book}
 use Rattle.hose_law.specs.History.{IsSoundAt, book_of}
-use Rattle.hose_book.specs.GoingOn.{GoesOn, entry_more, none_yet as nothing_yet}
+use Rattle.hose_book.specs.GoingOn.{entry_more, none_yet as nothing_yet}
 use Rattle.hose_book.specs.Ledger.{Ledger}
-use Rattle.hose_book.specs.declared.committed.Committed.TheVariants as committed
+use Rattle.hose_book.specs.declared.books.Committed.TheVariants as committed
 use Rattle.hose_disk.specs.declared.disk.Disk.{Ghosts}
-use Rattle.hose_store.specs.Commit.{IsLeft, store_books}
+use Rattle.hose_store.specs.Commit.{IsLeft}
 use Rattle.hose_store.specs.Store.{HasHistory, Kept}
 use Rattle.hose_follow.specs.Chained.{LeadsOn}
 use Rattle.hose_follow.specs.Offering.{AreOffered, Brings, Enters, IsOffered, none_yet, packet_more}

@@ -1,11 +1,11 @@
 -- Packets as bytes.
-use Rattle.std.proofs.Common.{◌≡◌, ◌∙◌, ◌⊎◌, inl, inr, ℕ, ◌+◌, ◌-◌, ◌≤◌, ◌<◌, ◌^◌, List, [], ◌∷◌, ◌++◌, length, take, drop, sym, ap, refl, arith, append_assoc, length-append, take-append-drop}
+use Rattle.std.proofs.Common.{◌≡◌, ◌∙◌, inl, inr, ℕ, ◌+◌, ◌-◌, ◌≤◌, ◌<◌, ◌^◌, List, ◌++◌, length, take, drop, sym, ap, arith, append_assoc, length-append, take-append-drop}
 use Rattle.std.proofs.lemmas.List.{length-take-le, length-drop}
 use Rattle.byteorder.specs.Endian.{big_bytes}
 use Rattle.byteorder.specs.Numbers.{length-bytes_high_first}
 use Rattle.hose_codec.specs.declared.limits.TheConstants.{MOST_SPELLING}
 use Rattle.hose_follow.specs.Arriving.{BeginsPacket}
-use Rattle.hose_follow.specs.Packet.{BeginsNoPacket, HasLength, IsNoLength, IsPacket, IsPartOfPacket, Packet, packet_bytes}
+use Rattle.hose_follow.specs.Packet.{HasLength, IsNoLength}
 
 -- a part, and what is behind it
 split : (n : ℕ) (xs front back : List ℕ) → front ≡ take n xs → back ≡ drop n xs → xs ≡ front ++ back

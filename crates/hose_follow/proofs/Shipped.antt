@@ -1,37 +1,31 @@
 -- What the packets of entries come to.
-use Rattle.std.proofs.Common.{◌≡◌, ◌⊎◌, ◌∙◌, ℕ, zero, suc, ◌+◌, ◌-◌, ◌<◌, ◌≤◌, Bool, true, false, List, [], ◌∷◌, ◌++◌, Option, None, Some, Result, Ok, Err, refl, sym, inl, inr, ap, arith, subst, drop, length, append_assoc, append-nil, length-append, ⊎_elim}
+use Rattle.std.proofs.Common.{◌≡◌, ◌⊎◌, ◌∙◌, ℕ, zero, suc, ◌+◌, ◌-◌, ◌<◌, ◌≤◌, List, [], ◌∷◌, ◌++◌, Option, None, Some, Result, Ok, Err, refl, sym, inl, ap, arith, subst, drop, length, append_assoc, append-nil, length-append, ⊎_elim}
 use Rattle.std.specs.Prelude.{⊤}
-use Rattle.std.specs.List.{flat_map}
 use Rattle.std.proofs.lemmas.Bool.{cases_lt}
 use Rattle.std.proofs.lemmas.Grind.{flat_map-append}
 use Rattle.std.proofs.lemmas.List.{drop-append-le, drop_all, length-drop}
 use Rattle.std.specs.Option.{IfSome}
-use Rattle.hose_io.specs.Frame.{Rose, Stays}
+use Rattle.hose_io.specs.Frame.{Stays}
 use Rattle.hose_io.specs.Gather.{Gathered, IsAdded, IsFinished}
 use Rattle.hose_io.specs.declared.Failed.{Failed}
 use Rattle.hose_io.specs.Stream.{Grows}
-use Rattle.hose_io.specs.Writing.{GrowsInPart}
 use Rattle.hose_io.proofs.Gathering.{IsAdded-next, IsAdded-none, IsPut-finished, none_gathered}
 use Rattle.hose_io.specs.declared.sink.Sink.{Ghosts as SinkGhosts}
 use Rattle.hose_io.proofs.Streams.{Grows-nil}
 use Rattle.hose_graph.specs.Network.{Network}
 use Rattle.hose_graph.specs.declared.entry.Entry.{Entry}
 use Rattle.hose_disk.specs.declared.disk.Disk.{Ghosts as DiskGhosts}
-use Rattle.hose_codec.specs.Spelling.{IsEntry, spelling}
 use Rattle.hose_journal.specs.Chain.{chain}
-use Rattle.hose_journal.specs.Journal.{IsReady}
-use Rattle.hose_journal.specs.Moments.{KeepsCount, LeavesOnly}
+use Rattle.hose_journal.specs.Moments.{LeavesOnly}
 use Rattle.hose_journal.specs.declared.prepared.Ready.{Ready}
 use Rattle.hose_journal.proofs.Runs.{started}
 use Rattle.hose_store.specs.Entries.{BeginsWith, HasEntries}
-use Rattle.hose_store.specs.Recovery.{IsHistoryOf, digest_of}
+use Rattle.hose_store.specs.Recovery.{digest_of}
 use Rattle.hose_store.specs.Replaying.{HasReplayed, IsOnlyOpened, IsReplaying}
 use Rattle.hose_store.specs.declared.fault.StoreFault.{StoreFault}
 use Rattle.hose_store.specs.declared.replay.Replay.{Replay}
 use Rattle.hose_follow.specs.Packet.{Packet, packet_after, packet_bytes, packets_after, packets_bytes, packets_from}
-use Rattle.hose_follow.specs.Shipping.{AddsAll, AddsNext, HasAdded, HasAddedAll, HasAddedUpTo, Ships, ShipsAll, ShipsUpTo, shipped_of}
-use Rattle.hose_follow.specs.declared.shipping.ShipFault.{ShipFault}
-use Rattle.hose_follow.specs.declared.shipping.ShipFault.TheVariants.{Store, Write}
+use Rattle.hose_follow.specs.Shipping.{AddsAll, HasAdded, HasAddedAll, HasAddedUpTo, Ships, ShipsUpTo, shipped_of}
 
 drop_none : {X : Type 0} (n : ℕ) (none : List X) → none ≡ [] → drop n none ≡ []
 drop_none zero none is = is

@@ -1,35 +1,31 @@
 -- Turns of following an input, one after another.
-use Rattle.std.proofs.Common.{◌≡◌, ◌≢◌, ◌⊎◌, ◌∙◌, ℕ, ◌+◌, ◌-◌, ◌*◌, ◌≤◌, ◌<◌, ◌^◌, List, [], ◌∷◌, ◌++◌, Option, None, Some, Result, Ok, Err, length, drop, take, refl, sym, ap, subst, inl, inr, arith, All, append_assoc, append-nil, length-append}
+use Rattle.std.proofs.Common.{◌≡◌, ◌≢◌, ◌⊎◌, ◌∙◌, ℕ, ◌+◌, ◌-◌, ◌*◌, ◌≤◌, ◌<◌, ◌^◌, List, [], ◌∷◌, ◌++◌, Option, None, Some, Ok, Err, length, drop, take, refl, sym, ap, subst, inl, inr, arith, append_assoc, append-nil, length-append}
 use Rattle.std.specs.Prelude.{⊤}
 use Rattle.std.specs.List.{flat_map}
 use Rattle.std.proofs.lemmas.Grind.{flat_map-append}
 use Rattle.std.proofs.lemmas.List.{drop_at}
 use Rattle.std.proofs.lemmas.List.Elements.{All-nil, All-push}
-use Rattle.byteorder.specs.Endian.{big_bytes}
-use Rattle.byteorder.specs.Numbers.{length-bytes_high_first}
 use Rattle.hose_io.specs.Frame.{Frame, Rose, Stays}
-use Rattle.hose_io.specs.Stream.{Gives, GoesOn, Grows, IsAtEnd, Stream}
-use Rattle.hose_io.specs.Writing.{GrowsInPart}
+use Rattle.hose_io.specs.Stream.{Gives, Grows, IsAtEnd, Stream}
 use Rattle.hose_io.specs.declared.sink.Sink.{Ghosts as SinkGhosts}
 use Rattle.hose_io.specs.declared.source.Source.{Ghosts as SourceGhosts}
 use Rattle.hose_io.proofs.Frames.{Stays-none, Stays-next, Stays-same}
 use Rattle.hose_io.proofs.Streams.{Grows-append, Grows-nil}
-use Rattle.hose_book.specs.Commit.{IsMet}
-use Rattle.hose_book.specs.declared.committed.Committed.TheVariants as committed
 use Rattle.hose_disk.specs.Disk.{object_frame}
 use Rattle.hose_disk.specs.declared.disk.Disk.{Ghosts as DiskGhosts}
 use Rattle.hose_store.specs.Store.{Kept}
-use Rattle.hose_follow.specs.Answers.{CutsLast, TellsDisks, answer_line, answers_text, disks_in, one_if_disk}
+use Rattle.hose_follow.specs.Answers.{TellsDiskAnswers, answer_line, offered_texts, disk_answers_in, one_if_disk_failed}
 use Rattle.hose_follow.specs.Arriving.{BeginsPacket}
-use Rattle.hose_follow.specs.Ends.{AllOut, EndsSo, Follows}
+use Rattle.hose_follow.specs.Ends.{AllLinesOut, EndsSo, FollowsInput}
 use Rattle.hose_follow.specs.Offering.{AreOffered, IsOffered, none_yet, packet_more}
 use Rattle.hose_follow.specs.Packet.{BeginsNoPacket, IsPacket, IsPartOfPacket, Packet, packet_bytes, packets_bytes}
-use Rattle.hose_follow.specs.Turning.{Answers, HasFollowed, State, TakesBytes, TakesNothing, TakesTooMuch, TouchesNone, TurnsTo}
+use Rattle.hose_follow.specs.Turning.{Answers, FollowsOn, FollowState, TakesMoreBytes, TouchesNone, AdvancesTo}
 use Rattle.hose_follow.specs.declared.answers.Offered.{Offered}
 use Rattle.hose_follow.specs.declared.answers.Offered.TheVariants.{Have, Want, Differs, Memory, Unsound, Disk}
 use Rattle.hose_follow.specs.declared.following.FollowEnd.{FollowEnd}
 use Rattle.hose_follow.specs.declared.following.FollowEnd.TheVariants.{End, Packet as BadPacket, Read, Write, TooLong, Memory as NoMemory}
 use Rattle.hose_follow.proofs.Buffers.{gives_none}
+use Rattle.hose_follow.proofs.Splits.{length-packet}
 
 -- ---- bytes
 
@@ -48,20 +44,6 @@ gives_then (Some old) (Some mid) (Some new) one two p q = record {
 last_of : {X : Type 0} (f : X → List ℕ) (xs : List X) (x : X) → flat_map f (xs ++ x ∷ []) ≡ flat_map f xs ++ f x
 last_of f xs x = flat_map-append f xs (x ∷ []) ∙ ap (λ (l : List ℕ). flat_map f xs ++ l) (append-nil (f x))
 
-length-packet : (packet : Packet) → IsPacket packet → length (packet_bytes packet) ≡ 38 + length packet.body
-length-packet packet is =
-    let two = big_bytes 2 (length packet.body) in
-    let four = big_bytes 4 packet.epoch in
-    omega (
-      arith,
-      is.chain,
-      length-append two (four ++ (packet.chain ++ packet.body)),
-      length-append four (packet.chain ++ packet.body),
-      length-append packet.chain packet.body,
-      length-bytes_high_first 2 (length packet.body),
-      length-bytes_high_first 4 packet.epoch,
-    )
-
 -- a whole packet has so many bytes
 pub whole_inside : (pending rest : List ℕ) (packet : Packet) → BeginsPacket pending packet rest → length pending ≡ 38 + length packet.body + length rest
 whole_inside pending rest packet begins = omega (arith, ap length begins.is, length-append (packet_bytes packet) rest, length-packet packet begins.is_packet)
@@ -78,9 +60,9 @@ module _ {D : Type 0} (disk : DiskGhosts D) where
   -- an answer tells a failure of the disk only where its count rose
   pub record Tells (old : Kept D) (answer : Offered) (new : Kept D) : Type 0 where
     pub stays : Stays (frame_of old) (frame_of new)
-    pub rose : ((disk.frame old.journal.disk).faults + one_if_disk answer ≤ (disk.frame new.journal.disk).faults) ⊎ (2 ^ 64 - 1 ≤ (disk.frame new.journal.disk).faults)
+    pub rose : ((disk.frame old.journal.disk).faults + one_if_disk_failed answer ≤ (disk.frame new.journal.disk).faults) ⊎ (2 ^ 64 - 1 ≤ (disk.frame new.journal.disk).faults)
 
-  kept : (old new : Kept D) (answer : Offered) → one_if_disk answer ≡ 0 → frame_of new ≡ frame_of old → Tells old answer new
+  kept : (old new : Kept D) (answer : Offered) → one_if_disk_failed answer ≡ 0 → frame_of new ≡ frame_of old → Tells old answer new
   kept old new answer none same = record {
     stays = Stays-same same;
     rose = inl (omega (arith, none, ap (λ (f : Frame). f.faults) same));
@@ -98,19 +80,19 @@ module _ {D : Type 0} (disk : DiskGhosts D) where
   tells old new packet (Unsound epoch) offered = kept old new (Unsound epoch) refl (same_store old new offered.3)
   tells old new packet (Disk at) (entry, _, enters) = record { stays = enters.met.0; rose = grind (arith, enters.met.1.rose) }
 
-  disks_push : (answers : List Offered) (answer : Offered) → disks_in (answers ++ answer ∷ []) ≡ disks_in answers + one_if_disk answer
+  disks_push : (answers : List Offered) (answer : Offered) → disk_answers_in (answers ++ answer ∷ []) ≡ disk_answers_in answers + one_if_disk_failed answer
   disks_push [] answer = omega arith
   disks_push (first ∷ answers) answer = omega (arith, disks_push answers answer)
 
-  told_more : (first mid new : Kept D) (answers : List Offered) (answer : Offered) → TellsDisks (disk.frame first.journal.disk).faults answers (disk.frame mid.journal.disk).faults → Tells mid answer new
-      → TellsDisks (disk.frame first.journal.disk).faults (answers ++ answer ∷ []) (disk.frame new.journal.disk).faults
+  told_more : (first mid new : Kept D) (answers : List Offered) (answer : Offered) → TellsDiskAnswers (disk.frame first.journal.disk).faults answers (disk.frame mid.journal.disk).faults → Tells mid answer new
+      → TellsDiskAnswers (disk.frame first.journal.disk).faults (answers ++ answer ∷ []) (disk.frame new.journal.disk).faults
   told_more first mid new answers answer (inl before) more = grind (arith, before, more.rose, disks_push answers answer)
   told_more first mid new answers answer (inr full) more = inr (omega (arith, full, more.stays.never_falls))
 
 module _ {S O D : Type 0} (source : SourceGhosts S) (sink : SinkGhosts O) (disk : DiskGhosts D) where
   -- ---- turns
 
-  pub followed_none : (first : State S O D) → first.pending ≡ [] → first.taken ≡ 0 → HasFollowed source sink disk first first
+  pub followed_none : (first : FollowState S O D) → first.pending ≡ [] → first.taken ≡ 0 → FollowsOn source sink disk first first
   followed_none first none zero = record {
     bytes = [];
     gives = gives_none (source.content first.source);
@@ -136,8 +118,8 @@ module _ {S O D : Type 0} (source : SourceGhosts S) (sink : SinkGhosts O) (disk 
       ∙ sym (append_assoc (packets_bytes packets) (packet_bytes packet) rest)
       ∙ ap (λ (l : List ℕ). l ++ rest) (sym (last_of packet_bytes packets packet))
 
-  pub answered : (first now next : State S O D) → HasFollowed source sink disk first now → Answers source sink disk now next (Grows (sink.content now.sink) (sink.content next.sink)) → sink.frame next.sink ≡ sink.frame now.sink
-      → HasFollowed source sink disk first next
+  pub answered : (first now next : FollowState S O D) → FollowsOn source sink disk first now → Answers source sink disk now next (Grows (sink.content now.sink) (sink.content next.sink)) → sink.frame next.sink ≡ sink.frame now.sink
+      → FollowsOn source sink disk first next
   answered first now next before turn held =
       let told = tells disk now.store next.store turn.packet turn.answer turn.offered in
       record {
@@ -151,15 +133,15 @@ module _ {S O D : Type 0} (source : SourceGhosts S) (sink : SinkGhosts O) (disk 
         taken = turn.same_taken ∙ before.taken;
         limit = omega (arith, before.limit, turn.same_taken);
         out = subst (λ (l : List ℕ). Grows (sink.content first.sink) (sink.content next.sink) l) (sym (last_of answer_line before.answers turn.answer))
-            (Grows-append (sink.content first.sink) (sink.content now.sink) (sink.content next.sink) (answers_text before.answers) (answer_line turn.answer) before.out turn.out);
+            (Grows-append (sink.content first.sink) (sink.content now.sink) (sink.content next.sink) (offered_texts before.answers) (answer_line turn.answer) before.out turn.out);
         source_held = ap source.frame turn.same_source ∙ before.source_held;
         sink_held = held ∙ before.sink_held;
         stays = Stays-next before.stays told.stays;
         disks = told_more disk first.store now.store next.store before.answers turn.answer before.disks told;
       }
 
-  pub took : (first now next : State S O D) → HasFollowed source sink disk first now → TakesBytes source now.source next.source now.pending next.pending now.taken next.taken → TouchesNone source sink disk now next
-      → HasFollowed source sink disk first next
+  pub took : (first now next : FollowState S O D) → FollowsOn source sink disk first now → TakesMoreBytes source now.source next.source now.pending next.pending now.taken next.taken → TouchesNone source sink disk now next
+      → FollowsOn source sink disk first next
   took first now next before turn none = record {
     bytes = before.bytes ++ turn.bytes;
     gives = gives_then (source.content first.source) (source.content now.source) (source.content next.source) before.bytes turn.bytes before.gives turn.gives;
@@ -173,33 +155,33 @@ module _ {S O D : Type 0} (source : SourceGhosts S) (sink : SinkGhosts O) (disk 
     offered = subst (λ (s : Kept D). AreOffered disk first.store before.packets before.answers s) (sym none.same_store) before.offered;
     taken = omega (arith, turn.taken_is, before.taken, length-append before.bytes turn.bytes);
     limit = turn.limit;
-    out = subst (λ (s : O). Grows (sink.content first.sink) (sink.content s) (answers_text before.answers)) (sym none.same_sink) before.out;
+    out = subst (λ (s : O). Grows (sink.content first.sink) (sink.content s) (offered_texts before.answers)) (sym none.same_sink) before.out;
     source_held = turn.frame ∙ before.source_held;
     sink_held = ap sink.frame none.same_sink ∙ before.sink_held;
     stays = subst (λ (s : Kept D). Stays (object_frame (disk.frame first.store.journal.disk)) (object_frame (disk.frame s.journal.disk))) (sym none.same_store) before.stays;
-    disks = subst (λ (s : Kept D). TellsDisks (disk.frame first.store.journal.disk).faults before.answers (disk.frame s.journal.disk).faults) (sym none.same_store) before.disks;
+    disks = subst (λ (s : Kept D). TellsDiskAnswers (disk.frame first.store.journal.disk).faults before.answers (disk.frame s.journal.disk).faults) (sym none.same_store) before.disks;
   }
 
-  pub turned : (first now next : State S O D) (value : ⊤) → HasFollowed source sink disk first now → TurnsTo source sink disk now next (Ok value) → HasFollowed source sink disk first next
+  pub turned : (first now next : FollowState S O D) (value : ⊤) → FollowsOn source sink disk first now → AdvancesTo source sink disk now next (Ok value) → FollowsOn source sink disk first next
   turned first now next value before (inl (turn, held)) = answered first now next before turn held
   turned first now next value before (inr (turn, none)) = took first now next before turn none
 
   -- a turn answers a packet, or takes bytes
-  pub goes_down : (now next : State S O D) (value : ⊤) → TurnsTo source sink disk now next (Ok value) → now.taken ≤ 2 ^ 30 → 2 ^ 31 - 2 * next.taken + length next.pending < 2 ^ 31 - 2 * now.taken + length now.pending
+  pub goes_down : (now next : FollowState S O D) (value : ⊤) → AdvancesTo source sink disk now next (Ok value) → now.taken ≤ 2 ^ 30 → 2 ^ 31 - 2 * next.taken + length next.pending < 2 ^ 31 - 2 * now.taken + length now.pending
   goes_down now next value (inl (turn, held)) low = omega (arith, turn.same_taken, whole_inside now.pending turn.rest turn.packet turn.begins, ap length turn.pending_is)
   goes_down now next value (inr (turn, none)) low = omega (arith, turn.some, turn.limit, turn.taken_is, ap length turn.pending_is, length-append now.pending turn.bytes)
 
   -- what is pending is what was taken and belongs to no packet that was answered
-  pub pending_within : (first now : State S O D) → HasFollowed source sink disk first now → length now.pending ≤ now.taken
+  pub pending_within : (first now : FollowState S O D) → FollowsOn source sink disk first now → length now.pending ≤ now.taken
   pending_within first now before = omega (arith, before.taken, ap length before.parts, length-append (packets_bytes before.packets) now.pending)
 
   -- ---- the end
 
   -- an end at which neither the sink nor the store was called, and these bytes more were given
-  ends_at : (first now next : State S O D) (end : FollowEnd) (before : HasFollowed source sink disk first now) → TouchesNone source sink disk now next → (more : List ℕ) → Gives (source.content now.source) (source.content next.source) more
+  ends_at : (first now next : FollowState S O D) (end : FollowEnd) (before : FollowsOn source sink disk first now) → TouchesNone source sink disk now next → (more : List ℕ) → Gives (source.content now.source) (source.content next.source) more
       → EndsSo source sink first.source next.source first.sink next.sink before.packets before.answers (now.pending ++ more) end
       → length before.bytes + length more ≤ 2 ^ 30 + 1 → ((end ≡ TooLong) → 2 ^ 30 < length before.bytes + length more) → ((2 ^ 30 < length before.bytes + length more) → end ≡ TooLong) → end ≢ NoMemory
-      → Follows source sink disk first.source next.source first.sink next.sink first.store next.store end
+      → FollowsInput source sink disk first.source next.source first.sink next.sink first.store next.store end
   ends_at first now next end before none more gives ends limit long_to to_long memory = record {
     bytes = before.bytes ++ more;
     gives = gives_then (source.content first.source) (source.content now.source) (source.content next.source) before.bytes more before.gives gives;
@@ -214,23 +196,23 @@ module _ {S O D : Type 0} (source : SourceGhosts S) (sink : SinkGhosts O) (disk 
     too_long = (λ long. omega (arith, long_to long, length-append before.bytes more), λ above. to_long (omega (arith, above, length-append before.bytes more)));
     memory = λ is. absurd (memory is);
     stays = subst (λ (s : Kept D). Stays (object_frame (disk.frame first.store.journal.disk)) (object_frame (disk.frame s.journal.disk))) (sym none.same_store) before.stays;
-    disks = subst (λ (s : Kept D). TellsDisks (disk.frame first.store.journal.disk).faults before.answers (disk.frame s.journal.disk).faults) (sym none.same_store) before.disks;
+    disks = subst (λ (s : Kept D). TellsDiskAnswers (disk.frame first.store.journal.disk).faults before.answers (disk.frame s.journal.disk).faults) (sym none.same_store) before.disks;
   }
 
   -- all lines are out
-  all_out : (first now next : State S O D) (before : HasFollowed source sink disk first now) → TouchesNone source sink disk now next → AllOut source sink first.source next.source first.sink next.sink before.answers
+  all_out : (first now next : FollowState S O D) (before : FollowsOn source sink disk first now) → TouchesNone source sink disk now next → AllLinesOut source sink first.source next.source first.sink next.sink before.answers
   all_out first now next before none = (
-    subst (λ (s : O). Grows (sink.content first.sink) (sink.content s) (answers_text before.answers)) (sym none.same_sink) before.out,
+    subst (λ (s : O). Grows (sink.content first.sink) (sink.content s) (offered_texts before.answers)) (sym none.same_sink) before.out,
     ap sink.frame none.same_sink ∙ before.sink_held,
   )
 
   at_place : (packets : List Packet) (bytes pending : List ℕ) (taken at : ℕ) → bytes ≡ packets_bytes packets ++ pending → taken ≡ length bytes → at ≡ taken - length pending → at ≡ length (packets_bytes packets)
   at_place packets bytes pending taken at parts is is_at = omega (arith, is, is_at, ap length parts, length-append (packets_bytes packets) pending)
 
-  low : (first now : State S O D) (before : HasFollowed source sink disk first now) → length before.bytes ≤ 2 ^ 30
+  low : (first now : FollowState S O D) (before : FollowsOn source sink disk first now) → length before.bytes ≤ 2 ^ 30
   low first now before = omega (arith, before.taken, before.limit)
 
-  pub ended : (first now next : State S O D) (end : FollowEnd) → HasFollowed source sink disk first now → TurnsTo source sink disk now next (Err end) → Follows source sink disk first.source next.source first.sink next.sink first.store next.store end
+  pub ended : (first now next : FollowState S O D) (end : FollowEnd) → FollowsOn source sink disk first now → AdvancesTo source sink disk now next (Err end) → FollowsInput source sink disk first.source next.source first.sink next.sink first.store next.store end
   ended first now next End before (none, nothing, at_end, touches) =
       ends_at first now next End before touches [] nothing.gives
       (append-nil now.pending ∙ none, at_end, all_out first now next before touches, nothing.frame ∙ before.source_held)
@@ -277,7 +259,7 @@ module _ {S O D : Type 0} (source : SourceGhosts S) (sink : SinkGhosts O) (disk 
             turn.out.0,
             refl,
             turn.out.1,
-            Grows-append (sink.content first.sink) (sink.content now.sink) (sink.content next.sink) (answers_text before.answers) (take turn.out.0 (answer_line turn.answer)) before.out turn.out.2,
+            Grows-append (sink.content first.sink) (sink.content now.sink) (sink.content next.sink) (offered_texts before.answers) (take turn.out.0 (answer_line turn.answer)) before.out turn.out.2,
           ),
           subst (λ (f : Frame). Rose f (sink.frame next.sink)) before.sink_held rose,
           ap source.frame turn.same_source ∙ before.source_held,

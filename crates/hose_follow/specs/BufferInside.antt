@@ -1,9 +1,9 @@
 -- How the places of a buffer stand to one another.
 use Rattle.std.specs.Prelude.{◌≡◌, ◌≤◌, length}
-use Rattle.hose_follow.specs.declared.limits.TheConstants.{ROOM_BYTES}
+use Rattle.hose_follow.specs.declared.buffer.TheConstants.{ROOM_BYTES}
 use Rattle.hose_follow.specs.declared.buffer.Buffer.TheInside.{Inside}
 
-pub record IsInOrder (buffer : Inside) : Type 0 where
+pub record ArePlacesInOrder (buffer : Inside) : Type 0 where
   pub size : length buffer.bytes.items ≡ ROOM_BYTES
   pub pending : buffer.start ≤ buffer.end
   pub inside : buffer.end ≤ ROOM_BYTES

@@ -3,7 +3,7 @@ use Rattle.std.specs.Prelude.{◌≡◌, ℕ, List, ◌++◌, length, Option}
 use Rattle.hose_io.specs.Stream.{Stream, Gives}
 
 -- what a buffer of an input holds, and how many bytes more fit after it
-pub record Held : Type 0 where
+pub record BufferState : Type 0 where
   pub pending : List ℕ
   pub room : ℕ
 

@@ -1,5 +1,5 @@
 -- How following an input ends, and what it leaves.
-use Rattle.std.specs.Prelude.{◌≡◌, ◌≢◌, ◌⊎◌, ◌↔◌, ℕ, ◌+◌, ◌<◌, ◌≤◌, List, [], ◌∷◌, ◌++◌, length, All, ⊤}
+use Rattle.std.specs.Prelude.{◌≡◌, ◌≢◌, ◌⊎◌, ◌↔◌, ℕ, ◌+◌, ◌<◌, ◌≤◌, List, [], ◌∷◌, ◌++◌, length, All}
 use Rattle.hose_io.specs.Frame.{Rose, Stays}
 use Rattle.hose_io.specs.Stream.{Gives, Grows, IsAtEnd}
 use Rattle.hose_io.specs.declared.sink.Sink.{Ghosts as SinkGhosts}
@@ -7,43 +7,43 @@ use Rattle.hose_io.specs.declared.source.Source.{Ghosts as SourceGhosts}
 use Rattle.hose_disk.specs.Disk.{object_frame}
 use Rattle.hose_disk.specs.declared.disk.Disk.{Ghosts as DiskGhosts}
 use Rattle.hose_store.specs.Store.{Kept}
-use Rattle.hose_follow.specs.Answers.{CutsLast, TellsDisks, answers_text}
+use Rattle.hose_follow.specs.Answers.{CutsLastAnswer, TellsDiskAnswers, offered_texts}
 use Rattle.hose_follow.specs.Offering.{AreOffered}
 use Rattle.hose_follow.specs.Packet.{BeginsNoPacket, IsPacket, IsPartOfPacket, Packet, packets_bytes}
 use Rattle.hose_follow.specs.declared.answers.Offered.{Offered}
-use Rattle.hose_follow.specs.declared.limits.TheConstants.{INPUT_LIMIT}
+use Rattle.hose_follow.specs.declared.following.TheConstants.{INPUT_LIMIT}
 use Rattle.hose_follow.specs.declared.following.FollowEnd.{FollowEnd}
 use Rattle.hose_follow.specs.declared.following.FollowEnd.TheVariants.{End, Packet as BadPacket, Read, Write, TooLong, Memory}
 
 module _ {S O : Type 0} (source : SourceGhosts S) (sink : SinkGhosts O) (old new : S)
     (before after : O) where
   -- all lines are out, and the sink did not fail
-  abbrev pub AllOut : List Offered → Type 0
-  AllOut answers = Grows (sink.content before) (sink.content after) (answers_text answers)
+  abbrev pub AllLinesOut : List Offered → Type 0
+  AllLinesOut answers = Grows (sink.content before) (sink.content after) (offered_texts answers)
       × (sink.frame after ≡ sink.frame before)
 
   -- How the bytes after the packets that were answered stand to the end, and what is out of the
   -- answers. The byte past the limit belongs to no packet.
   abbrev pub EndsSo : List Packet → List Offered → List ℕ → FollowEnd → Type 0
   EndsSo packets answers rest End = (rest ≡ []) × IsAtEnd (source.content new)
-      × AllOut answers × (source.frame new ≡ source.frame old)
+      × AllLinesOut answers × (source.frame new ≡ source.frame old)
   EndsSo packets answers rest (BadPacket at) = (at ≡ length (packets_bytes packets))
       × (BeginsNoPacket rest
       ⊎ ((rest ≢ []) × IsPartOfPacket rest × IsAtEnd (source.content new)))
-      × AllOut answers × (source.frame new ≡ source.frame old)
+      × AllLinesOut answers × (source.frame new ≡ source.frame old)
   EndsSo packets answers rest Read = IsPartOfPacket rest
-      × AllOut answers × Rose (source.frame old) (source.frame new)
+      × AllLinesOut answers × Rose (source.frame old) (source.frame new)
   EndsSo packets answers rest Write =
-      CutsLast (sink.content before) (sink.content after) answers
+      CutsLastAnswer (sink.content before) (sink.content after) answers
       × Rose (sink.frame before) (sink.frame after) × (source.frame new ≡ source.frame old)
   EndsSo packets answers rest TooLong =
       ((front : List ℕ) × (byte : ℕ) × (rest ≡ front ++ byte ∷ []) × IsPartOfPacket front)
-      × AllOut answers × (source.frame new ≡ source.frame old)
+      × AllLinesOut answers × (source.frame new ≡ source.frame old)
   EndsSo packets answers rest Memory = (new ≡ old) × (after ≡ before)
 
 -- What following an input comes to: the packets that were taken of it were answered, each at the
 -- store that the one before it left. At `Memory` nothing was done.
-pub record Follows {S O D : Type 0} (source : SourceGhosts S) (sink : SinkGhosts O)
+pub record FollowsInput {S O D : Type 0} (source : SourceGhosts S) (sink : SinkGhosts O)
     (disk : DiskGhosts D) (old new : S) (before after : O) (first last : Kept D)
     (end : FollowEnd) : Type 0 where
   -- what the source gave, and the packets of it that were answered
@@ -63,5 +63,5 @@ pub record Follows {S O D : Type 0} (source : SourceGhosts S) (sink : SinkGhosts
   -- failures of the disk were told no more often than its count rose
   pub stays : Stays (object_frame (disk.frame first.journal.disk))
       (object_frame (disk.frame last.journal.disk))
-  pub disks : TellsDisks (disk.frame first.journal.disk).faults answers
+  pub disks : TellsDiskAnswers (disk.frame first.journal.disk).faults answers
       (disk.frame last.journal.disk).faults

@@ -16,5 +16,6 @@ pub data Event (D : Type 0) : Type 0 where
   offers : Packet → Offered → Event D
   -- between two offers the follower stops, and opens what this image holds
   stops : List ℕ → Event D
-  -- the same within an offer, at any moment of it: this is the store that it would have left
+  -- within an offer, at any moment of it, the follower stops, and opens what this image holds; this
+  -- is the store that the offer would have left
   stops_within : Packet → Offered → Kept D → List ℕ → Event D

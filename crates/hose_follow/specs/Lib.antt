@@ -8,5 +8,6 @@ pub mod Event
 pub mod Offering
 pub mod Packet
 pub mod Shipping
+pub mod Splitting
 pub mod Turning
 pub mod World

@@ -4,8 +4,8 @@ use Rattle.hose_graph.specs.declared.entry.Entry.{Entry}
 use Rattle.hose_law.specs.History.{IsSoundAt}
 use Rattle.hose_book.specs.Commit.{IsMet}
 use Rattle.hose_book.specs.Ledger.{Ledger}
-use Rattle.hose_book.specs.declared.committed.Committed.{Committed}
-use Rattle.hose_book.specs.declared.committed.Committed.TheVariants as committed
+use Rattle.hose_book.specs.declared.books.Committed.{Committed}
+use Rattle.hose_book.specs.declared.books.Committed.TheVariants as committed
 use Rattle.hose_codec.specs.Spelling.{IsSpelling}
 use Rattle.hose_disk.specs.Disk.{object_frame}
 use Rattle.hose_disk.specs.declared.disk.Disk.{Ghosts}
@@ -53,7 +53,7 @@ pub record IsPast {D : Type 0} (old : Kept D) (packet : Packet) (n : ℕ) (new :
   pub same : new ≡ old
 
 -- the packet is due with a chain value that is not the follower's
-pub record IsOther {D : Type 0} (disk : Ghosts D) (old : Kept D) (packet : Packet) (n : ℕ)
+pub record HasOtherChain {D : Type 0} (disk : Ghosts D) (old : Kept D) (packet : Packet) (n : ℕ)
     (mine theirs : List ℕ) : Type 0 where
   pub epoch : packet.epoch ≡ epoch_of old + 1
   pub at : n ≡ epoch_of old
@@ -69,7 +69,7 @@ IsOffered disk old packet (Have n) new = IsPast old packet n new
 IsOffered disk old packet (Want n) new =
     (epoch_of old + 1 < packet.epoch) × (n ≡ epoch_of old + 1) × (new ≡ old)
 IsOffered disk old packet (Differs at own given) new =
-    IsOther disk old packet at own given × (new ≡ old)
+    HasOtherChain disk old packet at own given × (new ≡ old)
 -- want of memory, which only a body that is a spelling has
 IsOffered disk old packet Memory new = IsDue disk old packet
     × ((entry : Entry) × IsSpelling entry packet.body) × (new ≡ old)

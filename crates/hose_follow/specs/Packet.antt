@@ -8,7 +8,7 @@ use Rattle.hose_codec.specs.Spelling.{spelling}
 use Rattle.hose_codec.specs.declared.limits.TheConstants.{MOST_SPELLING}
 use Rattle.hose_journal.specs.Chain.{chain}
 use Rattle.hose_store.specs.Recovery.{digest_of}
-use Rattle.hose_follow.specs.declared.limits.TheConstants.{VALUE_BYTES, LENGTH_BYTES, EPOCH_BYTES, FRONT_BYTES}
+use Rattle.hose_follow.specs.declared.packet.TheConstants.{VALUE_BYTES, LENGTH_BYTES, EPOCH_BYTES, FRONT_BYTES}
 
 -- A packet: the epoch after its entry, the chain value before the entry, and a body. In a leader's
 -- packet the body is the entry's spelling.

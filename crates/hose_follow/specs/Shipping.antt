@@ -1,5 +1,5 @@
 -- What shipping the entries of a journal comes to.
-use Rattle.std.specs.Prelude.{◌≡◌, ℕ, List, ◌∷◌, [], ◌++◌, Bool, true, false, length, IfSome, Result, Ok, Err, ⊤}
+use Rattle.std.specs.Prelude.{◌≡◌, ℕ, List, Bool, true, false, length, IfSome, Result, Ok, Err, ⊤}
 use Rattle.hose_io.specs.Frame.{Rose}
 use Rattle.hose_io.specs.Gather.{Gathered, IsAdded}
 use Rattle.hose_io.specs.Stream.{Grows}
@@ -11,7 +11,7 @@ use Rattle.hose_graph.specs.declared.entry.Entry.{Entry}
 use Rattle.hose_disk.specs.declared.disk.Disk.{Ghosts as DiskGhosts}
 use Rattle.hose_journal.specs.Moments.{KeepsCount}
 use Rattle.hose_store.specs.Entries.{HasEntries}
-use Rattle.hose_store.specs.Opening.{IsRefused}
+use Rattle.hose_store.specs.Opening.{IsRefusedStore}
 use Rattle.hose_store.specs.Recovery.{IsHistoryOf}
 use Rattle.hose_store.specs.Replaying.{IsOnlyOpened, IsReplaying}
 use Rattle.hose_store.specs.declared.fault.StoreFault.{StoreFault}
@@ -45,7 +45,7 @@ module _ {S D : Type 0} (sink : SinkGhosts S) (disk : DiskGhosts D) (before afte
       × (sink.frame after ≡ sink.frame before) × KeepsCount disk was left
   Ships was left network from (Err (Store fault)) =
       ShipsUpTo disk was network from (Grows (sink.content before) (sink.content after))
-      × (sink.frame after ≡ sink.frame before) × IsRefused disk was left network fault
+      × (sink.frame after ≡ sink.frame before) × IsRefusedStore disk was left network fault
   Ships was left network from (Err Write) =
       ShipsUpTo disk was network from (GrowsInPart (sink.content before) (sink.content after))
       × Rose (sink.frame before) (sink.frame after)
@@ -82,7 +82,7 @@ module _ {S D : Type 0} (sink : SinkGhosts S) (disk : DiskGhosts D) (was : D) (n
     pub held : HasEntries network (disk.content was) entries
     pub added : IsAdded sink start before gather after
         (packets_bytes (packets_from network from entries))
-    pub refused : IsRefused disk was left network fault
+    pub refused : IsRefusedStore disk was left network fault
     pub opened : IsOnlyOpened disk was left network
 
   -- One entry more was read, or none was left, or a fault was met.

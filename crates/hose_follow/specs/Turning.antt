@@ -1,25 +1,25 @@
 -- Following an input turn by turn: in each a packet is answered, or more is taken.
 use Rattle.std.specs.Prelude.{◌≡◌, ◌≢◌, ◌⊎◌, ℕ, ◌+◌, ◌-◌, ◌<◌, ◌≤◌, Bool, true, false, List, [], ◌∷◌, ◌++◌, length, All, Result, Ok, Err, ⊤}
 use Rattle.hose_io.specs.Frame.{Rose, Stays}
-use Rattle.hose_io.specs.Stream.{Gives, Grows, IsAtEnd, Stream}
+use Rattle.hose_io.specs.Stream.{Gives, Grows, IsAtEnd}
 use Rattle.hose_io.specs.Writing.{GrowsInPart}
 use Rattle.hose_io.specs.declared.sink.Sink.{Ghosts as SinkGhosts}
 use Rattle.hose_io.specs.declared.source.Source.{Ghosts as SourceGhosts}
 use Rattle.hose_disk.specs.Disk.{object_frame}
 use Rattle.hose_disk.specs.declared.disk.Disk.{Ghosts as DiskGhosts}
 use Rattle.hose_store.specs.Store.{Kept}
-use Rattle.hose_follow.specs.Answers.{TellsDisks, answer_line, answers_text}
+use Rattle.hose_follow.specs.Answers.{TellsDiskAnswers, answer_line, offered_texts}
 use Rattle.hose_follow.specs.Arriving.{BeginsPacket}
 use Rattle.hose_follow.specs.Offering.{AreOffered, IsOffered}
 use Rattle.hose_follow.specs.Packet.{BeginsNoPacket, IsPacket, IsPartOfPacket, Packet, packets_bytes}
 use Rattle.hose_follow.specs.declared.answers.Offered.{Offered}
-use Rattle.hose_follow.specs.declared.limits.TheConstants.{INPUT_LIMIT}
+use Rattle.hose_follow.specs.declared.following.TheConstants.{INPUT_LIMIT}
 use Rattle.hose_follow.specs.declared.following.FollowEnd.{FollowEnd}
 use Rattle.hose_follow.specs.declared.following.FollowEnd.TheVariants.{End, Packet as BadPacket, Read, Write, TooLong, Memory}
 
 -- how far an input was followed: the source, the bytes that were taken of it and belong to no
 -- packet that was answered, how many were taken, the sink and the store
-pub record State (S O D : Type 0) : Type 0 where
+pub record FollowState (S O D : Type 0) : Type 0 where
   pub source : S
   pub pending : List ℕ
   pub taken : ℕ
@@ -34,7 +34,7 @@ pub record TakesNothing {S : Type 0} (source : SourceGhosts S) (old new : S) : T
   pub frame : source.frame new ≡ source.frame old
 
 -- bytes were taken, within the limit
-pub record TakesBytes {S : Type 0} (source : SourceGhosts S) (old new : S)
+pub record TakesMoreBytes {S : Type 0} (source : SourceGhosts S) (old new : S)
     (pending after : List ℕ) (taken now : ℕ) : Type 0 where
   pub bytes : List ℕ
   pub some : 0 < length bytes
@@ -56,7 +56,7 @@ pub record TakesTooMuch {S : Type 0} (source : SourceGhosts S) (old new : S) (ta
 abbrev pub TakesMore : {S : Type 0} → SourceGhosts S → S → S → List ℕ → List ℕ → ℕ → ℕ
     → Result Bool FollowEnd → Type 0
 TakesMore source old new pending after taken now (Ok true) =
-    TakesBytes source old new pending after taken now
+    TakesMoreBytes source old new pending after taken now
 TakesMore source old new pending after taken now (Ok false) = (after ≡ pending) × (now ≡ taken)
     × TakesNothing source old new × IsAtEnd (source.content new)
 TakesMore source old new pending after taken now (Err Read) =
@@ -68,12 +68,12 @@ TakesMore source old new pending after taken now (Err (BadPacket at)) = ⊥
 TakesMore source old new pending after taken now (Err Write) = ⊥
 TakesMore source old new pending after taken now (Err Memory) = ⊥
 
--- The same where a part of a packet was pending, or nothing: at the end of the source nothing may
--- be.
+-- More was taken after a part of a packet, or after nothing: at the end of the source nothing may
+-- be pending.
 abbrev pub TakesPart : {S : Type 0} → SourceGhosts S → S → S → List ℕ → List ℕ → ℕ → ℕ
     → Result ⊤ FollowEnd → Type 0
 TakesPart source old new pending after taken now (Ok _) =
-    TakesBytes source old new pending after taken now
+    TakesMoreBytes source old new pending after taken now
 TakesPart source old new pending after taken now (Err End) = (pending ≡ [])
     × TakesNothing source old new × IsAtEnd (source.content new)
 TakesPart source old new pending after taken now (Err (BadPacket at)) =
@@ -90,7 +90,7 @@ TakesPart source old new pending after taken now (Err Memory) = ⊥
 
 module _ {S O D : Type 0} (source : SourceGhosts S) (sink : SinkGhosts O) (disk : DiskGhosts D) where
   -- The packet that was pending was offered; `puts` says how much is out of its line.
-  pub record Answers (old new : State S O D) (puts : List ℕ → Type 0) : Type 0 where
+  pub record Answers (old new : FollowState S O D) (puts : List ℕ → Type 0) : Type 0 where
     pub packet : Packet
     pub rest : List ℕ
     pub begins : BeginsPacket old.pending packet rest
@@ -102,37 +102,37 @@ module _ {S O D : Type 0} (source : SourceGhosts S) (sink : SinkGhosts O) (disk 
     pub same_taken : new.taken ≡ old.taken
 
   -- neither the sink nor the store was called
-  pub record TouchesNone (old new : State S O D) : Type 0 where
+  pub record TouchesNone (old new : FollowState S O D) : Type 0 where
     pub same_sink : new.sink ≡ old.sink
     pub same_store : new.store ≡ old.store
 
   -- A turn: a packet was answered, or more was taken; or how following ends.
-  abbrev pub TurnsTo : State S O D → State S O D → Result ⊤ FollowEnd → Type 0
-  TurnsTo old new (Ok _) =
+  abbrev pub AdvancesTo : FollowState S O D → FollowState S O D → Result ⊤ FollowEnd → Type 0
+  AdvancesTo old new (Ok _) =
       (Answers old new (Grows (sink.content old.sink) (sink.content new.sink))
       × (sink.frame new.sink ≡ sink.frame old.sink))
-      ⊎ (TakesBytes source old.source new.source old.pending new.pending old.taken new.taken
+      ⊎ (TakesMoreBytes source old.source new.source old.pending new.pending old.taken new.taken
       × TouchesNone old new)
-  TurnsTo old new (Err End) = (old.pending ≡ [])
+  AdvancesTo old new (Err End) = (old.pending ≡ [])
       × TakesNothing source old.source new.source × IsAtEnd (source.content new.source)
       × TouchesNone old new
-  TurnsTo old new (Err (BadPacket at)) = (at ≡ old.taken - length old.pending)
+  AdvancesTo old new (Err (BadPacket at)) = (at ≡ old.taken - length old.pending)
       × (BeginsNoPacket old.pending
       ⊎ ((old.pending ≢ []) × IsPartOfPacket old.pending
       × IsAtEnd (source.content new.source)))
       × TakesNothing source old.source new.source × TouchesNone old new
-  TurnsTo old new (Err Read) = IsPartOfPacket old.pending
+  AdvancesTo old new (Err Read) = IsPartOfPacket old.pending
       × (source.content new.source ≡ source.content old.source)
       × Rose (source.frame old.source) (source.frame new.source) × TouchesNone old new
-  TurnsTo old new (Err Write) =
+  AdvancesTo old new (Err Write) =
       Answers old new (GrowsInPart (sink.content old.sink) (sink.content new.sink))
       × Rose (sink.frame old.sink) (sink.frame new.sink)
-  TurnsTo old new (Err TooLong) = IsPartOfPacket old.pending
+  AdvancesTo old new (Err TooLong) = IsPartOfPacket old.pending
       × TakesTooMuch source old.source new.source old.taken × TouchesNone old new
-  TurnsTo old new (Err Memory) = ⊥
+  AdvancesTo old new (Err Memory) = ⊥
 
   -- Turns from a first state on: packets were answered, and all lines are out.
-  pub record HasFollowed (first now : State S O D) : Type 0 where
+  pub record FollowsOn (first now : FollowState S O D) : Type 0 where
     pub bytes : List ℕ
     pub gives : Gives (source.content first.source) (source.content now.source) bytes
     pub packets : List Packet
@@ -142,10 +142,10 @@ module _ {S O D : Type 0} (source : SourceGhosts S) (sink : SinkGhosts O) (disk 
     pub offered : AreOffered disk first.store packets answers now.store
     pub taken : now.taken ≡ length bytes
     pub limit : now.taken ≤ INPUT_LIMIT
-    pub out : Grows (sink.content first.sink) (sink.content now.sink) (answers_text answers)
+    pub out : Grows (sink.content first.sink) (sink.content now.sink) (offered_texts answers)
     pub source_held : source.frame now.source ≡ source.frame first.source
     pub sink_held : sink.frame now.sink ≡ sink.frame first.sink
     pub stays : Stays (object_frame (disk.frame first.store.journal.disk))
         (object_frame (disk.frame now.store.journal.disk))
-    pub disks : TellsDisks (disk.frame first.store.journal.disk).faults answers
+    pub disks : TellsDiskAnswers (disk.frame first.store.journal.disk).faults answers
         (disk.frame now.store.journal.disk).faults

@@ -3,9 +3,9 @@ ghost use Rattle.std.specs.Prelude.{◌≡◌, ◌++◌};
 ghost use Rattle.hex.specs.Hex.{encode_lower};
 ghost use Rattle.hose_io.specs.Gather.{IsAdded};
 ghost use Rattle.hose_io.specs.Writing.{IsPut};
-ghost use Rattle.hose_follow.specs.Answers.{answer_line, answer_text};
+ghost use Rattle.hose_follow.specs.Answers.{answer_line, offered_text};
 
-use crate::limits::VALUE_BYTES;
+use crate::packet::VALUE_BYTES;
 use hose_io::{Failed, Gather, Sink};
 
 /// What a follower answers to a packet.
@@ -50,7 +50,7 @@ pub fn put_answer<O: Sink>(sink: &mut O, answer: &Offered) -> Result<(), Failed>
 
 // Adds the words of an answer.
 fn add_answer<O: Sink>(gather: &mut Gather, sink: &mut O, answer: &Offered)
-    ensures { IsAdded O.Sink gather.old sink.old gather.new sink.new (answer_text answer.now) }
+    ensures { IsAdded O.Sink gather.old sink.old gather.new sink.new (offered_text answer.now) }
 {
     match answer {
         Offered::Have { n } => {
@@ -83,7 +83,7 @@ fn add_differs<O: Sink>(
     given: &[u8; VALUE_BYTES],
 )
     ensures { IsAdded O.Sink gather.old sink.old gather.new sink.new
-        (answer_text (Offered.Differs at own.now given.now)) }
+        (offered_text (Offered.Differs at own.now given.now)) }
 {
     gather.add(sink, b"differs at ");
     gather.add_number(sink, at);

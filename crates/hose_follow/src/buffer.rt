@@ -5,10 +5,12 @@ ghost use Rattle.hose_io.specs.Frame.{Met};
 ghost use Rattle.hose_io.specs.Stream.{Gives, IsAtEnd};
 ghost use Rattle.hose_follow.specs.Buffered.{Appends};
 
-use crate::limits::ROOM_BYTES;
 use hose_io::{Failed, Source};
 use std::alloc::{AllocError, Global};
 use std::marker::Model;
+
+/// The number of bytes that a follower keeps of its input.
+pub const ROOM_BYTES: usize = 65_536;
 
 /// Bytes in a room of a fixed size: those from `start` up to `end` are pending.
 #[derive(Drop)]
@@ -21,18 +23,18 @@ pub struct Buffer {
 impl Model for Buffer {
     ghost use Rattle.std.specs.Prelude.{◌-◌};
     ghost use Rattle.std.specs.List.{slice_range};
-    ghost use Rattle.hose_follow.specs.BufferInside.{IsInOrder};
-    ghost use Rattle.hose_follow.specs.Buffered.{Held};
-    ghost use Rattle.hose_follow.specs.declared.limits.TheConstants.{ROOM_BYTES};
+    ghost use Rattle.hose_follow.specs.BufferInside.{ArePlacesInOrder};
+    ghost use Rattle.hose_follow.specs.Buffered.{BufferState};
+    ghost use Rattle.hose_follow.specs.declared.buffer.TheConstants.{ROOM_BYTES};
 
-    ghost Value = { Held };
+    ghost Value = { BufferState };
 
     ghost view = { λ buffer. record {
       pending = slice_range buffer.bytes.items buffer.start buffer.end;
       room = ROOM_BYTES - buffer.end;
     } };
 
-    ghost invariant = { IsInOrder };
+    ghost invariant = { ArePlacesInOrder };
 }
 
 impl Buffer {

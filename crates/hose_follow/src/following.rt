@@ -1,21 +1,23 @@
 // Packets of an input, each offered and answered.
 ghost use Rattle.std.specs.Prelude.{◌≡◌, ◌<◌, ◌≤◌, [], List, ℕ, length};
 ghost use Rattle.hose_io.specs.Frame.{Stays};
-ghost use Rattle.hose_follow.specs.Ends.{Follows};
+ghost use Rattle.hose_follow.specs.Ends.{FollowsInput};
 ghost use Rattle.hose_follow.specs.Packet.{IsPartOfPacket};
-ghost use Rattle.hose_follow.specs.Turning.{TakesMore, TakesPart, TurnsTo};
+ghost use Rattle.hose_follow.specs.Turning.{TakesMore, TakesPart, AdvancesTo};
 ghost use Rattle.hose_follow.specs.declared.following.FollowEnd.TheVariants.{Write};
-ghost use Rattle.hose_follow.specs.declared.limits.TheConstants.{MOST_PACKET};
+ghost use Rattle.hose_follow.specs.declared.packet.TheConstants.{MOST_PACKET};
 
 use crate::answers::put_answer;
 use crate::buffer::Buffer;
-use crate::limits::{FRONT_BYTES, INPUT_LIMIT};
 use crate::offering::offer;
-use crate::packet::{Front, front_of};
+use crate::packet::{FRONT_BYTES, Front, front_of};
 use hose_disk::Disk;
 use hose_io::{Failed, Sink, Source};
 use hose_store::Store;
 use std::alloc::Global;
+
+/// The greatest number of bytes of an input that is followed: 1 GiB.
+pub const INPUT_LIMIT: u64 = 1 << 30;
 
 /// How following an input ends.
 #[derive(Clone, Copy, Debug, PartialEq, Eq)]
@@ -58,7 +60,7 @@ pub fn follow<S: Source, O: Sink, D: Disk>(
     sink: &mut O,
     store: &mut Store<D>,
 ) -> FollowEnd
-    ensures follows { Follows S.Source O.Sink D.Disk source.old source.new sink.old sink.new
+    ensures follows { FollowsInput S.Source O.Sink D.Disk source.old source.new sink.old sink.new
         store.old store.new result }
     ensures source { Stays (S.frame source.old) (S.frame source.new) }
     ensures sink { Stays (O.frame sink.old) (O.frame sink.new) }
@@ -80,7 +82,7 @@ fn follow_all<S: Source, O: Sink, D: Disk>(
 ) -> FollowEnd
     requires pending { intake.old.buffer.pending ≡ [] }
     requires taken { intake.old.taken ≡ 0 }
-    ensures follows { Follows S.Source O.Sink D.Disk source.old source.new sink.old sink.new
+    ensures follows { FollowsInput S.Source O.Sink D.Disk source.old source.new sink.old sink.new
         store.old store.new result }
     ensures source { Stays (S.frame source.old) (S.frame source.new) }
     ensures sink { Stays (O.frame sink.old) (O.frame sink.new) }
@@ -102,7 +104,7 @@ fn turn<S: Source, O: Sink, D: Disk>(
 ) -> Result<(), FollowEnd>
     requires limit { intake.old.taken ≤ INPUT_LIMIT }
     requires pending { length intake.old.buffer.pending ≤ intake.old.taken }
-    ensures turns { TurnsTo S.Source O.Sink D.Disk
+    ensures turns { AdvancesTo S.Source O.Sink D.Disk
         (record {
           source = source.old;
           pending = intake.old.buffer.pending;

@@ -1,5 +1,5 @@
 // What is true of every follower.
-ghost use Rattle.std.specs.Prelude.{ℕ, List, Contains, Option};
+ghost use Rattle.std.specs.Prelude.{◌≡◌, ℕ, List, Contains, Option};
 ghost use Rattle.hose_graph.specs.declared.entry.Entry.{Entry};
 ghost use Rattle.hose_law.specs.History.{IsDecided};
 ghost use Rattle.hose_store.specs.Store.{HasHistory, Kept};
@@ -7,6 +7,7 @@ ghost use Rattle.hose_follow.specs.Chained.{LeadsOn};
 ghost use Rattle.hose_follow.specs.Event.{Event};
 ghost use Rattle.hose_follow.specs.Offering.{AreOffered, IsOffered};
 ghost use Rattle.hose_follow.specs.Packet.{Packet};
+ghost use Rattle.hose_follow.specs.Splitting.{IsSplit};
 ghost use Rattle.hose_follow.specs.World.{IsBeginning, IsFollowing, IsOfLeader, Lead, World};
 ghost use Rattle.hose_follow.specs.declared.answers.Offered.{Offered};
 
@@ -30,7 +31,7 @@ pub fn law_following<D: Disk>(top: &Topology)
     ensures images { (world : World D) → (image : List ℕ) →
         IsFollowing D.Disk top.now world → D.may_leave world.store.journal.disk image →
         IsOfLeader top.now world.leader world.told image }
-    // The same at each moment within an offer.
+    // At each moment within an offer an image is one of the leader, too.
     ensures moments { (world : World D) → (packet : Packet) → (answer : Offered) →
         (left : Kept D) → (image : List ℕ) → IsFollowing D.Disk top.now world →
         Contains world.sent packet → IsOffered D.Disk world.store packet answer left →
@@ -63,4 +64,11 @@ pub fn law_offered<D: Disk>()
     ensures { (first last : Kept D) → (packets : List Packet) → (answers : List Offered) →
         (since : List Entry) → (doubt : Option Entry) → HasHistory D.Disk first since doubt →
         AreOffered D.Disk first packets answers last → LeadsOn D.Disk first since last }
+{}
+
+/// Bytes are split in one way into whole packets, one after another, and what begins with none. So
+/// which packets a follower answers is told by the bytes that it takes.
+pub fn law_one_split()
+    ensures { (bytes : List ℕ) → (one other : List Packet) → (rest left : List ℕ) →
+        IsSplit bytes one rest → IsSplit bytes other left → (one ≡ other) × (rest ≡ left) }
 {}

@@ -18,14 +18,12 @@ mod answers;
 mod buffer;
 mod following;
 mod laws;
-mod limits;
 mod offering;
 mod packet;
 mod shipping;
 
 pub use answers::{Offered, put_answer};
-pub use following::{FollowEnd, follow};
-pub use laws::{Sound, law_following, law_offered};
-pub use limits::INPUT_LIMIT;
+pub use following::{FollowEnd, INPUT_LIMIT, follow};
+pub use laws::{Sound, law_following, law_offered, law_one_split};
 pub use offering::offer;
 pub use shipping::{ShipFault, ship};

@@ -3,7 +3,7 @@ ghost use Rattle.std.specs.Prelude.{◌≡◌, ◌+◌, ◌↔◌, ℕ, List, Is
 ghost use Rattle.hose_follow.specs.Offering.{IsChainOf, IsOffered};
 
 use crate::answers::Offered;
-use crate::limits::VALUE_BYTES;
+use crate::packet::VALUE_BYTES;
 use hose_book::{Books, Committed};
 use hose_codec::{CodecFault, decode};
 use hose_disk::Disk;

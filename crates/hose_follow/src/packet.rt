@@ -1,4 +1,4 @@
-// Packets as bytes.
+// Packets as bytes, and their layout.
 ghost use Rattle.std.specs.Prelude.{◌≡◌, ◌≤◌, ◌<◌, ◌^◌, ◌++◌, length};
 ghost use Rattle.byteorder.specs.Endian.{big_bytes};
 ghost use Rattle.hose_io.specs.Gather.{IsAdded};
@@ -6,10 +6,24 @@ ghost use Rattle.hose_codec.specs.declared.limits.TheConstants.{MOST_SPELLING};
 ghost use Rattle.hose_follow.specs.Arriving.{IsFrontOf};
 ghost use Rattle.hose_follow.specs.Packet.{packet_bytes};
 
-use crate::limits::{EPOCH_BYTES, FRONT_BYTES, LENGTH_BYTES, VALUE_BYTES};
 use byteorder::{BigEndian, ByteOrder};
 use hose_codec::MOST_SPELLING;
 use hose_io::{Gather, Sink};
+
+/// The number of bytes of the length of a packet's body, at its front.
+pub const LENGTH_BYTES: usize = 2;
+
+/// The number of bytes of a packet's epoch, after the length.
+pub const EPOCH_BYTES: usize = 4;
+
+/// The number of bytes of a packet's chain value, after the epoch.
+pub const VALUE_BYTES: usize = 32;
+
+/// The number of bytes of a packet before its body.
+pub const FRONT_BYTES: usize = LENGTH_BYTES + EPOCH_BYTES + VALUE_BYTES;
+
+/// The greatest number of bytes of a packet.
+pub const MOST_PACKET: usize = FRONT_BYTES + MOST_SPELLING;
 
 /// What stands at the front of bytes that were taken of an input.
 #[derive(Clone, Copy)]

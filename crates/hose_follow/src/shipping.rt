@@ -13,8 +13,7 @@ ghost use Rattle.hose_store.specs.Replaying.{IsOnlyOpened, IsReplaying};
 ghost use Rattle.hose_follow.specs.Packet.{packet_bytes};
 ghost use Rattle.hose_follow.specs.Shipping.{AddsAll, AddsNext, HasAdded, Ships, shipped_of};
 
-use crate::limits::VALUE_BYTES;
-use crate::packet::add_packet;
+use crate::packet::{VALUE_BYTES, add_packet};
 use hose_disk::Disk;
 use hose_graph::Topology;
 use hose_io::{Failed, Gather, Sink};

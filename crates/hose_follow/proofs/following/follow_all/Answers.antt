@@ -1,7 +1,3 @@
-use Rattle.std.specs.Prelude.{⊤}
-use Rattle.std.proofs.Common.{Err, Ok, subst, Result}
-use Rattle.hose_follow.specs.Turning.{State, TurnsTo}
-use Rattle.hose_follow.specs.declared.following.FollowEnd.{FollowEnd}
 use Rattle.hose_follow.proofs.Turns.{ended, followed_none, turned}
 use Rattle.hose_follow.proofs.following.follow_all.Goals as goal
 

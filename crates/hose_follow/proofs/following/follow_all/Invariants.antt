@@ -1,9 +1,9 @@
 use Rattle.std.proofs.Common.{◌+◌, ◌-◌, ◌*◌, ◌^◌, length}
-use Rattle.hose_follow.specs.Turning.{HasFollowed}
+use Rattle.hose_follow.specs.Turning.{FollowsOn}
 use Rattle.hose_follow.proofs.following.follow_all.Given as goal
 
 abbrev pub invariant-loop-end : goal.invariant-loop-end
-invariant-loop-end g l = HasFollowed g.S.Source g.O.Sink g.D.Disk
+invariant-loop-end g l = FollowsOn g.S.Source g.O.Sink g.D.Disk
     (record { source = l.fn.source; pending = l.fn.intake.buffer.pending; taken = l.fn.intake.taken; sink = l.fn.sink; store = l.fn.store })
     (record { source = l.source; pending = l.intake.buffer.pending; taken = l.intake.taken; sink = l.sink; store = l.store })
 

@@ -1,9 +1,8 @@
-use Rattle.std.proofs.Common.{◌≡◌, ◌∙◌, List, ℕ, Err, inl, refl, ap, subst, length, ◌-◌, arith, sym}
+use Rattle.std.proofs.Common.{◌≡◌, ◌∙◌, List, ℕ, Err, inl, refl, ap, subst, length, ◌-◌, arith}
 use Rattle.std.proofs.lemmas.Result.{err_from_is_err_and}
-use Rattle.hose_follow.specs.Arriving.{BeginsPacket, IsFrontOf}
+use Rattle.hose_follow.specs.Arriving.{BeginsPacket}
 use Rattle.hose_follow.specs.Packet.{BeginsNoPacket, Packet}
 use Rattle.hose_follow.specs.declared.following.FollowEnd.TheVariants.{Write}
-use Rattle.hose_follow.specs.declared.packet.Front.{Front}
 use Rattle.hose_follow.proofs.Buffers.{gives_none}
 use Rattle.hose_follow.proofs.Turns.{passed}
 use Rattle.hose_follow.proofs.following.turn.Goals as goal

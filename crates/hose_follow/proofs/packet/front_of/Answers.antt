@@ -1,4 +1,4 @@
-use Rattle.std.proofs.Common.{◌≡◌, ◌∙◌, ℕ, drop, length, ap, arith, subst}
+use Rattle.std.proofs.Common.{◌≡◌, ◌∙◌, ℕ, drop, length, ap, arith}
 use Rattle.byteorder.specs.Endian.{big_bytes}
 use Rattle.hose_follow.proofs.Packets.{begins_packet, has_length}
 use Rattle.hose_follow.proofs.packet.front_of.Goals as goal

@@ -1,6 +1,4 @@
-use Rattle.std.proofs.Common.{◌≡◌, ◌∙◌, Bool, Ok, Result, ap, subst}
 use Rattle.std.proofs.lemmas.Result.{err_from_is_err_and}
-use Rattle.hose_follow.specs.Shipping.{AddsNext}
 use Rattle.hose_follow.proofs.Shipped.{added_none}
 use Rattle.hose_follow.proofs.shipping.add_all.Goals as goal
 

@@ -1,7 +1,6 @@
-use Rattle.std.proofs.Common.{◌≡◌, ◌∙◌, ◌+◌, Err, Ok, Some, ap, arith, length, rules, subst}
+use Rattle.std.proofs.Common.{◌+◌, ap, arith, length}
 use Rattle.std.proofs.lemmas.Result.{err_from_is_err_and}
 use Rattle.hose_codec.proofs.Lengths.{length-spelling}
-use Rattle.hose_follow.specs.Packet.{Packet, packet_bytes}
 use Rattle.hose_follow.proofs.Shipped.{added_all, added_more, added_until}
 use Rattle.hose_follow.proofs.shipping.add_next.Goals as goal
 

@@ -1,6 +1,6 @@
 use Rattle.std.proofs.Common.{refl, subst}
 use Rattle.hose_graph.specs.Network.{Network}
-use Rattle.hose_store.specs.Opening.{IsRefused}
+use Rattle.hose_store.specs.Opening.{IsRefusedStore}
 use Rattle.hose_follow.proofs.Shipped.{none_shipped, untouched}
 use Rattle.hose_follow.proofs.shipping.ship.Goals as goal
 
@@ -15,5 +15,5 @@ pub returns-in-Err-clause-ships : goal.returns-in-Err-clause-ships
 returns-in-Err-clause-ships g c = (
   none_shipped g.S.Sink g.D.Disk c.args.sink.now c.args.disk c.args.top.now c.args.from,
   refl,
-  subst (λ (network : Network). IsRefused g.D.Disk c.args.disk c.in-Err.refused.1 network c.in-Err.refused.0) c.in-Ok.ensures c.in-Err.ensures.refused.0,
+  subst (λ (network : Network). IsRefusedStore g.D.Disk c.args.disk c.in-Err.refused.1 network c.in-Err.refused.0) c.in-Ok.ensures c.in-Err.ensures.refused.0,
 )

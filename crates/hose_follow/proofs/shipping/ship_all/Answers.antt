@@ -1,6 +1,4 @@
-use Rattle.std.specs.Prelude.{⊤}
 use Rattle.std.proofs.Common.{◌≡◌, ◌-◌, List, ℕ, Result, arith, length, subst, sym}
-use Rattle.hose_graph.specs.Network.{Network}
 use Rattle.hose_graph.specs.declared.entry.Entry.{Entry}
 use Rattle.hose_io.specs.Gather.{Gathered}
 use Rattle.hose_store.specs.Replaying.{IsReplaying}
