@@ -6,7 +6,7 @@ use Rattle.hose_io.specs.declared.sink.Sink.{Ghosts as SinkGhosts}
 use Rattle.hose_io.specs.declared.source.Source.{Ghosts as SourceGhosts}
 use Rattle.hose_graph.specs.Network.{Network}
 use Rattle.hose_graph.specs.declared.entry.Entry.{Entry}
-use Rattle.hose_graph.specs.declared.reply.Reply.{Reply}
+use Rattle.hose_graph.specs.declared.command.Reply.{Reply}
 use Rattle.hose_session.specs.Accounts.{AccountFor, ComeTo}
 use Rattle.hose_session.specs.Session.{IsSession, ServesSession, Telling}
 use Rattle.hose_session.specs.declared.ending.SessionEnd.{SessionEnd}

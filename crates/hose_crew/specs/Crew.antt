@@ -25,7 +25,7 @@ pub record HaveBeenServed {T : Type 0} (was now : Connections) (count : ℕ) (pa
   pub all : OnOk result ((length connections ≡ count) ⊎ (now.coming ≡ []))
   pub account : AccountFor connections pass
 
--- The same where the door tells; whether it tells stays as it was.
+-- Where the door tells, its connections have been served so; whether it tells stays as it was.
 abbrev pub AreServed : {T : Type 0} → Option Connections → Option Connections → ℕ → Known
     → Result T Failed → Type 0
 AreServed None None count pass result = ⊤

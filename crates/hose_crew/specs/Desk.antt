@@ -20,7 +20,7 @@ pub record HaveArrived (was now : Connections) (count : ℕ) : Type 0 where
   pub coming : now.coming ≡ drop count was.coming
   pub ended : now.ended ≡ was.ended
 
--- The same where the door tells; whether it tells stays as it was.
+-- Where the door tells, so many connections have arrived; whether it tells stays as it was.
 abbrev pub AreArrived : Option Connections → Option Connections → ℕ → Type 0
 AreArrived None None count = ⊤
 AreArrived None (Some now) count = ⊥

@@ -45,7 +45,7 @@ pub record Works (told : Option Connections) (first : Known) (place : PlaceState
   pub amount : place.amount ≡ length ended
   pub accounts : IsTrue (is_some told) → Accounts ended place.pass
 
--- The same of what it has in hand, where there is room for all connections.
+-- What a worker has in hand was served along its pass, and there is room for all connections.
 pub record HasWorked {Done : Type 0} (came_to : Done → Option Connection) (start : Started)
     (first : Known) (hand : HandState Done) : Type 0 where
   pub place : PlaceState

@@ -6,10 +6,10 @@ use Rattle.hose_io.specs.Frame.{Frame, Rose}
 use Rattle.hose_io.specs.Stream.{Gives, Stream}
 use Rattle.hose_io.specs.declared.source.Source.{Ghosts as SourceGhosts}
 use Rattle.hose_io.specs.declared.sink.Sink.{Ghosts as SinkGhosts}
-use Rattle.hose_words.specs.declared.limits.TheConstants.{INPUT_LIMIT}
+use Rattle.hose_words.specs.declared.lines.TheConstants.{INPUT_LIMIT}
 use Rattle.hose_graph.specs.Network.{Network}
 use Rattle.hose_graph.specs.declared.entry.Entry.{Entry}
-use Rattle.hose_graph.specs.declared.reply.Reply.{Reply}
+use Rattle.hose_graph.specs.declared.command.Reply.{Reply}
 use Rattle.hose_law.specs.Script.{disks_in}
 use Rattle.hose_law.specs.Transcript.{Stage}
 use Rattle.hose_law.proofs.Fronts.{prefix_length}

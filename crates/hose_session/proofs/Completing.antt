@@ -9,16 +9,16 @@ use Rattle.hose_words.specs.Grammar.{IsFirstNotAllowed}
 use Rattle.hose_words.specs.Lines.{Reader, is_line_feed}
 use Rattle.hose_words.specs.Saying.{SayLines, no_line, one_more, SaysUpTo}
 use Rattle.hose_words.specs.Words.{words_of}
-use Rattle.hose_words.specs.declared.limits.TheConstants.{INPUT_LIMIT}
+use Rattle.hose_words.specs.declared.lines.TheConstants.{INPUT_LIMIT}
 use Rattle.hose_words.proofs.OnReading.{WhereTold-map}
 use Rattle.hose_graph.specs.Network.{Network}
 use Rattle.hose_graph.specs.declared.entry.Entry.{Entry}
-use Rattle.hose_graph.specs.declared.reply.Reply.{Reply}
+use Rattle.hose_graph.specs.declared.command.Reply.{Reply}
 use Rattle.hose_law.specs.Transcript.{SessionLine, Stage}
 use Rattle.hose_law.specs.Transcript.SessionLine.{Greets, Asks, Leaves, IsBad, IsLong, Unread}
 use Rattle.hose_turn.specs.Known.{Known}
 use Rattle.hose_session.specs.Session.{AnswersUpTo, IsGreeted, IsSession, ServesAlong, ServesSession, Telling, TellsOf}
-use Rattle.hose_session.specs.SessionLines.{Says, SaysFirst, greeting_grammar}
+use Rattle.hose_session.specs.SessionLines.{SaysAfter, SaysFirst, greeting_grammar}
 use Rattle.hose_session.specs.Turns.{ServesLines}
 use Rattle.hose_session.specs.declared.ending.SessionEnd.{SessionEnd}
 use Rattle.hose_session.specs.declared.ending.SessionEnd.TheVariants as session_end
@@ -49,6 +49,14 @@ module _ (network : Network) (history : List Entry) (from : ℕ) (tells other : 
   session_moved before after R R' W W' read wrote session_end.TooLong replies own is = answers_moved _ _ _ replies own is
   session_moved before after R R' W W' read wrote session_end.Write replies own is = (answers_moved _ _ _ replies own is.0, wrote is.1)
 
+-- a borrow of a source, as a source
+abbrev pub borrowed : {T : Type 0} → SourceGhosts T → SourceGhosts (MutBor T)
+borrowed other = record {
+  frame = λ b. record (other.frame b.now) { loan = b.ghost_name ∷ (other.frame b.now).loan };
+  content = λ b. other.content b.now;
+  went = λ old new. other.went old.now new.now;
+}
+
 -- what is read through a borrow is read of what is behind it, and from a start where nothing is pending
 pub session_behind : {T O : Type 0} (other : SourceGhosts T) (source : SourceGhosts (MutBor T)) (sink : SinkGhosts O) (network : Network) (start now : Reader (MutBor T)) (input behind : T) (output output' : O) (old new : Known) (end : SessionEnd)
     → ((b : MutBor T) → source.content b ≡ other.content b.now) → ((b : MutBor T) → source.frame b ≡ record (other.frame b.now) { loan = b.ghost_name ∷ (other.frame b.now).loan })
@@ -56,7 +64,7 @@ pub session_behind : {T O : Type 0} (other : SourceGhosts T) (source : SourceGho
 session_behind {T} {O} other source sink network start now input behind output output' old new end content frame front back none serves = record {
   replies = serves.replies;
   own = serves.own;
-  session = session_moved network new.seen (length old.seen) (λ stops lines. SaysUpTo source start now (Says network) lines stops) (TellsOf network (other.content input) (other.content behind)) moved (sink.content output) (sink.content output') _ _ _ _ rose (λ wrote. wrote) end
+  session = session_moved network new.seen (length old.seen) (λ stops lines. SaysUpTo source start now (SaysAfter network) lines stops) (TellsOf network (other.content input) (other.content behind)) moved (sink.content output) (sink.content output') _ _ _ _ rose (λ wrote. wrote) end
       serves.replies serves.own serves.session;
   entries = serves.entries;
   same = serves.same;
@@ -64,10 +72,10 @@ session_behind {T} {O} other source sink network start now input behind output o
   disks = serves.disks;
 }
   where
-    moved : (stops : List ℕ → List ℕ → List ℕ → Type 0) (lines : List SessionLine) → SaysUpTo source start now (Says network) lines stops → TellsOf network (other.content input) (other.content behind) stops lines
+    moved : (stops : List ℕ → List ℕ → List ℕ → Type 0) (lines : List SessionLine) → SaysUpTo source start now (SaysAfter network) lines stops → TellsOf network (other.content input) (other.content behind) stops lines
     moved stops lines says =
-        let told = WhereTold-map (source.content start.source) (source.content now.source) _ (λ text left. (rest : List ℕ) × SayLines (Says network) text lines rest × stops text rest left) says
-        (λ was left said. subst (λ (p : List ℕ). (rest : List ℕ) × SayLines (Says network) (p ++ was) lines rest × stops (p ++ was) rest left) none said) in
+        let told = WhereTold-map (source.content start.source) (source.content now.source) _ (λ text left. (rest : List ℕ) × SayLines (SaysAfter network) text lines rest × stops text rest left) says
+        (λ was left said. subst (λ (p : List ℕ). (rest : List ℕ) × SayLines (SaysAfter network) (p ++ was) lines rest × stops (p ++ was) rest left) none said) in
         subst (λ (c : Option Stream). TellsOf network (other.content input) c stops lines) (content now.source ∙ ap other.content back)
         (subst (λ (c : Option Stream). TellsOf network c (source.content now.source) stops lines) (content start.source ∙ ap other.content front) told)
 
@@ -81,15 +89,15 @@ session_behind {T} {O} other source sink network start now input behind output o
 -- ---- a greeting is not refused
 
 module _ (network : Network) where
-  said_nothing : {text rest : List ℕ} {lines : List SessionLine} → SayLines (Says network) text lines rest → lines ≡ [] → rest ≡ text
+  said_nothing : {text rest : List ℕ} {lines : List SessionLine} → SayLines (SaysAfter network) text lines rest → lines ≡ [] → rest ≡ text
   said_nothing no_line none = refl
   said_nothing (one_more {lines = lines} line before some says) none = absurd (omega (arith, ap length none, length-append lines (line ∷ [])))
 
-  sole_line : {text rest : List ℕ} {lines : List SessionLine} → SayLines (Says network) text lines rest → (sole : SessionLine) → lines ≡ sole ∷ [] → SaysFirst (before_first is_line_feed text) sole
+  sole_line : {text rest : List ℕ} {lines : List SessionLine} → SayLines (SaysAfter network) text lines rest → (sole : SessionLine) → lines ≡ sole ∷ [] → SaysFirst (before_first is_line_feed text) sole
   sole_line no_line sole same = absurd (cc same)
   sole_line {text} (one_more {rest = rest} {lines = lines} line before some says) sole same = at lines rest before says same
     where
-      at : (lines : List SessionLine) (rest : List ℕ) → SayLines (Says network) text lines rest → Says network lines (before_first is_line_feed rest) line → lines ++ line ∷ [] ≡ sole ∷ [] → SaysFirst (before_first is_line_feed text) sole
+      at : (lines : List SessionLine) (rest : List ℕ) → SayLines (SaysAfter network) text lines rest → SaysAfter network lines (before_first is_line_feed rest) line → lines ++ line ∷ [] ≡ sole ∷ [] → SaysFirst (before_first is_line_feed text) sole
       at [] rest before says same = subst (SaysFirst (before_first is_line_feed text)) (cc same) (subst (λ (t : List ℕ). SaysFirst (before_first is_line_feed t) line) (said_nothing before refl) says)
       at (one ∷ more) rest before says same = absurd (omega (arith, ap length same, length-append more (line ∷ [])))
 

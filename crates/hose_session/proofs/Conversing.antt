@@ -17,7 +17,7 @@ use Rattle.hose_words.specs.declared.lines.LineFault.TheVariants as line_fault
 use Rattle.hose_words.proofs.Saying.{flat_map-last, said_all, said_enough, said_more, said_none, said_until}
 use Rattle.hose_graph.specs.Network.{Network}
 use Rattle.hose_graph.specs.declared.entry.Entry.{Entry}
-use Rattle.hose_graph.specs.declared.reply.Reply.{Reply}
+use Rattle.hose_graph.specs.declared.command.Reply.{Reply}
 use Rattle.hose_law.specs.Quotes.{Held}
 use Rattle.hose_law.specs.Transcript.{IsSessionStep, IsTranscript, no_line, line_more, SessionLine, Stage}
 use Rattle.hose_law.specs.Transcript.SessionLine.{Greets, Asks, Leaves, IsBad, IsLong, Unread}
@@ -29,9 +29,9 @@ use Rattle.hose_proto.specs.ReplyText.{line_of, reply_text}
 use Rattle.hose_shared.specs.Along.{HasEntryAt}
 use Rattle.hose_shared.specs.Sharing.{IsSamePass}
 use Rattle.hose_turn.specs.Known.{Known}
-use Rattle.hose_session.specs.Session.{AnswersUpTo, HasLeft, IsOpen, IsRefused, IsServing, IsWaiting}
-use Rattle.hose_session.specs.SessionLines.{Says, SaysFirst, SaysLater}
-use Rattle.hose_session.specs.Turns.{EndsAt, GoesAlong, HasServed, IsTurn, NoneComes, ServesLines, TakesTurn}
+use Rattle.hose_session.specs.Session.{AnswersUpTo, WasLeft, MayGoOn, WasRefused, IsServing, IsWaiting}
+use Rattle.hose_session.specs.SessionLines.{SaysAfter, SaysFirst, SaysLater}
+use Rattle.hose_session.specs.Turns.{EndsAt, GoesAlong, HasServed, IsAnsweredLine, NoneComes, ServesLines, AnswersInSession}
 use Rattle.hose_session.specs.declared.ending.SessionEnd.{SessionEnd}
 use Rattle.hose_session.specs.declared.ending.SessionEnd.TheVariants as session_end
 
@@ -81,9 +81,9 @@ module _ (network : Network) (history : List Entry) where
 
   -- what a line says after the greeting
   pub says_later : (from : ℕ) (customer : List ℕ) (held : Held) (lines : List SessionLine) (replies : List Reply) (place : ℕ) (own : List ℕ)
-      → IsTranscript network 0 history from lines replies (Serving customer held) place own → (bytes : List ℕ) (said : SessionLine) → SaysLater network bytes said → Says network lines bytes said
+      → IsTranscript network 0 history from lines replies (Serving customer held) place own → (bytes : List ℕ) (said : SessionLine) → SaysLater network bytes said → SaysAfter network lines bytes said
   says_later from customer held lines replies place own transcript bytes said says =
-      let begun = begins_so from transcript in subst (λ (l : List SessionLine). Says network l bytes said) (sym begun.2) says
+      let begun = begins_so from transcript in subst (λ (l : List SessionLine). SaysAfter network l bytes said) (sym begun.2) says
 
 -- ---- a pass that goes on
 
@@ -105,7 +105,7 @@ module _ (laws : PassLaws) (network : Network) where
   }
 
   along_more : (first old new : Known) (lines : List SessionLine) (replies : List Reply) (stage next : Stage) (own : List ℕ) (said : SessionLine) (reply : Reply) → GoesAlong network first old lines replies stage own
-      → (turn : IsTurn network old new stage said reply next) → GoesAlong network first new (lines ++ said ∷ []) (replies ++ reply ∷ []) next (own ++ turn.added)
+      → (turn : IsAnsweredLine network old new stage said reply next) → GoesAlong network first new (lines ++ said ∷ []) (replies ++ reply ∷ []) next (own ++ turn.added)
   along_more first old new lines replies stage next own said reply along turn =
       let step = turn.step along.last along.reached in
       record {
@@ -123,14 +123,14 @@ module _ (laws : PassLaws) (network : Network) where
     Served = HasServed source start now network first old stage (sink.content begun) (sink.content output)
 
     abbrev Fit : Served → Type 0
-    Fit served = (bytes : List ℕ) (said : SessionLine) → Is bytes said → Says network served.lines bytes said
+    Fit served = (bytes : List ℕ) (said : SessionLine) → Is bytes said → SaysAfter network served.lines bytes said
 
-    said_after : (served : Served) → Fit served → (puts : List ℕ → Type 0) (next : Stage) (turn : TakesTurn source now new network old pass Is stage puts next)
-        → WhereTold (source.content start.source) (source.content new.source) (λ was left. SayLines (Says network) (start.pending ++ was) (served.lines ++ turn.said ∷ []) (new.pending ++ left))
-    said_after served fit puts next turn = said_more source (Says network) start now new served.lines served.said reads turn.said (λ bytes. Is bytes turn.said) turn.line (λ bytes is. fit bytes turn.said is)
+    said_after : (served : Served) → Fit served → (puts : List ℕ → Type 0) (next : Stage) (turn : AnswersInSession source now new network old pass Is stage puts next)
+        → WhereTold (source.content start.source) (source.content new.source) (λ was left. SayLines (SaysAfter network) (start.pending ++ was) (served.lines ++ turn.said ∷ []) (new.pending ++ left))
+    said_after served fit puts next turn = said_more source (SaysAfter network) start now new served.lines served.said reads turn.said (λ bytes. Is bytes turn.said) turn.line (λ bytes is. fit bytes turn.said is)
 
     -- a line more
-    pub served_more : (served : Served) → Fit served → (next : Stage) → TakesTurn source now new network old pass Is stage (Grows (sink.content output) (sink.content output')) next
+    pub served_more : (served : Served) → Fit served → (next : Stage) → AnswersInSession source now new network old pass Is stage (Grows (sink.content output) (sink.content output')) next
         → HasServed source start new network first pass next (sink.content begun) (sink.content output')
     served_more served fit next turn = record {
       lines = served.lines ++ turn.said ∷ [];
@@ -146,13 +146,13 @@ module _ (laws : PassLaws) (network : Network) where
     Comes = ServesLines source sink network start new begun output' first pass
 
     abbrev UpTo : (List ℕ → List ℕ → List ℕ → Type 0) → (Stage → Type 0) → (List Reply → Type 0) → List Reply → List ℕ → Type 0
-    UpTo = AnswersUpTo network pass.seen (length first.seen) (λ stops lines. SaysUpTo source start new (Says network) lines stops)
+    UpTo = AnswersUpTo network pass.seen (length first.seen) (λ stops lines. SaysUpTo source start new (SaysAfter network) lines stops)
 
     abbrev Out : List Reply → Type 0
     Out replies = Grows (sink.content begun) (sink.content output') (texts_of network replies)
 
     -- the last line was answered
-    last_answered : (served : Served) → Fit served → (next : Stage) (ends : Stage → Type 0) → ends next → (turn : TakesTurn source now new network old pass Is stage (Grows (sink.content output) (sink.content output')) next)
+    last_answered : (served : Served) → Fit served → (next : Stage) (ends : Stage → Type 0) → ends next → (turn : AnswersInSession source now new network old pass Is stage (Grows (sink.content output) (sink.content output')) next)
         → UpTo IsLeftOver ends Out (served.replies ++ turn.reply ∷ []) (served.own ++ turn.turn.added)
     last_answered served fit next ends is turn =
         let more = along_more first old pass served.lines served.replies stage next served.own turn.said turn.reply served.along turn.turn in
@@ -160,7 +160,7 @@ module _ (laws : PassLaws) (network : Network) where
           lines = served.lines ++ turn.said ∷ [];
           stage = next;
           last = more.last;
-          said = said_enough source (Says network) start new (served.lines ++ turn.said ∷ []) (said_after served fit (Grows (sink.content output) (sink.content output')) next turn);
+          said = said_enough source (SaysAfter network) start new (served.lines ++ turn.said ∷ []) (said_after served fit (Grows (sink.content output) (sink.content output')) next turn);
           transcript = more.transcript;
           ended = is;
           out = subst (Grows (sink.content begun) (sink.content output')) (sym (flat_map-last (λ reply. line_of (reply_text network reply)) served.replies turn.reply))
@@ -168,7 +168,7 @@ module _ (laws : PassLaws) (network : Network) where
         }
 
     -- the output failed in the last reply
-    last_cut : (served : Served) → Fit served → (next : Stage) (turn : TakesTurn source now new network old pass Is stage (GrowsInPart (sink.content output) (sink.content output')) next)
+    last_cut : (served : Served) → Fit served → (next : Stage) (turn : AnswersInSession source now new network old pass Is stage (GrowsInPart (sink.content output) (sink.content output')) next)
         → UpTo IsLeftOver (λ s. ⊤) (CutsLast network (sink.content begun) (sink.content output')) (served.replies ++ turn.reply ∷ []) (served.own ++ turn.turn.added)
     last_cut served fit next turn =
         let more = along_more first old pass served.lines served.replies stage next served.own turn.said turn.reply served.along turn.turn in
@@ -176,7 +176,7 @@ module _ (laws : PassLaws) (network : Network) where
           lines = served.lines ++ turn.said ∷ [];
           stage = next;
           last = more.last;
-          said = said_enough source (Says network) start new (served.lines ++ turn.said ∷ []) (said_after served fit (GrowsInPart (sink.content output) (sink.content output')) next turn);
+          said = said_enough source (SaysAfter network) start new (served.lines ++ turn.said ∷ []) (said_after served fit (GrowsInPart (sink.content output) (sink.content output')) next turn);
           transcript = more.transcript;
           ended = tt;
           out = (
@@ -192,7 +192,7 @@ module _ (laws : PassLaws) (network : Network) where
         }
 
     -- no line was answered any more
-    none_more : (served : Served) (stops : List ℕ → List ℕ → List ℕ → Type 0) (ends : Stage → Type 0) → SaysUpTo source start new (Says network) served.lines stops → ends stage → output' ≡ output → pass ≡ old
+    none_more : (served : Served) (stops : List ℕ → List ℕ → List ℕ → Type 0) (ends : Stage → Type 0) → SaysUpTo source start new (SaysAfter network) served.lines stops → ends stage → output' ≡ output → pass ≡ old
         → UpTo stops ends Out served.replies served.own
     none_more served stops ends says is same stays = record {
       lines = served.lines;
@@ -211,14 +211,14 @@ module _ (laws : PassLaws) (network : Network) where
       stayed : pass ≡ old → GoesAlong network first pass served.lines served.replies stage served.own
       stayed stays = subst (λ (k : Known). GoesAlong network first k served.lines served.replies stage served.own) (sym stays) served.along
 
-      went : (next : Stage) (puts : List ℕ → Type 0) (turn : TakesTurn source now new network old pass Is stage puts next) → GoesAlong network first pass (served.lines ++ turn.said ∷ []) (served.replies ++ turn.reply ∷ []) next (served.own ++ turn.turn.added)
+      went : (next : Stage) (puts : List ℕ → Type 0) (turn : AnswersInSession source now new network old pass Is stage puts next) → GoesAlong network first pass (served.lines ++ turn.said ∷ []) (served.replies ++ turn.reply ∷ []) next (served.own ++ turn.turn.added)
       went next puts turn = along_more first old pass served.lines served.replies stage next served.own turn.said turn.reply served.along turn.turn
 
       over : (ends : Stage → Type 0) → ends stage → NoneComes source sink network now new output output' old pass Is stage → UpTo IsAllTaken ends Out served.replies served.own
-      over ends is comes = none_more served IsAllTaken ends (said_all source (Says network) start now new served.lines served.said reads comes.0) is comes.2 comes.3
+      over ends is comes = none_more served IsAllTaken ends (said_all source (SaysAfter network) start now new served.lines served.said reads comes.0) is comes.2 comes.3
 
-      broke : (fault : LineFault) → IsOpen stage → StopsReading source now new fault → output' ≡ output → pass ≡ old → UpTo (StopsAfterLines fault) IsOpen Out served.replies served.own
-      broke fault is stops same stays = none_more served (StopsAfterLines fault) IsOpen (said_until source (Says network) start now new served.lines served.said reads fault none stops) is same stays
+      broke : (fault : LineFault) → MayGoOn stage → StopsReading source now new fault → output' ≡ output → pass ≡ old → UpTo (StopsAfterLines fault) MayGoOn Out served.replies served.own
+      broke fault is stops same stays = none_more served (StopsAfterLines fault) MayGoOn (said_until source (SaysAfter network) start now new served.lines served.said reads fault none stops) is same stays
 
       -- the session ends
       pub ends_so : (end : SessionEnd) → EndsAt source sink network now new output output' old pass Is stage end → Comes end
@@ -230,7 +230,7 @@ module _ (laws : PassLaws) (network : Network) where
           record {
             replies = served.replies ++ ends.0.reply ∷ [];
             own = served.own ++ ends.0.turn.added;
-            session = last_answered served fit Left HasLeft refl ends.0;
+            session = last_answered served fit Left WasLeft refl ends.0;
             entries = along.entries;
             same = along.same;
             owns = along.owns;
@@ -244,7 +244,7 @@ module _ (laws : PassLaws) (network : Network) where
           record {
             replies = served.replies ++ ends.0.reply ∷ [];
             own = served.own ++ ends.0.turn.added;
-            session = inl (last_answered served fit Refused IsRefused refl ends.0);
+            session = inl (last_answered served fit Refused WasRefused refl ends.0);
             entries = along.entries;
             same = along.same;
             owns = along.owns;
@@ -282,10 +282,10 @@ module _ (laws : PassLaws) (network : Network) where
     lines = [];
     replies = [];
     own = [];
-    said = said_none (Says network) start.pending (source.content start.source);
+    said = said_none (SaysAfter network) start.pending (source.content start.source);
     along = along_none pass same;
     out = Grows-nil content;
   }
 
-  pub first_fits : (bytes : List ℕ) (said : SessionLine) → SaysFirst bytes said → Says network [] bytes said
+  pub first_fits : (bytes : List ℕ) (said : SessionLine) → SaysFirst bytes said → SaysAfter network [] bytes said
   first_fits bytes said says = says

@@ -2,16 +2,18 @@
 use Rattle.std.proofs.Common.{◌≡◌, inl, inr, ℕ, ◌+◌, ◌<◌, ◌≤◌, List, [], length, take, Option, refl, sym, ap, subst, arith, append-nil, Bor, ◌∙◌}
 use Rattle.std.proofs.lemmas.List.Elements.{All-nil}
 use Rattle.hose_words.specs.Lines.{Shows}
-use Rattle.hose_words.specs.declared.limits.TheConstants.{LINE_LIMIT}
+use Rattle.hose_words.specs.declared.lines.TheConstants.{LINE_LIMIT}
 use Rattle.hose_words.specs.declared.lines.Line.{Line}
 use Rattle.hose_words.specs.declared.lines.Line.TheVariants.{Text}
 use Rattle.hose_graph.specs.Network.{Network}
 use Rattle.hose_graph.specs.declared.command.Command.{Command}
-use Rattle.hose_graph.specs.declared.reply.Reply.{Reply}
-use Rattle.hose_graph.specs.declared.reply.Reply.TheVariants.{Welcome, Admitted, Quoted, Refused, Stale, Released, NoVpn, NoQuote, TooMany, Shown, LinkState, Down, Up, Already, Denied, Full, Spent, Disk, Memory, Bad, Long, Bye}
-use Rattle.hose_book.specs.declared.committed.Committed.TheVariants.{Disk as Failing}
+use Rattle.hose_graph.specs.declared.command.Reply.{Reply}
+use Rattle.hose_graph.specs.declared.command.Reply.TheVariants.{Welcome, Memory, Bad, Long, Bye}
+use Rattle.hose_book.specs.declared.books.Committed.TheVariants.{Disk as Failing}
 use Rattle.hose_law.specs.Answer.{ChangesHeld}
 use Rattle.hose_law.specs.Quotes.{Held, none_held}
+use Rattle.hose_law.specs.ReplyKind.{ReplyKind, failures_of, kind_of}
+use Rattle.hose_law.specs.ReplyKind.ReplyKind.{ByTheBook, ForDisk, ForMemory, ForNoCommand}
 use Rattle.hose_law.specs.Script.{one_if_disk}
 use Rattle.hose_law.specs.Transcript.{IsPlainReply, IsSessionStep, SessionLine, Stage}
 use Rattle.hose_law.specs.Transcript.SessionLine.{Greets, Asks, IsBad, IsLong, Leaves, Unread}
@@ -20,12 +22,12 @@ use Rattle.hose_law.specs.Transcript.Stage.{Refused as StageRefused}
 use Rattle.hose_law.proofs.Fronts.{prefix_length}
 use Rattle.hose_law.proofs.Steps.{step_keeps}
 use Rattle.hose_core.specs.Holding.{AreHeld}
-use Rattle.hose_core.specs.Stepping.{committed_of}
+use Rattle.hose_core.specs.Stepping.{committed_for, committed_of}
 use Rattle.hose_core.specs.declared.quotes.Quote.{Quote}
 use Rattle.hose_shared.specs.Along.{HasEntryAt, StepsAlong, StepsHolding}
 use Rattle.hose_shared.specs.Sharing.{HasSeenMore, IsSamePass}
 use Rattle.hose_turn.specs.Known.{Known}
-use Rattle.hose_session.specs.Turns.{IsTurn, TurnsClient}
+use Rattle.hose_session.specs.Turns.{IsAnsweredLine, ServesClientOn}
 use Rattle.hose_session.specs.declared.client.Client.{Client}
 
 -- what is known of a line that is shown holds of its bytes
@@ -34,28 +36,13 @@ text_is Is line text same is bytes shows = let here = subst (λ (l : Line). Show
 
 -- a failure of the disk is told only where the pass has met more faults
 told_faults : (old new : ℕ) (reply : Reply) → (committed_of reply ≡ Failing → old < new) → old ≤ new → old + one_if_disk reply ≤ new
-told_faults old new (Disk at) failed more = omega (arith, failed refl)
-told_faults old new (Welcome at) failed more = omega (arith, more)
-told_faults old new (Admitted id cost at amounts) failed more = omega (arith, more)
-told_faults old new (Quoted quote cost at amounts) failed more = omega (arith, more)
-told_faults old new (Refused at side) failed more = omega (arith, more)
-told_faults old new (Stale seen now) failed more = omega (arith, more)
-told_faults old new (Released id at) failed more = omega (arith, more)
-told_faults old new (NoVpn id at) failed more = omega (arith, more)
-told_faults old new (NoQuote quote at) failed more = omega (arith, more)
-told_faults old new (TooMany at) failed more = omega (arith, more)
-told_faults old new (Shown id cost at hose amounts) failed more = omega (arith, more)
-told_faults old new (LinkState link load out at) failed more = omega (arith, more)
-told_faults old new (Down link at) failed more = omega (arith, more)
-told_faults old new (Up link at) failed more = omega (arith, more)
-told_faults old new (Already link at) failed more = omega (arith, more)
-told_faults old new (Denied at) failed more = omega (arith, more)
-told_faults old new (Full at) failed more = omega (arith, more)
-told_faults old new (Spent at) failed more = omega (arith, more)
-told_faults old new Memory failed more = omega (arith, more)
-told_faults old new (Bad word) failed more = omega (arith, more)
-told_faults old new Long failed more = omega (arith, more)
-told_faults old new Bye failed more = omega (arith, more)
+told_faults old new reply failed more = at (kind_of reply) failed
+  where
+    at : (kind : ReplyKind) → (committed_for kind ≡ Failing → old < new) → old + failures_of kind ≤ new
+    at ByTheBook failed = omega (arith, more)
+    at (ForDisk epoch) failed = omega (arith, failed refl)
+    at ForMemory failed = omega (arith, more)
+    at ForNoCommand failed = omega (arith, more)
 
 module _ (network : Network) (old new : Known) (customer : List ℕ) (held : Held) (command : Command) (answer : Reply) (along : StepsAlong network customer held command answer old new) where
   within : along.next ≤ length new.seen
@@ -65,7 +52,7 @@ module _ (network : Network) (old new : Known) (customer : List ℕ) (held : Hel
   ]
 
   -- a command that is answered along a pass makes a turn
-  pub along_turn : IsTurn network old new (Serving customer held) (Asks command) answer (Serving customer along.left)
+  pub along_turn : IsAnsweredLine network old new (Serving customer held) (Asks command) answer (Serving customer along.left)
   along_turn = record {
     added = along.added;
     step = λ from seen. (along.next, within, (along.place, along.left, omega (arith, seen, along.later), along.step, refl));
@@ -80,8 +67,8 @@ module _ (network : Network) (old new : Known) (customer : List ℕ) (held : Hel
 
 -- a command that leaves the quotes as they are
 pub turn_keeping : (network : Network) (old new : Known) (client : Client) (held : Held) (command one : Command) (answer : Reply) → command ≡ one → ¬ ChangesHeld one → StepsAlong network client.name held one answer old new
-    → AreHeld network 0 new.seen held client.quotes → TurnsClient network old new client client held (Asks command) answer
-turn_keeping network old new client held command one answer is others along held_then = subst (λ (c : Command). TurnsClient network old new client client held (Asks c) answer) (sym is) (record {
+    → AreHeld network 0 new.seen held client.quotes → ServesClientOn network old new client client held (Asks command) answer
+turn_keeping network old new client held command one answer is others along held_then = subst (λ (c : Command). ServesClientOn network old new client client held (Asks c) answer) (sym is) (record {
   left = along.left;
   turn = along_turn network old new client.name held one answer along;
   holds = subst (λ (h : Held). AreHeld network 0 new.seen h client.quotes) (sym (kept network old new client.name held one answer along others)) held_then;
@@ -90,8 +77,8 @@ turn_keeping network old new client held command one answer is others along held
 
 -- a command that may change them
 pub turn_holding : (network : Network) (old new : Known) (client : Client) (quotes : List (Option Quote)) (held : Held) (command one : Command) (answer : Reply) → command ≡ one → StepsHolding network client.name held one answer old new quotes
-    → TurnsClient network old new client (record client { quotes = quotes }) held (Asks command) answer
-turn_holding network old new client quotes held command one answer is steps = subst (λ (c : Command). TurnsClient network old new client (record client { quotes = quotes }) held (Asks c) answer) (sym is) (record {
+    → ServesClientOn network old new client (record client { quotes = quotes }) held (Asks command) answer
+turn_holding network old new client quotes held command one answer is steps = subst (λ (c : Command). ServesClientOn network old new client (record client { quotes = quotes }) held (Asks c) answer) (sym is) (record {
   left = steps.along.left;
   turn = along_turn network old new client.name held one answer steps.along;
   holds = steps.holds;
@@ -101,7 +88,7 @@ turn_holding network old new client quotes held command one answer is steps = su
 -- a line that has no place in the history
 module _ (network : Network) (pass : Known) (same : IsSamePass pass pass) where
   pub plain_turn : (stage next : Stage) (said : SessionLine) (reply : Reply) → IsPlainReply said reply
-      → ((from : ℕ) → IsSessionStep network 0 pass.seen stage said reply next from from []) → IsTurn network pass pass stage said reply next
+      → ((from : ℕ) → IsSessionStep network 0 pass.seen stage said reply next from from []) → IsAnsweredLine network pass pass stage said reply next
   plain_turn stage next said reply plain step = record {
     added = [];
     step = λ from seen. (from, seen, step from);
@@ -121,7 +108,7 @@ module _ (network : Network) (pass : Known) (same : IsSamePass pass pass) where
 
   module _ (client : Client) (held : Held) (are : AreHeld network 0 pass.seen held client.quotes) where
     abbrev Turns : SessionLine → Reply → Type 0
-    Turns = TurnsClient network pass pass client client held
+    Turns = ServesClientOn network pass pass client client held
 
     here : (said : SessionLine) (reply : Reply) → IsPlainReply said reply → ((from : ℕ) → IsSessionStep network 0 pass.seen (Serving client.name held) said reply (Serving client.name held) from from []) → Turns said reply
     here said reply plain step = record { left = held; turn = plain_turn (Serving client.name held) (Serving client.name held) said reply plain step; holds = are; name = refl }
@@ -135,11 +122,11 @@ module _ (network : Network) (pass : Known) (same : IsSamePass pass pass) where
     pub memory_turn : Turns Unread Memory
     memory_turn = here Unread Memory refl (λ from. (refl, refl, refl, refl))
 
-  pub bye_turn : (customer : List ℕ) (held : Held) → IsTurn network pass pass (Serving customer held) Leaves Bye Left
+  pub bye_turn : (customer : List ℕ) (held : Held) → IsAnsweredLine network pass pass (Serving customer held) Leaves Bye Left
   bye_turn customer held = plain_turn (Serving customer held) Left Leaves Bye refl (λ from. (refl, refl, refl, refl))
 
   -- a first line that is no greeting
-  pub refused_turn : (said : SessionLine) (reply : Reply) → IsPlainReply said reply → IsTurn network pass pass Waiting said reply StageRefused
+  pub refused_turn : (said : SessionLine) (reply : Reply) → IsPlainReply said reply → IsAnsweredLine network pass pass Waiting said reply StageRefused
   refused_turn (Greets name) reply plain = absurd plain
   refused_turn (Asks command) reply plain = absurd plain
   refused_turn Leaves reply plain = plain_turn Waiting StageRefused Leaves reply plain (λ from. (plain, refl, refl, refl))
@@ -148,7 +135,7 @@ module _ (network : Network) (pass : Known) (same : IsSamePass pass pass) where
   refused_turn Unread reply plain = plain_turn Waiting StageRefused Unread reply plain (λ from. (plain, refl, refl, refl))
 
 -- a greeting is answered at the end of what the pass has seen then
-pub greeted_turn : (network : Network) (old new : Known) (customer : List ℕ) (at : ℕ) → at ≡ length new.seen → HasSeenMore old new → IsTurn network old new Waiting (Greets customer) (Welcome at) (Serving customer none_held)
+pub greeted_turn : (network : Network) (old new : Known) (customer : List ℕ) (at : ℕ) → at ≡ length new.seen → HasSeenMore old new → IsAnsweredLine network old new Waiting (Greets customer) (Welcome at) (Serving customer none_held)
 greeted_turn network old new customer at is more = record {
   added = [];
   step = λ from seen. (length new.seen, omega arith, (omega (arith, seen, prefix_length old.seen new.seen more.same.seen), omega arith, ap Welcome (omega (arith, is)), refl, refl));

@@ -8,11 +8,11 @@ use Rattle.hose_io.specs.declared.sink.Sink.{Ghosts as SinkGhosts}
 use Rattle.hose_words.specs.Lines.{StopsAfterLines, is_line_feed}
 use Rattle.hose_words.specs.Reading.{WhereTold}
 use Rattle.hose_words.specs.Saying.{IsAllTaken, IsLeftOver, SayLines}
-use Rattle.hose_words.specs.declared.limits.TheConstants.{INPUT_LIMIT}
+use Rattle.hose_words.specs.declared.lines.TheConstants.{INPUT_LIMIT}
 use Rattle.hose_words.specs.declared.lines.LineFault.TheVariants as line_fault
 use Rattle.hose_graph.specs.Network.{Network}
 use Rattle.hose_graph.specs.declared.entry.Entry.{Entry}
-use Rattle.hose_graph.specs.declared.reply.Reply.{Reply}
+use Rattle.hose_graph.specs.declared.command.Reply.{Reply}
 use Rattle.hose_law.specs.Script.{disks_in}
 use Rattle.hose_law.specs.Transcript.{IsTranscript, SessionLine, Stage}
 use Rattle.hose_law.specs.Transcript.SessionLine.{Greets}
@@ -21,7 +21,7 @@ use Rattle.hose_proto.specs.Replies.{CutsLast, texts_of}
 use Rattle.hose_shared.specs.Along.{HasEntryAt}
 use Rattle.hose_shared.specs.Sharing.{IsSamePass}
 use Rattle.hose_turn.specs.Known.{Known}
-use Rattle.hose_session.specs.SessionLines.{Says, SaysFirst}
+use Rattle.hose_session.specs.SessionLines.{SaysAfter, SaysFirst}
 use Rattle.hose_session.specs.declared.ending.SessionEnd.{SessionEnd}
 use Rattle.hose_session.specs.declared.ending.SessionEnd.TheVariants as session_end
 
@@ -37,16 +37,16 @@ IsServing (Serving customer held) = ⊤
 IsServing stage = ⊥
 
 -- its first line was no greeting
-abbrev pub IsRefused : Stage → Type 0
-IsRefused stage = stage ≡ Refused
+abbrev pub WasRefused : Stage → Type 0
+WasRefused stage = stage ≡ Refused
 
 -- its customer left
-abbrev pub HasLeft : Stage → Type 0
-HasLeft stage = stage ≡ Left
+abbrev pub WasLeft : Stage → Type 0
+WasLeft stage = stage ≡ Left
 
 -- another line may come
-abbrev pub IsOpen : Stage → Type 0
-IsOpen stage = IsWaiting stage ⊎ IsServing stage
+abbrev pub MayGoOn : Stage → Type 0
+MayGoOn stage = IsWaiting stage ⊎ IsServing stage
 
 -- ---- what is answered
 
@@ -58,7 +58,7 @@ Telling = (List ℕ → List ℕ → List ℕ → Type 0) → List SessionLine �
 -- what a source gave says
 abbrev pub TellsOf : Network → Option Stream → Option Stream → Telling
 TellsOf network old new stops lines = WhereTold old new (λ text left.
-    (rest : List ℕ) × SayLines (Says network) text lines rest × stops text rest left)
+    (rest : List ℕ) × SayLines (SaysAfter network) text lines rest × stops text rest left)
 
 -- Lines were answered along a history from a place on, as far as `stops` and `ends` say. `puts`
 -- says how much is out of the replies.
@@ -76,8 +76,8 @@ pub record AnswersUpTo (network : Network) (history : List Entry) (from : ℕ) (
 module _ (network : Network) (history : List Entry) (from : ℕ) (tells : Telling)
     (before after : Option (List ℕ)) (ReadFails WriteFails : Type 0) where
   -- all replies are out
-  abbrev pub IsOut : List Reply → Type 0
-  IsOut replies = Grows before after (texts_of network replies)
+  abbrev pub AllRepliesOut : List Reply → Type 0
+  AllRepliesOut replies = Grows before after (texts_of network replies)
 
   -- A session along a history from a place on ended so, with these replies and these places of its
   -- own entries. All lines were answered that came up to the end of the input; or up to the first
@@ -86,16 +86,18 @@ module _ (network : Network) (history : List Entry) (from : ℕ) (tells : Tellin
   -- reply is not out whole.
   abbrev pub IsSession : SessionEnd → List Reply → List ℕ → Type 0
   IsSession session_end.End =
-      AnswersUpTo network history from tells IsAllTaken IsServing IsOut
-  IsSession session_end.Bye = AnswersUpTo network history from tells IsLeftOver HasLeft IsOut
+      AnswersUpTo network history from tells IsAllTaken IsServing AllRepliesOut
+  IsSession session_end.Bye =
+      AnswersUpTo network history from tells IsLeftOver WasLeft AllRepliesOut
   IsSession session_end.NoHello = λ replies own.
-      AnswersUpTo network history from tells IsLeftOver IsRefused IsOut replies own
-      ⊎ AnswersUpTo network history from tells IsAllTaken IsWaiting IsOut replies own
+      AnswersUpTo network history from tells IsLeftOver WasRefused AllRepliesOut replies own
+      ⊎ AnswersUpTo network history from tells IsAllTaken IsWaiting AllRepliesOut replies own
   IsSession session_end.Read = λ replies own.
-      AnswersUpTo network history from tells (StopsAfterLines line_fault.Read) IsOpen IsOut
+      AnswersUpTo network history from tells (StopsAfterLines line_fault.Read) MayGoOn AllRepliesOut
       replies own × ReadFails
   IsSession session_end.TooLong =
-      AnswersUpTo network history from tells (StopsAfterLines line_fault.TooLong) IsOpen IsOut
+      AnswersUpTo network history from tells (StopsAfterLines line_fault.TooLong) MayGoOn
+      AllRepliesOut
   IsSession session_end.Write = λ replies own.
       AnswersUpTo network history from tells IsLeftOver (λ stage. ⊤)
       (CutsLast network before after) replies own × WriteFails
@@ -115,7 +117,7 @@ pub record ServesAlong (network : Network) (tells : Telling) (before after : Opt
   pub owns : new.own ≡ old.own ++ own
   pub disks : old.faults + disks_in replies ≤ new.faults
 
--- the same of an input and an output
+-- a session along what a pass has seen, over an input and an output
 abbrev pub ServesSession : {S O : Type 0} → SourceGhosts S → SinkGhosts O → Network → S → S → O → O
     → Known → Known → SessionEnd → Type 0
 ServesSession source sink network input input' output output' =

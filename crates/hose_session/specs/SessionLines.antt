@@ -3,7 +3,7 @@ use Rattle.std.specs.Prelude.{◌≡◌, ℕ, ◌<◌, ◌≤◌, List, [], ◌�
 use Rattle.hose_words.specs.Form.{Form, IsChoice, finish, grammar_of, place, this}
 use Rattle.hose_words.specs.Grammar.{Grammar, IsFirst, IsFirstNotAllowed}
 use Rattle.hose_words.specs.Words.{words_of}
-use Rattle.hose_words.specs.declared.limits.TheConstants.{LINE_LIMIT}
+use Rattle.hose_words.specs.declared.lines.TheConstants.{LINE_LIMIT}
 use Rattle.hose_graph.specs.Name.{IsName}
 use Rattle.hose_graph.specs.Network.{Network}
 use Rattle.hose_law.specs.Transcript.{SessionLine}
@@ -50,6 +50,6 @@ SaysLater network bytes Unread =
 SaysLater network bytes (Greets name) = ⊥
 
 -- what a line says after these lines
-abbrev pub Says : Network → List SessionLine → List ℕ → SessionLine → Type 0
-Says network [] bytes line = SaysFirst bytes line
-Says network (first ∷ before) bytes line = SaysLater network bytes line
+abbrev pub SaysAfter : Network → List SessionLine → List ℕ → SessionLine → Type 0
+SaysAfter network [] bytes line = SaysFirst bytes line
+SaysAfter network (first ∷ before) bytes line = SaysLater network bytes line

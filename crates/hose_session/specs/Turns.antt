@@ -11,7 +11,7 @@ use Rattle.hose_words.specs.Saying.{IsOver, SayLines, SaysUpTo, StopsReading, Ta
 use Rattle.hose_words.specs.declared.lines.Line.{Line}
 use Rattle.hose_words.specs.declared.lines.LineFault.TheVariants as line_fault
 use Rattle.hose_graph.specs.Network.{Network}
-use Rattle.hose_graph.specs.declared.reply.Reply.{Reply}
+use Rattle.hose_graph.specs.declared.command.Reply.{Reply}
 use Rattle.hose_law.specs.Quotes.{Held}
 use Rattle.hose_law.specs.Script.{disks_in, one_if_disk}
 use Rattle.hose_law.specs.Transcript.{IsPlainReply, IsSessionStep, IsTranscript, SessionLine, Stage}
@@ -23,15 +23,15 @@ use Rattle.hose_proto.specs.ReplyText.{line_of, reply_text}
 use Rattle.hose_shared.specs.Along.{HasEntryAt}
 use Rattle.hose_shared.specs.Sharing.{IsSamePass}
 use Rattle.hose_turn.specs.Known.{Known}
-use Rattle.hose_session.specs.Session.{IsOpen, IsServing, IsWaiting, ServesAlong}
-use Rattle.hose_session.specs.SessionLines.{Says, SaysFirst}
+use Rattle.hose_session.specs.Session.{MayGoOn, IsServing, IsWaiting, ServesAlong}
+use Rattle.hose_session.specs.SessionLines.{SaysAfter, SaysFirst}
 use Rattle.hose_session.specs.declared.client.Client.{Client}
 use Rattle.hose_session.specs.declared.ending.SessionEnd.{SessionEnd}
 use Rattle.hose_session.specs.declared.ending.SessionEnd.TheVariants as session_end
 
 -- A line was answered while a pass went on: from each place that it had seen, at one that it has
 -- seen then.
-pub record IsTurn (network : Network) (old new : Known) (stage : Stage) (said : SessionLine)
+pub record IsAnsweredLine (network : Network) (old new : Known) (stage : Stage) (said : SessionLine)
     (reply : Reply) (next : Stage) : Type 0 where
   pub added : List ℕ
   pub step : (from : ℕ) → from ≤ length old.seen → (after : ℕ) × (after ≤ length new.seen)
@@ -42,10 +42,11 @@ pub record IsTurn (network : Network) (old new : Known) (stage : Stage) (said : 
   pub faults : old.faults + one_if_disk reply ≤ new.faults
 
 -- A line of a client who holds this was answered, and the client is served on, with these quotes.
-pub record TurnsClient (network : Network) (old new : Known) (client client' : Client)
+pub record ServesClientOn (network : Network) (old new : Known) (client client' : Client)
     (held : Held) (said : SessionLine) (reply : Reply) : Type 0 where
   pub left : Held
-  pub turn : IsTurn network old new (Serving client.name held) said reply (Serving client.name left)
+  pub turn : IsAnsweredLine network old new (Serving client.name held) said reply
+      (Serving client.name left)
   pub holds : AreHeld network 0 new.seen left client'.quotes
   pub name : client'.name ≡ client.name
 
@@ -73,21 +74,21 @@ SaysLast sink output output' text end told =
 
 -- The first line that was to come was read and answered. `puts` says how much is out of the line of
 -- its reply.
-pub record TakesTurn {S : Type 0} (source : SourceGhosts S) (lines lines' : Reader S)
+pub record AnswersInSession {S : Type 0} (source : SourceGhosts S) (lines lines' : Reader S)
     (network : Network) (old new : Known) (Is : List ℕ → SessionLine → Type 0) (stage : Stage)
     (puts : List ℕ → Type 0) (next : Stage) : Type 0 where
   pub said : SessionLine
   pub reply : Reply
   pub line : TakesLine source lines lines' (λ bytes. Is bytes said)
-  pub turn : IsTurn network old new stage said reply next
+  pub turn : IsAnsweredLine network old new stage said reply next
   pub out : puts (line_of (reply_text network reply))
 
 module _ {S O : Type 0} (source : SourceGhosts S) (sink : SinkGhosts O) (network : Network)
     (lines lines' : Reader S) (output output' : O) (old new : Known)
     (Is : List ℕ → SessionLine → Type 0) (stage : Stage) where
   -- the next line was answered, and the session goes on from it so
-  abbrev pub GoesOn : Stage → Type 0
-  GoesOn next = TakesTurn source lines lines' network old new Is stage
+  abbrev pub SessionGoesOn : Stage → Type 0
+  SessionGoesOn next = AnswersInSession source lines lines' network old new Is stage
       (Grows (sink.content output) (sink.content output')) next
       × (lines'.fault ≡ None) × (sink.frame output' ≡ sink.frame output)
 
@@ -99,15 +100,15 @@ module _ {S O : Type 0} (source : SourceGhosts S) (sink : SinkGhosts O) (network
   -- met a fault before its end; or the output failed in the reply.
   abbrev pub EndsAt : SessionEnd → Type 0
   EndsAt session_end.End = IsServing stage × NoneComes
-  EndsAt session_end.Bye = GoesOn Left
-  EndsAt session_end.NoHello = (IsWaiting stage × NoneComes) ⊎ GoesOn Refused
-  EndsAt session_end.Read = IsOpen stage × StopsReading source lines lines' line_fault.Read
+  EndsAt session_end.Bye = SessionGoesOn Left
+  EndsAt session_end.NoHello = (IsWaiting stage × NoneComes) ⊎ SessionGoesOn Refused
+  EndsAt session_end.Read = MayGoOn stage × StopsReading source lines lines' line_fault.Read
       × Rose (source.frame lines.source) (source.frame lines'.source)
       × (output' ≡ output) × (new ≡ old)
-  EndsAt session_end.TooLong = IsOpen stage
+  EndsAt session_end.TooLong = MayGoOn stage
       × StopsReading source lines lines' line_fault.TooLong × (output' ≡ output) × (new ≡ old)
   EndsAt session_end.Write = ((next : Stage)
-      × TakesTurn source lines lines' network old new Is stage
+      × AnswersInSession source lines lines' network old new Is stage
       (GrowsInPart (sink.content output) (sink.content output')) next)
       × (lines'.fault ≡ None) × Rose (sink.frame output) (sink.frame output')
 
@@ -132,7 +133,7 @@ pub record HasServed {S : Type 0} (source : SourceGhosts S) (start now : Reader 
   pub replies : List Reply
   pub own : List ℕ
   pub said : WhereTold (source.content start.source) (source.content now.source) (λ was left.
-      SayLines (Says network) (start.pending ++ was) lines (now.pending ++ left))
+      SayLines (SaysAfter network) (start.pending ++ was) lines (now.pending ++ left))
   pub along : GoesAlong network old new lines replies stage own
   pub out : Grows before after (texts_of network replies)
 
@@ -140,7 +141,7 @@ pub record HasServed {S : Type 0} (source : SourceGhosts S) (start now : Reader 
 abbrev pub ServesLines : {S O : Type 0} → SourceGhosts S → SinkGhosts O → Network → Reader S
     → Reader S → O → O → Known → Known → SessionEnd → Type 0
 ServesLines source sink network start now output output' =
-    ServesAlong network (λ stops lines. SaysUpTo source start now (Says network) lines stops)
+    ServesAlong network (λ stops lines. SaysUpTo source start now (SaysAfter network) lines stops)
     (sink.content output) (sink.content output')
     (Rose (source.frame start.source) (source.frame now.source))
     (Rose (sink.frame output) (sink.frame output'))

@@ -10,7 +10,7 @@ ghost use Rattle.hose_core.specs.Holding.{AreHeld};
 ghost use Rattle.hose_proto.specs.ReplyText.{line_of, reply_text};
 ghost use Rattle.hose_shared.specs.Sharing.{IsPassOf};
 ghost use Rattle.hose_session.specs.SessionLines.{IsBye, SaysLater};
-ghost use Rattle.hose_session.specs.Turns.{SaysLast, ShownSays, TurnsClient};
+ghost use Rattle.hose_session.specs.Turns.{SaysLast, ShownSays, ServesClientOn};
 
 use crate::client::Client;
 use crate::ending::SessionEnd;
@@ -56,8 +56,8 @@ impl<'a, D: Disk, B: Begun<D>, G: Gate> Session<'a, D, B, G> {
             → AreHeld self.now.shared.now.network 0 pass.seen held client.old.quotes
             → (said : SessionLine)
             × ShownSays (SaysLater self.now.shared.now.network) line.entry said
-            × TurnsClient self.now.shared.now.network pass result.1 client.old client.new held said
-            result.0 }
+            × ServesClientOn self.now.shared.now.network pass result.1 client.old client.new held
+            said result.0 }
         ensures names { NamesPlaces self.now.shared.now.network result.0 }
     {
         law_passes(&pass);
@@ -87,7 +87,7 @@ impl<'a, D: Disk, B: Begun<D>, G: Gate> Session<'a, D, B, G> {
             × AreHeld self.now.shared.now.network 0 pass.seen held client.old.quotes }
         ensures turns { (held : Held)
             → AreHeld self.now.shared.now.network 0 pass.seen held client.old.quotes
-            → TurnsClient self.now.shared.now.network pass result.1 client.old client.new held
+            → ServesClientOn self.now.shared.now.network pass result.1 client.old client.new held
             (SessionLine.Asks command) result.0 }
         ensures names { NamesPlaces self.now.shared.now.network result.0 }
     {

@@ -9,7 +9,7 @@ ghost use Rattle.hose_words.specs.Reading.{ReadsOn};
 ghost use Rattle.hose_shared.specs.Sharing.{IsPassOf};
 ghost use Rattle.hose_session.specs.Session.{IsGreeted, ServesSession};
 ghost use Rattle.hose_session.specs.SessionLines.{SaysFirst, SaysLater};
-ghost use Rattle.hose_session.specs.Turns.{EndsAt, GoesOn, ServesLines};
+ghost use Rattle.hose_session.specs.Turns.{EndsAt, SessionGoesOn, ServesLines};
 
 use crate::answering::Session;
 use crate::client::Client;
@@ -136,7 +136,7 @@ impl<'a, D: Disk, B: Begun<D>, G: Gate> Session<'a, D, B, G> {
         requires of { IsPassOf self.now.shared.now pass }
         requires no_fault { lines.old.fault ≡ None }
         ensures serves { MatchResult result.0
-            (λ name. GoesOn S.Source O.Sink self.now.shared.now.network lines.old lines.new
+            (λ name. SessionGoesOn S.Source O.Sink self.now.shared.now.network lines.old lines.new
             output.old output.new pass result.1 SaysFirst Waiting (Serving name none_held))
             (EndsAt S.Source O.Sink self.now.shared.now.network lines.old lines.new
             output.old output.new pass result.1 SaysFirst Waiting) }
@@ -184,7 +184,7 @@ impl<'a, D: Disk, B: Begun<D>, G: Gate> Session<'a, D, B, G> {
         ensures serves { (held : Held)
             → AreHeld self.now.shared.now.network 0 pass.seen held client.old.quotes
             → MatchResult result.0
-            (λ _. (left : Held) × GoesOn S.Source O.Sink self.now.shared.now.network
+            (λ _. (left : Held) × SessionGoesOn S.Source O.Sink self.now.shared.now.network
             lines.old lines.new output.old output.new pass result.1
             (SaysLater self.now.shared.now.network) (Serving client.old.name held)
             (Serving client.old.name left)

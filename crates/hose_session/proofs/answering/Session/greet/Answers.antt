@@ -2,7 +2,7 @@ use Rattle.std.proofs.Common.{Ok, ◌∙◌, ap, inr, subst, sym}
 use Rattle.hose_io.specs.Stream.{Grows}
 use Rattle.hose_io.specs.Writing.{GrowsInPart}
 use Rattle.hose_words.specs.Lines.{IsNext}
-use Rattle.hose_graph.specs.declared.reply.Reply.TheVariants.{Welcome}
+use Rattle.hose_graph.specs.declared.command.Reply.TheVariants.{Welcome}
 use Rattle.hose_law.specs.Quotes.{none_held}
 use Rattle.hose_law.specs.Transcript.SessionLine.{Greets}
 use Rattle.hose_law.specs.Transcript.Stage.{Refused, Serving, Waiting}

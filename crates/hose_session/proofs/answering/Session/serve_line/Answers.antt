@@ -2,7 +2,7 @@ use Rattle.std.proofs.Common.{Ok, ◌∙◌, ap, subst, sym}
 use Rattle.hose_io.specs.Stream.{Grows}
 use Rattle.hose_io.specs.Writing.{GrowsInPart}
 use Rattle.hose_words.specs.Lines.{IsNext}
-use Rattle.hose_graph.specs.declared.reply.Reply.TheVariants.{Bye}
+use Rattle.hose_graph.specs.declared.command.Reply.TheVariants.{Bye}
 use Rattle.hose_law.specs.Transcript.SessionLine.{Leaves}
 use Rattle.hose_law.specs.Transcript.Stage.{Left, Serving}
 use Rattle.hose_session.specs.SessionLines.{IsBye, SaysLater}
