@@ -8,7 +8,7 @@ use Rattle.hose_law.specs.History.{IsSoundAt, book_after, book_of, next_book, op
 use Rattle.hose_law.proofs.LiveIds.{next_epoch}
 use Rattle.hose_book.specs.GoingOn.{GoesOn, entry_more, none_yet as nothing_yet}
 use Rattle.hose_book.specs.Ledger.{Ledger}
-use Rattle.hose_book.specs.declared.committed.Committed.TheVariants as committed
+use Rattle.hose_book.specs.declared.books.Committed.TheVariants as committed
 use Rattle.hose_codec.specs.Spelling.{IsSpelling}
 use Rattle.hose_disk.specs.declared.disk.Disk.{Ghosts}
 use Rattle.hose_journal.specs.Chain.{chain}
@@ -19,7 +19,7 @@ use Rattle.hose_follow.specs.Offering.{AreOffered, Brings, Enters, IsDue, IsOffe
 use Rattle.hose_follow.specs.Packet.{Packet, packets_bytes}
 use Rattle.hose_follow.specs.declared.answers.Offered.{Offered}
 use Rattle.hose_follow.specs.declared.answers.Offered.TheVariants.{Have, Want, Differs, Memory, Unsound, Disk}
-use Rattle.hose_offline.specs.Following.{AnswersAt, AreAnswered, BringsAt, IsDueAt, none_yet, packet_more}
+use Rattle.hose_offline.specs.Following.{AnswersAt, ArePacketsAnswered, BringsAt, IsDueAt, none_yet, packet_more}
 use Rattle.hose_offline.proofs.Packets.{some_bytes}
 
 -- a book counts its entries
@@ -31,7 +31,7 @@ epoch_is : (book : Book) (history : List Entry) → book ≡ book_of 0 history �
 epoch_is book history is = omega (arith, ap (λ (b : Book). b.epoch) is, epoch_after (opening_book 0) history)
 
 -- where no byte was taken no packet was answered
-pub none_answered : (network : Network) (since : List Entry) (packets : List Packet) (answers : List Offered) (history : List Entry) (rest : List ℕ) → AreAnswered network since packets answers history → packets_bytes packets ++ rest ≡ [] → history ≡ since
+pub none_answered : (network : Network) (since : List Entry) (packets : List Packet) (answers : List Offered) (history : List Entry) (rest : List ℕ) → ArePacketsAnswered network since packets answers history → packets_bytes packets ++ rest ≡ [] → history ≡ since
 none_answered network since packets answers history rest none_yet same = refl
 none_answered network since packets answers history rest (packet_more packet answer before at) same = absurd (some_bytes _ packet rest same)
 
@@ -43,7 +43,7 @@ module _ {D : Type 0} (disk : Ghosts D) (first : Kept D) (since : List Entry) wh
     pub same_network : now.ledger.network ≡ first.ledger.network
     pub has : HasHistory disk now history doubt
     pub goes_on : GoesOn (store_books disk) IsSoundAt first.ledger.network since first history now
-    pub answered : AreAnswered first.ledger.network since packets answers history
+    pub answered : ArePacketsAnswered first.ledger.network since packets answers history
     pub begins : IsPrefix since history
 
   module _ (packets : List Packet) (answers : List Offered) (middle : Kept D) (on : Leads packets answers middle) where

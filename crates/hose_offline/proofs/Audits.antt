@@ -1,14 +1,15 @@
 -- An audit: the text of a topology in a cabinet, and the book of a journal on its disk.
-use Rattle.std.proofs.Common.{◌≡◌, ◌≢◌, ◌∙◌, length, ◌⊎◌, ◌↔◌, inl, inr, ℕ, ◌+◌, ◌<◌, ◌≤◌, List, [], drop, Bool, Option, None, Some, IfSome, IsSome, IsTrue, Result, Ok, Err, refl, sym, ap, subst, arith, append-nil}
+use Rattle.std.proofs.Common.{◌≡◌, ◌≢◌, ◌∙◌, length, ◌⊎◌, ◌↔◌, inl, inr, ℕ, ◌+◌, ◌<◌, ◌≤◌, List, [], Bool, Option, None, Some, IfSome, IsSome, IsTrue, Result, Ok, Err, refl, sym, ap, subst, arith, append-nil}
 use Rattle.std.specs.Prelude.{⊤}
-use Rattle.std.specs.Borrow.{GName}
+use Rattle.hose_io.specs.Calls.{HasGone}
 use Rattle.hose_io.specs.Frame.{Frame, Met, Rose, Stays}
 use Rattle.hose_io.specs.Stream.{Stream, Gives}
 use Rattle.hose_io.specs.declared.Failed.{Failed}
 use Rattle.hose_io.specs.declared.source.Source.{Ghosts as SourceGhosts}
+use Rattle.hose_io.proofs.Calling.{HasGone-keeps}
 use Rattle.hose_io.proofs.Frames.{Stays-next}
 use Rattle.hose_words.specs.Reading.{WhereTold}
-use Rattle.hose_words.specs.declared.limits.TheConstants.{INPUT_LIMIT}
+use Rattle.hose_words.specs.declared.lines.TheConstants.{INPUT_LIMIT}
 use Rattle.hose_words.specs.declared.lines.LineFault.{LineFault}
 use Rattle.hose_words.specs.declared.lines.LineFault.TheVariants as line
 use Rattle.hose_graph.specs.Network.{IsNetwork, Network}
@@ -29,18 +30,19 @@ use Rattle.hose_topo.specs.Reading.{StopsInTopology, fault_of}
 use Rattle.hose_topo.specs.TopologyText.{IsTopologyText}
 use Rattle.hose_topo.specs.declared.fault.TopoFault.{TopoFault}
 use Rattle.hose_topo.specs.declared.fault.TopoFault.TheVariants as topo
-use Rattle.hose_offline.specs.Auditing.{HasAudited, HasReadBook, IsBookOf, IsLongAt, IsStarvedAt, IsTextFault, IsTextOf, ReadsBook, ReadsNamed, ReadsText, ReadsTopology}
-use Rattle.hose_offline.specs.CabinetText.{OnlyTextsRead, TextState, reading_frame, stream_at, text_stream, whole_text}
+use Rattle.hose_offline.specs.Auditing.{HasAudited, HasReadBook, IsBookOf, IsLongAt, IsStarvedAt, IsTextFault, TextComesTo, ReadsBook, ReadsNamed, ReadsText, ReadsTopology}
+use Rattle.hose_offline.specs.CabinetText.{HasAsked, OnlyTextsRead, TextState, stream_at, text_source, text_stream, whole_text}
 use Rattle.hose_offline.specs.Fault.{of_text}
-use Rattle.hose_offline.specs.OnDisk.{CabinetFailed, CabinetHeld, Held, IsRefused, IsUnopened}
+use Rattle.hose_offline.specs.OnDisk.{CabinetFailed, CabinetWorked, HadContent, IsRefusedOnDisk, IsUnopened}
 use Rattle.hose_offline.specs.JsonRead.{IsJsonOf}
 use Rattle.hose_offline.specs.Run.{HasText, TellsNoNetwork}
 use Rattle.hose_offline.specs.TopologyTold.{Tells, TellsPriced, limit_of, notation_of, own_costs}
-use Rattle.hose_offline.specs.declared.limits.TheConstants.{JSON_LIMIT}
+use Rattle.hose_offline.specs.declared.json_text.TheConstants.{JSON_LIMIT}
 use Rattle.hose_offline.specs.declared.notation.Notation.{Notation}
 use Rattle.hose_offline.specs.declared.notation.Notation.TheVariants as notation
 use Rattle.hose_offline.specs.declared.notation.Refusal.TheVariants.{Word}
 use Rattle.hose_words.proofs.OnReading.{WhereTold-map}
+use Rattle.hose_offline.proofs.Texts.{HasAsked-next, HasAsked-none}
 use Rattle.hose_offline.specs.ServingOnDisk.{IsNotServed}
 use Rattle.hose_offline.specs.declared.fault.Fault.{Fault}
 use Rattle.hose_offline.specs.declared.fault.Fault.TheVariants as fault
@@ -79,43 +81,34 @@ module _ {E : Type 0} (disk : DiskGhosts E) (network : Network) (old left : E) (
 
 -- ---- the text of a topology
 
-module _ {C E : Type 0} (cabinet : CabinetGhosts C E) (source : SourceGhosts (TextState C)) (names : C → List GName) (one : (a b : C) → names a ≡ names b → a ≡ b)
-    (content : (t : TextState C) → source.content t ≡ text_stream cabinet t.was t.name t.from) (frame : (t : TextState C) → source.frame t ≡ reading_frame cabinet (names t.was) t)
-    (old new : C) (name : List ℕ) (start last : TextState C)
-    (was : start.was ≡ old) (value : start.cabinet.now ≡ old) (named : start.name ≡ name) (from : start.from ≡ 0)
-    (behind : last.cabinet.now ≡ new) (only : OnlyTextsRead cabinet last.was last.cabinet.now)
-    (absent : IsTrue (cabinet.frame last.was).tells → (cabinet.frame last.cabinet.now).absent ≡ (cabinet.frame last.was).absent)
-    (there : IsTrue (cabinet.frame old).tells → IsSome (cabinet.text old name)) (stays : Stays (source.frame start) (source.frame last)) where
-  -- what the text was read of is the cabinet that was lent
-  same_was : last.was ≡ old
-  same_was =
-      let loans : (reading_frame cabinet (names last.was) last).loan ≡ (reading_frame cabinet (names start.was) start).loan =
-      ap (λ (f : Frame). f.loan) (sym (frame last)) ∙ (stays.loan ∙ ap (λ (f : Frame). f.loan) (frame start)) in
-      one last.was start.was (ap (drop 1) loans) ∙ was
+module _ {C E : Type 0} (cabinet : CabinetGhosts C E) (old new : C) (name : List ℕ) (start last : TextState C)
+    (value : start.cabinet.now ≡ old) (named : start.name ≡ name) (from : start.from ≡ 0) (behind : last.cabinet.now ≡ new)
+    (gone : HasGone (text_source cabinet) start last) (there : IsTrue (cabinet.frame old).tells → IsSome (cabinet.text old name)) where
+  abbrev source : SourceGhosts (TextState C)
+  source = text_source cabinet
+
+  asked : HasAsked cabinet start last
+  asked = HasGone-keeps (HasAsked cabinet) (HasAsked-none cabinet) (HasAsked-next cabinet) gone
 
   only_here : OnlyTextsRead cabinet old new
-  only_here = subst (λ (c : C). OnlyTextsRead cabinet old c) behind (subst (λ (c : C). OnlyTextsRead cabinet c last.cabinet.now) same_was only)
+  only_here = subst (λ (c : C). OnlyTextsRead cabinet c new) value (subst (λ (c : C). OnlyTextsRead cabinet start.cabinet.now c) behind asked.only_texts)
 
   absent_here : IsTrue (cabinet.frame old).tells → (cabinet.frame new).absent ≡ (cabinet.frame old).absent
-  absent_here = subst (λ (c : C). IsTrue (cabinet.frame old).tells → (cabinet.frame c).absent ≡ (cabinet.frame old).absent) behind
-      (subst (λ (c : C). IsTrue (cabinet.frame c).tells → (cabinet.frame last.cabinet.now).absent ≡ (cabinet.frame c).absent) same_was absent)
+  absent_here = subst (λ (c : C). IsTrue (cabinet.frame c).tells → (cabinet.frame new).absent ≡ (cabinet.frame c).absent) value
+      (subst (λ (c : C). IsTrue (cabinet.frame start.cabinet.now).tells → (cabinet.frame c).absent ≡ (cabinet.frame start.cabinet.now).absent) behind asked.absent)
 
   -- the text as it was
   first_content : source.content start ≡ whole_text cabinet old name
-  first_content = content start
-      ∙ (ap (λ (c : C). text_stream cabinet c start.name start.from) was
-      ∙ (ap (λ (n : List ℕ). text_stream cabinet old n start.from) named ∙ ap (text_stream cabinet old name) from))
-
-  faults_of : (t : TextState C) → (source.frame t).faults ≡ (cabinet.frame t.cabinet.now).faults
-  faults_of t = ap (λ (f : Frame). f.faults) (frame t)
+  first_content = ap (λ (c : C). text_stream cabinet c start.name start.from) value
+      ∙ (ap (λ (n : List ℕ). text_stream cabinet old n start.from) named ∙ ap (text_stream cabinet old name) from)
 
   faults_first : (source.frame start).faults ≡ (cabinet.frame old).faults
-  faults_first = faults_of start ∙ ap (λ (c : C). (cabinet.frame c).faults) value
+  faults_first = ap (λ (c : C). (cabinet.frame c).faults) value
 
   faults_last : (source.frame last).faults ≡ (cabinet.frame new).faults
-  faults_last = faults_of last ∙ ap (λ (c : C). (cabinet.frame c).faults) behind
+  faults_last = ap (λ (c : C). (cabinet.frame c).faults) behind
 
-  held : source.frame last ≡ source.frame start → CabinetHeld cabinet old new
+  held : source.frame last ≡ source.frame start → CabinetWorked cabinet old new
   held same = ap (λ (n : ℕ). record { faults = n; number = 0; loan = [] }) (sym faults_last ∙ (ap (λ (f : Frame). f.faults) same ∙ faults_first))
 
   failed : Rose (source.frame start) (source.frame last) → CabinetFailed cabinet old new
@@ -126,7 +119,7 @@ module _ {C E : Type 0} (cabinet : CabinetGhosts C E) (source : SourceGhosts (Te
 
   -- a topology was read, or none
   read_as : (written : Notation) (done : Result Network Fault) (bytes : List ℕ) → Gives (source.content start) (source.content last) bytes → length bytes ≤ limit_of written + 1 → ((done ≡ Err fault.TooLong) ↔ (limit_of written < length bytes))
-      → IsTextOf cabinet old new written own_costs (whole_text cabinet old name) (source.content last) done → ReadsText cabinet old new written own_costs name done
+      → TextComesTo cabinet old new written own_costs (whole_text cabinet old name) (source.content last) done → ReadsText cabinet old new written own_costs name done
   read_as written done bytes gives limit long text = record {
     taken = bytes;
     left = source.content last;
@@ -180,7 +173,7 @@ module _ {C E : Type 0} (cabinet : CabinetGhosts C E) (source : SourceGhosts (Te
   read_json_as done bytes gives limit long json rose same = read_as notation.Json done bytes gives limit long (at done json rose same)
     where
       at : (met : Result Network Fault) → IsJsonOf (source.content start) (source.content last) met → (met ≡ Err fault.Cabinet → Rose (source.frame start) (source.frame last)) → (met ≢ Err fault.Cabinet → source.frame last ≡ source.frame start)
-          → IsTextOf cabinet old new notation.Json own_costs (whole_text cabinet old name) (source.content last) met
+          → TextComesTo cabinet old new notation.Json own_costs (whole_text cabinet old name) (source.content last) met
       at (Ok network) is rose same = (
         is.0,
         held (same (λ e. absurd (cc e))),
@@ -235,13 +228,13 @@ module _ {C E : Type 0} (cabinet : CabinetGhosts C E) (old mid : C) (name : List
     same_text : whole_text cabinet mid name ≡ whole_text cabinet old name
     same_text = ap (λ (b : Bool). stream_at 0 b (cabinet.text mid name)) call.tells ∙ ap (λ (t : List ℕ → Option (List ℕ)). stream_at 0 (cabinet.frame old).tells (t name)) texts
 
-    held_too : CabinetHeld cabinet mid new → CabinetHeld cabinet old new
+    held_too : CabinetWorked cabinet mid new → CabinetWorked cabinet old new
     held_too same = same ∙ call.met.ok
 
     failed_too : CabinetFailed cabinet mid new → CabinetFailed cabinet old new
     failed_too rose = subst (λ (f : Frame). Rose f (object_of (cabinet.frame new))) call.met.ok rose
 
-    text_too : (written : Notation) (left : Option Stream) (done : Result Network Fault) → IsTextOf cabinet mid new written own_costs (whole_text cabinet mid name) left done → IsTextOf cabinet old new written own_costs (whole_text cabinet old name) left done
+    text_too : (written : Notation) (left : Option Stream) (done : Result Network Fault) → TextComesTo cabinet mid new written own_costs (whole_text cabinet mid name) left done → TextComesTo cabinet old new written own_costs (whole_text cabinet old name) left done
     text_too written left (Ok network) is = (is.0, held_too is.1, subst (λ (t : Option Stream). WhereTold t left (λ bytes _. TellsPriced written own_costs bytes network)) same_text is.2)
     text_too written left (Err (fault.Topology refusal)) is = (subst (λ (t : Option Stream). TellsNoNetwork written refusal t left) same_text is.0, held_too is.1)
     text_too written left (Err fault.TooLong) is = (subst (λ (t : Option Stream). IsLongAt written t left) same_text is.0, held_too is.1)
@@ -345,14 +338,14 @@ module _ {C E : Type 0} (cabinet : CabinetGhosts C E) (disk : DiskGhosts E) (old
       let found = has (subst IsTrue (sym only.tells) told) in
       (found.0, ap (λ (h : List ℕ → Option E). h name) (sym only.disks) ∙ found.1, found.2)
 
-  pub held_before : (name : List ℕ) (P : List ℕ → Type 0) → Held cabinet disk mid new name P → Held cabinet disk old new name P
+  pub held_before : (name : List ℕ) (P : List ℕ → Type 0) → HadContent cabinet disk mid new name P → HadContent cabinet disk old new name P
   held_before name P held = has_before name (λ was. IfSome (disk.content was) P) held
 
   pub unopened_before : (network : Network) (name : List ℕ) → IsUnopened cabinet disk mid new network name → IsUnopened cabinet disk old new network name
   unopened_before network name (inl same) = inl (same ∙ only.disks)
   unopened_before network name (inr has) = inr (has_before name _ has)
 
-  refused_before : (network : Network) (name : List ℕ) (meaning : Meaning Entry) → IsRefused cabinet disk mid new network name meaning → IsRefused cabinet disk old new network name meaning
+  refused_before : (network : Network) (name : List ℕ) (meaning : Meaning Entry) → IsRefusedOnDisk cabinet disk mid new network name meaning → IsRefusedOnDisk cabinet disk old new network name meaning
   refused_before network name meaning refused = record {
     means = held_before name _ refused.means;
     none = held_before name _ refused.none;
@@ -360,7 +353,7 @@ module _ {C E : Type 0} (cabinet : CabinetGhosts C E) (disk : DiskGhosts E) (old
   }
 
   -- where no call of the cabinet failed before
-  module _ (same : CabinetHeld cabinet old mid) (name : List ℕ) (network : Network) where
+  module _ (same : CabinetWorked cabinet old mid) (name : List ℕ) (network : Network) where
     audited_before : (history : List Entry) (closing : Result ⊤ Failed) → HasAudited cabinet disk name mid new network history closing → HasAudited cabinet disk name old new network history closing
     audited_before history closing has = record {
       begun = held_before name _ has.begun;

@@ -17,7 +17,7 @@ use Rattle.hose_store.specs.Recovery.{IsHistoryOf}
 use Rattle.hose_follow.specs.Packet.{BeginsNoPacket, IsPacket, IsPartOfPacket, Packet, packets_bytes}
 use Rattle.hose_follow.specs.declared.following.FollowEnd.{FollowEnd}
 use Rattle.hose_follow.specs.declared.following.FollowEnd.TheVariants as end
-use Rattle.hose_follow.specs.declared.limits.TheConstants.{INPUT_LIMIT}
+use Rattle.hose_follow.specs.declared.following.TheConstants.{INPUT_LIMIT}
 use Rattle.hose_offline.specs.AuditOutcome.{EndsNamed, NamedOutcome}
 use Rattle.hose_offline.specs.Auditing.{IsNotAudited, ReadsNamed, ReadsTopology}
 use Rattle.hose_offline.specs.Ending.{IsLastLine, IsOut, status_of_done}

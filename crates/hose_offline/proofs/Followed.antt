@@ -18,27 +18,27 @@ use Rattle.hose_store.specs.Commit.{Closes, store_books}
 use Rattle.hose_store.specs.Opening.{IsOpenedOn}
 use Rattle.hose_store.specs.Recovery.{IsHistoryOf}
 use Rattle.hose_store.specs.Store.{Kept}
-use Rattle.hose_follow.specs.Answers.{TellsDisks}
-use Rattle.hose_follow.specs.Ends.{Follows}
+use Rattle.hose_follow.specs.Answers.{TellsDiskAnswers}
+use Rattle.hose_follow.specs.Ends.{FollowsInput}
 use Rattle.hose_follow.specs.declared.answers.Offered.{Offered}
 use Rattle.hose_follow.specs.declared.following.FollowEnd.{FollowEnd}
 use Rattle.hose_follow.specs.declared.following.FollowEnd.TheVariants.{TooLong}
-use Rattle.hose_follow.specs.declared.limits.TheConstants.{INPUT_LIMIT}
-use Rattle.hose_offline.specs.Following.{AreAnswered, FollowsFrom, FollowsInCabinet, FollowsOnDisk, HasFollowed, HasFollowedOnDisk}
+use Rattle.hose_follow.specs.declared.following.TheConstants.{INPUT_LIMIT}
+use Rattle.hose_offline.specs.Following.{ArePacketsAnswered, FollowsFrom, FollowsInCabinet, FollowsOnDisk, HasFollowed, HasFollowedOnDisk}
 use Rattle.hose_offline.specs.OnDisk.{opening_of}
 use Rattle.hose_offline.specs.declared.fault.Fault.{Fault}
 use Rattle.hose_offline.proofs.Answered.{Leads, leads, none_answered}
 use Rattle.hose_offline.proofs.PutBack.{IsPutBack, counts, held_as, left_as_kind, not_served}
 
 -- failures that were told between two counts are so between counts further apart
-tells_within : (answers : List Offered) (before after low high : ℕ) → low ≤ before → after ≤ high → TellsDisks before answers after → TellsDisks low answers high
+tells_within : (answers : List Offered) (before after low high : ℕ) → low ≤ before → after ≤ high → TellsDiskAnswers before answers after → TellsDiskAnswers low answers high
 tells_within answers before after low high under above (inl told) = inl (omega (arith, told, under, above))
 tells_within answers before after low high under above (inr most) = inr (omega (arith, most, above))
 
 -- ---- on a disk
 
 module _ {I O E : Type 0} (source : SourceGhosts I) (sink : SinkGhosts O) (disk : DiskGhosts E) (input input' : I) (output output' : O) (network : Network) (old left : E) (store last : Kept E) (ended : FollowEnd)
-    (closing : Result ⊤ Failed) (opened : IsOpenedOn disk old network store) (follows : Follows source sink disk input input' output output' store last ended) where
+    (closing : Result ⊤ Failed) (opened : IsOpenedOn disk old network store) (follows : FollowsInput source sink disk input input' output output' store last ended) where
   -- what the answers lead to
   abbrev Led : Type 0
   Led = Leads disk store opened.history follows.packets follows.answers last
@@ -56,7 +56,7 @@ module _ {I O E : Type 0} (source : SourceGhosts I) (sink : SinkGhosts O) (disk 
     answers = follows.answers;
     gives = subst (Gives (source.content input) (source.content input')) follows.parts follows.gives;
     are = follows.are;
-    answered = subst (λ (n : Network). AreAnswered n opened.history follows.packets follows.answers on.history) opened.network on.answered;
+    answered = subst (λ (n : Network). ArePacketsAnswered n opened.history follows.packets follows.answers on.history) opened.network on.answered;
     begins = on.begins;
     sound = subst (λ (n : Network). IsSound n 0 on.history) (on.same_network ∙ opened.network) on.has.sound;
     ends = follows.ends;

@@ -8,7 +8,7 @@ use Rattle.hose_io.specs.declared.sink.Sink.{Ghosts as SinkGhosts}
 use Rattle.hose_io.proofs.Streams.{Grows-append}
 use Rattle.hose_offline.specs.Ending.{IsLastLine, IsOut, status_of_done}
 use Rattle.hose_offline.specs.Fault.{last_line}
-use Rattle.hose_offline.specs.GenOutcome.{GenLeaves, GenOutcome, IsCutOff}
+use Rattle.hose_offline.specs.GenOutcome.{GenLeaves, GenOutcome, IsSummaryCut}
 use Rattle.hose_offline.specs.declared.fault.Fault.{Fault}
 use Rattle.hose_offline.specs.declared.fault.Fault.TheVariants.{Words, Topology, Read, Write, Other, Damaged, Cabinet, Memory, TooLong, Door, Packet}
 
@@ -22,7 +22,7 @@ part_then_none old mid new text part none = (
 
 module _ (seed nodes links hoses : ℕ) {O : Type 0} (sink : SinkGhosts O) (output left output' : O) where
   -- after a failed write nothing more is out
-  cut_off : IsCutOff seed nodes links hoses sink output left → IsOut sink left output' [] → IsCutOff seed nodes links hoses sink output output'
+  cut_off : IsSummaryCut seed nodes links hoses sink output left → IsOut sink left output' [] → IsSummaryCut seed nodes links hoses sink output output'
   cut_off cut (inl none) = (
     cut.0,
     cut.1,

@@ -7,7 +7,7 @@ use Rattle.hose_io.specs.declared.sink.Sink.{Ghosts as SinkGhosts}
 use Rattle.hose_words.specs.Lines.{Reader}
 use Rattle.hose_graph.specs.Network.{Network}
 use Rattle.hose_graph.specs.declared.entry.Entry.{Entry}
-use Rattle.hose_graph.specs.declared.reply.Reply.{Reply}
+use Rattle.hose_graph.specs.declared.command.Reply.{Reply}
 use Rattle.hose_law.specs.History.{IsDecidedAt}
 use Rattle.hose_book.specs.GoingOn.{GoesOn}
 use Rattle.hose_book.specs.Ledger.{Ledger}
@@ -19,7 +19,7 @@ use Rattle.hose_journal.specs.Image.{Meaning, listed, damaged, other}
 use Rattle.hose_journal.specs.Moments.{LeavesOnly}
 use Rattle.hose_store.specs.Beginning.{HasLeft, StandsFor}
 use Rattle.hose_store.specs.Commit.{Closes, store_books}
-use Rattle.hose_store.specs.Opening.{IsAtOpening, IsOpenedOn, IsRefused as IsRefusedStore}
+use Rattle.hose_store.specs.Opening.{IsAtOpening, IsOpenedOn, IsRefusedStore}
 use Rattle.hose_store.specs.Recovery.{IsHistoryOf, IsRecoveredAs}
 use Rattle.hose_store.specs.Store.{Kept}
 use Rattle.hose_store.specs.declared.fault.StoreFault.{StoreFault}

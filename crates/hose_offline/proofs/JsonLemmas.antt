@@ -5,15 +5,15 @@ use Rattle.hose_words.specs.Reading.{WhereTold}
 use Rattle.hose_words.proofs.Coming.{told_at_end}
 use Rattle.hose_graph.specs.Network.{IsNetwork, Network}
 use Rattle.hose_topo_json.specs.JsonTopology.{IsJsonTopology}
-use Rattle.hose_topo_json.specs.Refused.{IsRefused}
-use Rattle.hose_topo_json.specs.declared.fault.JsonFault.{JsonFault}
-use Rattle.hose_topo_json.specs.declared.fault.JsonFault.TheVariants as json
+use Rattle.hose_topo_json.specs.Refused.{IsJsonFault}
+use Rattle.hose_topo_json.specs.declared.reading.JsonFault.{JsonFault}
+use Rattle.hose_topo_json.specs.declared.reading.JsonFault.TheVariants as json
 use Rattle.hose_offline.specs.Fault.{of_json}
 use Rattle.hose_offline.specs.JsonRead.{IsJsonOf, IsPieceFault}
 use Rattle.hose_offline.specs.TopologyTold.{IsRefusedAs}
 use Rattle.hose_offline.specs.declared.fault.Fault.{Fault}
 use Rattle.hose_offline.specs.declared.fault.Fault.TheVariants as fault
-use Rattle.hose_offline.specs.declared.limits.TheConstants.{JSON_LIMIT}
+use Rattle.hose_offline.specs.declared.json_text.TheConstants.{JSON_LIMIT}
 use Rattle.hose_offline.specs.declared.notation.Notation.TheVariants as notation
 use Rattle.hose_offline.specs.declared.notation.Refusal.{Refusal}
 use Rattle.hose_offline.specs.declared.notation.Refusal.TheVariants as refusal
@@ -63,7 +63,7 @@ module _ (old new : Option Stream) (bytes : List ℕ) (gives : Gives old new byt
   refused_as : (why : Refusal) → IsRefusedAs notation.Json why bytes → ((network : Network) → ¬ IsJsonTopology bytes network) → IsJsonOf old new (Err (fault.Topology why))
   refused_as why is none = whole (λ text. IsRefusedAs notation.Json why text × ((network : Network) → ¬ IsJsonTopology text network)) (is, none)
 
-  pub whole_refused : (why : JsonFault) → IsRefused bytes why → ((network : Network) → IsJsonTopology bytes network → (◌≡◌ {A = Result Network JsonFault} (Err why) (Ok network)) ⊎ (◌≡◌ {A = Result Network JsonFault} (Err why) (Err json.Memory))) → IsJsonOf old new (Err (of_json why))
+  pub whole_refused : (why : JsonFault) → IsJsonFault bytes why → ((network : Network) → IsJsonTopology bytes network → (◌≡◌ {A = Result Network JsonFault} (Err why) (Ok network)) ⊎ (◌≡◌ {A = Result Network JsonFault} (Err why) (Err json.Memory))) → IsJsonOf old new (Err (of_json why))
   whole_refused json.Json is one = refused_as refusal.Json is (λ network tells. elim (one network tells) [ inl same ↦ absurd (cc same) | inr same ↦ absurd (cc same) ])
   whole_refused json.Nodes is one = refused_as refusal.Nodes is (λ network tells. elim (one network tells) [ inl same ↦ absurd (cc same) | inr same ↦ absurd (cc same) ])
   whole_refused (json.Node index) is one = refused_as (refusal.Node index) is (λ network tells. elim (one network tells) [ inl same ↦ absurd (cc same) | inr same ↦ absurd (cc same) ])

@@ -7,18 +7,18 @@ use Rattle.hose_words.specs.Reading.{WhereTold}
 use Rattle.hose_words.specs.declared.lines.LineFault.{LineFault}
 use Rattle.hose_words.specs.declared.lines.LineFault.TheVariants as line
 use Rattle.hose_words.proofs.OnReading.{WhereTold-both, WhereTold-map}
-use Rattle.hose_cert.specs.Taking.{IsAllRead, KeepsFault, fault_in}
-use Rattle.hose_cert.specs.Verdict.{IsFound}
+use Rattle.hose_cert.specs.Taking.{IsAllRead, KeepsLineFault, fault_in}
+use Rattle.hose_cert.specs.Verdict.{IsVerdict}
 use Rattle.hose_cert.specs.declared.fault.CertFault.{CertFault}
 use Rattle.hose_cert.specs.declared.fault.CertFault.TheVariants as certificate
 use Rattle.hose_io.specs.declared.source.Source.{Ghosts as SourceGhosts}
 use Rattle.hose_words.proofs.Coming.{Gives-nil}
-use Rattle.hose_words.specs.declared.limits.TheConstants.{INPUT_LIMIT}
+use Rattle.hose_words.specs.declared.lines.TheConstants.{INPUT_LIMIT}
 use Rattle.hose_graph.specs.Network.{Network}
 use Rattle.hose_cert.specs.declared.Verdict.{Verdict}
 use Rattle.hose_disk.specs.declared.cabinet.Cabinet.{Ghosts as CabinetGhosts}
 use Rattle.hose_offline.specs.Auditing.{ReadsTopology}
-use Rattle.hose_offline.specs.CheckOutcome.{IsVerdictOf, Judges, JudgesNamed, JudgedAs}
+use Rattle.hose_offline.specs.CheckOutcome.{IsVerdictOf, JudgesInput, JudgesNamed, JudgedAs}
 use Rattle.hose_offline.specs.TopologyTold.{limit_of, notation_of}
 use Rattle.hose_offline.specs.declared.fault.Fault.{Fault}
 use Rattle.hose_offline.specs.declared.fault.Fault.TheVariants.{TooLong}
@@ -27,15 +27,15 @@ use Rattle.hose_offline.specs.declared.fault.Fault.TheVariants.{TooLong}
 
 -- what is found of all that was to come is found of the input
 pub found_told : {S : Type 0} (source : SourceGhosts S) (old new : Reader S) (network : Network) (result : Result Verdict CertFault) → old.pending ≡ []
-    → WhereTold (source.content old.source) (source.content new.source) (λ before _. IfOk result (IsFound network (old.pending ++ before))) → OnOk result (IsAllRead source old new)
-    → IfOk result (λ verdict. WhereTold (source.content old.source) (source.content new.source) (λ text left. (left ≡ []) × IsFound network text verdict))
+    → WhereTold (source.content old.source) (source.content new.source) (λ before _. IfOk result (IsVerdict network (old.pending ++ before))) → OnOk result (IsAllRead source old new)
+    → IfOk result (λ verdict. WhereTold (source.content old.source) (source.content new.source) (λ text left. (left ≡ []) × IsVerdict network text verdict))
 found_told source old new network (Err why) pending found all = tt
 found_told source old new network (Ok verdict) pending found all =
     WhereTold-map (source.content old.source) (source.content new.source) _ _ (WhereTold-both (source.content old.source) (source.content new.source) _ _ found all)
-    (λ was left both. (nil_from_length left (omega (arith, ap length both.1, length-append new.pending left)), subst (λ (front : List ℕ). IsFound network (front ++ was) verdict) pending both.0))
+    (λ was left both. (nil_from_length left (omega (arith, ap length both.1, length-append new.pending left)), subst (λ (front : List ℕ). IsVerdict network (front ++ was) verdict) pending both.0))
 
 -- no call of the source failed where none is told to have
-pub read_not : (old new : Option LineFault) (result : Result Verdict CertFault) → old ≡ None → KeepsFault old new (fault_in result) → (result ≡ Err certificate.Read → ⊥) → new ≡ Some line.Read → ⊥
+pub read_not : (old new : Option LineFault) (result : Result Verdict CertFault) → old ≡ None → KeepsLineFault old new (fault_in result) → (result ≡ Err certificate.Read → ⊥) → new ≡ Some line.Read → ⊥
 read_not old new (Ok verdict) none kept never read = cc (none, kept, read)
 read_not old new (Err certificate.Read) none kept never read = never refl
 read_not old new (Err certificate.TooLong) none kept never read = cc (kept, read)
@@ -77,7 +77,7 @@ module _ (prices : Network → Network → Type 0) {I C E : Type 0} (source : So
       back (inr long) = absurd (omega (arith, long))
 
   -- one was read, and then the input was judged, or not
-  pub judged_then : (input' : I) (network : Network) (result : Result Verdict Fault) → ReadsTopology cabinet old new prices topology (Ok network) → Judges source input input' network result → JudgesNamed prices source cabinet topology input input' old new result
+  pub judged_then : (input' : I) (network : Network) (result : Result Verdict Fault) → ReadsTopology cabinet old new prices topology (Ok network) → JudgesInput source input input' network result → JudgesNamed prices source cabinet topology input input' old new result
   judged_then input' network result reads judges = record {
     left = reads.left;
     text = reads.taken;

@@ -18,8 +18,8 @@ use Rattle.hose_store.specs.Commit.{store_books}
 use Rattle.hose_topo.specs.Reading.{StopsInTopology}
 use Rattle.hose_topo.specs.TopologyText.{IsTopologyText}
 use Rattle.hose_offline.specs.OnDisk.{keeping_of, on_disk}
-use Rattle.hose_offline.specs.Run.{HasRead, HasText, in_memory, IsCutOff, IsRun, IsRunUpTo, TellsNoNetwork}
-use Rattle.hose_offline.specs.RunOutcome.{IsBroken, IsStarved, RunLeaves}
+use Rattle.hose_offline.specs.Run.{HasNetwork, HasText, in_memory, IsCutOff, IsRun, IsRunUpTo, TellsNoNetwork}
+use Rattle.hose_offline.specs.RunOutcome.{IsInterrupted, IsStarved, RunLeaves}
 use Rattle.hose_offline.specs.Serving.{ServesInMemory, plain_books}
 use Rattle.hose_offline.specs.TopologyTold.{TellsPriced}
 use Rattle.hose_offline.specs.declared.notation.Notation.TheVariants.{Lines}
@@ -38,7 +38,7 @@ module _ (prices : Network → Network → Type 0) {S O C E : Type 0} (source : 
   Leaves journal after done = RunLeaves prices source sink cabinet disk journal start.source last.source output output' place after done
 
   -- nothing was done after the topology
-  has_read : (Is : Network → Type 0) → last ≡ middle → Is network → HasRead Lines prices (source.content start.source) (source.content last.source) Is
+  has_read : (Is : Network → Type 0) → last ≡ middle → Is network → HasNetwork Lines prices (source.content start.source) (source.content last.source) Is
   has_read Is stays so = record {
     network = network;
     text = subst (λ (reader : Reader S). WhereTold (source.content start.source) (source.content reader.source) (λ input _. TellsPriced Lines prices input network)) (sym stays)
@@ -103,6 +103,14 @@ module _ (prices : Network → Network → Type 0) {S O C E : Type 0} (source : 
 
 -- ---- an input behind a borrow
 
+-- a borrow of a source, as a source
+abbrev pub borrowed : {T : Type 0} → Ghosts T → Ghosts (MutBor T)
+borrowed other = record {
+  frame = λ b. record (other.frame b.now) { loan = b.ghost_name ∷ (other.frame b.now).loan };
+  content = λ b. other.content b.now;
+  went = λ old new. other.went old.now new.now;
+}
+
 pub frame_behind : (frame other : Frame) (name one : GName) → record frame { loan = name ∷ frame.loan } ≡ record other { loan = one ∷ other.loan } → frame ≡ other
 frame_behind frame other name one same = ap (λ (f : Frame). record { faults = f.faults; number = f.number; loan = drop 1 f.loan }) same
 
@@ -119,10 +127,10 @@ module _ (prices : Network → Network → Type 0) {T O C E : Type 0} (other : G
   rose more = subst (λ (b : T). Rose (other.frame input.now) (other.frame b)) back
       (record { rose = (subst (λ (f : Frame). Rose f (record (other.frame input'.now) { loan = input'.ghost_name ∷ (other.frame input'.now).loan })) (frame input) (subst (λ (f : Frame). Rose (source.frame input) f) (frame input') more)).rose })
 
-  moved_read : (Is : Network → Type 0) → HasRead Lines prices (source.content input) (source.content input') Is → HasRead Lines prices (other.content input.now) (other.content behind) Is
-  moved_read Is read = moved (λ was now. HasRead Lines prices was now Is) read
+  moved_read : (Is : Network → Type 0) → HasNetwork Lines prices (source.content input) (source.content input') Is → HasNetwork Lines prices (other.content input.now) (other.content behind) Is
+  moved_read Is read = moved (λ was now. HasNetwork Lines prices was now Is) read
 
-  moved_broken : (why : LineFault) → IsBroken prices source sink cabinet disk journal input input' output output' place place' why → IsBroken prices other sink cabinet disk journal input.now behind output output' place place' why
+  moved_broken : (why : LineFault) → IsInterrupted prices source sink cabinet disk journal input input' output output' place place' why → IsInterrupted prices other sink cabinet disk journal input.now behind output output' place place' why
   moved_broken why (inl stops) = inl (moved (λ was now. WhereTold was now (StopsInTopology why)) stops.0, stops.1, stops.2)
   moved_broken why (inr run) = inr (run.0, moved (λ was now. IsRunUpTo prices (keeping_of cabinet disk place place' journal run.0) why was now (sink.content output) (sink.content output')) run.1, run.2)
 

@@ -2,7 +2,7 @@
 use Rattle.std.proofs.Common.{◌≡◌, ℕ, List, [], ◌∷◌, All, ◌∙◌, ap, subst, sym}
 use Rattle.std.proofs.lemmas.List.Elements.{All-cons, All-head, All-nil, All-tail}
 use Rattle.hose_graph.specs.declared.entry.Entry.{Entry}
-use Rattle.hose_graph.specs.declared.reply.Reply.{Reply}
+use Rattle.hose_graph.specs.declared.command.Reply.{Reply}
 use Rattle.hose_graph.specs.Network.{Network, IsNetwork}
 use Rattle.hose_law.specs.Quotes.{Holdings, nothing_held}
 use Rattle.hose_law.specs.Script.{ReadLine, IsForMemory, IsLineStep, IsScript, WithoutMemory}

@@ -5,7 +5,7 @@ use Rattle.std.proofs.lemmas.List.{length_push, map-append}
 use Rattle.std.proofs.lemmas.List.Elements.{All-nil, All-push, All-tail}
 use Rattle.hose_io.proofs.Frames.{Stays-none}
 use Rattle.hose_graph.specs.declared.entry.Entry.{Entry}
-use Rattle.hose_graph.specs.declared.reply.Reply.{Reply}
+use Rattle.hose_graph.specs.declared.command.Reply.{Reply}
 use Rattle.hose_graph.specs.Naming.{AsksOf}
 use Rattle.hose_graph.specs.Network.{IsNetwork, Network}
 use Rattle.hose_law.specs.History.{book_of}
@@ -152,7 +152,7 @@ module _ {K R : Type 0} (books : BooksGhosts K R) (first : State K) (orders : Li
       let whole : orders ≡ was.done = was.whole ∙ ap (λ (r : List Order). was.done ++ r) none ∙ append-nil was.done in
       subst (λ (os : List Order). HaveBeenAnswered books first now os tally) (sym whole) (was.answered fits)
 
--- the same of a network and a script that are the generated ones
+-- where a network and a script are the generated ones, their tally makes the summary
 pub summary_made : (seed nodes links hoses : ℕ) (top : Network) (script : List Order) (tally : Tally) → top ≡ generated_network seed nodes links → script ≡ generated_script seed nodes links hoses → IsNetwork top
     → IsTallyOf top script tally → IsSummary seed nodes links hoses (tally_line seed hoses tally)
 summary_made seed nodes links hoses top script tally is_top is_script network was =

@@ -9,22 +9,22 @@ use Rattle.hose_io.specs.declared.source.Source.{Ghosts as SourceGhosts}
 use Rattle.hose_io.specs.declared.sink.Sink.{Ghosts as SinkGhosts}
 use Rattle.hose_io.proofs.Frames.{Rose-before}
 use Rattle.hose_words.specs.Lines.{StopsAfterLines}
-use Rattle.hose_words.specs.declared.limits.TheConstants.{INPUT_LIMIT}
+use Rattle.hose_words.specs.declared.lines.TheConstants.{INPUT_LIMIT}
 use Rattle.hose_words.specs.Reading.{WhereTold}
 use Rattle.hose_words.specs.declared.lines.LineFault.{LineFault}
 use Rattle.hose_words.specs.declared.lines.LineFault.TheVariants as line
 use Rattle.hose_graph.specs.Network.{Network}
 use Rattle.hose_graph.specs.declared.entry.Entry.{Entry}
-use Rattle.hose_graph.specs.declared.reply.Reply.{Reply}
+use Rattle.hose_graph.specs.declared.command.Reply.{Reply}
 use Rattle.hose_disk.specs.declared.cabinet.Cabinet.{Ghosts as CabinetGhosts}
 use Rattle.hose_disk.specs.declared.disk.Disk.{Ghosts as DiskGhosts}
 use Rattle.hose_journal.specs.Image.{Meaning, damaged, other}
 use Rattle.hose_store.specs.Recovery.{IsHistoryOf, digest_of}
 use Rattle.hose_law.specs.Script.{ReadLine}
 use Rattle.hose_offline.specs.Ending.{IsOut, status_of_done}
-use Rattle.hose_offline.specs.OnDisk.{Held, IsRefused, IsToldAs, keeping_of}
-use Rattle.hose_offline.specs.Run.{HasRead, HasRun, HasText, IsFor, IsRefusedText, IsRun, IsServable, Keeping, TellsNoNetwork}
-use Rattle.hose_offline.specs.RunOutcome.{EndsRefused, InputStops, IsBroken, JournalIs, NoneFailed, RunLeaves}
+use Rattle.hose_offline.specs.OnDisk.{HadContent, IsRefusedOnDisk, JournalIsTold, keeping_of}
+use Rattle.hose_offline.specs.Run.{HasNetwork, HasRun, HasText, IsFor, IsRefusedText, IsRun, IsServable, Keeping, TellsNoNetwork}
+use Rattle.hose_offline.specs.RunOutcome.{EndsInputRefused, InputStops, IsInterrupted, AnyJournalIs, NothingFailed, RunLeaves}
 use Rattle.hose_words.specs.Saying.{IsAllTaken, IsLeftOver}
 use Rattle.hose_offline.specs.TopologyTold.{TellsPriced, limit_of}
 use Rattle.hose_offline.specs.declared.fault.Fault.{Fault}
@@ -124,7 +124,7 @@ module _ {C E : Type 0} (cabinet : CabinetGhosts C E) (disk : DiskGhosts E) (old
   some_is A a b same = cc same
 
   -- what a journal was read as, and what it was told to be
-  pub clash : (name : List ℕ) (P Q : List ℕ → Type 0) → ((bytes : List ℕ) → P bytes → Q bytes → ⊥) → Held cabinet disk old new name P → IsToldAs cabinet disk old new (Some name) Q → ⊥
+  pub clash : (name : List ℕ) (P Q : List ℕ → Type 0) → ((bytes : List ℕ) → P bytes → Q bytes → ⊥) → HadContent cabinet disk old new name P → JournalIsTold cabinet disk old new (Some name) Q → ⊥
   clash name P Q apart held told =
       let found = held told.0 in
       let same : found.0 ≡ told.1 = some_is E found.0 told.1 (sym found.1 ∙ told.2) in
@@ -133,7 +133,7 @@ module _ {C E : Type 0} (cabinet : CabinetGhosts C E) (disk : DiskGhosts E) (old
       apart told.3 bytes told.5
 
 module _ (prices : Network → Network → Type 0) {I O C E : Type 0} (source : SourceGhosts I) (sink : SinkGhosts O) (cabinet : CabinetGhosts C E) (disk : DiskGhosts E) (journal : Option (List ℕ)) (input input' : I) (output left output' : O) (place place' : C) where
-  stops_refused : (fault : LineFault) → IsRefusedText Lines (source.content input) (source.content input') → IsBroken prices source sink cabinet disk journal input input' output left place place' fault
+  stops_refused : (fault : LineFault) → IsRefusedText Lines (source.content input) (source.content input') → IsInterrupted prices source sink cabinet disk journal input input' output left place place' fault
       → InputStops prices source sink cabinet disk journal input input' output output' place place' fault
   stops_refused fault refused (inl stops) = stops.0
   stops_refused fault refused (inr run) = absurd (no_run prices _ _ _ run.1.network run.1.lines run.1.replies (StopsAfterLines fault) refused run.1.run)
@@ -141,11 +141,11 @@ module _ (prices : Network → Network → Type 0) {I O C E : Type 0} (source : 
   abbrev Leaves : {T : Type 0} → Result T Fault → Type 0
   Leaves done = RunLeaves prices source sink cabinet disk journal input input' output left place place' done
 
-  nothing_read : (Is : Network → Type 0) → IsRefusedText Lines (source.content input) (source.content input') → HasRead Lines prices (source.content input) (source.content input') Is → ⊥
+  nothing_read : (Is : Network → Type 0) → IsRefusedText Lines (source.content input) (source.content input') → HasNetwork Lines prices (source.content input) (source.content input') Is → ⊥
   nothing_read Is refused read = no_network_read Lines prices _ _ read.network refused read.text
 
   pub refused_ends : (done : Result ⊤ Fault) → Leaves done → IsRefusedText Lines (source.content input) (source.content input')
-      → EndsRefused prices source sink cabinet disk journal input input' output output' place place' (status_of_done done)
+      → EndsInputRefused prices source sink cabinet disk journal input input' output output' place place' (status_of_done done)
   refused_ends (Ok _) leaves refused = absurd (no_run prices _ _ _ leaves.0.network leaves.0.lines leaves.0.replies IsAllTaken refused leaves.0.run)
   refused_ends (Err (Words word)) leaves refused = absurd leaves
   refused_ends (Err (Topology refusal)) leaves refused = inl refl
@@ -163,17 +163,17 @@ module _ (prices : Network → Network → Type 0) {I O C E : Type 0} (source : 
   refused_ends (Err (Packet byte)) leaves refused = absurd leaves
 
   module _ (stays : Stays (sink.frame left) (sink.frame output')) (bytes : List ℕ) (gives : Gives (source.content input) (source.content input') bytes)
-      (servable : IsServable Lines (source.content input)) (held : NoneFailed prices source sink cabinet disk journal input input' output output' place place') where
+      (servable : IsServable Lines (source.content input)) (held : NothingFailed prices source sink cabinet disk journal input input' output output' place place') where
     abbrev Told : (Network → List ℕ → Type 0) → Type 0
-    Told Is = JournalIs prices source sink cabinet disk journal input input' output output' place place' Is
+    Told Is = AnyJournalIs prices source sink cabinet disk journal input input' output output' place place' Is
 
     -- a refused journal is none of the network's
     other_journal : (given : Network → Type 0) (meaning : Meaning Entry)
-        → HasRead Lines prices (source.content input) (source.content input') (λ network. given network × MatchOption journal ⊥ (λ name. IsRefused cabinet disk place place' network name meaning))
+        → HasNetwork Lines prices (source.content input) (source.content input') (λ network. given network × MatchOption journal ⊥ (λ name. IsRefusedOnDisk cabinet disk place place' network name meaning))
         → Told (λ network image. (history : List Entry) × IsHistoryOf network history image) → ⊥
     other_journal given meaning read told = at journal read.is.1 (of_read Lines prices (source.content input) (source.content input') bytes read.network _ gives read.text told)
       where
-        at : (one : Option (List ℕ)) → MatchOption one ⊥ (λ name. IsRefused cabinet disk place place' read.network name meaning) → IsToldAs cabinet disk place place' one (λ image. (history : List Entry) × IsHistoryOf read.network history image) → ⊥
+        at : (one : Option (List ℕ)) → MatchOption one ⊥ (λ name. IsRefusedOnDisk cabinet disk place place' read.network name meaning) → JournalIsTold cabinet disk place place' one (λ image. (history : List Entry) × IsHistoryOf read.network history image) → ⊥
         at None refused is = refused
         at (Some name) refused is = clash cabinet disk place place' name _ _ (λ image none history. none history.0 history.1) refused.none is
 
@@ -197,7 +197,7 @@ module _ (prices : Network → Network → Type 0) {I O C E : Type 0} (source : 
         → Told (λ network image. (history : List Entry) → ¬ IsHistoryOf network history image) → ⊥
     no_such_run closing some run told = at journal some run.run.begun (of_run prices (keeping_of cabinet disk place place' journal closing) (source.content input) (source.content input') bytes run.network run.lines run.replies IsAllTaken _ gives run.run told)
       where
-        at : (one : Option (List ℕ)) → IsSome one → (keeping_of cabinet disk place place' one closing).Begins run.network run.run.since → IsToldAs cabinet disk place place' one (λ image. (history : List Entry) → ¬ IsHistoryOf run.network history image) → ⊥
+        at : (one : Option (List ℕ)) → IsSome one → (keeping_of cabinet disk place place' one closing).Begins run.network run.run.since → JournalIsTold cabinet disk place place' one (λ image. (history : List Entry) → ¬ IsHistoryOf run.network history image) → ⊥
         at None is begun told_as = absurd (cc is)
         at (Some name) is begun told_as = clash cabinet disk place place' name _ _ (λ image history none. none run.run.since history) begun told_as
 

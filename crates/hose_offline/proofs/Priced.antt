@@ -4,7 +4,7 @@ use Rattle.std.specs.Prelude.{⊤}
 use Rattle.hose_io.specs.declared.source.Source.{Ghosts as SourceGhosts}
 use Rattle.hose_io.specs.declared.sink.Sink.{Ghosts as SinkGhosts}
 use Rattle.hose_words.proofs.Coming.{Gives-nil}
-use Rattle.hose_words.specs.declared.limits.TheConstants.{INPUT_LIMIT}
+use Rattle.hose_words.specs.declared.lines.TheConstants.{INPUT_LIMIT}
 use Rattle.hose_graph.specs.Network.{Network}
 use Rattle.hose_disk.specs.declared.cabinet.Cabinet.{Ghosts as CabinetGhosts}
 use Rattle.hose_io.specs.Stream.{Stream}
@@ -12,7 +12,7 @@ use Rattle.hose_price.specs.Sheet.{Sheet}
 use Rattle.hose_offline.specs.Auditing.{IsTextFault, ReadsTopology}
 use Rattle.hose_offline.specs.CabinetText.{whole_text}
 use Rattle.hose_offline.specs.Ending.{status_of_done}
-use Rattle.hose_offline.specs.PriceOutcome.{AnswersBy, PriceLeaves, PricesInput, PricesNamed}
+use Rattle.hose_offline.specs.PriceOutcome.{AnswersBySheet, PriceLeaves, PricesInput, PricesNamed}
 use Rattle.hose_offline.specs.TopologyTold.{limit_of, notation_of, own_costs}
 use Rattle.hose_offline.specs.declared.fault.Fault.{Fault}
 use Rattle.hose_offline.specs.declared.fault.Fault.TheVariants as fault
@@ -81,7 +81,7 @@ module _ (makes : Network → Sheet → Type 0) (names : List (List ℕ)) {I O :
         back (inr long) = answered.too_long.1 long
 
     -- no answers end with wrong words
-    words : (input' : I) (output' : O) (word : ℕ) (network : Network) → AnswersBy makes names source sink input input' output output' network (Err (fault.Words word)) → ⊥
+    words : (input' : I) (output' : O) (word : ℕ) (network : Network) → AnswersBySheet makes names source sink input input' output output' network (Err (fault.Words word)) → ⊥
     words input' output' word network (inl starved) = cc starved.0
     words input' output' word network (inr (sheet, is, answers)) = answers
 

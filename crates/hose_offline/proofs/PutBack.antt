@@ -17,7 +17,7 @@ use Rattle.hose_journal.specs.Moments.{LeavesOnly}
 use Rattle.hose_store.specs.Beginning.{HasLeft}
 use Rattle.hose_store.specs.Opening.{IsAtOpening}
 use Rattle.hose_store.specs.Recovery.{IsHistoryOf, IsRecoveredAs}
-use Rattle.hose_offline.specs.OnDisk.{Held, IsRefused, IsUnopened, opening_of}
+use Rattle.hose_offline.specs.OnDisk.{HadContent, IsRefusedOnDisk, IsUnopened, opening_of}
 use Rattle.hose_offline.specs.ServingOnDisk.{IsNotOpened, IsNotServed, Refuses}
 use Rattle.hose_offline.specs.declared.fault.Fault.{Fault}
 use Rattle.hose_offline.specs.declared.fault.Fault.TheVariants as fault
@@ -87,7 +87,7 @@ module _ {C E : Type 0} (cabinet : CabinetGhosts C E) (disk : DiskGhosts E) (nam
       taken_from)
 
   -- what was read of the disk is what it held
-  pub held_as : (P : List ℕ → Type 0) → IfSome (disk.content opened) P → Held cabinet disk old new name P
+  pub held_as : (P : List ℕ → Type 0) → IfSome (disk.content opened) P → HadContent cabinet disk old new name P
   held_as P is = has_weaker was_tells (cabinet.held old name) _ _ (λ was same. subst (λ (c : Option (List ℕ)). IfSome c P) same is) back.content
 
   -- the count of the cabinet
@@ -121,7 +121,7 @@ module _ {C E : Type 0} (cabinet : CabinetGhosts C E) (disk : DiskGhosts E) (nam
     ok = tt;
   }
 
-  refuses : (meaning : Meaning Entry) → IsUnopened cabinet disk old new network name → Refuses disk opened network meaning → IsRefused cabinet disk old new network name meaning
+  refuses : (meaning : Meaning Entry) → IsUnopened cabinet disk old new network name → Refuses disk opened network meaning → IsRefusedOnDisk cabinet disk old new network name meaning
   refuses meaning none is = record {
     means = held_as (λ bytes. IsRecoveredAs network bytes meaning) (first_of (disk.content opened) is);
     none = held_as (λ bytes. (history : List Entry) → ¬ IsHistoryOf network history bytes) (second_of (disk.content opened) is);

@@ -11,10 +11,11 @@ use Rattle.hose_words.specs.declared.lines.LineFault.TheVariants as line
 use Rattle.hose_words.proofs.OnReading.{IsAfterLines-then, WhereTold-both, WhereTold-map, WhereTold-then}
 use Rattle.hose_graph.specs.Network.{Network, IsNetwork}
 use Rattle.hose_graph.specs.declared.entry.Entry.{Entry}
-use Rattle.hose_graph.specs.declared.reply.Reply.{Reply}
-use Rattle.hose_graph.specs.declared.reply.Reply.TheVariants.{Welcome, Admitted, Quoted, Refused, Stale, Released, NoVpn, NoQuote, TooMany, Shown, LinkState, Down, Up, Already, Denied, Full, Spent, Disk, Memory, Bad, Long, Bye}
+use Rattle.hose_graph.specs.declared.command.Reply.{Reply}
 use Rattle.hose_law.specs.History.{IsDecidedAt}
-use Rattle.hose_law.specs.Script.{IsForDisk, ReadLine, WithoutDisk, one_if_disk}
+use Rattle.hose_law.specs.ReplyKind.{ReplyKind, IsDiskKind, failures_of, kind_of}
+use Rattle.hose_law.specs.ReplyKind.ReplyKind.{ByTheBook, ForDisk, ForMemory, ForNoCommand}
+use Rattle.hose_law.specs.Script.{IsForDisk, ReadLine, WithoutDisk}
 use Rattle.hose_law.proofs.Cheapest.{decided_cheapest}
 use Rattle.hose_law.proofs.Lives.{live_held, stays_live}
 use Rattle.hose_law.proofs.Sold.{sold}
@@ -135,31 +136,13 @@ cut_of prices keeping old new network lines replies before after run cuts = reco
 pub never_told : (replies : List Reply) → TellsDisks 0 replies 0 → WithoutDisk replies
 never_told [] told = All-nil (λ reply. ¬ IsForDisk reply)
 never_told (reply ∷ replies) (inr most) = absurd (omega (arith, most))
-never_told (reply ∷ replies) (inl told) = All-cons (λ r. ¬ IsForDisk r) reply replies (is_none reply (omega (arith, told))) (never_told replies (inl (omega (arith, told))))
+never_told (reply ∷ replies) (inl told) = All-cons (λ r. ¬ IsForDisk r) reply replies (is_none (kind_of reply) (omega (arith, told))) (never_told replies (inl (omega (arith, told))))
   where
-    is_none : (one : Reply) → one_if_disk one ≡ 0 → ¬ IsForDisk one
-    is_none (Disk at) none disk = cc none
-    is_none (Welcome at) none disk = disk
-    is_none (Admitted id cost at amounts) none disk = disk
-    is_none (Quoted quote cost at amounts) none disk = disk
-    is_none (Refused at side) none disk = disk
-    is_none (Stale seen now) none disk = disk
-    is_none (Released id at) none disk = disk
-    is_none (NoVpn id at) none disk = disk
-    is_none (NoQuote quote at) none disk = disk
-    is_none (TooMany at) none disk = disk
-    is_none (Shown id cost at hose amounts) none disk = disk
-    is_none (LinkState link load out at) none disk = disk
-    is_none (Down link at) none disk = disk
-    is_none (Up link at) none disk = disk
-    is_none (Already link at) none disk = disk
-    is_none (Denied at) none disk = disk
-    is_none (Full at) none disk = disk
-    is_none (Spent at) none disk = disk
-    is_none Memory none disk = disk
-    is_none (Bad word) none disk = disk
-    is_none Long none disk = disk
-    is_none Bye none disk = disk
+    is_none : (kind : ReplyKind) → failures_of kind ≡ 0 → ¬ IsDiskKind kind
+    is_none ByTheBook none disk = disk
+    is_none (ForDisk at) none disk = cc none
+    is_none ForMemory none disk = disk
+    is_none ForNoCommand none disk = disk
 
 -- ---- what a run leaves
 

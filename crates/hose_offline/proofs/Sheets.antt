@@ -13,7 +13,7 @@ use Rattle.hose_words.specs.Lines.{IsNext, Reader, Shows, StopsAfterLines}
 use Rattle.hose_words.specs.Reading.{ReadsOn, WhereTold}
 use Rattle.hose_words.specs.Saying.{IsAllTaken, IsLeftOver, SayLines, SaysUpTo, StopsReading}
 use Rattle.hose_words.specs.Words.{words_of}
-use Rattle.hose_words.specs.declared.limits.TheConstants.{LINE_LIMIT}
+use Rattle.hose_words.specs.declared.lines.TheConstants.{LINE_LIMIT}
 use Rattle.hose_words.specs.declared.lines.Line.{Line}
 use Rattle.hose_words.specs.declared.lines.LineFault.{LineFault}
 use Rattle.hose_words.specs.declared.lines.LineFault.TheVariants as line_fault

@@ -27,7 +27,7 @@ use Rattle.hose_offline.specs.AuditOutcome.{JournalIs, NoneFailed}
 use Rattle.hose_offline.specs.Auditing.{ReadsTopology}
 use Rattle.hose_offline.specs.Ending.{IsLastLine, status_of_done}
 use Rattle.hose_offline.specs.Fault.{of_store}
-use Rattle.hose_offline.specs.OnDisk.{CabinetFailed, Held, IsUnopened}
+use Rattle.hose_offline.specs.OnDisk.{CabinetFailed, HadContent, IsUnopened}
 use Rattle.hose_offline.specs.ServingOnDisk.{IsNotServed}
 use Rattle.hose_offline.specs.ShipOutcome.{IsShipped, ShipOutcome, ShipsInCabinet, ShipsPart, shipping_done}
 use Rattle.hose_offline.specs.TopologyTold.{notation_of}
@@ -72,7 +72,7 @@ module _ {O C E : Type 0} (sink : SinkGhosts O) (cabinet : CabinetGhosts C E) (d
       out = up.out;
     }
       where
-        at : (up.entries ≡ []) ⊎ IfSome (disk.content opened) (BeginsWith (digest_of network) up.entries) → (up.entries ≡ []) ⊎ Held cabinet disk old new name (BeginsWith (digest_of network) up.entries)
+        at : (up.entries ≡ []) ⊎ IfSome (disk.content opened) (BeginsWith (digest_of network) up.entries) → (up.entries ≡ []) ⊎ HadContent cabinet disk old new name (BeginsWith (digest_of network) up.entries)
         at (inl none) = inl none
         at (inr begins) = inr (held_as cabinet disk name old mid new network opened left back (BeginsWith (digest_of network) up.entries) begins)
 
@@ -131,7 +131,7 @@ module _ (prices : Network → Network → Type 0) {O C E : Type 0} (sink : Sink
     part_before : (Puts : List ℕ → Type 0) → ShipsPart sink cabinet disk journal from output mid read place' network Puts → ShipsPart sink cabinet disk journal from output mid place place' network Puts
     part_before Puts is = record { entries = is.entries; sound = is.sound; held = at is.held; out = is.out }
       where
-        at : (is.entries ≡ []) ⊎ Held cabinet disk read place' journal (BeginsWith (digest_of network) is.entries) → (is.entries ≡ []) ⊎ Held cabinet disk place place' journal (BeginsWith (digest_of network) is.entries)
+        at : (is.entries ≡ []) ⊎ HadContent cabinet disk read place' journal (BeginsWith (digest_of network) is.entries) → (is.entries ≡ []) ⊎ HadContent cabinet disk place place' journal (BeginsWith (digest_of network) is.entries)
         at (inl none) = inl none
         at (inr held) = inr (held_before cabinet disk place read place' reads.only_texts journal _ held)
 

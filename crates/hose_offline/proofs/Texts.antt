@@ -1,12 +1,14 @@
 -- A text of a cabinet as a stream of bytes.
-use Rattle.std.proofs.Common.{◌≡◌, ◌∙◌, ℕ, ◌+◌, ◌-◌, ◌≤◌, List, [], ◌++◌, length, take, drop, Bool, true, false, Option, Some, None, IsTrue, refl, sym, ap, subst, arith, append_assoc}
+use Rattle.std.proofs.Common.{◌≡◌, ◌∙◌, ℕ, ◌+◌, ◌-◌, ◌≤◌, List, ◌++◌, length, take, drop, Bool, true, false, Option, Some, None, IsSome, IsTrue, Result, refl, sym, ap, subst, arith}
 use Rattle.std.proofs.lemmas.List.{drop-take, drop_all, length-take, take-append-drop, take-append-le}
 use Rattle.std.proofs.Math.Seq.{take-add, take-take, drop-drop}
-use base.Stored.{Gv, gnil, gnum, gcons}
 use Rattle.hose_io.specs.Stream.{Gives, IsAtEnd}
-use Rattle.hose_words.specs.declared.limits.TheConstants.{INPUT_LIMIT}
-use Rattle.hose_disk.specs.Cabinet.{Has, IsTextAt}
-use Rattle.hose_offline.specs.CabinetText.{stream_at, names_of}
+use Rattle.hose_words.specs.declared.lines.TheConstants.{INPUT_LIMIT}
+use Rattle.hose_disk.specs.Cabinet.{Has, IsTextAt, IsTextCall, absent_after}
+use Rattle.hose_disk.specs.declared.cabinet.Cabinet.{Ghosts}
+use Rattle.hose_io.specs.declared.Failed.{Failed}
+use Rattle.hose_io.proofs.Frames.{Stays-none, Stays-next}
+use Rattle.hose_offline.specs.CabinetText.{HasAsked, OnlyTextsRead, TextState, stream_at, text_stream}
 
 some_is : {A : Type 0} (a b : A) → Some a ≡ Some b → a ≡ b
 some_is a b same = cc same
@@ -26,12 +28,12 @@ at_end from count got true (Some bytes) read none =
 at_end from count got true None read none = tt
 at_end from count got false found read none = tt
 
--- the same of a cabinet that has the same texts, and of the whole that was read into
-pub read_before : (from count : ℕ) (got more : List ℕ) (tells tells' : Bool) (found found' : Option (List ℕ)) → tells' ≡ tells → found' ≡ found → count ≤ length got → Has tells' found' (λ bytes. IsTextAt from count bytes got)
-    → Has tells found (λ bytes. IsTextAt from count bytes (got ++ more))
-read_before from count got more tells tells' found found' same_tells same_found room read = λ told.
-    let is = read (subst IsTrue (sym same_tells) told) in
-    (is.0, sym same_found ∙ is.1, record { bytes_there = take-append-le count got more room ∙ is.2.bytes_there; none_only_at_end = is.2.none_only_at_end })
+-- what was read stands so in a cabinet that has the same texts, and at the front of all that was
+-- read into
+pub read_before : (from count : ℕ) (got more : List ℕ) (tells : Bool) (found : Option (List ℕ)) → count ≤ length got → Has tells found (λ bytes. IsTextAt from count bytes got) → Has tells found (λ bytes. IsTextAt from count bytes (got ++ more))
+read_before from count got more tells found room read = λ told.
+    let is = read told in
+    (is.0, is.1, record { bytes_there = take-append-le count got more room ∙ is.2.bytes_there; none_only_at_end = is.2.none_only_at_end })
 
 front_of : (from count : ℕ) (bytes : List ℕ) → from + count ≤ INPUT_LIMIT + 1 → take count (drop from (take (INPUT_LIMIT + 1) bytes)) ≡ take count (drop from bytes)
 front_of from count bytes fits =
@@ -54,22 +56,51 @@ gives_text from count got true (Some bytes) read fits =
 gives_text from count got true None read fits = tt
 gives_text from count got false found read fits = tt
 
--- ---- numbers of a value
+-- ---- what is behind a text
 
-both_same : (a b : Gv) (r s : List ℕ) → names_of a ++ r ≡ names_of b ++ s → (a ≡ b) × (r ≡ s)
-both_same gnil gnil r s same = (refl, cc same)
-both_same gnil (gnum n) r s same = absurd (cc same)
-both_same gnil (gcons c d) r s same = absurd (cc same)
-both_same (gnum m) gnil r s same = absurd (cc same)
-both_same (gnum m) (gnum n) r s same = (cc same, cc same)
-both_same (gnum m) (gcons c d) r s same = absurd (cc same)
-both_same (gcons a b) gnil r s same = absurd (cc same)
-both_same (gcons a b) (gnum n) r s same = absurd (cc same)
-both_same (gcons a b) (gcons c d) r s same =
-    let first = both_same a c (names_of b ++ r) (names_of d ++ s) (sym (append_assoc (names_of a) (names_of b) r) ∙ (cc same ∙ append_assoc (names_of c) (names_of d) s)) in
-    let second = both_same b d r s first.1 in
-    (λ i. gcons (first.0 i) (second.0 i), second.1)
+module _ {C E : Type 0} (cabinet : Ghosts C E) where
+  -- a text is as it was, where only texts were asked for
+  pub same_stream : (was now : C) (name : List ℕ) (from : ℕ) → OnlyTextsRead cabinet was now → text_stream cabinet now name from ≡ text_stream cabinet was name from
+  same_stream was now name from only = rw (only.texts, only.tells) refl
 
--- values of the same numbers are the same
-pub same_value : (a b : Gv) → names_of a ≡ names_of b → a ≡ b
-same_value a b same = (both_same a b [] [] (ap (λ (t : List ℕ). t ++ []) same)).0
+  -- nothing was asked
+  pub HasAsked-none : (text : TextState C) → HasAsked cabinet text text
+  HasAsked-none text = record {
+    name = refl;
+    only_texts = record { texts = refl; disks = refl; stays = Stays-none _; returned = refl; out = refl; tells = refl };
+    absent = λ _. refl;
+  }
+
+  -- one call after others
+  pub HasAsked-next : (a b c : TextState C) → HasAsked cabinet a b → HasAsked cabinet b c → HasAsked cabinet a c
+  HasAsked-next a b c p q = record {
+    name = q.name ∙ p.name;
+    only_texts = record {
+      texts = q.only_texts.texts ∙ p.only_texts.texts;
+      disks = q.only_texts.disks ∙ p.only_texts.disks;
+      stays = Stays-next p.only_texts.stays q.only_texts.stays;
+      returned = q.only_texts.returned ∙ p.only_texts.returned;
+      out = q.only_texts.out ∙ p.only_texts.out;
+      tells = q.only_texts.tells ∙ p.only_texts.tells;
+    };
+    absent = λ told. q.absent (p.only_texts.tells ∙ told) ∙ p.absent told;
+  }
+
+  still_absent : (found : Option (List ℕ)) (absent : ℕ) → IsSome found → absent_after found absent ≡ absent
+  still_absent None absent there = absurd (cc there)
+  still_absent (Some bytes) absent there = refl
+
+  -- one call for a text
+  pub texts_read : {T : Type 0} (was now : C) (result : Result T Failed) → cabinet.text now ≡ cabinet.text was → cabinet.held now ≡ cabinet.held was → IsTextCall (cabinet.frame was) (cabinet.frame now) result → OnlyTextsRead cabinet was now
+  texts_read was now result texts disks call = record { texts = texts; disks = disks; stays = call.met.stays; returned = call.returned; out = call.out; tells = call.tells }
+
+  -- one call has asked the cabinet for the text of a name, and done no more
+  pub asked_once : {T : Type 0} (was now : TextState C) (result : Result T Failed) → now.name ≡ was.name → cabinet.text now.cabinet.now ≡ cabinet.text was.cabinet.now → cabinet.held now.cabinet.now ≡ cabinet.held was.cabinet.now
+      → IsTextCall (cabinet.frame was.cabinet.now) (cabinet.frame now.cabinet.now) result
+      → (IsTrue (cabinet.frame was.cabinet.now).tells → (cabinet.frame now.cabinet.now).absent ≡ absent_after (cabinet.text was.cabinet.now was.name) (cabinet.frame was.cabinet.now).absent)
+      → (IsTrue (cabinet.frame was.cabinet.now).tells → IsSome (cabinet.text was.cabinet.now was.name)) → HasAsked cabinet was now
+  asked_once was now result name texts disks call absent there = record {
+    name = name;
+    only_texts = texts_read was.cabinet.now now.cabinet.now result texts disks call;
+    absent = λ told. absent told ∙ still_absent _ _ (there told);
+  }

@@ -19,14 +19,15 @@ use Rattle.hose_words.specs.declared.lines.Line.{Line}
 use Rattle.hose_words.specs.declared.lines.Line.TheVariants as line
 use Rattle.hose_graph.specs.declared.entry.Entry.{Entry}
 use Rattle.hose_graph.specs.declared.command.Command.{Command}
-use Rattle.hose_graph.specs.declared.reply.Reply.{Reply}
-use Rattle.hose_graph.specs.declared.reply.Reply.TheVariants.{Welcome, Admitted, Quoted, Refused, Stale, Released, NoVpn, NoQuote, TooMany, Shown, LinkState, Down, Up, Already, Denied, Full, Spent, Disk, Memory, Bad, Long, Bye}
+use Rattle.hose_graph.specs.declared.command.Reply.{Reply}
 use Rattle.hose_graph.specs.Network.{Network}
 use Rattle.hose_law.specs.History.{book_of, IsDecided, IsDecidedAt, IsSound, IsSoundAt, IsSoundWith}
 use Rattle.hose_law.specs.Answer.{IsStepOf}
 use Rattle.hose_law.specs.Quotes.{nothing_held, with_held}
 use Rattle.hose_law.proofs.Fronts.{prefix_push}
 use Rattle.hose_law.proofs.Scripts.{decided_end, decided_push, disks_push, script_push}
+use Rattle.hose_law.specs.ReplyKind.{ReplyKind, failures_of, kind_of}
+use Rattle.hose_law.specs.ReplyKind.ReplyKind.{ByTheBook, ForDisk, ForMemory, ForNoCommand}
 use Rattle.hose_law.specs.Script.{ReadLine, IsLineStep, one_if_disk}
 use Rattle.hose_law.specs.Script.ReadLine.{Asks, IsBad, IsLong, Unread}
 use Rattle.hose_offline.specs.ScriptLine.{IsAsking, WantsMemory, script_grammar}
@@ -40,12 +41,12 @@ use Rattle.hose_io.proofs.Frames.{Stays-next, Stays-none, Stays-same}
 use Rattle.hose_offline.specs.Fault.{of_line}
 use Rattle.hose_book.specs.Commit.{IsMet, history_after}
 use Rattle.hose_book.specs.GoingOn.{GoesOn, none_yet, entry_more}
-use Rattle.hose_book.specs.declared.committed.Committed.{Committed}
-use Rattle.hose_book.specs.declared.committed.Committed.TheVariants.{Done, Disk as Failing}
+use Rattle.hose_book.specs.declared.books.Committed.{Committed}
+use Rattle.hose_book.specs.declared.books.Committed.TheVariants.{Done, Disk as Failing}
 use Rattle.hose_book.specs.declared.books.Books.{Ghosts as BooksGhosts}
 use Rattle.hose_core.specs.Holding.{State}
-use Rattle.hose_core.specs.Stepping.{FitsHistory, Goes, committed_of, history_with}
-use Rattle.hose_offline.specs.Serving.{Says, SaysNext, SaysOneThing, SaysRead, SayOneThingEach, none_said, line_more, TellsDisks, AnswersLine, AreAnswered, HasServed, Serves, ServesLine, ServesUntil, ServesUpTo, TakesTurn}
+use Rattle.hose_core.specs.Stepping.{FitsHistory, Goes, committed_for, committed_of, history_with}
+use Rattle.hose_offline.specs.Serving.{Says, SaysNext, SaysOneThing, SaysRead, SayOneThingEach, none_said, line_more, TellsDisks, AnswersLine, AreAnswered, HasAnsweredLines, Serves, ServesLine, ServesUntil, ServesUpTo, AnswersNextLine}
 
 -- what a reader shows of a line says what the line says
 pub says_shown : (network : Network) (shown : Line) (bytes : List ℕ) (said : ReadLine) → Shows shown bytes → SaysRead network shown said → Says network bytes said
@@ -62,7 +63,7 @@ says_shown network line.Long bytes Unread shows says = absurd says
 -- a line that was read, and answered, makes a turn
 pub turn_of : {S : Type 0} (source : Ghosts S) (old new : Reader S) (network other : Network) (shown : Line) (reply : Reply) (Answers : ReadLine → Reply → Type 0) (puts : List ℕ → Type 0)
     → IsNext source old new (Ok (Some shown)) → (said : ReadLine) × SaysRead network shown said × Answers said reply
-    → ((bytes : List ℕ) → Shows shown bytes → SaysOneThing network bytes) → other ≡ network → puts (line_of (reply_text other reply)) → TakesTurn source old new network Answers puts
+    → ((bytes : List ℕ) → Shows shown bytes → SaysOneThing network bytes) → other ≡ network → puts (line_of (reply_text other reply)) → AnswersNextLine source old new network Answers puts
 turn_of source old new network other shown reply Answers puts next answers alone same out = record {
   said = answers.0;
   reply = reply;
@@ -92,28 +93,13 @@ told_one before after rose = ⊎_elim (λ more. inl (omega (arith, more))) (λ m
 
 -- what the commit of an entry left of a frame
 kept : (before after : Frame) (reply : Reply) → IsMet before (committed_of reply) after → Stays before after × TellsOne before reply after
-kept before after (Disk at) met = (met.0, told_one before after met.1)
-kept before after (Welcome at) met = (Stays-same met, told_none before after met)
-kept before after (Admitted id cost at amounts) met = (Stays-same met, told_none before after met)
-kept before after (Quoted quote cost at amounts) met = (Stays-same met, told_none before after met)
-kept before after (Refused at side) met = (Stays-same met, told_none before after met)
-kept before after (Stale seen now) met = (Stays-same met, told_none before after met)
-kept before after (Released id at) met = (Stays-same met, told_none before after met)
-kept before after (NoVpn id at) met = (Stays-same met, told_none before after met)
-kept before after (NoQuote quote at) met = (Stays-same met, told_none before after met)
-kept before after (TooMany at) met = (Stays-same met, told_none before after met)
-kept before after (Shown id cost at hose amounts) met = (Stays-same met, told_none before after met)
-kept before after (LinkState link load out at) met = (Stays-same met, told_none before after met)
-kept before after (Down link at) met = (Stays-same met, told_none before after met)
-kept before after (Up link at) met = (Stays-same met, told_none before after met)
-kept before after (Already link at) met = (Stays-same met, told_none before after met)
-kept before after (Denied at) met = (Stays-same met, told_none before after met)
-kept before after (Full at) met = (Stays-same met, told_none before after met)
-kept before after (Spent at) met = (Stays-same met, told_none before after met)
-kept before after Memory met = (Stays-same met, told_none before after met)
-kept before after (Bad word) met = (Stays-same met, told_none before after met)
-kept before after Long met = (Stays-same met, told_none before after met)
-kept before after Bye met = (Stays-same met, told_none before after met)
+kept before after reply met = at (kind_of reply) met
+  where
+    at : (kind : ReplyKind) → IsMet before (committed_for kind) after → Stays before after × ((before.faults + failures_of kind ≤ after.faults) ⊎ (2 ^ 64 - 1 ≤ after.faults))
+    at ByTheBook met = (Stays-same met, told_none before after met)
+    at (ForDisk epoch) met = (met.0, told_one before after met.1)
+    at ForMemory met = (Stays-same met, told_none before after met)
+    at ForNoCommand met = (Stays-same met, told_none before after met)
 
 -- one reply more
 disks_more : (before : ℕ) (middle after : Frame) (replies : List Reply) (reply : Reply) → TellsDisks before replies middle.faults → Stays middle after → TellsOne middle reply after
@@ -210,7 +196,7 @@ module _ {K R : Type 0} (books : BooksGhosts K R) (since : List Entry) (first ol
   answered_more Unread reply answers = fixed_more Unread reply (answers.0, refl, refl) (ap one_if_disk answers.0) answers.1
 
 pub nothing_served : {S K R : Type 0} (source : Ghosts S) (books : BooksGhosts K R) (reader : Reader S) (since : List Entry) (core : State K) (content : Option (List ℕ)) → IsSound (books.ledger core.books).network 0 since → FitsHistory books core 0 since nothing_held
-    → HasServed source books reader reader since core core content content
+    → HasAnsweredLines source books reader reader since core core content content
 nothing_served source books reader since core content sound fits = record {
   lines = [];
   replies = [];
@@ -236,25 +222,25 @@ module _ {S K R : Type 0} (source : Ghosts S) (books : BooksGhosts K R) (start n
   top = (books.ledger begun.books).network
 
   abbrev Served : Type 0
-  Served = HasServed source books start now since begun core first middle
+  Served = HasAnsweredLines source books start now since begun core first middle
 
   abbrev Turn : (List ℕ → Type 0) → Type 0
-  Turn puts = TakesTurn source now new (books.ledger core.books).network (AnswersLine books core next) puts
+  Turn puts = AnswersNextLine source now new (books.ledger core.books).network (AnswersLine books core next) puts
 
-  -- the same turn in the words of the first network
-  here : (puts : List ℕ → Type 0) → Served → Turn puts → TakesTurn source now new top (AnswersLine books core next) puts
-  here puts served turn = subst (λ (n : Network). TakesTurn source now new n (AnswersLine books core next) puts) served.network turn
+  -- a turn of the network that there is now is one of the first network
+  here : (puts : List ℕ → Type 0) → Served → Turn puts → AnswersNextLine source now new top (AnswersLine books core next) puts
+  here puts served turn = subst (λ (n : Network). AnswersNextLine source now new n (AnswersLine books core next) puts) served.network turn
 
   -- the line of a turn stands after those that were said
-  said_after : (puts : List ℕ → Type 0) (served : Served) → ReadsOn source start now → (turn : TakesTurn source now new top (AnswersLine books core next) puts)
+  said_after : (puts : List ℕ → Type 0) (served : Served) → ReadsOn source start now → (turn : AnswersNextLine source now new top (AnswersLine books core next) puts)
       → WhereTold (source.content start.source) (source.content new.source) (λ was left. SayLines (SaysNext top) (start.pending ++ was) (served.lines ++ turn.said ∷ []) (new.pending ++ left))
   said_after puts served reads turn = said_more source (SaysNext top) start now new served.lines served.said reads turn.said (λ bytes. Says top bytes turn.said × SaysOneThing top bytes) turn.line (λ bytes is. is.0)
 
-  goes_on : (served : Served) → (puts : List ℕ → Type 0) (turn : TakesTurn source now new top (AnswersLine books core next) puts) → Answered books since begun next (served.lines ++ turn.said ∷ []) (served.replies ++ turn.reply ∷ [])
+  goes_on : (served : Served) → (puts : List ℕ → Type 0) (turn : AnswersNextLine source now new top (AnswersLine books core next) puts) → Answered books since begun next (served.lines ++ turn.said ∷ []) (served.replies ++ turn.reply ∷ [])
   goes_on served puts turn = answered_more books since begun core next served.lines served.replies (record { answered = served.answered; fits = served.fits; network = served.network }) turn.said turn.reply turn.answers
 
   -- a turn more is served
-  pub served_more : Served → ReadsOn source start now → Turn (Grows middle last) → HasServed source books start new since begun next first last
+  pub served_more : Served → ReadsOn source start now → Turn (Grows middle last) → HasAnsweredLines source books start new since begun next first last
   served_more served reads taken =
       let turn = here (Grows middle last) served taken in
       let more = goes_on served (Grows middle last) turn in record {
@@ -316,7 +302,7 @@ module _ {S K R : Type 0} (source : Ghosts S) (books : BooksGhosts K R) (start n
 -- ---- what answering lines comes to
 
 module _ {S O K R : Type 0} (source : Ghosts S) (sink : SinkGhosts O) (books : BooksGhosts K R) (start now new : Reader S) (since : List Entry) (begun core next : State K) (first middle last : O)
-    (served : HasServed source books start now since begun core (sink.content first) (sink.content middle)) (reads : ReadsOn source start now) (none : now.fault ≡ None) (held : sink.frame middle ≡ sink.frame first) where
+    (served : HasAnsweredLines source books start now since begun core (sink.content first) (sink.content middle)) (reads : ReadsOn source start now) (none : now.fault ≡ None) (held : sink.frame middle ≡ sink.frame first) where
   abbrev whole : Network
   whole = (books.ledger begun.books).network
 

@@ -16,8 +16,8 @@ use Rattle.hose_offline.specs.Auditing.{HasAudited, IsLongAt, IsNotAudited, IsSt
 use Rattle.hose_offline.specs.CabinetText.{whole_text}
 use Rattle.hose_offline.specs.Ending.{IsOut, TakesWithinLimit}
 use Rattle.hose_offline.specs.Fault.{last_line, status_of}
-use Rattle.hose_offline.specs.OnDisk.{CabinetFailed, IsToldAs}
-use Rattle.hose_offline.specs.Run.{HasRead, IsFor, IsRefusedText, IsServable}
+use Rattle.hose_offline.specs.OnDisk.{CabinetFailed, JournalIsTold}
+use Rattle.hose_offline.specs.Run.{HasNetwork, IsFor, IsRefusedText, IsServable}
 use Rattle.hose_offline.specs.TopologyTold.{notation_of}
 use Rattle.hose_offline.specs.declared.fault.Fault.{Fault}
 use Rattle.hose_offline.specs.declared.notation.Notation.{Notation}
@@ -53,8 +53,8 @@ module _ (prices : Network → Network → Type 0) {O C E : Type 0} (sink : Sink
 
   -- A history was read, for which the journal stood, and the text of its book is told after the
   -- journal was closed.
-  abbrev pub IsTold : ℕ → Network → Type 0
-  IsTold status network = (history : List Entry) × (closing : Result ⊤ Failed)
+  abbrev pub IsAudited : ℕ → Network → Type 0
+  IsAudited status network = (history : List Entry) × (closing : Result ⊤ Failed)
       × HasAudited cabinet disk journal place place' network history closing
       × EndsTold sink output output' status (closing_fault closing)
       (audit_text network (book_of 0 history))
@@ -62,7 +62,7 @@ module _ (prices : Network → Network → Type 0) {O C E : Type 0} (sink : Sink
   -- The topology and the journal that were named were read, and this is told of the network; or
   -- not, and nothing but the last line is out, which tells why, and the rest is untouched.
   abbrev pub EndsNamed : (Network → Type 0) → Type 0 → Option Stream → ℕ → Type 0
-  EndsNamed Tells Untouched left status = HasRead written prices text left Tells
+  EndsNamed Tells Untouched left status = HasNetwork written prices text left Tells
       ⊎ ((why : Fault) × (status ≡ status_of why)
       × IsNotAudited prices cabinet disk topology journal place place' left why
       × IsOut sink output output' (last_line why) × Untouched)
@@ -84,7 +84,7 @@ module _ (prices : Network → Network → Type 0) {O C E : Type 0} (sink : Sink
   -- the journal is told, and is so for each network with whose text the topology begins
   abbrev pub JournalIs : (Network → List ℕ → Type 0) → Type 0
   JournalIs Is = IsFor written prices text (λ network.
-      IsToldAs cabinet disk place place' (Some journal) (Is network))
+      JournalIsTold cabinet disk place place' (Some journal) (Is network))
 
   -- What comes of a command that names a topology and a journal, and that tells this of them. Of
   -- the text of the topology this is left.
@@ -111,4 +111,4 @@ module _ (prices : Network → Network → Type 0) {O C E : Type 0} (sink : Sink
 
   -- an audit tells the book of the journal
   abbrev pub AuditOutcome : ℕ → Type 0
-  AuditOutcome = NamedOutcome IsTold ⊤ ⊤
+  AuditOutcome = NamedOutcome IsAudited ⊤ ⊤

@@ -17,8 +17,8 @@ use Rattle.hose_store.specs.Opening.{IsAtOpening}
 use Rattle.hose_store.specs.Recovery.{IsHistoryOf}
 use Rattle.hose_topo.specs.Reading.{StopsInTopology}
 use Rattle.hose_offline.specs.CabinetText.{OnlyTextsRead, whole_text}
-use Rattle.hose_offline.specs.OnDisk.{CabinetFailed, CabinetHeld, Held}
-use Rattle.hose_offline.specs.Run.{HasRead, HasText, TellsNoNetwork}
+use Rattle.hose_offline.specs.OnDisk.{CabinetFailed, CabinetWorked, HadContent}
+use Rattle.hose_offline.specs.Run.{HasNetwork, HasText, TellsNoNetwork}
 use Rattle.hose_offline.specs.ServingOnDisk.{IsNotOpened, IsNotServed}
 use Rattle.hose_offline.specs.TopologyTold.{TellsPriced, limit_of, notation_of}
 use Rattle.hose_offline.specs.declared.fault.Fault.{Fault}
@@ -44,20 +44,21 @@ module _ {C E : Type 0} (cabinet : CabinetGhosts C E) (old new : C) where
   -- the costs of one that was read.
   abbrev pub IsTextFault : Notation → Option Stream → Option Stream → Fault → Type 0
   IsTextFault written text left (fault.Topology refusal) =
-      TellsNoNetwork written refusal text left × CabinetHeld cabinet old new
+      TellsNoNetwork written refusal text left × CabinetWorked cabinet old new
   IsTextFault written text left fault.TooLong =
-      IsLongAt written text left × CabinetHeld cabinet old new
+      IsLongAt written text left × CabinetWorked cabinet old new
   IsTextFault written text left fault.Cabinet = CabinetFailed cabinet old new
   IsTextFault written text left fault.Memory =
-      (IsStarvedAt written text left ⊎ HasText written text left) × CabinetHeld cabinet old new
+      (IsStarvedAt written text left ⊎ HasText written text left) × CabinetWorked cabinet old new
   IsTextFault written text left _ = ⊥
 
   -- what a text came to: it tells a network, of which prices make this one, or none was read
-  abbrev pub IsTextOf : Notation → (Network → Network → Type 0) → Option Stream → Option Stream
+  abbrev pub TextComesTo : Notation → (Network → Network → Type 0) → Option Stream → Option Stream
       → Result Network Fault → Type 0
-  IsTextOf written prices text left (Ok network) = IsNetwork network × CabinetHeld cabinet old new
+  TextComesTo written prices text left (Ok network) =
+      IsNetwork network × CabinetWorked cabinet old new
       × WhereTold text left (λ bytes _. TellsPriced written prices bytes network)
-  IsTextOf written prices text left (Err why) = IsTextFault written text left why
+  TextComesTo written prices text left (Err why) = IsTextFault written text left why
 
   -- The topology of a text of the cabinet was read. These bytes of it were taken, and this is left.
   -- A text that is not there is a failure; one that is there does not count as absent.
@@ -68,14 +69,14 @@ module _ {C E : Type 0} (cabinet : CabinetGhosts C E) (old new : C) where
     pub gives : Gives (whole_text cabinet old name) left taken
     pub limit : length taken ≤ limit_of written + 1
     pub too_long : (result ≡ Err fault.TooLong) ↔ (limit_of written < length taken)
-    pub text : IsTextOf written prices (whole_text cabinet old name) left result
+    pub text : TextComesTo written prices (whole_text cabinet old name) left result
     pub only_texts : OnlyTextsRead cabinet old new
     pub absent : IsTrue (cabinet.frame old).tells → IsSome (cabinet.text old name)
         → (cabinet.frame new).absent ≡ (cabinet.frame old).absent
     pub not_there : IsTrue (cabinet.frame old).tells → cabinet.text old name ≡ None
         → result ≡ Err fault.Cabinet
 
-  -- the same of a text that is written as its name says
+  -- the topology was read of a text that is written as its name says
   abbrev pub ReadsTopology : (Network → Network → Type 0) → List ℕ → Result Network Fault → Type 0
   ReadsTopology prices name = ReadsText (notation_of name) prices name
 
@@ -113,7 +114,7 @@ ReadsBookOnDisk disk old left network (Err why) = IsNotOpened disk old left netw
 pub record HasAudited {C E : Type 0} (cabinet : CabinetGhosts C E) (disk : DiskGhosts E)
     (name : List ℕ) (old new : C) (network : Network) (history : List Entry)
     (closing : Result ⊤ Failed) : Type 0 where
-  pub begun : Held cabinet disk old new name (IsHistoryOf network history)
+  pub begun : HadContent cabinet disk old new name (IsHistoryOf network history)
   pub sound : IsSound network 0 history
   pub met : Met (object_of (cabinet.frame old)) (object_of (cabinet.frame new)) closing
   pub left : Has (cabinet.frame old).tells (cabinet.held old name) (λ was.
@@ -144,17 +145,17 @@ module _ (prices : Network → Network → Type 0) {C E : Type 0} (cabinet : Cab
   abbrev pub IsNotAudited : Option Stream → Fault → Type 0
   IsNotAudited left why = (IsTextFault cabinet old new (notation_of topology)
       (whole_text cabinet old topology) left why × (cabinet.held new ≡ cabinet.held old))
-      ⊎ HasRead (notation_of topology) prices (whole_text cabinet old topology) left
+      ⊎ HasNetwork (notation_of topology) prices (whole_text cabinet old topology) left
       (λ network. IsNotServed cabinet disk journal old new network (Err why))
 
   -- the book of the journal was read, of the network that the text begins with; or not
   abbrev pub IsBookOf : Option Stream → Result (Ledger × Result ⊤ Failed) Fault → Type 0
   IsBookOf left (Ok read) =
-      HasRead (notation_of topology) prices (whole_text cabinet old topology) left
+      HasNetwork (notation_of topology) prices (whole_text cabinet old topology) left
       (λ network. AuditsBook cabinet disk journal old new network read.0 read.1)
   IsBookOf left (Err why) = IsNotAudited left why
 
-  -- the same, and what was taken of the text
+  -- whether the book of a journal that was named was read, and what was taken of the text
   pub record ReadsNamed (result : Result (Ledger × Result ⊤ Failed) Fault) : Type 0 where
     pub taken : List ℕ
     pub left : Option Stream

@@ -1,15 +1,12 @@
 -- A text of a cabinet that is read as a source.
-use Rattle.std.specs.Prelude.{◌≡◌, ℕ, ◌+◌, List, [], ◌∷◌, ◌++◌, take, drop, Bool, true, false, Option, None, Some}
-use Rattle.std.specs.Borrow.{GName, MutBor}
-use base.Stored.{Gv, gnil, gnum, gcons}
+use Rattle.std.specs.Prelude.{◌≡◌, ℕ, ◌+◌, List, [], ◌∷◌, take, drop, Bool, true, false, IsTrue, Option, None, Some}
+use Rattle.std.specs.Borrow.{MutBor}
 use Rattle.hose_io.specs.Frame.{Frame, Stays}
 use Rattle.hose_io.specs.Stream.{Stream}
 use Rattle.hose_io.specs.declared.source.Source.{Ghosts as SourceGhosts}
-use Rattle.hose_words.specs.declared.limits.TheConstants.{INPUT_LIMIT}
+use Rattle.hose_words.specs.declared.lines.TheConstants.{INPUT_LIMIT}
 use Rattle.hose_disk.specs.Cabinet.{object_of}
 use Rattle.hose_disk.specs.declared.cabinet.Cabinet.{Ghosts}
-
--- ---- what is read
 
 -- as much of a text as a reader of lines may take, from a place on; none where it is not told
 abbrev pub stream_at : ℕ → Bool → Option (List ℕ) → Option Stream
@@ -20,7 +17,15 @@ stream_at from true (Some bytes) = Some (record {
   left = drop from (take (INPUT_LIMIT + 1) bytes);
 })
 
+-- a text that is read: its cabinet, its name, and how far it was read
+pub record TextState (C : Type 0) : Type 0 where
+  pub cabinet : MutBor C
+  pub name : List ℕ
+  pub from : ℕ
+
 module _ {C E : Type 0} (cabinet : Ghosts C E) where
+  -- ---- what is read
+
   -- the text of a name from a place on, where the cabinet tells
   abbrev pub text_stream : C → List ℕ → ℕ → Option Stream
   text_stream place name from = stream_at from (cabinet.frame place).tells (cabinet.text place name)
@@ -38,33 +43,27 @@ module _ {C E : Type 0} (cabinet : Ghosts C E) where
     pub out : (cabinet.frame now).out ≡ (cabinet.frame was).out
     pub tells : (cabinet.frame now).tells ≡ (cabinet.frame was).tells
 
--- ---- the source
+  -- ---- the source
 
--- a text that is read: its cabinet, what that was before, its name, and how far it was read
-pub record TextState (C : Type 0) : Type 0 where
-  pub cabinet : MutBor C
-  pub was : C
-  pub name : List ℕ
-  pub from : ℕ
+  -- its frame as a source: the count of faults is the cabinet's
+  abbrev pub reading_frame : TextState C → Frame
+  reading_frame text = record {
+    faults = (cabinet.frame text.cabinet.now).faults;
+    number = 0;
+    loan = text.cabinet.ghost_name ∷ [];
+  }
 
--- a value as a list of numbers, of which no other value has the same
-abbrev pub names_of : Gv → List GName
-names_of gnil = 0 ∷ []
-names_of (gnum n) = 1 ∷ n ∷ []
-names_of (gcons a b) = 2 ∷ (names_of a ++ names_of b)
+  -- its bytes
+  abbrev pub text_at : TextState C → Option Stream
+  text_at text = text_stream text.cabinet.now text.name text.from
 
--- its frame as a source: the count of faults is the cabinet's, and what it is known by is the
--- borrow and the cabinet that it was before
-abbrev pub reading_frame : {C E : Type 0} → Ghosts C E → List GName → TextState C → Frame
-reading_frame cabinet names text = record {
-  faults = (cabinet.frame text.cabinet.now).faults;
-  number = 0;
-  loan = text.cabinet.ghost_name ∷ names;
-}
+  -- What a call does to the cabinet behind it: texts were asked for, of which none was absent.
+  pub record HasAsked (was now : TextState C) : Type 0 where
+    pub name : now.name ≡ was.name
+    pub only_texts : OnlyTextsRead was.cabinet.now now.cabinet.now
+    pub absent : IsTrue (cabinet.frame was.cabinet.now).tells
+        → (cabinet.frame now.cabinet.now).absent ≡ (cabinet.frame was.cabinet.now).absent
 
--- a text as a source
-abbrev pub text_source : {C E : Type 0} → Ghosts C E → (C → List GName) → SourceGhosts (TextState C)
-text_source cabinet names = record {
-  frame = λ text. reading_frame cabinet (names text.was) text;
-  content = λ text. text_stream cabinet text.was text.name text.from;
-}
+  -- a text as a source
+  abbrev pub text_source : SourceGhosts (TextState C)
+  text_source = record { frame = reading_frame; content = text_at; went = HasAsked }

@@ -6,9 +6,9 @@ use Rattle.hose_io.specs.Writing.{GrowsInPart}
 use Rattle.hose_io.specs.declared.source.Source.{Ghosts as SourceGhosts}
 use Rattle.hose_io.specs.declared.sink.Sink.{Ghosts as SinkGhosts}
 use Rattle.hose_words.specs.Reading.{WhereTold}
-use Rattle.hose_words.specs.declared.limits.TheConstants.{INPUT_LIMIT}
+use Rattle.hose_words.specs.declared.lines.TheConstants.{INPUT_LIMIT}
 use Rattle.hose_graph.specs.Network.{Network}
-use Rattle.hose_cert.specs.Verdict.{AreCheapestFound, IsFound}
+use Rattle.hose_cert.specs.Verdict.{AreCheapestFound, IsVerdict}
 use Rattle.hose_cert.specs.declared.Verdict.{Verdict}
 use Rattle.hose_cert.specs.declared.Verdict.TheVariants.{Yes, No}
 use Rattle.hose_disk.specs.declared.cabinet.Cabinet.{Ghosts as CabinetGhosts}
@@ -17,8 +17,8 @@ use Rattle.hose_offline.specs.Auditing.{IsTextFault}
 use Rattle.hose_offline.specs.CabinetText.{OnlyTextsRead, whole_text}
 use Rattle.hose_offline.specs.Ending.{IsOut}
 use Rattle.hose_offline.specs.Fault.{last_line, status_of}
-use Rattle.hose_offline.specs.OnDisk.{CabinetHeld}
-use Rattle.hose_offline.specs.Run.{HasRead}
+use Rattle.hose_offline.specs.OnDisk.{CabinetWorked}
+use Rattle.hose_offline.specs.Run.{HasNetwork}
 use Rattle.hose_offline.specs.TopologyTold.{limit_of, notation_of}
 use Rattle.hose_offline.specs.declared.fault.Fault.{Fault}
 use Rattle.hose_offline.specs.declared.fault.Fault.TheVariants.{Cabinet, Read, Memory, TooLong}
@@ -51,7 +51,7 @@ module _ {I : Type 0} (source : SourceGhosts I) (input input' : I) (network : Ne
   -- leave out.
   pub record IsJudged (verdict : Verdict) : Type 0 where
     pub found : WhereTold (source.content input) (source.content input') (λ text left.
-        (left ≡ []) × IsFound network text verdict)
+        (left ≡ []) × IsVerdict network text verdict)
     pub cheapest : AreCheapestFound network verdict
     pub held : source.frame input' ≡ source.frame input
 
@@ -67,8 +67,8 @@ module _ {I : Type 0} (source : SourceGhosts I) (input input' : I) (network : Ne
   JudgedAs (Ok verdict) = IsJudged verdict
   JudgedAs (Err why) = IsNotJudged why
 
-  -- the same, and what was taken of it
-  pub record Judges (result : Result Verdict Fault) : Type 0 where
+  -- what judging the input came to, and what was taken of it
+  pub record JudgesInput (result : Result Verdict Fault) : Type 0 where
     pub taken : List ℕ
     pub gives : Gives (source.content input) (source.content input') taken
     pub limit : length taken ≤ INPUT_LIMIT + 1
@@ -84,15 +84,15 @@ module _ (prices : Network → Network → Type 0) {I C E : Type 0} (source : So
   -- this is left.
   abbrev pub IsVerdictOf : Option Stream → Result Verdict Fault → Type 0
   IsVerdictOf left (Ok verdict) =
-      HasRead (notation_of topology) prices (whole_text cabinet place topology) left
+      HasNetwork (notation_of topology) prices (whole_text cabinet place topology) left
       (λ network. IsJudged source input input' network verdict)
-      × CabinetHeld cabinet place place'
+      × CabinetWorked cabinet place place'
   IsVerdictOf left (Err why) =
       (IsTextFault cabinet place place' (notation_of topology)
       (whole_text cabinet place topology) left why × (input' ≡ input))
-      ⊎ (HasRead (notation_of topology) prices (whole_text cabinet place topology) left
+      ⊎ (HasNetwork (notation_of topology) prices (whole_text cabinet place topology) left
       (λ network. IsNotJudged source input input' network why)
-      × CabinetHeld cabinet place place')
+      × CabinetWorked cabinet place place')
 
   -- what was taken of the text and of the input, and what came of it
   pub record JudgesNamed (result : Result Verdict Fault) : Type 0 where

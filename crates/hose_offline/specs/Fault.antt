@@ -11,8 +11,8 @@ use Rattle.hose_words.specs.declared.lines.LineFault.{LineFault}
 use Rattle.hose_words.specs.declared.lines.LineFault.TheVariants as line
 use Rattle.hose_topo.specs.declared.fault.TopoFault.{TopoFault}
 use Rattle.hose_topo.specs.declared.fault.TopoFault.TheVariants as topology
-use Rattle.hose_topo_json.specs.declared.fault.JsonFault.{JsonFault}
-use Rattle.hose_topo_json.specs.declared.fault.JsonFault.TheVariants as json
+use Rattle.hose_topo_json.specs.declared.reading.JsonFault.{JsonFault}
+use Rattle.hose_topo_json.specs.declared.reading.JsonFault.TheVariants as json
 use Rattle.hose_store.specs.declared.fault.StoreFault.{StoreFault}
 use Rattle.hose_store.specs.declared.fault.StoreFault.TheVariants as store
 use Rattle.hose_proto.specs.ReplyText.{line_of}
@@ -71,7 +71,7 @@ of_topology topology.Read = Read
 of_topology topology.TooLong = TooLong
 of_topology topology.Memory = Memory
 
--- the same where it was read of a text of the cabinet
+-- what a fault of reading a topology is for a run, where it was read of a text of the cabinet
 abbrev pub of_text : TopoFault → Fault
 of_text (topology.At line word) = Topology (Word line word)
 of_text topology.Read = Cabinet

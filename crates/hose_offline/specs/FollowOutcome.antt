@@ -12,7 +12,7 @@ use Rattle.hose_disk.specs.declared.disk.Disk.{Ghosts as DiskGhosts}
 use Rattle.hose_store.specs.Recovery.{IsHistoryOf}
 use Rattle.hose_follow.specs.Packet.{IsPacket, Packet, packets_bytes}
 use Rattle.hose_follow.specs.declared.following.FollowEnd.{FollowEnd}
-use Rattle.hose_follow.specs.declared.limits.TheConstants.{INPUT_LIMIT}
+use Rattle.hose_follow.specs.declared.following.TheConstants.{INPUT_LIMIT}
 use Rattle.hose_offline.specs.AuditOutcome.{EndsNamed, EndsRefused, JournalIs, NoneFailed}
 use Rattle.hose_offline.specs.CabinetText.{whole_text}
 use Rattle.hose_offline.specs.Ending.{IsLastLine, status_of_done}

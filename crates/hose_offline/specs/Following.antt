@@ -17,15 +17,15 @@ use Rattle.hose_disk.specs.declared.disk.Disk.{Ghosts as DiskGhosts}
 use Rattle.hose_journal.specs.Chain.{chain}
 use Rattle.hose_store.specs.Beginning.{HasLeft}
 use Rattle.hose_store.specs.Recovery.{IsHistoryOf, digest_of}
-use Rattle.hose_follow.specs.Answers.{TellsDisks}
+use Rattle.hose_follow.specs.Answers.{TellsDiskAnswers}
 use Rattle.hose_follow.specs.Ends.{EndsSo}
 use Rattle.hose_follow.specs.Packet.{IsPacket, Packet, packets_bytes}
 use Rattle.hose_follow.specs.declared.answers.Offered.{Offered}
 use Rattle.hose_follow.specs.declared.answers.Offered.TheVariants.{Have, Want, Differs, Memory, Unsound, Disk}
 use Rattle.hose_follow.specs.declared.following.FollowEnd.{FollowEnd}
 use Rattle.hose_follow.specs.declared.following.FollowEnd.TheVariants as end
-use Rattle.hose_follow.specs.declared.limits.TheConstants.{INPUT_LIMIT}
-use Rattle.hose_offline.specs.OnDisk.{Held, opening_of}
+use Rattle.hose_follow.specs.declared.following.TheConstants.{INPUT_LIMIT}
+use Rattle.hose_offline.specs.OnDisk.{HadContent, opening_of}
 use Rattle.hose_offline.specs.ServingOnDisk.{IsNotOpened, IsNotServed, first_of}
 use Rattle.hose_offline.specs.declared.fault.Fault.{Fault}
 use Rattle.hose_offline.specs.declared.fault.Fault.TheVariants as fault
@@ -73,13 +73,13 @@ AnswersAt network old packet (Disk at) new =
 
 -- Packets were answered one after another, each by the history that the one before it left, which
 -- was this one at first: the answers, and the history that the last one leaves.
-pub data AreAnswered (network : Network) (since : List Entry) : List Packet → List Offered
+pub data ArePacketsAnswered (network : Network) (since : List Entry) : List Packet → List Offered
     → List Entry → Type 0 where
-  none_yet : AreAnswered network since [] [] since
+  none_yet : ArePacketsAnswered network since [] [] since
   packet_more : {packets : List Packet} {answers : List Offered} {middle history : List Entry}
-      (packet : Packet) (answer : Offered) → AreAnswered network since packets answers middle
+      (packet : Packet) (answer : Offered) → ArePacketsAnswered network since packets answers middle
       → AnswersAt network middle packet answer history
-      → AreAnswered network since (packets ++ packet ∷ []) (answers ++ answer ∷ []) history
+      → ArePacketsAnswered network since (packets ++ packet ∷ []) (answers ++ answer ∷ []) history
 
 -- ---- an input
 
@@ -96,7 +96,7 @@ module _ {I O : Type 0} (source : SourceGhosts I) (sink : SinkGhosts O) (input i
     pub answers : List Offered
     pub gives : Gives (source.content input) (source.content input') (packets_bytes packets ++ rest)
     pub are : All IsPacket packets
-    pub answered : AreAnswered network since packets answers history
+    pub answered : ArePacketsAnswered network since packets answers history
     pub begins : IsPrefix since history
     pub sound : IsSound network 0 history
     pub ends : EndsSo source sink input input' output output' packets answers rest ended
@@ -125,7 +125,7 @@ pub record HasFollowedOnDisk {I O E : Type 0} (source : SourceGhosts I) (sink : 
   pub history : List Entry
   pub read : IfSome (disk.content old) (IsHistoryOf network since)
   pub follows : FollowsFrom source sink input input' output output' network since history ended
-  pub disks : TellsDisks (disk.frame old).faults follows.answers (disk.frame left).faults
+  pub disks : TellsDiskAnswers (disk.frame old).faults follows.answers (disk.frame left).faults
   pub told : (disk.frame left).has_failed ≡ is_err closing
   pub leaves : HasLeft disk IsSoundAt (disk.may_leave old) (opening_of disk network since old)
       history left closing
@@ -150,9 +150,9 @@ pub record HasFollowed {I O C E : Type 0} (source : SourceGhosts I) (sink : Sink
     (closing : Result ⊤ Failed) : Type 0 where
   pub since : List Entry
   pub history : List Entry
-  pub begun : Held cabinet disk old new name (IsHistoryOf network since)
+  pub begun : HadContent cabinet disk old new name (IsHistoryOf network since)
   pub follows : FollowsFrom source sink input input' output output' network since history ended
-  pub disks : TellsDisks 0 follows.answers (cabinet.frame new).returned
+  pub disks : TellsDiskAnswers 0 follows.answers (cabinet.frame new).returned
   pub met : Met (object_of (cabinet.frame old)) (object_of (cabinet.frame new)) closing
   pub left : Has (cabinet.frame old).tells (cabinet.held old name) (λ was.
       Has (cabinet.frame new).tells (cabinet.held new name) (λ left.

@@ -5,7 +5,7 @@ use Rattle.hose_io.specs.Stream.{Grows}
 use Rattle.hose_io.specs.Writing.{GrowsInPart}
 use Rattle.hose_io.specs.declared.sink.Sink.{Ghosts as SinkGhosts}
 use Rattle.hose_graph.specs.declared.entry.Entry.{Entry}
-use Rattle.hose_graph.specs.declared.reply.Reply.{Reply}
+use Rattle.hose_graph.specs.declared.command.Reply.{Reply}
 use Rattle.hose_law.specs.History.{book_of}
 use Rattle.hose_gen.specs.Generated.{generated_network, generated_script}
 use Rattle.hose_offline.specs.Ending.{IsOut}
@@ -31,27 +31,27 @@ pub record IsSummary (seed nodes links hoses : ℕ) (line : List ℕ) : Type 0 w
 
 module _ (seed nodes links hoses : ℕ) {O : Type 0} (sink : SinkGhosts O) (output output' : O) where
   -- the summary is out, and whole
-  abbrev pub IsTold : Type 0
-  IsTold = (line : List ℕ) × IsSummary seed nodes links hoses line
+  abbrev pub IsSummaryOut : Type 0
+  IsSummaryOut = (line : List ℕ) × IsSummary seed nodes links hoses line
       × Grows (sink.content output) (sink.content output') line
       × (sink.frame output' ≡ sink.frame output)
 
   -- the output failed, and a part of the summary is out
-  abbrev pub IsCutOff : Type 0
-  IsCutOff = (line : List ℕ) × IsSummary seed nodes links hoses line
+  abbrev pub IsSummaryCut : Type 0
+  IsSummaryCut = (line : List ℕ) × IsSummary seed nodes links hoses line
       × GrowsInPart (sink.content output) (sink.content output') line
       × Rose (sink.frame output) (sink.frame output')
 
   -- what `gen` leaves, before the last line that tells its fault
   abbrev pub GenLeaves : {T : Type 0} → Result T Fault → Type 0
-  GenLeaves (Ok _) = IsTold
-  GenLeaves (Err Write) = IsCutOff
+  GenLeaves (Ok _) = IsSummaryOut
+  GenLeaves (Err Write) = IsSummaryCut
   GenLeaves (Err Memory) = output' ≡ output
   GenLeaves (Err _) = ⊥
 
   -- The summary is out; or the output failed in it; or there was no memory, and the last line says
   -- so.
   abbrev pub GenOutcome : ℕ → Type 0
-  GenOutcome status = ((status ≡ 0) × IsTold)
-      ⊎ (((status ≡ 4) × IsCutOff)
+  GenOutcome status = ((status ≡ 0) × IsSummaryOut)
+      ⊎ (((status ≡ 4) × IsSummaryCut)
       ⊎ ((status ≡ 7) × IsOut sink output output' (last_line Memory)))

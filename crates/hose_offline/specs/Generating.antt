@@ -1,7 +1,7 @@
 -- What comes of a generated script.
 use Rattle.std.specs.Prelude.{◌≡◌, List, [], map}
 use Rattle.hose_graph.specs.declared.entry.Entry.{Entry}
-use Rattle.hose_graph.specs.declared.reply.Reply.{Reply}
+use Rattle.hose_graph.specs.declared.command.Reply.{Reply}
 use Rattle.hose_graph.specs.Network.{Network}
 use Rattle.hose_law.specs.History.{IsDecided, book_of}
 use Rattle.hose_law.specs.Quotes.{Holdings, nothing_held}

@@ -7,7 +7,7 @@ use Rattle.hose_topo_json.specs.JsonTopology.{IsJsonTopology}
 use Rattle.hose_offline.specs.Run.{TellsNoNetwork}
 use Rattle.hose_offline.specs.declared.fault.Fault.{Fault}
 use Rattle.hose_offline.specs.declared.fault.Fault.TheVariants.{Topology, Cabinet, Memory, TooLong}
-use Rattle.hose_offline.specs.declared.limits.TheConstants.{JSON_LIMIT}
+use Rattle.hose_offline.specs.declared.json_text.TheConstants.{JSON_LIMIT}
 use Rattle.hose_offline.specs.declared.notation.Notation.TheVariants as notation
 
 -- why the bytes that a source had left were not taken all

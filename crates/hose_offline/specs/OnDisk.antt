@@ -4,7 +4,7 @@ use Rattle.hose_io.specs.Frame.{Met, Rose}
 use Rattle.hose_io.specs.declared.Failed.{Failed}
 use Rattle.hose_graph.specs.Network.{Network}
 use Rattle.hose_graph.specs.declared.entry.Entry.{Entry}
-use Rattle.hose_graph.specs.declared.reply.Reply.{Reply}
+use Rattle.hose_graph.specs.declared.command.Reply.{Reply}
 use Rattle.hose_law.specs.History.{IsDecidedAt}
 use Rattle.hose_disk.specs.Cabinet.{Has, object_of}
 use Rattle.hose_disk.specs.declared.cabinet.Cabinet.{Ghosts as CabinetGhosts}
@@ -39,22 +39,22 @@ pub record KeptOnDisk {C E : Type 0} (cabinet : CabinetGhosts C E) (disk : DiskG
       left closing))
 
 -- no call of the cabinet failed; or one did
-abbrev pub CabinetHeld : {C E : Type 0} → CabinetGhosts C E → C → C → Type 0
-CabinetHeld cabinet old new = object_of (cabinet.frame new) ≡ object_of (cabinet.frame old)
+abbrev pub CabinetWorked : {C E : Type 0} → CabinetGhosts C E → C → C → Type 0
+CabinetWorked cabinet old new = object_of (cabinet.frame new) ≡ object_of (cabinet.frame old)
 
 abbrev pub CabinetFailed : {C E : Type 0} → CabinetGhosts C E → C → C → Type 0
 CabinetFailed cabinet old new = Rose (object_of (cabinet.frame old)) (object_of (cabinet.frame new))
 
 module _ {C E : Type 0} (cabinet : CabinetGhosts C E) (disk : DiskGhosts E) (old new : C) where
   -- as it was read at its opening, the disk of this name held bytes of this kind
-  abbrev pub Held : List ℕ → (List ℕ → Type 0) → Type 0
-  Held name Is = Has (cabinet.frame old).tells (cabinet.held old name) (λ was.
+  abbrev pub HadContent : List ℕ → (List ℕ → Type 0) → Type 0
+  HadContent name Is = Has (cabinet.frame old).tells (cabinet.held old name) (λ was.
       IfSome (disk.content was) Is)
 
   -- the book on the disk of this name, once closing came to this
   abbrev pub on_disk : List ℕ → Result ⊤ Failed → Keeping
   on_disk name closing = record {
-    Begins = λ network since. Held name (IsHistoryOf network since);
+    Begins = λ network since. HadContent name (IsHistoryOf network since);
     Keeps = KeptOnDisk cabinet disk name old new closing;
   }
 
@@ -72,13 +72,15 @@ module _ {C E : Type 0} (cabinet : CabinetGhosts C E) (disk : DiskGhosts E) (old
       disk.left_since left (disk.moment was) image → IsAtOpening disk was network image))
 
   -- The journal is not one of the network: it means this, and so it stands for no history.
-  pub record IsRefused (network : Network) (name : List ℕ) (meaning : Meaning Entry) : Type 0 where
-    pub means : Held name (λ bytes. IsRecoveredAs network bytes meaning)
-    pub none : Held name (λ bytes. (history : List Entry) → ¬ IsHistoryOf network history bytes)
+  pub record IsRefusedOnDisk (network : Network) (name : List ℕ) (meaning : Meaning Entry) :
+      Type 0 where
+    pub means : HadContent name (λ bytes. IsRecoveredAs network bytes meaning)
+    pub none : HadContent name
+        (λ bytes. (history : List Entry) → ¬ IsHistoryOf network history bytes)
     pub unopened : IsUnopened network name
 
   -- The disk of the journal, if there is one, is told, and this holds of what is read of it.
-  abbrev pub IsToldAs : Option (List ℕ) → (List ℕ → Type 0) → Type 0
-  IsToldAs journal Is = MatchOption journal ⊤ (λ name. IsTrue (cabinet.frame old).tells
+  abbrev pub JournalIsTold : Option (List ℕ) → (List ℕ → Type 0) → Type 0
+  JournalIsTold journal Is = MatchOption journal ⊤ (λ name. IsTrue (cabinet.frame old).tells
       × (was : E) × (cabinet.held old name ≡ Some was)
       × (bytes : List ℕ) × (disk.content was ≡ Some bytes) × Is bytes)

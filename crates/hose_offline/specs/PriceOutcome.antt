@@ -7,7 +7,7 @@ use Rattle.hose_io.specs.declared.sink.Sink.{Ghosts as SinkGhosts}
 use Rattle.hose_words.specs.Lines.{StopsAfterLines}
 use Rattle.hose_words.specs.Reading.{WhereTold}
 use Rattle.hose_words.specs.Saying.{IsAllTaken, IsLeftOver, SayLines}
-use Rattle.hose_words.specs.declared.limits.TheConstants.{INPUT_LIMIT}
+use Rattle.hose_words.specs.declared.lines.TheConstants.{INPUT_LIMIT}
 use Rattle.hose_words.specs.declared.lines.LineFault.TheVariants as line
 use Rattle.hose_graph.specs.Network.{Network}
 use Rattle.hose_disk.specs.declared.cabinet.Cabinet.{Ghosts as CabinetGhosts}
@@ -16,9 +16,9 @@ use Rattle.hose_price.specs.declared.sheet.Column.{Column}
 use Rattle.hose_offline.specs.Auditing.{IsTextFault}
 use Rattle.hose_offline.specs.CabinetText.{OnlyTextsRead, whole_text}
 use Rattle.hose_offline.specs.Ending.{IsLastLine, status_of_done}
-use Rattle.hose_offline.specs.OnDisk.{CabinetHeld}
+use Rattle.hose_offline.specs.OnDisk.{CabinetWorked}
 use Rattle.hose_offline.specs.Pricing.{AllOut, AnswersNext, LastCut}
-use Rattle.hose_offline.specs.Run.{HasRead}
+use Rattle.hose_offline.specs.Run.{HasNetwork}
 use Rattle.hose_offline.specs.TopologyTold.{limit_of, notation_of, own_costs}
 use Rattle.hose_offline.specs.declared.fault.Fault.{Fault}
 use Rattle.hose_offline.specs.declared.fault.Fault.TheVariants.{Cabinet, Read, Write, Memory, TooLong}
@@ -38,18 +38,18 @@ module _ (sheet : Sheet) (names : List (List ℕ)) (told told' : Option Stream)
         × SayLines (AnswersNext sheet) text answers rest × stops text rest left)
     pub out : puts answers
 
-  abbrev pub OutputHeld : Type 0
-  OutputHeld = sink.frame output' ≡ sink.frame output
+  abbrev pub OutputWorked : Type 0
+  OutputWorked = sink.frame output' ≡ sink.frame output
 
   -- What answering the lines of the input leaves: it was read to its end, and has its answers; or
   -- it stopped after whole lines, which have theirs; or the output failed in an answer.
   abbrev pub AnswersInput : {T : Type 0} → Result T Fault → Type 0
   AnswersInput (Ok _) = HasAnswered IsAllTaken (AllOut names sink output output')
-      × (frame' ≡ frame) × OutputHeld
+      × (frame' ≡ frame) × OutputWorked
   AnswersInput (Err Read) = HasAnswered (StopsAfterLines line.Read)
-      (AllOut names sink output output') × Rose frame frame' × OutputHeld
+      (AllOut names sink output output') × Rose frame frame' × OutputWorked
   AnswersInput (Err TooLong) = HasAnswered (StopsAfterLines line.TooLong)
-      (AllOut names sink output output') × (frame' ≡ frame) × OutputHeld
+      (AllOut names sink output output') × (frame' ≡ frame) × OutputWorked
   AnswersInput (Err Write) = HasAnswered IsLeftOver (LastCut names sink output output')
       × (frame' ≡ frame) × Rose (sink.frame output) (sink.frame output')
   AnswersInput (Err _) = ⊥
@@ -71,19 +71,19 @@ module _ (makes : Network → Sheet → Type 0) (names : List (List ℕ)) {I O :
     (source : SourceGhosts I) (sink : SinkGhosts O) (input input' : I) (output output' : O) where
   -- There was no memory for a sheet or for rows, nothing was taken of the input, and nothing is
   -- out; or the lines of the input were answered by a sheet of the network.
-  abbrev pub AnswersBy : Network → Result ⊤ Fault → Type 0
-  AnswersBy network result = ((result ≡ Err Memory) × (input' ≡ input) × (output' ≡ output))
+  abbrev pub AnswersBySheet : Network → Result ⊤ Fault → Type 0
+  AnswersBySheet network result = ((result ≡ Err Memory) × (input' ≡ input) × (output' ≡ output))
       ⊎ ((sheet : Sheet) × makes network sheet
       × AnswersInput sheet names (source.content input) (source.content input')
       (source.frame input) (source.frame input') sink output output' result)
 
-  -- the same, and what was taken of the input
+  -- how the lines of the input were answered, and what was taken of it
   pub record PricesInput (network : Network) (result : Result ⊤ Fault) : Type 0 where
     pub taken : List ℕ
     pub gives : Gives (source.content input) (source.content input') taken
     pub limit : length taken ≤ INPUT_LIMIT + 1
     pub too_long : (result ≡ Err TooLong) ↔ (INPUT_LIMIT < length taken)
-    pub answers : AnswersBy network result
+    pub answers : AnswersBySheet network result
 
   module _ {C E : Type 0} (cabinet : CabinetGhosts C E) (topology : List ℕ) (place place' : C) where
     -- The topology that was named was read, and the input answered by its network; or it was not,
@@ -91,13 +91,14 @@ module _ (makes : Network → Sheet → Type 0) (names : List (List ℕ)) {I O :
     -- left.
     abbrev pub PriceLeaves : Option Stream → Result ⊤ Fault → Type 0
     PriceLeaves left result =
-        (HasRead (notation_of topology) own_costs (whole_text cabinet place topology) left
-        (λ network. AnswersBy network result) × CabinetHeld cabinet place place')
+        (HasNetwork (notation_of topology) own_costs (whole_text cabinet place topology) left
+        (λ network. AnswersBySheet network result) × CabinetWorked cabinet place place')
         ⊎ ((input' ≡ input) × (output' ≡ output) × ((why : Fault) × (result ≡ Err why)
         × IsTextFault cabinet place place' (notation_of topology)
         (whole_text cabinet place topology) left why))
 
-    -- the same, and what was taken of the text and of the input
+    -- whether a topology that was named was read and what was answered, and what was taken of the
+    -- text and of the input
     pub record PricesNamed (result : Result ⊤ Fault) : Type 0 where
       pub left : Option Stream
       pub text : List ℕ

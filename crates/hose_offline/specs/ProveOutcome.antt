@@ -14,8 +14,8 @@ use Rattle.hose_proto.specs.ReplyText.{line_of}
 use Rattle.hose_offline.specs.Auditing.{IsTextFault}
 use Rattle.hose_offline.specs.CabinetText.{OnlyTextsRead, whole_text}
 use Rattle.hose_offline.specs.Ending.{IsLastLine, status_of_done}
-use Rattle.hose_offline.specs.OnDisk.{CabinetHeld}
-use Rattle.hose_offline.specs.Run.{HasRead}
+use Rattle.hose_offline.specs.OnDisk.{CabinetWorked}
+use Rattle.hose_offline.specs.Run.{HasNetwork}
 use Rattle.hose_offline.specs.TopologyTold.{limit_of, notation_of}
 use Rattle.hose_offline.specs.declared.fault.Fault.{Fault}
 use Rattle.hose_offline.specs.declared.fault.Fault.TheVariants.{Cabinet, Memory, TooLong, Words, Write}
@@ -35,24 +35,24 @@ module _ {O : Type 0} (sink : SinkGhosts O) (output output' : O) (network : Netw
       × (sink.frame output' ≡ sink.frame output)
 
   -- the output failed, and a part of one of the two is out
-  abbrev pub IsCutOff : List Endpoint → Type 0
-  IsCutOff hose =
+  abbrev pub IsProofCut : List Endpoint → Type 0
+  IsProofCut hose =
       (GrowsByPart network hose (sink.content output) (sink.content output')
       ⊎ (HasNoPlan network hose
       × GrowsInPart (sink.content output) (sink.content output') none_line))
       × Rose (sink.frame output) (sink.frame output')
 
   -- memory was wanting, and nothing is out, or whole lines from the front of the certificate are
-  abbrev pub IsStarved : List Endpoint → Type 0
-  IsStarved hose = ((output' ≡ output)
+  abbrev pub IsProofStarved : List Endpoint → Type 0
+  IsProofStarved hose = ((output' ≡ output)
       ⊎ GrowsByLines network hose (sink.content output) (sink.content output'))
       × (sink.frame output' ≡ sink.frame output)
 
   -- what writing the certificate of a hose comes to
   abbrev pub PutsProof : {T : Type 0} → List Endpoint → Result T Fault → Type 0
   PutsProof hose (Ok _) = IsProved hose
-  PutsProof hose (Err Write) = IsCutOff hose
-  PutsProof hose (Err Memory) = IsStarved hose
+  PutsProof hose (Err Write) = IsProofCut hose
+  PutsProof hose (Err Memory) = IsProofStarved hose
   PutsProof hose (Err _) = ⊥
 
 -- ---- the endpoints
@@ -85,14 +85,14 @@ module _ (prices : Network → Network → Type 0) (words : List (List ℕ)) (fi
   -- was not, and why, and then nothing is out. Of its text this is left.
   abbrev pub ProveLeaves : Option Stream → Result ⊤ Fault → Type 0
   ProveLeaves left result =
-      (HasRead (notation_of topology) prices (whole_text cabinet place topology) left
+      (HasNetwork (notation_of topology) prices (whole_text cabinet place topology) left
       (λ network. ProvesWords words first network sink output output' result)
-      × CabinetHeld cabinet place place')
+      × CabinetWorked cabinet place place')
       ⊎ ((output' ≡ output) × ((why : Fault) × (result ≡ Err why)
       × IsTextFault cabinet place place' (notation_of topology)
       (whole_text cabinet place topology) left why))
 
-  -- the same, and what was taken of the text
+  -- whether a topology that was named was read and what was written, and what was taken of the text
   pub record ProvesNamed (result : Result ⊤ Fault) : Type 0 where
     pub left : Option Stream
     pub taken : List ℕ

@@ -5,12 +5,12 @@ use Rattle.hose_io.specs.Stream.{Stream, Grows}
 use Rattle.hose_words.specs.Lines.{StopsAfterLines}
 use Rattle.hose_words.specs.declared.lines.LineFault.{LineFault}
 use Rattle.hose_graph.specs.declared.entry.Entry.{Entry}
-use Rattle.hose_graph.specs.declared.reply.Reply.{Reply}
+use Rattle.hose_graph.specs.declared.command.Reply.{Reply}
 use Rattle.hose_graph.specs.Network.{Network}
 use Rattle.hose_law.specs.Book.{IsOversold}
 use Rattle.hose_law.specs.Cheapest.{AreCheapest}
 use Rattle.hose_law.specs.History.{book_of, IsDecided}
-use Rattle.hose_law.specs.Live.{AreLiveHeld, StaysLive}
+use Rattle.hose_law.specs.Live.{AreLiveUnreleased, StaysLive}
 use Rattle.hose_law.specs.Quotes.{Holdings, nothing_held}
 use Rattle.hose_law.specs.Script.{ReadLine, IsScript, WithoutDisk, WithoutMemory}
 use Rattle.hose_topo.specs.TopologyText.{IsTopologyText}
@@ -81,7 +81,7 @@ pub record HasRun (prices : Network → Network → Type 0) (keeping : Keeping)
   pub decided : IsDecided network 0 (length since) history
   pub keeps : keeping.Keeps network since history replies
   pub none_oversold : (place l : ℕ) → ¬ IsOversold network (book_of 0 (take place history)) l
-  pub held : (place : ℕ) → place ≤ length history → AreLiveHeld 0 history place
+  pub held : (place : ℕ) → place ≤ length history → AreLiveUnreleased 0 history place
   pub kept : (place : ℕ) → StaysLive 0 history place
   pub cheapest : AreCheapest network 0 (length since) history
 
@@ -149,7 +149,7 @@ HasText written old new =
     WhereTold old new (λ text _. (network : Network) × Tells written text network)
 
 -- the text tells a network, and of the one that prices make of it this holds
-pub record HasRead (written : Notation) (prices : Network → Network → Type 0)
+pub record HasNetwork (written : Notation) (prices : Network → Network → Type 0)
     (old new : Option Stream) (Is : Network → Type 0) : Type 0 where
   pub network : Network
   pub text : WhereTold old new (λ text _. TellsPriced written prices text network)

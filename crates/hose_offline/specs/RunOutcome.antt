@@ -15,8 +15,8 @@ use Rattle.hose_journal.specs.Image.{damaged, other}
 use Rattle.hose_store.specs.Recovery.{IsHistoryOf, digest_of}
 use Rattle.hose_topo.specs.Reading.{StopsInTopology}
 use Rattle.hose_offline.specs.Ending.{IsLastLine, TakesWithinLimit, status_of_done}
-use Rattle.hose_offline.specs.OnDisk.{CabinetFailed, IsRefused, IsToldAs, IsUnopened, keeping_of}
-use Rattle.hose_offline.specs.Run.{HasRead, HasText, IsCutOff, IsFor, IsRefusedText, IsRun, IsRunUpTo, IsServable, Keeping, TellsNoNetwork}
+use Rattle.hose_offline.specs.OnDisk.{CabinetFailed, IsRefusedOnDisk, JournalIsTold, IsUnopened, keeping_of}
+use Rattle.hose_offline.specs.Run.{HasNetwork, HasText, IsCutOff, IsFor, IsRefusedText, IsRun, IsRunUpTo, IsServable, Keeping, TellsNoNetwork}
 use Rattle.hose_offline.specs.declared.fault.Fault.{Fault}
 use Rattle.hose_offline.specs.declared.notation.Notation.TheVariants.{Lines}
 use Rattle.hose_offline.specs.declared.fault.Fault.TheVariants.{Words, Topology, Read, Write, Other, Damaged, Cabinet, Memory, TooLong, Door, Packet}
@@ -26,11 +26,11 @@ module _ (prices : Network → Network → Type 0) {I O C E : Type 0} (source : 
     (journal : Option (List ℕ))
     (input input' : I) (output output' : O) (place place' : C) where
   -- the input did not fail, and the output did not
-  abbrev pub InputHeld : Type 0
-  InputHeld = source.frame input' ≡ source.frame input
+  abbrev pub InputWorked : Type 0
+  InputWorked = source.frame input' ≡ source.frame input
 
-  abbrev pub OutputHeld : Type 0
-  OutputHeld = sink.frame output' ≡ sink.frame output
+  abbrev pub OutputWorked : Type 0
+  OutputWorked = sink.frame output' ≡ sink.frame output
 
   -- where the book was, once closing the journal came to this
   abbrev pub keeping : Result ⊤ Failed → Keeping
@@ -43,15 +43,15 @@ module _ (prices : Network → Network → Type 0) {I O C E : Type 0} (source : 
 
   -- The input stopped inside the topology, and nothing is out; or after it, and the output has the
   -- replies of a script to all whole lines that were taken and to no part of one.
-  abbrev pub IsBroken : LineFault → Type 0
-  IsBroken fault = (InputStops fault × (output' ≡ output) × (place' ≡ place))
+  abbrev pub IsInterrupted : LineFault → Type 0
+  IsInterrupted fault = (InputStops fault × (output' ≡ output) × (place' ≡ place))
       ⊎ ((closing : Result ⊤ Failed)
       × IsRunUpTo prices (keeping closing) fault (source.content input) (source.content input')
-      (sink.content output) (sink.content output') × OutputHeld)
+      (sink.content output) (sink.content output') × OutputWorked)
 
   -- the text of a network was read, for which this holds
   abbrev pub TextRead : (Network → Type 0) → Type 0
-  TextRead = HasRead Lines prices (source.content input) (source.content input')
+  TextRead = HasNetwork Lines prices (source.content input) (source.content input')
 
   -- the journal, which there is, is so for a network
   abbrev pub OfJournal : (Network → List ℕ → Type 0) → Network → Type 0
@@ -67,50 +67,50 @@ module _ (prices : Network → Network → Type 0) {I O C E : Type 0} (source : 
   -- What a run leaves, before the last line that tells its fault.
   abbrev pub RunLeaves : {T : Type 0} → Result T Fault → Type 0
   RunLeaves (Ok _) = IsRun prices (keeping (Ok tt)) (source.content input) (source.content input')
-      (sink.content output) (sink.content output') × InputHeld × OutputHeld
+      (sink.content output) (sink.content output') × InputWorked × OutputWorked
   RunLeaves (Err (Words _)) = ⊥
   RunLeaves (Err (Topology refusal)) =
       TellsNoNetwork Lines refusal (source.content input) (source.content input')
-      × InputHeld × (output' ≡ output) × (place' ≡ place)
-  RunLeaves (Err Read) = IsBroken line.Read × Rose (source.frame input) (source.frame input')
+      × InputWorked × (output' ≡ output) × (place' ≡ place)
+  RunLeaves (Err Read) = IsInterrupted line.Read × Rose (source.frame input) (source.frame input')
   RunLeaves (Err Write) = ((closing : Result ⊤ Failed)
       × IsCutOff prices (keeping closing) (source.content input) (source.content input')
       (sink.content output) (sink.content output'))
-      × InputHeld × Rose (sink.frame output) (sink.frame output')
+      × InputWorked × Rose (sink.frame output) (sink.frame output')
   RunLeaves (Err (Other kept given)) = TextRead (λ network. (given ≡ digest_of network)
       × OfJournal (λ network name.
-      IsRefused cabinet disk place place' network name (other kept)) network)
-      × InputHeld × (output' ≡ output)
+      IsRefusedOnDisk cabinet disk place place' network name (other kept)) network)
+      × InputWorked × (output' ≡ output)
   RunLeaves (Err (Damaged at)) = TextRead (OfJournal (λ network name.
-      IsRefused cabinet disk place place' network name (damaged at)))
-      × InputHeld × (output' ≡ output)
+      IsRefusedOnDisk cabinet disk place place' network name (damaged at)))
+      × InputWorked × (output' ≡ output)
   RunLeaves (Err Cabinet) = ((TextRead (OfJournal (IsUnopened cabinet disk place place'))
-      × InputHeld × (output' ≡ output))
+      × InputWorked × (output' ≡ output))
       ⊎ (IsSome journal × (failed : Failed)
       × IsRun prices (keeping (Err failed)) (source.content input) (source.content input')
-      (sink.content output) (sink.content output') × InputHeld × OutputHeld))
+      (sink.content output) (sink.content output') × InputWorked × OutputWorked))
       × CabinetFailed cabinet place place'
-  RunLeaves (Err Memory) = IsStarved × InputHeld × (output' ≡ output)
-  RunLeaves (Err TooLong) = IsBroken line.TooLong × InputHeld
+  RunLeaves (Err Memory) = IsStarved × InputWorked × (output' ≡ output)
+  RunLeaves (Err TooLong) = IsInterrupted line.TooLong × InputWorked
   RunLeaves (Err Door) = ⊥
   RunLeaves (Err (Packet at)) = ⊥
 
   -- A topology that is refused gives 2, but for want of memory and an input that stopped inside it.
-  abbrev pub EndsRefused : ℕ → Type 0
-  EndsRefused status = (status ≡ 2) ⊎ (((status ≡ 7) × (input' ≡ input))
+  abbrev pub EndsInputRefused : ℕ → Type 0
+  EndsInputRefused status = (status ≡ 2) ⊎ (((status ≡ 7) × (input' ≡ input))
       ⊎ (((status ≡ 3) × InputStops line.Read) ⊎ ((status ≡ 8) × InputStops line.TooLong)))
 
   -- no call failed
-  pub record NoneFailed : Type 0 where
+  pub record NothingFailed : Type 0 where
     pub reading : ¬ Rose (source.frame input) (source.frame input')
     pub writing : ¬ Rose (sink.frame output) (sink.frame output')
     pub keeping_it : ¬ CabinetFailed cabinet place place'
 
   -- the journal, if there is one, is told, and is so for each network with whose text the input
   -- begins
-  abbrev pub JournalIs : (Network → List ℕ → Type 0) → Type 0
-  JournalIs Is = IsFor Lines prices (source.content input) (λ network.
-      IsToldAs cabinet disk place place' journal (Is network))
+  abbrev pub AnyJournalIs : (Network → List ℕ → Type 0) → Type 0
+  AnyJournalIs Is = IsFor Lines prices (source.content input) (λ network.
+      JournalIsTold cabinet disk place place' journal (Is network))
 
 -- The run left the output as `left` is, and then the last line was put, which tells the fault, if
 -- there is one.
@@ -128,18 +128,20 @@ pub record RunOutcome (prices : Network → Network → Type 0) {I O C E : Type 
   -- no text is asked for
   pub absent : (cabinet.frame place').absent ≡ (cabinet.frame place).absent
   pub refused : IsRefusedText Lines (source.content input) (source.content input')
-      → EndsRefused prices source sink cabinet disk journal input input' output output' place place'
-      status
+      → EndsInputRefused prices source sink cabinet disk journal input input' output output' place
+      place' status
   -- an input that can be served with a journal of its network is served to its end, but for want of
   -- memory and where a call failed
   pub complete : IsServable Lines (source.content input)
-      → JournalIs prices source sink cabinet disk journal input input' output output' place place'
-      (λ network bytes. (history : List Entry) × IsHistoryOf network history bytes)
-      → NoneFailed prices source sink cabinet disk journal input input' output output' place place'
+      → AnyJournalIs prices source sink cabinet disk journal input input' output output' place
+      place' (λ network bytes. (history : List Entry) × IsHistoryOf network history bytes)
+      → NothingFailed prices source sink cabinet disk journal input input' output output' place
+      place'
       → (status ≡ 0) ⊎ (status ≡ 7)
   -- with a journal that stands for no history of its network it is refused
   pub refused_journal : IsServable Lines (source.content input) → IsSome journal
-      → JournalIs prices source sink cabinet disk journal input input' output output' place place'
-      (λ network bytes. (history : List Entry) → ¬ IsHistoryOf network history bytes)
-      → NoneFailed prices source sink cabinet disk journal input input' output output' place place'
+      → AnyJournalIs prices source sink cabinet disk journal input input' output output' place
+      place' (λ network bytes. (history : List Entry) → ¬ IsHistoryOf network history bytes)
+      → NothingFailed prices source sink cabinet disk journal input input' output output' place
+      place'
       → (status ≡ 5) ⊎ (status ≡ 7)

@@ -11,13 +11,13 @@ use Rattle.hose_words.specs.Grammar.{IsFirstNotAllowed}
 use Rattle.hose_words.specs.Words.{words_of}
 use Rattle.hose_words.specs.Lines.{Reader, StopsAfterLines, is_line_feed}
 use Rattle.hose_words.specs.Saying.{IsAllTaken, IsLeftOver, IsOver, SayLines, SaysUpTo, StopsReading, TakesLine}
-use Rattle.hose_words.specs.declared.limits.TheConstants.{LINE_LIMIT}
+use Rattle.hose_words.specs.declared.lines.TheConstants.{LINE_LIMIT}
 use Rattle.hose_words.specs.declared.lines.LineFault.{LineFault}
 use Rattle.hose_words.specs.declared.lines.LineFault.TheVariants as line_fault
 use Rattle.hose_words.specs.declared.lines.Line.{Line}
 use Rattle.hose_words.specs.declared.lines.Line.TheVariants as line
 use Rattle.hose_graph.specs.declared.entry.Entry.{Entry}
-use Rattle.hose_graph.specs.declared.reply.Reply.{Reply}
+use Rattle.hose_graph.specs.declared.command.Reply.{Reply}
 use Rattle.hose_graph.specs.Network.{Network}
 use Rattle.hose_law.specs.History.{IsDecided, IsDecidedAt}
 use Rattle.hose_law.specs.Quotes.{Holdings, nothing_held}
@@ -46,7 +46,7 @@ Says network bytes (IsBad word) = (length bytes ≤ LINE_LIMIT)
 Says network bytes IsLong = LINE_LIMIT < length bytes
 Says network bytes Unread = (length bytes ≤ LINE_LIMIT) × WantsMemory (words_of bytes)
 
--- the same of a line as a reader of lines gives it
+-- what a line says, as a reader of lines gives it
 abbrev pub SaysRead : Network → Line → ReadLine → Type 0
 SaysRead network (line.Text bytes) (Asks customer command) =
     IsAsking network bytes.now customer command
@@ -109,7 +109,7 @@ pub record AreAnswered {K R : Type 0} (books : BooksGhosts K R) (network : Netwo
 
 -- A turn: the first line that was to come was read and answered, and it says one thing. `puts` says
 -- how much is out of the line of its reply.
-pub record TakesTurn {S : Type 0} (source : Ghosts S) (old new : Reader S) (network : Network)
+pub record AnswersNextLine {S : Type 0} (source : Ghosts S) (old new : Reader S) (network : Network)
     (Answers : ReadLine → Reply → Type 0) (puts : List ℕ → Type 0) : Type 0 where
   pub said : ReadLine
   pub reply : Reply
@@ -123,7 +123,7 @@ pub record TakesTurn {S : Type 0} (source : Ghosts S) (old new : Reader S) (netw
 abbrev pub ServesLine : {S O K R : Type 0} → Ghosts S → SinkGhosts O → BooksGhosts K R → Reader S
     → Reader S → O → O → State K → State K → Result Bool Fault → Type 0
 ServesLine source sink books old new output output' core core' (Ok true) =
-    TakesTurn source old new (books.ledger core.books).network (AnswersLine books core core')
+    AnswersNextLine source old new (books.ledger core.books).network (AnswersLine books core core')
     (Grows (sink.content output) (sink.content output'))
     × (new.fault ≡ None) × (sink.frame output' ≡ sink.frame output)
 ServesLine source sink books old new output output' core core' (Ok false) =
@@ -135,14 +135,14 @@ ServesLine source sink books old new output output' core core' (Err fault.Read) 
 ServesLine source sink books old new output output' core core' (Err fault.TooLong) =
     StopsReading source old new line_fault.TooLong × (output' ≡ output) × (core' ≡ core)
 ServesLine source sink books old new output output' core core' (Err fault.Write) =
-    TakesTurn source old new (books.ledger core.books).network (AnswersLine books core core')
+    AnswersNextLine source old new (books.ledger core.books).network (AnswersLine books core core')
     (GrowsInPart (sink.content output) (sink.content output'))
     × (new.fault ≡ None) × Rose (sink.frame output) (sink.frame output')
 ServesLine source sink books old new output output' core core' (Err _) = ⊥
 
 -- Turns from a history on: lines that were to come were read and answered, each by a reply that is
 -- out, and each says one thing.
-pub record HasServed {S K R : Type 0} (source : Ghosts S) (books : BooksGhosts K R)
+pub record HasAnsweredLines {S K R : Type 0} (source : Ghosts S) (books : BooksGhosts K R)
     (start now : Reader S) (since : List Entry) (first core : State K)
     (before after : Option (List ℕ)) : Type 0 where
   pub lines : List ReadLine

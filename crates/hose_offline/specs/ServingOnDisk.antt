@@ -6,7 +6,7 @@ use Rattle.hose_io.specs.declared.sink.Sink.{Ghosts as SinkGhosts}
 use Rattle.hose_words.specs.Lines.{Reader}
 use Rattle.hose_graph.specs.Network.{Network}
 use Rattle.hose_graph.specs.declared.entry.Entry.{Entry}
-use Rattle.hose_graph.specs.declared.reply.Reply.{Reply}
+use Rattle.hose_graph.specs.declared.command.Reply.{Reply}
 use Rattle.hose_law.specs.History.{IsDecidedAt}
 use Rattle.hose_book.specs.GoingOn.{GoesOn}
 use Rattle.hose_disk.specs.declared.cabinet.Cabinet.{Ghosts as CabinetGhosts}
@@ -18,7 +18,7 @@ use Rattle.hose_store.specs.Commit.{store_books}
 use Rattle.hose_store.specs.Opening.{IsAtOpening}
 use Rattle.hose_store.specs.Recovery.{IsHistoryOf, IsRecoveredAs, digest_of}
 use Rattle.hose_store.specs.Store.{Kept}
-use Rattle.hose_offline.specs.OnDisk.{CabinetFailed, Held, IsRefused, IsUnopened, KeptOnDisk, opening_of}
+use Rattle.hose_offline.specs.OnDisk.{CabinetFailed, HadContent, IsRefusedOnDisk, IsUnopened, KeptOnDisk, opening_of}
 use Rattle.hose_offline.specs.Serving.{Serves, TellsDisks}
 use Rattle.hose_offline.specs.declared.fault.Fault.{Fault}
 use Rattle.hose_offline.specs.declared.fault.Fault.TheVariants as fault
@@ -87,9 +87,9 @@ IsNotServed cabinet disk name old new network (Err fault.Cabinet) =
     IsUnopened cabinet disk old new network name
     × CabinetFailed cabinet old new
 IsNotServed cabinet disk name old new network (Err (fault.Other kept given)) =
-    (given ≡ digest_of network) × IsRefused cabinet disk old new network name (other kept)
+    (given ≡ digest_of network) × IsRefusedOnDisk cabinet disk old new network name (other kept)
 IsNotServed cabinet disk name old new network (Err (fault.Damaged at)) =
-    IsRefused cabinet disk old new network name (damaged at)
+    IsRefusedOnDisk cabinet disk old new network name (damaged at)
 IsNotServed cabinet disk name old new network (Err fault.Memory) =
     IsUnopened cabinet disk old new network name
 IsNotServed cabinet disk name old new network _ = ⊥
@@ -102,7 +102,7 @@ pub record HasServedInCabinet {S O C E : Type 0} (source : SourceGhosts S) (sink
   pub since : List Entry
   pub first : Kept E
   pub last : Kept E
-  pub begun : Held cabinet disk old new name (IsHistoryOf network since)
+  pub begun : HadContent cabinet disk old new name (IsHistoryOf network since)
   pub serves : Serves source sink (store_books disk) start now output output' network since first
       last served
   pub keeps : (history : List Entry) (replies : List Reply)

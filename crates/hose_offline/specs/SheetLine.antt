@@ -4,11 +4,11 @@ use Rattle.std.specs.List.{flat_map}
 use Rattle.hose_words.specs.Form.{Form, grammar_of, place}
 use Rattle.hose_words.specs.Grammar.{IsFirstNotAllowed}
 use Rattle.hose_words.specs.Words.{words_of}
-use Rattle.hose_words.specs.declared.limits.TheConstants.{LINE_LIMIT}
+use Rattle.hose_words.specs.declared.lines.TheConstants.{LINE_LIMIT}
 use Rattle.hose_graph.specs.Hose.{Endpoint}
 use Rattle.hose_graph.specs.Name.{IsName}
 use Rattle.hose_graph.specs.Network.{Network}
-use Rattle.hose_price.specs.Pricing.{HasNoPlan, IsLine}
+use Rattle.hose_price.specs.Pricing.{HasNoPricedPlan, IsPriceLine}
 use Rattle.hose_price.specs.Sheet.{Sheet}
 use Rattle.hose_price.specs.declared.priced.Price.{Price}
 use Rattle.hose_proto.specs.Command.{AreEndsOf, ends_form}
@@ -36,10 +36,10 @@ sheet_form network = place IsName (ends_form network)
 abbrev pub AnswersSheet : Network → Sheet → List ℕ → SheetAnswer → Type 0
 AnswersSheet network sheet bytes (Priced customer line) = (hose : List Endpoint)
     × (length bytes ≤ LINE_LIMIT) × IsPricing network bytes customer hose
-    × IsLine sheet hose line
+    × IsPriceLine sheet hose line
 AnswersSheet network sheet bytes (NoPlan customer) = (hose : List Endpoint)
     × (length bytes ≤ LINE_LIMIT) × IsPricing network bytes customer hose
-    × HasNoPlan sheet.network hose
+    × HasNoPricedPlan sheet.network hose
 AnswersSheet network sheet bytes (Bad word) = (length bytes ≤ LINE_LIMIT)
     × IsFirstNotAllowed (grammar_of (sheet_form network)) [] (words_of bytes) word
     × ((customer : List ℕ) (hose : List Endpoint) → ¬ IsPricing network bytes customer hose)
@@ -48,9 +48,10 @@ AnswersSheet network sheet bytes Memory = length bytes ≤ LINE_LIMIT
 
 -- what is answered to a customer who asks for this hose
 abbrev pub PricesHose : Sheet → List ℕ → List Endpoint → SheetAnswer → Type 0
-PricesHose sheet customer hose (Priced other line) = (other ≡ customer) × IsLine sheet hose line
+PricesHose sheet customer hose (Priced other line) =
+    (other ≡ customer) × IsPriceLine sheet hose line
 PricesHose sheet customer hose (NoPlan other) =
-    (other ≡ customer) × HasNoPlan sheet.network hose
+    (other ≡ customer) × HasNoPricedPlan sheet.network hose
 PricesHose sheet customer hose (Bad word) = ⊥
 PricesHose sheet customer hose Long = ⊥
 PricesHose sheet customer hose Memory = ⊤
@@ -62,7 +63,7 @@ abbrev pub price_words : List ℕ → Price → List ℕ
 price_words name price = codes " " ++ name ++ codes " " ++ decimal price.cost ++ codes " "
     ++ decimal price.low ++ codes " " ++ decimal price.high
 
--- the same of tariffs with these names, in order
+-- the words of prices, of tariffs with these names, in order
 abbrev pub prices_words : List (List ℕ) → List Price → List ℕ
 prices_words [] prices = []
 prices_words names [] = []

@@ -16,7 +16,7 @@ use Rattle.hose_follow.specs.declared.shipping.ShipFault.{ShipFault}
 use Rattle.hose_offline.specs.AuditOutcome.{NamedOutcome}
 use Rattle.hose_offline.specs.Ending.{IsLastLine, status_of_done}
 use Rattle.hose_offline.specs.Fault.{of_shipping}
-use Rattle.hose_offline.specs.OnDisk.{Held, IsUnopened}
+use Rattle.hose_offline.specs.OnDisk.{HadContent, IsUnopened}
 use Rattle.hose_offline.specs.ServingOnDisk.{IsNotServed}
 use Rattle.hose_offline.specs.declared.fault.Fault.{Fault}
 use Rattle.hose_offline.specs.declared.fault.Fault.TheVariants.{Write}
@@ -33,7 +33,7 @@ module _ {O C E : Type 0} (sink : SinkGhosts O) (cabinet : CabinetGhosts C E)
   -- opening. No call on its disk failed.
   pub record ShipsWhole (network : Network) : Type 0 where
     pub history : List Entry
-    pub held : Held cabinet disk place place' journal (IsHistoryOf network history)
+    pub held : HadContent cabinet disk place place' journal (IsHistoryOf network history)
     pub out : Grows (sink.content output) (sink.content output')
         (packets_bytes (packets_from network from history))
     pub writing : sink.frame output' ≡ sink.frame output
@@ -46,7 +46,7 @@ module _ {O C E : Type 0} (sink : SinkGhosts O) (cabinet : CabinetGhosts C E)
     pub entries : List Entry
     pub sound : IsSound network 0 entries
     pub held : (entries ≡ [])
-        ⊎ Held cabinet disk place place' journal (BeginsWith (digest_of network) entries)
+        ⊎ HadContent cabinet disk place place' journal (BeginsWith (digest_of network) entries)
     pub out : Puts (packets_bytes (packets_from network from entries))
 
   -- What shipping comes to, before its last line. At a fault of the journal the packets of the

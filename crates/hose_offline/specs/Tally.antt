@@ -1,7 +1,7 @@
 -- What the replies of a script come to together, and the line that tells it.
 use Rattle.std.specs.Prelude.{ℕ, ◌+◌, ◌*◌, ◌≤◌, ◌^◌, List, ◌++◌, codes, decimal, sum_by}
-use Rattle.hose_graph.specs.declared.reply.Reply.{Reply}
-use Rattle.hose_graph.specs.declared.reply.Reply.TheVariants.{Admitted, Refused, Released}
+use Rattle.hose_graph.specs.declared.command.Reply.{Reply}
+use Rattle.hose_graph.specs.declared.command.Reply.TheVariants.{Admitted, Refused, Released}
 use Rattle.hose_offline.specs.declared.tally.Tally.{Tally}
 
 -- 1 for a reply that tells an admission

@@ -1,17 +1,17 @@
 -- What the text of a topology tells, in lines or in JSON, and what it costs to use it.
 use Rattle.std.specs.Prelude.{◌≡◌, ℕ, List, codes, if◌then◌else◌, nat_eq}
 use Rattle.std.specs.List.{ends_with}
-use Rattle.hose_words.specs.declared.limits.TheConstants.{INPUT_LIMIT}
+use Rattle.hose_words.specs.declared.lines.TheConstants.{INPUT_LIMIT}
 use Rattle.hose_graph.specs.Network.{Network}
 use Rattle.hose_topo.specs.TopologyText.{IsTopologyText, IsWrongAt}
 use Rattle.hose_topo_json.specs.JsonTopology.{IsJsonTopology}
-use Rattle.hose_topo_json.specs.Refused.{IsRefused}
-use Rattle.hose_topo_json.specs.declared.fault.JsonFault.TheVariants as fault
+use Rattle.hose_topo_json.specs.Refused.{IsJsonFault}
+use Rattle.hose_topo_json.specs.declared.reading.JsonFault.TheVariants as fault
 use Rattle.hose_offline.specs.declared.notation.Notation.{Notation}
 use Rattle.hose_offline.specs.declared.notation.Notation.TheVariants as notation
 use Rattle.hose_offline.specs.declared.notation.Refusal.{Refusal}
 use Rattle.hose_offline.specs.declared.notation.Refusal.TheVariants.{Word, Json, Nodes, Node, Links, Link}
-use Rattle.hose_offline.specs.declared.limits.TheConstants.{JSON_LIMIT}
+use Rattle.hose_offline.specs.declared.json_text.TheConstants.{JSON_LIMIT}
 
 -- how the text of a name is written
 abbrev pub notation_of : List ℕ → Notation
@@ -39,9 +39,9 @@ TellsPriced written prices bytes network =
 -- the bytes are refused so
 abbrev pub IsRefusedAs : Notation → Refusal → List ℕ → Type 0
 IsRefusedAs notation.Lines (Word line word) bytes = (rest : List ℕ) × IsWrongAt bytes line word rest
-IsRefusedAs notation.Json Json bytes = IsRefused bytes fault.Json
-IsRefusedAs notation.Json Nodes bytes = IsRefused bytes fault.Nodes
-IsRefusedAs notation.Json (Node index) bytes = IsRefused bytes (fault.Node index)
-IsRefusedAs notation.Json Links bytes = IsRefused bytes fault.Links
-IsRefusedAs notation.Json (Link index) bytes = IsRefused bytes (fault.Link index)
+IsRefusedAs notation.Json Json bytes = IsJsonFault bytes fault.Json
+IsRefusedAs notation.Json Nodes bytes = IsJsonFault bytes fault.Nodes
+IsRefusedAs notation.Json (Node index) bytes = IsJsonFault bytes (fault.Node index)
+IsRefusedAs notation.Json Links bytes = IsJsonFault bytes fault.Links
+IsRefusedAs notation.Json (Link index) bytes = IsJsonFault bytes (fault.Link index)
 IsRefusedAs written refusal bytes = ⊥

@@ -16,8 +16,8 @@ ghost use Rattle.hose_offline.specs.RunOutcome.{RunLeaves, RunOutcome};
 ghost use Rattle.hose_offline.specs.Serving.{SaysOneThing, SaysRead, AnswersLine, Serves, ServesInMemory, ServesLine};
 
 use crate::fault::{Fault, end};
+use crate::input_line::read_line;
 use crate::journal::answer_in_cabinet;
-use crate::script_line::read_line;
 use hose_book::{Book, Books, Plain};
 use hose_core::Core;
 use hose_disk::Cabinet;
@@ -86,7 +86,7 @@ fn run_input<P: Prices, I: Source, O: Sink, C: Cabinet>(
     done
 }
 
-// The same with a reader that has taken nothing.
+// Runs by a reader that has taken nothing.
 fn run_lines<P: Prices, S: Source, O: Sink, C: Cabinet>(
     alloc: Global,
     costs: &P,

@@ -110,7 +110,7 @@ pub fn read_topology<P: Prices, C: Cabinet>(
     Ok(topology)
 }
 
-// The same with the costs that the text tells.
+// Reads the topology of a text of the cabinet, with the costs that the text tells.
 fn read_told<C: Cabinet>(alloc: Global, name: &str, cabinet: &mut C) -> Result<Topology, Fault>
     ensures reads { ReadsTopology C.Cabinet cabinet.old cabinet.new own_costs name.now result }
 {
@@ -121,7 +121,7 @@ fn read_told<C: Cabinet>(alloc: Global, name: &str, cabinet: &mut C) -> Result<T
     read_there(alloc, name, cabinet)
 }
 
-// The same of a text that is there.
+// Reads the topology of a text that is there, with the costs that the text tells.
 fn read_there<C: Cabinet>(alloc: Global, name: &str, cabinet: &mut C) -> Result<Topology, Fault>
     requires { IsTrue (C.frame cabinet.old).tells → IsSome (C.text cabinet.old name.now) }
     ensures reads { ReadsTopology C.Cabinet cabinet.old cabinet.new own_costs name.now result }
@@ -184,7 +184,7 @@ fn read_book<C: Cabinet>(
     read.0
 }
 
-// The same on a disk, which comes back.
+// Reads the book of a journal on a disk, which comes back.
 fn read_book_on_disk<D: Disk>(
     alloc: Global,
     topology: Topology,

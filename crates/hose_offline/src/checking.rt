@@ -1,10 +1,10 @@
 // A check: the certificate of an input, judged by the topology of a text.
 ghost use Rattle.std.specs.Prelude.{◌≡◌, ◌≢◌, ◌↔◌, ◌+◌, ◌<◌, ◌≤◌, [], Err, IfOk, None};
 ghost use Rattle.hose_io.specs.Frame.{Rose, Stays};
-ghost use Rattle.hose_cert.specs.Verdict.{AreCheapestFound, IsFound};
+ghost use Rattle.hose_cert.specs.Verdict.{AreCheapestFound, IsVerdict};
 ghost use Rattle.hose_disk.specs.Cabinet.{object_of};
 ghost use Rattle.hose_words.specs.Reading.{ReadsOn, WhereTold};
-ghost use Rattle.hose_offline.specs.CheckOutcome.{CheckOutcome, EndsVerdict, Judges, JudgesNamed};
+ghost use Rattle.hose_offline.specs.CheckOutcome.{CheckOutcome, EndsVerdict, JudgesInput, JudgesNamed};
 
 use crate::auditing::read_topology;
 use crate::fault::{Fault, end, put_numbered};
@@ -61,7 +61,7 @@ fn judge_named<P: Prices, I: Source, C: Cabinet>(
 
 // The verdict on the certificate of the input, by a network.
 fn judge<I: Source>(alloc: Global, top: &Topology, input: &mut I) -> Result<Verdict, Fault>
-    ensures judges { Judges I.Source input.old input.new top.now result }
+    ensures judges { JudgesInput I.Source input.old input.new top.now result }
     ensures input { Stays (I.frame input.old) (I.frame input.new) }
 {
     let mut lines = LineReader::new(input);
@@ -84,7 +84,7 @@ fn judge_lines<S: Source>(
     requires taken { lines.old.taken ≡ 0 }
     requires fault { lines.old.fault ≡ None }
     ensures found { IfOk result (λ verdict. WhereTold (S.content lines.old.source)
-        (S.content lines.new.source) (λ text left. (left ≡ []) × IsFound top.now text verdict)) }
+        (S.content lines.new.source) (λ text left. (left ≡ []) × IsVerdict top.now text verdict)) }
     ensures cheapest { IfOk result (AreCheapestFound top.now) }
     ensures read { result ≡ Err CertFault.Read
         → Rose (S.frame lines.old.source) (S.frame lines.new.source) }

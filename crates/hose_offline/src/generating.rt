@@ -9,7 +9,7 @@ ghost use Rattle.hose_law.specs.Script.{IsForMemory};
 ghost use Rattle.hose_law.specs.Script.ReadLine.{Asks};
 ghost use Rattle.hose_core.specs.Stepping.{FitsHistory};
 ghost use Rattle.hose_gen.specs.Generated.{generated_network, generated_script};
-ghost use Rattle.hose_gen.specs.declared.limits.TheConstants.{LEAST_NODES, MOST_HOSES};
+ghost use Rattle.hose_gen.specs.declared.orders.TheConstants.{LEAST_NODES, MOST_HOSES};
 ghost use Rattle.hose_offline.specs.GenOutcome.{GenLeaves, GenOutcome};
 ghost use Rattle.hose_offline.specs.Generating.{HaveBeenAnswered, IsTallyOf};
 ghost use Rattle.hose_offline.specs.Serving.{AnswersLine};

@@ -1,15 +1,18 @@
 // A topology in JSON that is read of a source.
 ghost use Rattle.std.specs.Prelude.{◌≡◌, ◌≢◌, ◌↔◌, ◌+◌, ◌<◌, ◌≤◌, ℕ, List, Err, IfErr, IfOk, OnOk, length};
+ghost use Rattle.hose_io.specs.Calls.{HasGone};
 ghost use Rattle.hose_io.specs.Frame.{Rose, Stays};
 ghost use Rattle.hose_io.specs.Stream.{Gives, IsAtEnd};
 ghost use Rattle.hose_offline.specs.JsonRead.{IsJsonOf, IsPieceFault};
 
 use crate::fault::Fault;
-use crate::limits::JSON_LIMIT;
 use hose_graph::Topology;
 use hose_io::Source;
 use hose_topo_json::read_json;
 use std::alloc::Global;
+
+/// How many bytes of a topology in JSON are read at most; one more is too many. It is 16 MiB.
+pub const JSON_LIMIT: u64 = 1 << 24;
 
 // How many bytes are taken at once.
 const PIECE: usize = 16_384;
@@ -24,6 +27,7 @@ pub fn read_whole_json<S: Source>(alloc: Global, source: &mut S) -> Result<Topol
     ensures failed { result ≡ Err Fault.Cabinet → Rose (S.frame source.old) (S.frame source.new) }
     ensures held { result ≢ Err Fault.Cabinet → S.frame source.new ≡ S.frame source.old }
     ensures stays { Stays (S.frame source.old) (S.frame source.new) }
+    ensures gone { HasGone S.Source source.old source.new }
 {
     let bytes = take_all(alloc, source)?;
     let topology = read_json(alloc, &bytes)?;
@@ -40,6 +44,7 @@ fn take_all<S: Source>(alloc: Global, source: &mut S) -> Result<Vec<u8>, Fault>
     ensures failed { result ≡ Err Fault.Cabinet → Rose (S.frame source.old) (S.frame source.new) }
     ensures held { result ≢ Err Fault.Cabinet → S.frame source.new ≡ S.frame source.old }
     ensures stays { Stays (S.frame source.old) (S.frame source.new) }
+    ensures gone { HasGone S.Source source.old source.new }
 {
     let mut bytes = Vec::new(alloc);
     let mut piece = [0; PIECE];

@@ -12,8 +12,8 @@ ghost use Rattle.hose_offline.specs.SheetLine.{AnswersSheet, PricesHose};
 
 use crate::auditing::read_topology;
 use crate::fault::{Fault, end};
+use crate::input_line::read_sheet_line;
 use crate::sheet_answer::{SheetAnswer, put_answer};
-use crate::sheet_line::read_sheet_line;
 use hose_disk::Cabinet;
 use hose_graph::{Hose, Name, Topology};
 use hose_io::{Sink, Source};

@@ -65,7 +65,7 @@ fn prove_named<P: Prices, O: Sink, C: Cabinet>(
     prove_words(alloc, &top, ends, first, output)
 }
 
-// The same on a network.
+// Proves the hose of the words on a network that was read.
 fn prove_words<O: Sink>(
     alloc: Global,
     top: &Topology,

@@ -4,13 +4,13 @@ use Rattle.hose_law.specs.History.{IsSound}
 use Rattle.hose_law.specs.Quotes.{nothing_held}
 use Rattle.hose_core.specs.Stepping.{FitsHistory}
 use Rattle.hose_words.specs.Reading.{ReadsOn}
-use Rattle.hose_offline.specs.Serving.{HasServed}
+use Rattle.hose_offline.specs.Serving.{HasAnsweredLines}
 use Rattle.hose_offline.proofs.answering.answer_all.Given as goal
 
 abbrev pub invariant-loop : goal.invariant-loop
 invariant-loop g l = record {
   served : (since : List Entry) → IsSound (g.K.Books.ledger l.fn.core.books).network 0 since → FitsHistory g.K.Books l.fn.core 0 since nothing_held
-      → HasServed g.S.Source g.K.Books l.fn.lines l.lines since l.fn.core l.core (g.O.Sink.content l.fn.output) (g.O.Sink.content l.output);
+      → HasAnsweredLines g.S.Source g.K.Books l.fn.lines l.lines since l.fn.core l.core (g.O.Sink.content l.fn.output) (g.O.Sink.content l.output);
   reads : ReadsOn g.S.Source l.fn.lines l.lines;
   none : l.lines.fault ≡ None;
   limit : l.lines.taken ≤ 2 ^ 30 + 1;

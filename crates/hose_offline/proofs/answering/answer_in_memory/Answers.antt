@@ -1,9 +1,16 @@
 use Rattle.std.proofs.Common.{◌∙◌, [], inr, ap, subst}
+use Rattle.hose_words.proofs.OnReading.{ReadsOn-start}
 use Rattle.hose_book.specs.Ledger.{Ledger}
 use Rattle.hose_book.specs.declared.books.Plain.{Plain}
 use Rattle.hose_graph.specs.Network.{Network}
 use Rattle.hose_offline.specs.Serving.{Serves, plain_books}
 use Rattle.hose_offline.proofs.answering.answer_in_memory.Goals as goal
+
+pub returns-in_err-book-clause-reads_on : goal.returns-in_err-book-clause-reads_on
+returns-in_err-book-clause-reads_on g c = ReadsOn-start g.S.Source c.args.lines.now
+
+pub returns-in_err-table-clause-reads_on : goal.returns-in_err-table-clause-reads_on
+returns-in_err-table-clause-reads_on g c = ReadsOn-start g.S.Source c.args.lines.now
 
 pub returns-clause-serves : goal.returns-clause-serves
 returns-clause-serves g c =

@@ -1,22 +1,20 @@
-use Rattle.std.proofs.Common.{◌≡◌, ◌∙◌, ◌+◌, ◌≤◌, IsTrue, Err, refl, sym, ap, subst, arith, rules}
+use Rattle.std.proofs.Common.{◌≡◌, ◌∙◌, ◌+◌, ◌≤◌, Err, sym, ap, subst, arith, rules}
 use Rattle.hose_words.specs.Lines.{Reader}
-use Rattle.hose_words.specs.declared.limits.TheConstants.{INPUT_LIMIT}
+use Rattle.hose_words.specs.declared.lines.TheConstants.{INPUT_LIMIT}
 use Rattle.hose_words.proofs.Saying.{rose_now}
 use Rattle.hose_topo.specs.Reading.{KeepsFault}
 use Rattle.hose_offline.specs.Auditing.{ReadsText}
-use Rattle.hose_offline.specs.CabinetText.{OnlyTextsRead, TextState, names_of, text_source}
+use Rattle.hose_offline.specs.CabinetText.{TextState, text_source}
 use Rattle.hose_offline.specs.declared.fault.Fault.{Fault}
 use Rattle.hose_offline.specs.TopologyTold.{own_costs}
 use Rattle.hose_offline.specs.declared.notation.Notation.TheVariants.{Lines}
 use Rattle.hose_offline.proofs.Audits.{read_err, read_ok}
 use Rattle.hose_offline.proofs.Running.{not_read, stopped_told, text_told, wrong_told}
-use Rattle.hose_offline.proofs.Texts.{same_value}
 use Rattle.hose_offline.proofs.auditing.read_text.Goals as goal
 
 pub returns-in-Ok : goal.returns-in-Ok
 returns-in-Ok g c =
-    let names = λ (v : g.row.C.Denot). names_of (g.row.C.coded.code v) in
-    let text = text_source g.C.Cabinet names in
+    let text = text_source g.C.Cabinet in
     let first = c.new-lines.result in
     let last = c.read-topology.new.lines in
     let read = c.read-topology.ensures in
@@ -25,17 +23,14 @@ returns-in-Ok g c =
     let taken = ap (λ (r : Reader (TextState g.row.C.Denot)). r.taken) made in
     let fault = ap (λ (r : Reader (TextState g.row.C.Denot)). r.fault) made in
     let source = ap (λ (r : Reader (TextState g.row.C.Denot)). r.source) made in
-    let back = c.into_source.ensures in
     let within : last.taken ≤ INPUT_LIMIT + 1 = read.limit (omega (arith, taken)) in
-    let only = subst (λ (t : TextState g.row.C.Denot). OnlyTextsRead g.C.Cabinet t.was t.cabinet.now) back c.into_cabinet.ensures.only_texts in
-    let absent = subst (λ (t : TextState g.row.C.Denot). IsTrue (g.C.Cabinet.frame t.was).tells → (g.C.Cabinet.frame t.cabinet.now).absent ≡ (g.C.Cabinet.frame t.was).absent) back c.into_cabinet.ensures.absent in
     let behind : c.cabinet-1.given.0 ≡ last.source.cabinet.now = search rules in
     let told = c.in-Ok.ensures in
     record {
-      reads = read_ok g.C.Cabinet text names (λ a b same. g.row.C.coded.inj a b (same_value _ _ same)) (λ t. refl) (λ t. refl) c.args.cabinet.now _ c.args.name.now first.source last.source
-          (ap (λ (t : TextState g.row.C.Denot). t.was) source ∙ c.new.ensures.was) (ap (λ (t : TextState g.row.C.Denot). t.cabinet.now) source ∙ c.new.ensures.value)
+      reads = read_ok g.C.Cabinet c.args.cabinet.now _ c.args.name.now first.source last.source
+          (ap (λ (t : TextState g.row.C.Denot). t.cabinet.now) source ∙ c.new.ensures.value)
           (ap (λ (t : TextState g.row.C.Denot). t.name) source ∙ c.new.ensures.name) (ap (λ (t : TextState g.row.C.Denot). t.from) source ∙ c.new.ensures.from)
-          (sym behind) only absent c.requires read.reads_on.stays read.reads_on.takes.0 read.reads_on.takes.1 (omega (arith, within, read.reads_on.takes.2, taken)) c.in-Ok.topology told.network
+          (sym behind) read.reads_on.gone c.requires read.reads_on.takes.0 read.reads_on.takes.1 (omega (arith, within, read.reads_on.takes.2, taken)) c.in-Ok.topology told.network
           ((λ is. absurd (cc is)), λ more. absurd (cc ((read.too_long (omega (arith, taken))).1 (omega (arith, more, read.reads_on.takes.2, taken)), c.in-Ok.is)))
           (read.reads_on.unfailed (λ is. absurd (cc (is, told.fault.1))))
           (text_told text first last c.in-Ok.topology pending told.topology);
@@ -43,8 +38,7 @@ returns-in-Ok g c =
 
 pub returns-in-Err : goal.returns-in-Err
 returns-in-Err g c =
-    let names = λ (v : g.row.C.Denot). names_of (g.row.C.coded.code v) in
-    let text = text_source g.C.Cabinet names in
+    let text = text_source g.C.Cabinet in
     let first = c.new-lines.result in
     let last = c.read-topology.new.lines in
     let read = c.read-topology.ensures in
@@ -53,19 +47,16 @@ returns-in-Err g c =
     let taken = ap (λ (r : Reader (TextState g.row.C.Denot)). r.taken) made in
     let fault = ap (λ (r : Reader (TextState g.row.C.Denot)). r.fault) made in
     let source = ap (λ (r : Reader (TextState g.row.C.Denot)). r.source) made in
-    let back = c.into_source.ensures in
     let within : last.taken ≤ INPUT_LIMIT + 1 = read.limit (omega (arith, taken)) in
-    let only = subst (λ (t : TextState g.row.C.Denot). OnlyTextsRead g.C.Cabinet t.was t.cabinet.now) back c.into_cabinet.ensures.only_texts in
-    let absent = subst (λ (t : TextState g.row.C.Denot). IsTrue (g.C.Cabinet.frame t.was).tells → (g.C.Cabinet.frame t.cabinet.now).absent ≡ (g.C.Cabinet.frame t.was).absent) back c.into_cabinet.ensures.absent in
     let behind : c.cabinet-1.given.0 ≡ last.source.cabinet.now = search rules in
     let why = c.in-Err.fault in
     let at = c.in-Err.is in
     record {
       reads = subst (λ (f : Fault). ReadsText g.C.Cabinet c.args.cabinet.now c.cabinet-1.given.0 Lines own_costs c.args.name.now (Err f)) (sym c.of_text.ensures)
-          (read_err g.C.Cabinet text names (λ a b same. g.row.C.coded.inj a b (same_value _ _ same)) (λ t. refl) (λ t. refl) c.args.cabinet.now _ c.args.name.now first.source last.source
-          (ap (λ (t : TextState g.row.C.Denot). t.was) source ∙ c.new.ensures.was) (ap (λ (t : TextState g.row.C.Denot). t.cabinet.now) source ∙ c.new.ensures.value)
+          (read_err g.C.Cabinet c.args.cabinet.now _ c.args.name.now first.source last.source
+          (ap (λ (t : TextState g.row.C.Denot). t.cabinet.now) source ∙ c.new.ensures.value)
           (ap (λ (t : TextState g.row.C.Denot). t.name) source ∙ c.new.ensures.name) (ap (λ (t : TextState g.row.C.Denot). t.from) source ∙ c.new.ensures.from)
-          (sym behind) only absent c.requires read.reads_on.stays read.reads_on.takes.0 read.reads_on.takes.1 (omega (arith, within, read.reads_on.takes.2, taken)) why
+          (sym behind) read.reads_on.gone c.requires read.reads_on.takes.0 read.reads_on.takes.1 (omega (arith, within, read.reads_on.takes.2, taken)) why
           (λ l word wrong. wrong_told text first last l word pending (read.wrong l word (at ∙ ap Err wrong)) (read.no_text l word (at ∙ ap Err wrong)))
           (λ met stopped. stopped_told text first last met pending (read.front fault met (at ∙ ap Err stopped)))
           (λ failed. rose_now text first last fault (read.read (at ∙ ap Err failed)))

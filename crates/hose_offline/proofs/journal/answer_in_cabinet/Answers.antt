@@ -1,5 +1,9 @@
+use Rattle.hose_words.proofs.OnReading.{ReadsOn-start}
 use Rattle.hose_offline.proofs.Journals.{in_cabinet}
 use Rattle.hose_offline.proofs.journal.answer_in_cabinet.Goals as goal
+
+pub returns-in_default-clause-reads_on : goal.returns-in_default-clause-reads_on
+returns-in_default-clause-reads_on g c = ReadsOn-start g.S.Source c.args.lines.now
 
 pub returns-clause-serves : goal.returns-clause-serves
 returns-clause-serves g c =

@@ -1,4 +1,5 @@
 use Rattle.std.proofs.Common.{inl, inr, Err, refl, sym, subst, le_refl}
+use Rattle.hose_words.proofs.OnReading.{ReadsOn-start}
 use Rattle.hose_law.specs.History.{IsSound}
 use Rattle.hose_store.specs.Store.{Kept}
 use Rattle.hose_offline.specs.ServingOnDisk.{ServesOnDisk}
@@ -14,6 +15,12 @@ returns-in-Err-clause-serves g c =
     let not = not_opened g.D.Disk c.args.topology c.args.disk left c.in-Err.refused.0 c.law_one_meaning.ensures c.in-Err.ensures.any_moment c.in-Err.ensures.refused in
     subst (λ (why : Fault). ServesOnDisk g.S.Source g.O.Sink g.D.Disk c.args.lines.now c.args.lines.now c.args.output.now c.args.output.now c.args.topology c.args.disk left (Err why)) (sym c.from.ensures)
     (inl (not, refl, refl))
+
+pub returns-in-Err-clause-reads_on : goal.returns-in-Err-clause-reads_on
+returns-in-Err-clause-reads_on g c = ReadsOn-start g.S.Source c.args.lines.now
+
+pub returns-in_default-clause-reads_on : goal.returns-in_default-clause-reads_on
+returns-in_default-clause-reads_on g c = ReadsOn-start g.S.Source c.args.lines.now
 
 pub returns-in_default-clause-serves : goal.returns-in_default-clause-serves
 returns-in_default-clause-serves g c =

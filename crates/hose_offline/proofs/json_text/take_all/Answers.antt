@@ -1,9 +1,35 @@
-use Rattle.std.proofs.Common.{rules, ◌≡◌, ◌∙◌, ◌+◌, ◌≤◌, ◌++◌, Err, take, length, ap, arith, length-append, length-take}
+use Rattle.std.proofs.Common.{rules, ◌≡◌, ◌∙◌, ◌+◌, ◌≤◌, ◌++◌, Err, take, drop, length, ap, arith, length-append, length-take}
+use Rattle.std.proofs.lemmas.List.{take-append-le}
 use Rattle.std.proofs.lemmas.Result.{err_from_is_err_and}
+use Rattle.hose_io.specs.Calls.{call_more, none_yet}
 use Rattle.hose_words.proofs.Coming.{Gives-append}
 use Rattle.hose_offline.specs.declared.fault.Fault.TheVariants as fault
-use Rattle.hose_offline.specs.declared.limits.TheConstants.{JSON_LIMIT}
+use Rattle.hose_offline.specs.declared.json_text.TheConstants.{JSON_LIMIT}
 use Rattle.hose_offline.proofs.json_text.take_all.Goals as goal
+
+pub loop-count-init : goal.loop-count-init
+loop-count-init g c = search (rules, none_yet)
+
+pub loop-count-preserved : goal.loop-count-preserved
+loop-count-preserved g c = record {
+  gives = rw (c.in_ok-extend_from_slice.ensures.items, take-append-le c.in-Ok.count c.take.new.into (drop c.min-room.result c.loop-count.piece) c.in-Ok.ensures.room)
+      (Gives-append _ _ _ c.loop-count.bytes.items (take c.in-Ok.count c.take.new.into) c.loop-count.invariant.gives c.in-Ok.ensures.taken);
+  short = search (rules, length-append);
+  held = search rules;
+  gone = call_more c.loop-count.invariant.gone c.take.ensures.went;
+}
+
+pub returns-in_default-clause-gone : goal.returns-in_default-clause-gone
+returns-in_default-clause-gone g c = call_more c.loop-count.invariant.gone c.take.ensures.went
+
+pub returns-then-count-eq0-clause-gone : goal.returns-then-count-eq0-clause-gone
+returns-then-count-eq0-clause-gone g c = call_more c.loop-count.invariant.gone c.take.ensures.went
+
+pub returns-then-len-count-clause-gone : goal.returns-then-len-count-clause-gone
+returns-then-len-count-clause-gone g c = call_more c.loop-count.invariant.gone c.take.ensures.went
+
+pub returns-in_err-extend_from_slice-clause-gone : goal.returns-in_err-extend_from_slice-clause-gone
+returns-in_err-extend_from_slice-clause-gone g c = call_more c.loop-count.invariant.gone c.take.ensures.went
 
 pub returns-then-len-count-clause-fault : goal.returns-then-len-count-clause-fault
 returns-then-len-count-clause-fault g c =
@@ -16,9 +42,9 @@ returns-then-len-count-clause-fault g c =
     let held : c.len-in-loop-count.result ≡ length bytes = search rules in
     let most : c.in-Ok.count + length bytes ≤ JSON_LIMIT + 1 = search rules in (
       bytes ++ more,
-      Gives-append (content c.args.source.now) (content c.loop-count.source) (content c.take.new.self) bytes more c.loop-count.invariant.0 c.in-Ok.ensures.taken,
+      Gives-append (content c.args.source.now) (content c.loop-count.source) (content c.take.new.self) bytes more c.loop-count.invariant.gives c.in-Ok.ensures.taken,
       omega (arith, long, given, held, c.if-len-count.true),
-      omega (arith, long, given, most, c.loop-count.invariant.1),
+      omega (arith, long, given, most, c.loop-count.invariant.short),
     )
 
 pub returns-in_err-extend_from_slice-clause-fault : goal.returns-in_err-extend_from_slice-clause-fault
@@ -34,6 +60,6 @@ returns-in_err-extend_from_slice-clause-fault g c =
     let is : c.from_residual.result ≡ Err fault.Memory = told.1 ∙ ap Err told.2 in
     rw is (
       bytes ++ more,
-      Gives-append (content c.args.source.now) (content c.loop-count.source) (content c.take.new.self) bytes more c.loop-count.invariant.0 c.in-Ok.ensures.taken,
+      Gives-append (content c.args.source.now) (content c.loop-count.source) (content c.take.new.self) bytes more c.loop-count.invariant.gives c.in-Ok.ensures.taken,
       omega (arith, long, given, held, c.if-len-count.false),
     )

@@ -6,7 +6,7 @@ use Rattle.hose_words.proofs.Forms.{wrong_at_start, wrong_later}
 use Rattle.hose_proto.specs.Command.{AreEndsOf}
 use Rattle.hose_proto.specs.declared.fault.ReadFault.TheVariants.{Bad}
 use Rattle.hose_offline.specs.SheetLine.{sheet_form}
-use Rattle.hose_offline.proofs.sheet_line.read_sheet_line.Goals as goal
+use Rattle.hose_offline.proofs.input_line.read_sheet_line.Goals as goal
 
 pub returns-in_err-hose-clause-bad : goal.returns-in_err-hose-clause-bad
 returns-in_err-hose-clause-bad c = λ word told.

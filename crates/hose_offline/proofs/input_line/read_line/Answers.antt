@@ -10,7 +10,7 @@ use Rattle.hose_proto.specs.Command.{TakesMemory, verb_word}
 use Rattle.hose_proto.specs.declared.fault.ReadFault.TheVariants.{Bad, Memory}
 use Rattle.hose_offline.specs.ScriptLine.{script_form, script_grammar}
 use Rattle.hose_offline.proofs.OneReading.{customer_alone, nameless_alone}
-use Rattle.hose_offline.proofs.script_line.read_line.Goals as goal
+use Rattle.hose_offline.proofs.input_line.read_line.Goals as goal
 
 pub returns-in_err-customer-clause-bad : goal.returns-in_err-customer-clause-bad
 returns-in_err-customer-clause-bad c = λ word told.
