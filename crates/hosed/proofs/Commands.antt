@@ -5,7 +5,6 @@ use Rattle.std.proofs.lemmas.Bool.{cases_lt}
 use Rattle.std.proofs.lemmas.Fmt.{decimal_injective}
 use Rattle.std.proofs.lemmas.List.{drop-map, drop_more, get_or-map, length-drop, length-map, take_rest}
 use mathlib.Core.List.{map-id}
-use Rattle.hose_graph.specs.Network.{Network}
 use Rattle.hose_words.specs.Cursor.{IsWrong, Misses, Position, Took}
 use Rattle.hose_words.specs.Form.{Fits64, Form, IsChoice, TellsNumber, branch, finish, grammar_of, maybe, number, place}
 use Rattle.hose_words.specs.Grammar.{IsFirst, IsFirstNotAllowed}
@@ -16,10 +15,10 @@ use Rattle.hose_words.proofs.Forms.{AreApart, Misses-stronger, after_place, fron
 use Rattle.hose_words.proofs.Passing.{Passes, pass_branch, pass_finish, pass_list, pass_maybe, pass_nothing, pass_place}
 use Rattle.hose_proto.specs.EndWords.{end_words_form}
 use Rattle.hose_proto.proofs.EndWords.{end_words_closed}
-use Rattle.hosed.specs.ProgramWords.{AreAuditWords, AreCheckWords, AreFollowWords, AreGenerateWords, ArePriceWords, ArePriceable, AreProveWords, AreRunWords, AreServeWords, AreShipWords, AsksFor, IsChosen, IsFileName, IsFirstNamed, IsFirstWrong, IsNodeCount, IsOffered, IsStart, IsTariffName, Start, Verb, at_word, first_end, from_form, name_words, costs_at, named_form, numbers_form, sizes_form, start_word, tariff_option, tariff_words, verb_form, verb_word, with_tariff, words_form}
+use Rattle.hosed.specs.ProgramWords.{ArePriceable, AreWords, AsksFor, CheckTask, GenerateTask, IsCheckTask, IsChosen, IsFileName, IsFirstNamed, IsFirstWrong, IsGenerateTask, IsJournalTask, IsNodeCount, IsAvailable, IsProveTask, IsRunTask, IsServeTask, IsShipTask, IsStart, IsTariffName, JournalTask, MayDo, PriceTask, ProveTask, RunTask, ServeTask, ShipTask, Start, Task, Verb, at_word, chosen_of, first_end, from_form, name_words, named_form, server_form, sizes_form, start_word, tariff_option, tariff_words, task_words, program_form, program_word, with_tariff, words_form}
 use Rattle.hosed.specs.ProgramWords.Start.{named, option}
 use Rattle.hosed.specs.ProgramWords.Verb.{audit, check, follow, generate, price, prove, run, serve, ship}
-use Rattle.hosed.specs.Reading.{Chooses}
+use Rattle.hosed.specs.Reading.{Chooses, IsOfJournal, IsOfTopology, NamesJournal, NamesTopology}
 
 -- ---- words of a slice
 
@@ -70,9 +69,9 @@ seed_none most bytes word None all same none = λ tells. none tells.0 (all tells
 
 -- each command has a word of its own, by which it is found again
 abbrev verb_of : List ℕ → Verb
-verb_of word = choice_of verb_word (run ∷ audit ∷ generate ∷ prove ∷ check ∷ price ∷ ship ∷ follow ∷ serve ∷ []) run word
+verb_of word = choice_of program_word (run ∷ audit ∷ generate ∷ prove ∷ check ∷ price ∷ ship ∷ follow ∷ serve ∷ []) run word
 
-verb_back : (verb : Verb) → verb_of (verb_word verb) ≡ verb
+verb_back : (verb : Verb) → verb_of (program_word verb) ≡ verb
 verb_back run = refl
 verb_back audit = refl
 verb_back generate = refl
@@ -83,10 +82,10 @@ verb_back ship = refl
 verb_back follow = refl
 verb_back serve = refl
 
-verb_apart : (one other : Verb) → verb_word one ≡ verb_word other → one ≡ other
+verb_apart : (one other : Verb) → program_word one ≡ program_word other → one ≡ other
 verb_apart one other same = sym (verb_back one) ∙ (ap verb_of same ∙ verb_back other)
 
-verbs_apart : (names : List (List ℕ)) → AreApart (IsOffered names) verb_word
+verbs_apart : (names : List (List ℕ)) → AreApart (IsAvailable names) program_word
 verbs_apart names = record { apart = λ one other here there same. verb_apart one other same }
 
 -- the option names no file
@@ -111,19 +110,19 @@ pub no_count : (words : List (List ℕ)) (at : ℕ) {number : ℕ} → Misses (T
 no_count words at misses = wrong_choice (Misses-stronger (λ word choice. (choice.0, choice.2, choice.1)) misses)
 
 -- the word of a command is the first
-pub verb_there : (verb : Verb) (words : List (List ℕ)) → AsksFor verb words → Took (at_word 1 words) (at_word 2 words) (verb_word verb)
+pub verb_there : (verb : Verb) (words : List (List ℕ)) → AsksFor verb words → Took (at_word 1 words) (at_word 2 words) (program_word verb)
 verb_there verb [] asks = absurd asks
 verb_there verb (word ∷ words) asks = record { cut = ap (λ (first : List ℕ). first ∷ words) asks; counted = refl }
 
 -- what is wrong of the words after it is so of all
-pub verb_wrong : (names : List (List ℕ)) (verb : Verb) (words : List (List ℕ)) (number : ℕ) → IsOffered names verb → AsksFor verb words → IsWrong (verb_form names verb) (at_word 2 words) number → IsFirstWrong names words number
+pub verb_wrong : (names : List (List ℕ)) (verb : Verb) (words : List (List ℕ)) (number : ℕ) → IsAvailable names verb → AsksFor verb words → IsWrong (program_form names verb) (at_word 2 words) number → IsFirstWrong names words number
 verb_wrong names verb words number offered asks wrong = wrong_at_start words refl (wrong_chosen verb offered (verbs_apart names) (verb_there verb words asks) wrong)
 
 -- the first word is that of no command that there is
-pub no_verb : (names words : List (List ℕ)) → ((verb : Verb) → IsOffered names verb → AsksFor verb words → ⊥) → IsFirstWrong names words 1
+pub no_verb : (names words : List (List ℕ)) → ((verb : Verb) → IsAvailable names verb → AsksFor verb words → ⊥) → IsFirstWrong names words 1
 no_verb names words none = wrong_at_start {start = at_word 1 words} words refl (wrong_choice (record { none = never words none; at = refl }))
   where
-    never : (all : List (List ℕ)) → ((verb : Verb) → IsOffered names verb → AsksFor verb all → ⊥) → IsFirst (IsChoice (IsOffered names) verb_word) all → ⊥
+    never : (all : List (List ℕ)) → ((verb : Verb) → IsAvailable names verb → AsksFor verb all → ⊥) → IsFirst (IsChoice (IsAvailable names) program_word) all → ⊥
     never [] none first = first
     never (word ∷ more) none first = none first.0 first.1 first.2
 
@@ -134,7 +133,7 @@ one_verb one other (word ∷ words) asks asks' = verb_apart one other (sym asks 
 
 -- there are no tariffs to price under, or too many
 pub not_offered : (names words : List (List ℕ)) → AsksFor price words → (ArePriceable names → ⊥) → IsFirstWrong names words 1
-not_offered names words asks never = no_verb names words (λ verb offered other. never (subst (IsOffered names) (one_verb verb price words other asks) offered))
+not_offered names words asks never = no_verb names words (λ verb offered other. never (subst (IsAvailable names) (one_verb verb price words other asks) offered))
 
 -- a word that is there is one too many
 pub one_too_many : (words : List (List ℕ)) (at : ℕ) → 1 ≤ at → at ≤ length words → IsWrong finish (at_word at words) at
@@ -197,9 +196,9 @@ chosen_wrong names after words None at number chosen wrong = file_wrong names (n
 chosen_wrong names after words (Some which) at number chosen wrong = option_wrong names (named_form after) after words number chosen.option
     (wrong_later chosen.name (is_named names which chosen.is) (subst (λ n. IsWrong (named_form after) (at_word n words) number) chosen.later wrong))
 
--- the same of a run, where it may follow
+-- what is wrong of the words of a run, where the name of a journal may follow a tariff
 pub run_wrong : (names words : List (List ℕ)) (tariff : Option ℕ) (at number : ℕ) → Chooses names words tariff at → ((at_word at words).left ≡ [] → ⊥) → IsWrong (named_form finish) (at_word at words) number
-    → IsWrong (verb_form names run) (at_word 2 words) number
+    → IsWrong (program_form names run) (at_word 2 words) number
 run_wrong names words None at number chosen some wrong = wrong_maybe (subst (λ n. (at_word n words).left ≡ [] → ⊥) chosen.at_once some)
     (file_wrong names (maybe (named_form finish)) finish (at_word 2 words) number chosen.none (subst (λ n. IsWrong (named_form finish) (at_word n words) number) chosen.at_once wrong))
 run_wrong names words (Some which) at number chosen some wrong = wrong_maybe (λ none. absurd (cc (sym none ∙ chosen.option.cut)))
@@ -207,20 +206,100 @@ run_wrong names words (Some which) at number chosen some wrong = wrong_maybe (λ
     (wrong_maybe (subst (λ n. (at_word n words).left ≡ [] → ⊥) chosen.later some) (subst (λ n. IsWrong (named_form finish) (at_word n words) number) chosen.later wrong))))
 
 -- no tariff is of the name that follows the option of a run
-pub run_no_tariff : (names words : List (List ℕ)) (number : ℕ) → Took (at_word 2 words) (at_word 3 words) tariff_option → Misses (IsTariffName names) (at_word 3 words) number → IsWrong (verb_form names run) (at_word 2 words) number
+pub run_no_tariff : (names words : List (List ℕ)) (number : ℕ) → Took (at_word 2 words) (at_word 3 words) tariff_option → Misses (IsTariffName names) (at_word 3 words) number → IsWrong (program_form names run) (at_word 2 words) number
 run_no_tariff names words number took misses = wrong_maybe (λ none. absurd (cc (sym none ∙ took.cut))) (no_tariff names (maybe (named_form finish)) finish words number took misses)
 
 -- ---- all words of a command
 
 -- the words are that of the command, those of the tariff, and those that follow
-pub all_words : (names : List (List ℕ)) (verb : Verb) (words : List (List ℕ)) (tariff : Option ℕ) (at : ℕ) → AsksFor verb words → Chooses names words tariff at → words ≡ verb_word verb ∷ tariff_words names tariff ++ (at_word at words).left
-all_words names verb words None at asks chosen = (verb_there verb words asks).cut ∙ ap (λ n. verb_word verb ∷ (at_word n words).left) (sym chosen.at_once)
-all_words names verb words (Some which) at asks chosen = (verb_there verb words asks).cut ∙ ap (λ (w : List (List ℕ)). verb_word verb ∷ w)
+pub all_words : (names : List (List ℕ)) (verb : Verb) (words : List (List ℕ)) (tariff : Option ℕ) (at : ℕ) → AsksFor verb words → Chooses names words tariff at → words ≡ program_word verb ∷ tariff_words names tariff ++ (at_word at words).left
+all_words names verb words None at asks chosen = (verb_there verb words asks).cut ∙ ap (λ n. program_word verb ∷ (at_word n words).left) (sym chosen.at_once)
+all_words names verb words (Some which) at asks chosen = (verb_there verb words asks).cut ∙ ap (λ (w : List (List ℕ)). program_word verb ∷ w)
     (chosen.option.cut ∙ ap (λ (w : List (List ℕ)). tariff_option ∷ w) (chosen.name.cut ∙ ap (λ n. get_or names which [] ∷ (at_word n words).left) (sym chosen.later)))
 
 pub is_chosen : (names words : List (List ℕ)) (tariff : Option ℕ) (at : ℕ) → Chooses names words tariff at → IsChosen names tariff
 is_chosen names words None at chosen = tt
 is_chosen names words (Some which) at chosen = chosen.is
+
+-- ---- names of a topology and of a journal
+
+-- what is wrong of the words after a topology
+pub topology_then : (names words : List (List ℕ)) (task : CheckTask) (at number : ℕ) (form : Form) → NamesTopology names words task at → IsWrong form (at_word at words) number → IsWrong (with_tariff names (named_form form) form) (at_word 2 words) number
+topology_then names words task at number form naming wrong =
+    chosen_wrong names form words task.tariff naming.from number naming.chosen (wrong_later naming.took naming.is (subst (λ n. IsWrong form (at_word n words) number) naming.next wrong))
+
+-- and of those after a journal
+pub journal_then : (names words : List (List ℕ)) (task : JournalTask) (at number : ℕ) (form : Form) → NamesJournal names words task at → IsWrong form (at_word at words) number
+    → IsWrong (with_tariff names (named_form (named_form form)) (named_form form)) (at_word 2 words) number
+journal_then names words task at number form naming wrong =
+    topology_then names words _ naming.from number (named_form form) naming.topology (wrong_later naming.took naming.is (subst (λ n. IsWrong form (at_word n words) number) naming.next wrong))
+
+-- the words that name a topology, and those after it
+pub topology_words : (names words : List (List ℕ)) (verb : Verb) (task : CheckTask) (at : ℕ) → AsksFor verb words → NamesTopology names words task at → words ≡ program_word verb ∷ tariff_words names task.tariff ++ task.topology ∷ (at_word at words).left
+topology_words names words verb task at asks naming =
+    all_words names verb words task.tariff naming.from asks naming.chosen ∙ ap (λ left. program_word verb ∷ tariff_words names task.tariff ++ left) (naming.took.cut ∙ ap (λ n. task.topology ∷ (at_word n words).left) (sym naming.next))
+
+-- the words that name a journal, and those after it
+pub journal_words : (names words : List (List ℕ)) (verb : Verb) (task : JournalTask) (at : ℕ) → AsksFor verb words → NamesJournal names words task at
+    → words ≡ program_word verb ∷ tariff_words names task.tariff ++ task.topology ∷ task.journal ∷ (at_word at words).left
+journal_words names words verb task at asks naming =
+    topology_words names words verb _ naming.from asks naming.topology ∙ ap (λ left. program_word verb ∷ tariff_words names task.tariff ++ task.topology ∷ left) (naming.took.cut ∙ ap (λ n. task.journal ∷ (at_word n words).left) (sym naming.next))
+
+-- the parts of such words
+pub journal_may : (names words : List (List ℕ)) (task : JournalTask) (at : ℕ) → NamesJournal names words task at → IsJournalTask names task
+journal_may names words task at naming = record { is_tariff = is_chosen names words task.tariff naming.topology.from naming.topology.chosen; is_topology = naming.topology.is; is_journal = naming.is }
+
+-- the words are those of a command whose last word is the name of a journal
+pub ends_at_journal : (names words : List (List ℕ)) (task : JournalTask) (at : ℕ) → NamesJournal names words task at → (at_word at words).left ≡ [] → (verb : Verb) → AsksFor verb words → words ≡ program_word verb ∷ tariff_words names task.tariff ++ task.topology ∷ task.journal ∷ []
+ends_at_journal names words task at naming none verb asks = journal_words names words verb task at asks naming ∙ ap (λ left. program_word verb ∷ tariff_words names task.tariff ++ task.topology ∷ task.journal ∷ left) none
+
+-- the form of the words after that of a journal
+abbrev pub after_journal : Verb → Form
+after_journal ship = from_form
+after_journal serve = server_form
+after_journal _ = finish
+
+-- the form of those after that of a topology
+abbrev pub after_topology : Verb → Form
+after_topology check = finish
+after_topology prove = end_words_form
+after_topology verb = named_form (after_journal verb)
+
+-- what is wrong of the words after that of a command which names a topology is so of all
+pub of_topology : (names words : List (List ℕ)) (number : ℕ) (verb : Verb) → IsOfTopology verb → AsksFor verb words → IsWrong (with_tariff names (named_form (after_topology verb)) (after_topology verb)) (at_word 2 words) number → IsFirstWrong names words number
+of_topology names words number run of asks wrong = absurd of
+of_topology names words number audit of asks wrong = verb_wrong names audit words number tt asks wrong
+of_topology names words number generate of asks wrong = absurd of
+of_topology names words number prove of asks wrong = verb_wrong names prove words number tt asks wrong
+of_topology names words number check of asks wrong = verb_wrong names check words number tt asks wrong
+of_topology names words number price of asks wrong = absurd of
+of_topology names words number ship of asks wrong = verb_wrong names ship words number tt asks wrong
+of_topology names words number follow of asks wrong = verb_wrong names follow words number tt asks wrong
+of_topology names words number serve of asks wrong = verb_wrong names serve words number tt asks wrong
+
+-- a command that names a journal names a topology, and then the journal
+pub of_journal : (names words : List (List ℕ)) (number : ℕ) (verb : Verb) → IsOfJournal verb → AsksFor verb words → IsWrong (with_tariff names (named_form (named_form (after_journal verb))) (named_form (after_journal verb))) (at_word 2 words) number
+    → IsFirstWrong names words number
+of_journal names words number run of asks wrong = absurd of
+of_journal names words number audit of asks wrong = of_topology names words number audit of asks wrong
+of_journal names words number generate of asks wrong = absurd of
+of_journal names words number prove of asks wrong = absurd of
+of_journal names words number check of asks wrong = absurd of
+of_journal names words number price of asks wrong = absurd of
+of_journal names words number ship of asks wrong = of_topology names words number ship of asks wrong
+of_journal names words number follow of asks wrong = of_topology names words number follow of asks wrong
+of_journal names words number serve of asks wrong = of_topology names words number serve of asks wrong
+
+pub journal_is_of_topology : (verb : Verb) → IsOfJournal verb → IsOfTopology verb
+journal_is_of_topology run of = of
+journal_is_of_topology audit of = of
+journal_is_of_topology generate of = of
+journal_is_of_topology prove of = absurd of
+journal_is_of_topology check of = absurd of
+journal_is_of_topology price of = of
+journal_is_of_topology ship of = of
+journal_is_of_topology follow of = of
+journal_is_of_topology serve of = of
 
 -- ---- right words
 
@@ -230,105 +309,51 @@ passes_with : (names : List (List ℕ)) (tariff : Option ℕ) (form after : Form
 passes_with names None form after file words is named_file whole rest = pass_branch (named file) named_file starts_apart rest
 passes_with names (Some which) form after file words is named_file whole rest = pass_branch option tt starts_apart (pass_place (is_named names which is) whole)
 
-run_passes : (names : List (List ℕ)) (tariff : Option ℕ) (journal : Option (List ℕ)) (words : List (List ℕ)) → AreRunWords names words tariff journal → Passes (words_form names) words
-run_passes names None None words are = subst (Passes (words_form names)) (sym are.are) (pass_branch run tt (verbs_apart names) pass_nothing)
-run_passes names (Some which) None words are = subst (Passes (words_form names)) (sym are.are)
-    (pass_branch run tt (verbs_apart names) (pass_maybe (pass_branch option tt starts_apart (pass_place (is_named names which are.is_tariff) pass_nothing))))
-run_passes names None (Some name) words are = subst (Passes (words_form names)) (sym are.are)
-    (pass_branch run tt (verbs_apart names) (pass_maybe (passes_with names None (maybe (named_form finish)) finish name [] tt are.is_journal (pass_maybe (pass_place are.is_journal pass_finish)) pass_finish)))
-run_passes names (Some which) (Some name) words are = subst (Passes (words_form names)) (sym are.are)
-    (pass_branch run tt (verbs_apart names) (pass_maybe (passes_with names (Some which) (maybe (named_form finish)) finish name [] are.is_tariff are.is_journal (pass_maybe (pass_place are.is_journal pass_finish)) pass_finish)))
+-- those of a tariff, and then the name of a file and a form
+file_passes : (names : List (List ℕ)) (tariff : Option ℕ) (form : Form) (file : List ℕ) (words : List (List ℕ)) → IsChosen names tariff → IsFileName file → Passes form words
+    → Passes (with_tariff names (named_form form) form) (tariff_words names tariff ++ file ∷ words)
+file_passes names tariff form file words is named_file rest = passes_with names tariff (named_form form) form file words is named_file (pass_place named_file rest) rest
 
--- none of the words of a run is wrong
-pub run_right : (names words : List (List ℕ)) (tariff : Option ℕ) (journal : Option (List ℕ)) (number : ℕ) → AreRunWords names words tariff journal → IsFirstWrong names words number → ⊥
-run_right names words tariff journal number are wrong = (run_passes names tariff journal words are).none number wrong
+run_passes : (names : List (List ℕ)) (tariff : Option ℕ) (journal : Option (List ℕ)) → IsChosen names tariff → MatchOption journal ⊤ IsFileName → Passes (program_form names run) (tariff_words names tariff ++ name_words journal)
+run_passes names None None is named_file = pass_nothing
+run_passes names (Some which) None is named_file = pass_maybe (pass_branch option tt starts_apart (pass_place (is_named names which is) pass_nothing))
+run_passes names None (Some name) is named_file = pass_maybe (passes_with names None (maybe (named_form finish)) finish name [] tt named_file (pass_maybe (pass_place named_file pass_finish)) pass_finish)
+run_passes names (Some which) (Some name) is named_file = pass_maybe (passes_with names (Some which) (maybe (named_form finish)) finish name [] is named_file (pass_maybe (pass_place named_file pass_finish)) pass_finish)
 
--- nor of those of an audit
-pub audit_right : (names words : List (List ℕ)) (tariff : Option ℕ) (topology journal : List ℕ) (number : ℕ) → AreAuditWords names words tariff topology journal → IsFirstWrong names words number → ⊥
-audit_right names words tariff topology journal number are wrong =
-    (subst (Passes (words_form names)) (sym are.are) (pass_branch audit tt (verbs_apart names)
-    (passes_with names tariff (named_form (named_form finish)) (named_form finish) topology (journal ∷ []) are.is_tariff are.is_topology (pass_place are.is_topology rest) rest))).none number wrong
-  where
-    rest : Passes (named_form finish) (journal ∷ [])
-    rest = pass_place are.is_journal pass_finish
+task_passes : (names : List (List ℕ)) (verb : Verb) (task : Task verb) → MayDo names verb task → Passes (program_form names verb) (task_words names verb task)
+task_passes names run task may = run_passes names task.tariff task.journal may.is_tariff may.is_journal
+task_passes names audit task may = file_passes names task.tariff (named_form finish) task.topology (task.journal ∷ []) may.is_tariff may.is_topology (pass_place may.is_journal pass_finish)
+task_passes names generate task may = pass_place (task.seed, refl, may.is_seed) (pass_branch task.nodes may.nodes_within counts_apart (pass_place (task.links, refl, may.links_within) (pass_place (task.hoses, refl, may.hoses_within) pass_finish)))
+task_passes names prove task may = file_passes names task.tariff end_words_form task.topology task.ends may.is_tariff may.is_topology
+    (subst (Passes end_words_form) (map-id task.ends) (pass_list end_words_closed may.are_ends.enough may.are_ends.are))
+task_passes names check task may = file_passes names task.tariff finish task.topology [] may.is_tariff may.is_topology pass_finish
+task_passes names price task may = pass_place may.is_topology pass_finish
+task_passes names ship task may = file_passes names task.tariff (named_form from_form) task.topology (task.journal ∷ decimal task.from ∷ []) may.is_tariff may.is_topology
+    (pass_place may.is_journal (pass_place (task.from, refl, may.is_from) pass_finish))
+task_passes names follow task may = file_passes names task.tariff (named_form finish) task.topology (task.journal ∷ []) may.is_tariff may.is_topology (pass_place may.is_journal pass_finish)
+task_passes names serve task may = file_passes names task.tariff (named_form server_form) task.topology (task.journal ∷ decimal task.port ∷ decimal task.connections ∷ decimal task.workers ∷ []) may.is_tariff may.is_topology
+    (pass_place may.is_journal (pass_place (task.port, refl, may.is_port) (pass_place (task.connections, refl, may.connections_within) (pass_place (task.workers, refl, may.workers_within) pass_finish))))
 
--- nor of those that a network and a script are made of
-pub generate_right : (names words : List (List ℕ)) (seed nodes links hoses number : ℕ) → AreGenerateWords words seed nodes links hoses → IsFirstWrong names words number → ⊥
-generate_right names words seed nodes links hoses number are wrong =
-    (subst (Passes (words_form names)) (sym are.are) (pass_branch generate tt (verbs_apart names) (pass_place (seed, refl, are.is_seed) (pass_branch nodes are.nodes_within counts_apart
-    (pass_place (links, refl, are.links_within) (pass_place (hoses, refl, are.hoses_within) pass_finish)))))).none number wrong
+-- a command that may be given a task is offered
+offered : (names : List (List ℕ)) (verb : Verb) (task : Task verb) → MayDo names verb task → IsAvailable names verb
+offered names run task may = tt
+offered names audit task may = tt
+offered names generate task may = tt
+offered names prove task may = tt
+offered names check task may = tt
+offered names price task may = may.tariffs
+offered names ship task may = tt
+offered names follow task may = tt
+offered names serve task may = tt
 
--- nor of those of a certificate
-pub prove_right : (names words : List (List ℕ)) (tariff : Option ℕ) (topology : List ℕ) (ends : List (List ℕ)) (number : ℕ) → AreProveWords names words tariff topology ends → IsFirstWrong names words number → ⊥
-prove_right names words tariff topology ends number are wrong =
-    (subst (Passes (words_form names)) (sym are.are) (pass_branch prove tt (verbs_apart names)
-    (passes_with names tariff (named_form end_words_form) end_words_form topology ends are.is_tariff are.is_topology (pass_place are.is_topology rest) rest))).none number wrong
-  where
-    rest : Passes end_words_form ends
-    rest = subst (Passes end_words_form) (map-id ends) (pass_list end_words_closed are.are_ends.enough are.are_ends.are)
+-- none of the words of a command is wrong
+pub none_wrong : (names words : List (List ℕ)) (verb : Verb) (task : Task verb) (number : ℕ) → AreWords names words verb task → IsFirstWrong names words number → ⊥
+none_wrong names words verb task number are wrong =
+    (subst (Passes (words_form names)) (sym are.are) (pass_branch verb (offered names verb task are.may) (verbs_apart names) (task_passes names verb task are.may))).none number wrong
 
--- nor of those of a judgement
-pub check_right : (names words : List (List ℕ)) (tariff : Option ℕ) (topology : List ℕ) (number : ℕ) → AreCheckWords names words tariff topology → IsFirstWrong names words number → ⊥
-check_right names words tariff topology number are wrong =
-    (subst (Passes (words_form names)) (sym are.are) (pass_branch check tt (verbs_apart names)
-    (passes_with names tariff (named_form finish) finish topology [] are.is_tariff are.is_topology (pass_place are.is_topology pass_finish) pass_finish))).none number wrong
-
--- nor of those of a sheet of prices
-pub price_right : (names words : List (List ℕ)) (topology : List ℕ) (number : ℕ) → ArePriceWords names words topology → IsFirstWrong names words number → ⊥
-price_right names words topology number are wrong =
-    (subst (Passes (words_form names)) (sym are.are) (pass_branch price are.tariffs (verbs_apart names) (pass_place are.is_topology pass_finish))).none number wrong
-
--- nor of those of a shipping
-pub ship_right : (names words : List (List ℕ)) (tariff : Option ℕ) (topology journal : List ℕ) (from number : ℕ) → AreShipWords names words tariff topology journal from → IsFirstWrong names words number → ⊥
-ship_right names words tariff topology journal from number are wrong =
-    (subst (Passes (words_form names)) (sym are.are) (pass_branch ship tt (verbs_apart names)
-    (passes_with names tariff (named_form (named_form from_form)) (named_form from_form) topology (journal ∷ decimal from ∷ []) are.is_tariff are.is_topology (pass_place are.is_topology rest) rest))).none number wrong
-  where
-    rest : Passes (named_form from_form) (journal ∷ decimal from ∷ [])
-    rest = pass_place are.is_journal (pass_place (from, refl, are.is_from) pass_finish)
-
--- nor of those of a following
-pub follow_right : (names words : List (List ℕ)) (tariff : Option ℕ) (topology journal : List ℕ) (number : ℕ) → AreFollowWords names words tariff topology journal → IsFirstWrong names words number → ⊥
-follow_right names words tariff topology journal number are wrong =
-    (subst (Passes (words_form names)) (sym are.are) (pass_branch follow tt (verbs_apart names)
-    (passes_with names tariff (named_form (named_form finish)) (named_form finish) topology (journal ∷ []) are.is_tariff are.is_topology (pass_place are.is_topology rest) rest))).none number wrong
-  where
-    rest : Passes (named_form finish) (journal ∷ [])
-    rest = pass_place are.is_journal pass_finish
-
--- nor of those of a server
-pub serve_right : (names words : List (List ℕ)) (tariff : Option ℕ) (topology journal : List ℕ) (port connections workers number : ℕ) → AreServeWords names words tariff topology journal port connections workers → IsFirstWrong names words number → ⊥
-serve_right names words tariff topology journal port connections workers number are wrong =
-    (subst (Passes (words_form names)) (sym are.are) (pass_branch serve tt (verbs_apart names) (passes_with names tariff (named_form (named_form numbers_form)) (named_form numbers_form) topology (journal ∷ decimal port ∷ decimal connections ∷ decimal workers ∷ []) are.is_tariff are.is_topology (pass_place are.is_topology rest) rest))).none number wrong
-  where
-    rest : Passes (named_form numbers_form) (journal ∷ decimal port ∷ decimal connections ∷ decimal workers ∷ [])
-    rest = pass_place are.is_journal (pass_place (port, refl, are.is_port) (pass_place (connections, refl, are.connections_within) (pass_place (workers, refl, are.workers_within) pass_finish)))
-
--- ---- whose words they are
-
-pub run_asks : (names words : List (List ℕ)) (tariff : Option ℕ) (journal : Option (List ℕ)) → AreRunWords names words tariff journal → AsksFor run words
-run_asks names words tariff journal are = subst (AsksFor run) (sym are.are) refl
-
-pub audit_asks : (names words : List (List ℕ)) (tariff : Option ℕ) (topology journal : List ℕ) → AreAuditWords names words tariff topology journal → AsksFor audit words
-audit_asks names words tariff topology journal are = subst (AsksFor audit) (sym are.are) refl
-
-pub generate_asks : (words : List (List ℕ)) (seed nodes links hoses : ℕ) → AreGenerateWords words seed nodes links hoses → AsksFor generate words
-generate_asks words seed nodes links hoses are = subst (AsksFor generate) (sym are.are) refl
-
-pub prove_asks : (names words : List (List ℕ)) (tariff : Option ℕ) (topology : List ℕ) (ends : List (List ℕ)) → AreProveWords names words tariff topology ends → AsksFor prove words
-prove_asks names words tariff topology ends are = subst (AsksFor prove) (sym are.are) refl
-
-pub check_asks : (names words : List (List ℕ)) (tariff : Option ℕ) (topology : List ℕ) → AreCheckWords names words tariff topology → AsksFor check words
-check_asks names words tariff topology are = subst (AsksFor check) (sym are.are) refl
-
-pub price_asks : (names words : List (List ℕ)) (topology : List ℕ) → ArePriceWords names words topology → AsksFor price words
-price_asks names words topology are = subst (AsksFor price) (sym are.are) refl
-
-pub ship_asks : (names words : List (List ℕ)) (tariff : Option ℕ) (topology journal : List ℕ) (from : ℕ) → AreShipWords names words tariff topology journal from → AsksFor ship words
-ship_asks names words tariff topology journal from are = subst (AsksFor ship) (sym are.are) refl
-
-pub follow_asks : (names words : List (List ℕ)) (tariff : Option ℕ) (topology journal : List ℕ) → AreFollowWords names words tariff topology journal → AsksFor follow words
-follow_asks names words tariff topology journal are = subst (AsksFor follow) (sym are.are) refl
+-- they ask for it
+pub asks_for : (names words : List (List ℕ)) (verb : Verb) (task : Task verb) → AreWords names words verb task → AsksFor verb words
+asks_for names words verb task are = subst (AsksFor verb) (sym are.are) refl
 
 -- ---- words tell one thing
 
@@ -363,146 +388,160 @@ one_tariff names (Some which) (Some other) rest rest' is is' plain plain' same =
   rests = ap (drop 2) same;
 }
 
--- words tell one run
-pub record IsSameRun (tariff tariff' : Option ℕ) (journal journal' : Option (List ℕ)) : Type 0 where
-  pub tariffs : tariff ≡ tariff'
-  pub journals : journal ≡ journal'
+abbrev run_task : Option ℕ → Option (List ℕ) → RunTask
+run_task tariff journal = record { tariff = tariff; journal = journal }
 
-pub one_run : (names words : List (List ℕ)) (tariff tariff' : Option ℕ) (journal journal' : Option (List ℕ)) → AreRunWords names words tariff journal → AreRunWords names words tariff' journal' → IsSameRun tariff tariff' journal journal'
-one_run names words tariff tariff' journal journal' are are' =
-    let same = one_tariff names tariff tariff' (name_words journal) (name_words journal') are.is_tariff are'.is_tariff (plain journal are.is_journal) (plain journal' are'.is_journal) (ap (drop 1) (sym are.are ∙ are'.are)) in
-    record { tariffs = same.tariffs; journals = back journal journal' same.rests }
+abbrev named_task : Option ℕ → List ℕ → List ℕ → JournalTask
+named_task tariff topology journal = record { tariff = tariff; topology = topology; journal = journal }
+
+abbrev sizes_task : ℕ → ℕ → ℕ → ℕ → GenerateTask
+sizes_task seed nodes links hoses = record { seed = seed; nodes = nodes; links = links; hoses = hoses }
+
+abbrev proof_task : Option ℕ → List ℕ → List (List ℕ) → ProveTask
+proof_task tariff topology ends = record { tariff = tariff; topology = topology; ends = ends }
+
+abbrev text_task : Option ℕ → List ℕ → CheckTask
+text_task tariff topology = record { tariff = tariff; topology = topology }
+
+abbrev priced_task : List ℕ → PriceTask
+priced_task topology = record { topology = topology }
+
+abbrev shipping_task : Option ℕ → List ℕ → List ℕ → ℕ → ShipTask
+shipping_task tariff topology journal from = record { tariff = tariff; topology = topology; journal = journal; from = from }
+
+abbrev serving_task : Option ℕ → List ℕ → List ℕ → ℕ → ℕ → ℕ → ServeTask
+serving_task tariff topology journal port connections workers = record { tariff = tariff; topology = topology; journal = journal; port = port; connections = connections; workers = workers }
+
+-- the word of a place
+abbrev word_of : ℕ → List (List ℕ) → List ℕ
+word_of at words = get_or words at []
+
+run_once : (names : List (List ℕ)) (one other : RunTask) → IsRunTask names one → IsRunTask names other → task_words names run one ≡ task_words names run other → one ≡ other
+run_once names one other may may' same =
+    let is = one_tariff names one.tariff other.tariff (name_words one.journal) (name_words other.journal) may.is_tariff may'.is_tariff (plain one.journal may.is_journal) (plain other.journal may'.is_journal) same in
+    built one.tariff one.journal is.tariffs (back one.journal other.journal is.rests)
   where
-    plain : (one : Option (List ℕ)) → MatchOption one ⊤ IsFileName → NoOption (name_words one)
+    plain : (journal : Option (List ℕ)) → MatchOption journal ⊤ IsFileName → NoOption (name_words journal)
     plain None is first = first
     plain (Some name) is first = file_first name [] is first
 
-    back : (one other : Option (List ℕ)) → name_words one ≡ name_words other → one ≡ other
+    back : (journal journal' : Option (List ℕ)) → name_words journal ≡ name_words journal' → journal ≡ journal'
     back None None same = refl
     back None (Some name) same = absurd (cc same)
     back (Some name) None same = absurd (cc same)
-    back (Some name) (Some other) same = ap Some (ap (λ (w : List (List ℕ)). get_or w 0 []) same)
+    back (Some name) (Some name') same = ap Some (ap (word_of 0) same)
 
--- words tell one audit
-pub record IsSameAudit (tariff tariff' : Option ℕ) (topology topology' journal journal' : List ℕ) : Type 0 where
+    built : (tariff : Option ℕ) (journal : Option (List ℕ)) → tariff ≡ other.tariff → journal ≡ other.journal → run_task tariff journal ≡ other
+    built tariff journal one two = rw (one, two) refl
+
+-- one tariff, one topology, and the same words after it
+pub record IsSameFile (tariff tariff' : Option ℕ) (topology topology' : List ℕ) (rest rest' : List (List ℕ)) : Type 0 where
   pub tariffs : tariff ≡ tariff'
   pub topologies : topology ≡ topology'
-  pub journals : journal ≡ journal'
+  pub rests : rest ≡ rest'
 
-pub one_audit : (names words : List (List ℕ)) (tariff tariff' : Option ℕ) (topology topology' journal journal' : List ℕ) → AreAuditWords names words tariff topology journal → AreAuditWords names words tariff' topology' journal'
-    → IsSameAudit tariff tariff' topology topology' journal journal'
-one_audit names words tariff tariff' topology topology' journal journal' are are' =
-    let same = one_tariff names tariff tariff' (topology ∷ journal ∷ []) (topology' ∷ journal' ∷ []) are.is_tariff are'.is_tariff (file_first topology (journal ∷ []) are.is_topology) (file_first topology' (journal' ∷ []) are'.is_topology)
-    (ap (drop 1) (sym are.are ∙ are'.are)) in
-    record { tariffs = same.tariffs; topologies = ap (λ (w : List (List ℕ)). get_or w 0 []) same.rests; journals = ap (λ (w : List (List ℕ)). get_or w 1 []) same.rests }
+one_file : (names : List (List ℕ)) (tariff tariff' : Option ℕ) (topology topology' : List ℕ) (rest rest' : List (List ℕ)) → IsChosen names tariff → IsChosen names tariff' → IsFileName topology → IsFileName topology'
+    → tariff_words names tariff ++ topology ∷ rest ≡ tariff_words names tariff' ++ topology' ∷ rest' → IsSameFile tariff tariff' topology topology' rest rest'
+one_file names tariff tariff' topology topology' rest rest' is is' file file' same =
+    let both = one_tariff names tariff tariff' (topology ∷ rest) (topology' ∷ rest') is is' (file_first topology rest file) (file_first topology' rest' file') same in
+    record { tariffs = both.tariffs; topologies = ap (word_of 0) both.rests; rests = ap (drop 1) both.rests }
 
--- words tell one network and one script
-pub record IsSameMaking (seed seed' nodes nodes' links links' hoses hoses' : ℕ) : Type 0 where
-  pub seeds : seed ≡ seed'
-  pub same_nodes : nodes ≡ nodes'
-  pub same_links : links ≡ links'
-  pub same_hoses : hoses ≡ hoses'
-
-pub one_making : (words : List (List ℕ)) (seed seed' nodes nodes' links links' hoses hoses' : ℕ) → AreGenerateWords words seed nodes links hoses → AreGenerateWords words seed' nodes' links' hoses' → IsSameMaking seed seed' nodes nodes' links links' hoses hoses'
-one_making words seed seed' nodes nodes' links links' hoses hoses' are are' =
-    let same = sym are.are ∙ are'.are in record {
-      seeds = decimal_injective seed seed' are.is_seed are'.is_seed (ap (λ (w : List (List ℕ)). get_or w 1 []) same);
-      same_nodes = decimal_injective nodes nodes' (omega (arith, are.nodes_within)) (omega (arith, are'.nodes_within)) (ap (λ (w : List (List ℕ)). get_or w 2 []) same);
-      same_links = decimal_injective links links' (omega (arith, are.links_within)) (omega (arith, are'.links_within)) (ap (λ (w : List (List ℕ)). get_or w 3 []) same);
-      same_hoses = decimal_injective hoses hoses' (omega (arith, are.hoses_within)) (omega (arith, are'.hoses_within)) (ap (λ (w : List (List ℕ)). get_or w 4 []) same);
-    }
-
--- words tell one certificate
-pub record IsSameProof (tariff tariff' : Option ℕ) (topology topology' : List ℕ) (ends ends' : List (List ℕ)) : Type 0 where
-  pub tariffs : tariff ≡ tariff'
-  pub topologies : topology ≡ topology'
-  pub all_ends : ends ≡ ends'
-
-pub one_proof : (names words : List (List ℕ)) (tariff tariff' : Option ℕ) (topology topology' : List ℕ) (ends ends' : List (List ℕ)) → AreProveWords names words tariff topology ends → AreProveWords names words tariff' topology' ends'
-    → IsSameProof tariff tariff' topology topology' ends ends'
-one_proof names words tariff tariff' topology topology' ends ends' are are' =
-    let same = one_tariff names tariff tariff' (topology ∷ ends) (topology' ∷ ends') are.is_tariff are'.is_tariff (file_first topology ends are.is_topology) (file_first topology' ends' are'.is_topology)
-    (ap (drop 1) (sym are.are ∙ are'.are)) in
-    record { tariffs = same.tariffs; topologies = ap (λ (w : List (List ℕ)). get_or w 0 []) same.rests; all_ends = ap (drop 1) same.rests }
-
--- words tell one judgement
-pub record IsSameCheck (tariff tariff' : Option ℕ) (topology topology' : List ℕ) : Type 0 where
-  pub tariffs : tariff ≡ tariff'
-  pub topologies : topology ≡ topology'
-
-pub one_check : (names words : List (List ℕ)) (tariff tariff' : Option ℕ) (topology topology' : List ℕ) → AreCheckWords names words tariff topology → AreCheckWords names words tariff' topology' → IsSameCheck tariff tariff' topology topology'
-one_check names words tariff tariff' topology topology' are are' =
-    let same = one_tariff names tariff tariff' (topology ∷ []) (topology' ∷ []) are.is_tariff are'.is_tariff (file_first topology [] are.is_topology) (file_first topology' [] are'.is_topology)
-    (ap (drop 1) (sym are.are ∙ are'.are)) in
-    record { tariffs = same.tariffs; topologies = ap (λ (w : List (List ℕ)). get_or w 0 []) same.rests }
-
--- words tell one sheet of prices
-pub one_priced : (names words : List (List ℕ)) (topology topology' : List ℕ) → ArePriceWords names words topology → ArePriceWords names words topology' → topology ≡ topology'
-one_priced names words topology topology' are are' = ap (λ (w : List (List ℕ)). get_or w 1 []) (sym are.are ∙ are'.are)
-
--- words tell one shipping
-pub record IsSameShipping (tariff tariff' : Option ℕ) (topology topology' journal journal' : List ℕ) (from from' : ℕ) : Type 0 where
-  pub tariffs : tariff ≡ tariff'
-  pub topologies : topology ≡ topology'
-  pub journals : journal ≡ journal'
-  pub epochs : from ≡ from'
-
-pub one_shipping : (names words : List (List ℕ)) (tariff tariff' : Option ℕ) (topology topology' journal journal' : List ℕ) (from from' : ℕ) → AreShipWords names words tariff topology journal from → AreShipWords names words tariff' topology' journal' from'
-    → IsSameShipping tariff tariff' topology topology' journal journal' from from'
-one_shipping names words tariff tariff' topology topology' journal journal' from from' are are' =
-    let same = one_tariff names tariff tariff' (topology ∷ journal ∷ decimal from ∷ []) (topology' ∷ journal' ∷ decimal from' ∷ []) are.is_tariff are'.is_tariff
-    (file_first topology (journal ∷ decimal from ∷ []) are.is_topology) (file_first topology' (journal' ∷ decimal from' ∷ []) are'.is_topology) (ap (drop 1) (sym are.are ∙ are'.are)) in record {
-      tariffs = same.tariffs;
-      topologies = ap (λ (w : List (List ℕ)). get_or w 0 []) same.rests;
-      journals = ap (λ (w : List (List ℕ)). get_or w 1 []) same.rests;
-      epochs = decimal_injective from from' (omega (arith, are.is_from)) (omega (arith, are'.is_from)) (ap (λ (w : List (List ℕ)). get_or w 2 []) same.rests);
-    }
-
--- words tell one following
-pub one_following : (names words : List (List ℕ)) (tariff tariff' : Option ℕ) (topology topology' journal journal' : List ℕ) → AreFollowWords names words tariff topology journal → AreFollowWords names words tariff' topology' journal'
-    → IsSameAudit tariff tariff' topology topology' journal journal'
-one_following names words tariff tariff' topology topology' journal journal' are are' =
-    let same = one_tariff names tariff tariff' (topology ∷ journal ∷ []) (topology' ∷ journal' ∷ []) are.is_tariff are'.is_tariff (file_first topology (journal ∷ []) are.is_topology) (file_first topology' (journal' ∷ []) are'.is_topology)
-    (ap (drop 1) (sym are.are ∙ are'.are)) in
-    record { tariffs = same.tariffs; topologies = ap (λ (w : List (List ℕ)). get_or w 0 []) same.rests; journals = ap (λ (w : List (List ℕ)). get_or w 1 []) same.rests }
-
--- words tell one server
-pub record IsSameService (tariff tariff' : Option ℕ) (topology topology' journal journal' : List ℕ) (connections connections' : ℕ) : Type 0 where
-  pub tariffs : tariff ≡ tariff'
-  pub topologies : topology ≡ topology'
-  pub journals : journal ≡ journal'
-  pub accepted : connections ≡ connections'
-
-pub one_service : (names words : List (List ℕ)) (tariff tariff' : Option ℕ) (topology topology' journal journal' : List ℕ) (port port' connections connections' workers workers' : ℕ) → AreServeWords names words tariff topology journal port connections workers
-    → AreServeWords names words tariff' topology' journal' port' connections' workers' → IsSameService tariff tariff' topology topology' journal journal' connections connections'
-one_service names words tariff tariff' topology topology' journal journal' port port' connections connections' workers workers' are are' =
-    let same = one_tariff names tariff tariff' (topology ∷ rest journal port connections workers) (topology' ∷ rest journal' port' connections' workers') are.is_tariff are'.is_tariff
-    (file_first topology (rest journal port connections workers) are.is_topology) (file_first topology' (rest journal' port' connections' workers') are'.is_topology) (ap (drop 1) (sym are.are ∙ are'.are)) in record {
-      tariffs = same.tariffs;
-      topologies = ap (λ (w : List (List ℕ)). get_or w 0 []) same.rests;
-      journals = ap (λ (w : List (List ℕ)). get_or w 1 []) same.rests;
-      accepted = decimal_injective connections connections' (omega (arith, are.connections_within)) (omega (arith, are'.connections_within)) (ap (λ (w : List (List ℕ)). get_or w 3 []) same.rests);
-    }
+journal_once : (names : List (List ℕ)) (one other : JournalTask) → IsJournalTask names one → IsJournalTask names other → task_words names audit one ≡ task_words names audit other → one ≡ other
+journal_once names one other may may' same =
+    let is = one_file names one.tariff other.tariff one.topology other.topology (one.journal ∷ []) (other.journal ∷ []) may.is_tariff may'.is_tariff may.is_topology may'.is_topology same in
+    built one.tariff one.topology one.journal is.tariffs is.topologies (ap (word_of 0) is.rests)
   where
-    rest : List ℕ → ℕ → ℕ → ℕ → List (List ℕ)
-    rest name one two three = name ∷ decimal one ∷ decimal two ∷ decimal three ∷ []
+    built : (tariff : Option ℕ) (topology journal : List ℕ) → tariff ≡ other.tariff → topology ≡ other.topology → journal ≡ other.journal → named_task tariff topology journal ≡ other
+    built tariff topology journal one two three = rw (one, two, three) refl
+
+generate_once : (names : List (List ℕ)) (one other : GenerateTask) → IsGenerateTask one → IsGenerateTask other → task_words names generate one ≡ task_words names generate other → one ≡ other
+generate_once names one other may may' same = built one.seed one.nodes one.links one.hoses
+    (decimal_injective one.seed other.seed may.is_seed may'.is_seed (ap (word_of 0) same))
+    (decimal_injective one.nodes other.nodes (omega (arith, may.nodes_within)) (omega (arith, may'.nodes_within)) (ap (word_of 1) same))
+    (decimal_injective one.links other.links (omega (arith, may.links_within)) (omega (arith, may'.links_within)) (ap (word_of 2) same))
+    (decimal_injective one.hoses other.hoses (omega (arith, may.hoses_within)) (omega (arith, may'.hoses_within)) (ap (word_of 3) same))
+  where
+    built : (seed nodes links hoses : ℕ) → seed ≡ other.seed → nodes ≡ other.nodes → links ≡ other.links → hoses ≡ other.hoses → sizes_task seed nodes links hoses ≡ other
+    built seed nodes links hoses one two three four = rw (one, two, three, four) refl
+
+prove_once : (names : List (List ℕ)) (one other : ProveTask) → IsProveTask names one → IsProveTask names other → task_words names prove one ≡ task_words names prove other → one ≡ other
+prove_once names one other may may' same =
+    let is = one_file names one.tariff other.tariff one.topology other.topology one.ends other.ends may.is_tariff may'.is_tariff may.is_topology may'.is_topology same in
+    built one.tariff one.topology one.ends is.tariffs is.topologies is.rests
+  where
+    built : (tariff : Option ℕ) (topology : List ℕ) (ends : List (List ℕ)) → tariff ≡ other.tariff → topology ≡ other.topology → ends ≡ other.ends → proof_task tariff topology ends ≡ other
+    built tariff topology ends one two three = rw (one, two, three) refl
+
+check_once : (names : List (List ℕ)) (one other : CheckTask) → IsCheckTask names one → IsCheckTask names other → task_words names check one ≡ task_words names check other → one ≡ other
+check_once names one other may may' same =
+    let is = one_file names one.tariff other.tariff one.topology other.topology [] [] may.is_tariff may'.is_tariff may.is_topology may'.is_topology same in
+    built one.tariff one.topology is.tariffs is.topologies
+  where
+    built : (tariff : Option ℕ) (topology : List ℕ) → tariff ≡ other.tariff → topology ≡ other.topology → text_task tariff topology ≡ other
+    built tariff topology one two = rw (one, two) refl
+
+ship_once : (names : List (List ℕ)) (one other : ShipTask) → IsShipTask names one → IsShipTask names other → task_words names ship one ≡ task_words names ship other → one ≡ other
+ship_once names one other may may' same =
+    let is = one_file names one.tariff other.tariff one.topology other.topology (one.journal ∷ decimal one.from ∷ []) (other.journal ∷ decimal other.from ∷ []) may.is_tariff may'.is_tariff may.is_topology may'.is_topology same in
+    built one.tariff one.topology one.journal one.from is.tariffs is.topologies (ap (word_of 0) is.rests) (decimal_injective one.from other.from (omega (arith, may.is_from)) (omega (arith, may'.is_from)) (ap (word_of 1) is.rests))
+  where
+    built : (tariff : Option ℕ) (topology journal : List ℕ) (from : ℕ) → tariff ≡ other.tariff → topology ≡ other.topology → journal ≡ other.journal → from ≡ other.from → shipping_task tariff topology journal from ≡ other
+    built tariff topology journal from one two three four = rw (one, two, three, four) refl
+
+serve_once : (names : List (List ℕ)) (one other : ServeTask) → IsServeTask names one → IsServeTask names other → task_words names serve one ≡ task_words names serve other → one ≡ other
+serve_once names one other may may' same =
+    let is = one_file names one.tariff other.tariff one.topology other.topology (rest one) (rest other) may.is_tariff may'.is_tariff may.is_topology may'.is_topology same in
+    built one.tariff one.topology one.journal one.port one.connections one.workers is.tariffs is.topologies (ap (word_of 0) is.rests)
+    (decimal_injective one.port other.port (omega (arith, may.is_port)) (omega (arith, may'.is_port)) (ap (word_of 1) is.rests))
+    (decimal_injective one.connections other.connections (omega (arith, may.connections_within)) (omega (arith, may'.connections_within)) (ap (word_of 2) is.rests))
+    (decimal_injective one.workers other.workers (omega (arith, may.workers_within)) (omega (arith, may'.workers_within)) (ap (word_of 3) is.rests))
+  where
+    rest : ServeTask → List (List ℕ)
+    rest task = task.journal ∷ decimal task.port ∷ decimal task.connections ∷ decimal task.workers ∷ []
+
+    built : (tariff : Option ℕ) (topology journal : List ℕ) (port connections workers : ℕ) → tariff ≡ other.tariff → topology ≡ other.topology → journal ≡ other.journal → port ≡ other.port → connections ≡ other.connections → workers ≡ other.workers
+        → serving_task tariff topology journal port connections workers ≡ other
+    built tariff topology journal port connections workers one two three four five six = rw (one, two, three, four, five, six) refl
+
+-- the words of a command tell one task
+one_task : (names : List (List ℕ)) (verb : Verb) (one other : Task verb) → MayDo names verb one → MayDo names verb other → task_words names verb one ≡ task_words names verb other → one ≡ other
+one_task names run = run_once names
+one_task names audit = journal_once names
+one_task names generate = generate_once names
+one_task names prove = prove_once names
+one_task names check = check_once names
+one_task names price = λ one other may may' same. price_once one.topology other.topology (ap (word_of 0) same)
+  where
+    price_once : (topology topology' : List ℕ) → topology ≡ topology' → priced_task topology ≡ priced_task topology'
+    price_once topology topology' same = rw same refl
+one_task names ship = ship_once names
+one_task names follow = journal_once names
+one_task names serve = serve_once names
+
+-- what is so of a task that words tell is so of each of the same command
+pub of_same : (names words : List (List ℕ)) (verb : Verb) (P : Task verb → Type 0) (task : Task verb) → AreWords names words verb task → P task → (other : Task verb) → AreWords names words verb other → P other
+of_same names words verb P task are holds other are' = subst P (one_task names verb task other are.may are'.may (ap (drop 1) (sym are.are ∙ are'.are))) holds
+
+-- and of each of any command
+pub of_each : (names words : List (List ℕ)) (P : (verb : Verb) → Task verb → Type 0) (verb : Verb) (task : Task verb) → AreWords names words verb task → P verb task
+    → (other : Verb) (other_task : Task other) → AreWords names words other other_task → P other other_task
+of_each names words P verb task are holds other other_task are' =
+    subst (λ (v : Verb). (t : Task v) → AreWords names words v t → P v t) (one_verb verb other words (asks_for names words verb task are) (asks_for names words other other_task are'))
+    (of_same names words verb (P verb) task are holds) other_task are'
 
 -- ---- tariffs
 
--- the costs of a tariff of a place that there is
-costs_there : {T : Type 0} (prices : T → Network → Network → Type 0) (tariffs : List T) (which : ℕ) (d : T) → which < length tariffs → costs_at prices tariffs (Some which) ≡ prices (get_or tariffs which d)
-costs_there prices [] which d below = absurd (omega (arith, below))
-costs_there prices (tariff ∷ tariffs) zero d below = refl
-costs_there prices (tariff ∷ tariffs) (suc which) d below = costs_there prices tariffs which d (omega (arith, below))
+-- the tariff that was read of a place is the one that is chosen by it
+pub chosen_there : {T : Type 0} (tariffs : List T) (which : ℕ) (tariff : T) → tariff ≡ get_or tariffs which tariff → which < length tariffs → Some tariff ≡ chosen_of tariffs (Some which)
+chosen_there [] which tariff is below = absurd (omega (arith, below))
+chosen_there (first ∷ tariffs) zero tariff is below = ap Some is
+chosen_there (first ∷ tariffs) (suc which) tariff is below = chosen_there tariffs which tariff is (omega (arith, below))
 
--- those of the one that was read there
-pub costs_here : {T : Type 0} (prices : T → Network → Network → Type 0) (tariffs : List T) (which : ℕ) (tariff : T) → tariff ≡ get_or tariffs which tariff → which < length tariffs → costs_at prices tariffs (Some which) ≡ prices tariff
-costs_here prices tariffs which tariff is below = costs_there prices tariffs which tariff below ∙ ap prices (sym is)
-
--- a tariff that is chosen is there
-pub chosen_within : {T : Type 0} (name_of : T → List ℕ) (tariffs : List T) (tariff : Option ℕ) → IsChosen (map name_of tariffs) tariff → MatchOption tariff ⊤ (λ which. which < length tariffs)
-chosen_within name_of tariffs None is = tt
-chosen_within name_of tariffs (Some which) is = omega (arith, is.within, length-map tariffs name_of)
+-- no tariff is chosen by a place that is not there
+pub chosen_nowhere : {T : Type 0} (tariffs : List T) (which : ℕ) → length tariffs ≤ which → None ≡ chosen_of tariffs (Some which)
+chosen_nowhere [] which past = refl
+chosen_nowhere (first ∷ tariffs) zero past = absurd (omega (arith, past))
+chosen_nowhere (first ∷ tariffs) (suc which) past = chosen_nowhere tariffs which (omega (arith, past))
 
 -- the number of the first endpoint fits
 pub first_small : (tariff : Option ℕ) (first : ℕ) → first ≡ first_end tariff → first ≤ 2 ^ 63

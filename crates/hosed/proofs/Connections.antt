@@ -16,11 +16,11 @@ use Rattle.hose_store.specs.Recovery.{IsHistoryOf}
 use Rattle.hose_store.specs.declared.fault.StoreFault.{StoreFault}
 use Rattle.hose_offline.specs.CabinetText.{OnlyTextsRead}
 use Rattle.hose_offline.specs.Fault.{of_store}
-use Rattle.hose_offline.specs.OnDisk.{CabinetHeld}
+use Rattle.hose_offline.specs.OnDisk.{CabinetWorked}
 use Rattle.hose_offline.proofs.Audits.{has_before, held_before}
 use Rattle.hose_offline.proofs.PutBack.{IsPutBack, counts, held_as, left_in, not_served}
 use Rattle.hose_turn.specs.Faults.{end_of_count}
-use Rattle.hosed.specs.ServingDoor.{DoorSeen, HasKept, HasKeptIn, ServesByJournal, ServesConnectionsIn, StaysAsRead, StaysInCabinet, as_fault}
+use Rattle.hosed.specs.ServingDoor.{DoorSeen, HasKept, HasKeptIn, ServesByJournal, ServesConnectionsIn, StaysAsRead, StaysInCabinet, served_or_fault}
 use Rattle.hosed.specs.declared.serving.Served.{Served}
 use Rattle.hosed.specs.declared.serving.Served.TheVariants as served
 
@@ -44,7 +44,7 @@ module _ {C E : Type 0} (cabinet : CabinetGhosts C E) (disk : DiskGhosts E) (nam
 
   -- connections were served by the store
   pub connections_in : {O : Type 0} (sink : SinkGhosts O) (count : ℕ) (output output' : O) (door door' : DoorSeen) (done : Result Served StoreFault) → IsNetwork network → ServesByJournal disk sink opened (Some left) network count output output' door door' done
-      → ServesConnectionsIn cabinet disk sink name old new network count output output' door door' (as_fault done)
+      → ServesConnectionsIn cabinet disk sink name old new network count output output' door door' (served_or_fault done)
   connections_in sink count output output' door door' (Err why) is not = (not_served cabinet disk name old mid new network opened left back (Err (of_store why)) not.0, not.1, not.2)
   connections_in sink count output output' door door' (Ok served.Starved) is serves = (inl (stays_in is serves.0), serves.1, serves.2)
   connections_in sink count output output' door door' (Ok served.Shut) is serves = (stays_in is serves.0, serves.1, serves.2, serves.3)
@@ -73,7 +73,7 @@ module _ {C E : Type 0} (cabinet : CabinetGhosts C E) (disk : DiskGhosts E) (nam
 
 -- the disk is not back
 pub connections_lost : {C E O : Type 0} (cabinet : CabinetGhosts C E) (disk : DiskGhosts E) (name : List ℕ) (old new : C) (network : Network) (opened : E) (sink : SinkGhosts O) (count : ℕ) (output output' : O) (door door' : DoorSeen) (done : Result Served StoreFault)
-    → (cabinet.frame new).out ≡ Some name → ServesByJournal disk sink opened None network count output output' door door' done → ServesConnectionsIn cabinet disk sink name old new network count output output' door door' (as_fault done)
+    → (cabinet.frame new).out ≡ Some name → ServesByJournal disk sink opened None network count output output' door door' done → ServesConnectionsIn cabinet disk sink name old new network count output output' door door' (served_or_fault done)
 connections_lost cabinet disk name old new network opened sink count output output' door door' (Err why) out serves = absurd serves
 connections_lost cabinet disk name old new network opened sink count output output' door door' (Ok served.Starved) out serves = (inr out, serves.0, serves.1)
 connections_lost cabinet disk name old new network opened sink count output output' door door' (Ok served.Shut) out serves = absurd serves
@@ -81,7 +81,7 @@ connections_lost cabinet disk name old new network opened sink count output outp
 connections_lost cabinet disk name old new network opened sink count output output' door door' (Ok (served.Ended ledger accepting closing)) out serves = absurd serves
 
 -- where texts alone were read before, and no call of the cabinet failed
-module _ {C E : Type 0} (cabinet : CabinetGhosts C E) (disk : DiskGhosts E) (old mid new : C) (only : OnlyTextsRead cabinet old mid) (same : CabinetHeld cabinet old mid) (name : List ℕ) (network : Network) where
+module _ {C E : Type 0} (cabinet : CabinetGhosts C E) (disk : DiskGhosts E) (old mid new : C) (only : OnlyTextsRead cabinet old mid) (same : CabinetWorked cabinet old mid) (name : List ℕ) (network : Network) where
   kept_before : (since history : List Entry) (closing : Result ⊤ Failed) → HasKeptIn cabinet disk name mid new network since history closing → HasKeptIn cabinet disk name old new network since history closing
   kept_before since history closing has = record {
     begun = held_before cabinet disk old mid new only name _ has.begun;

@@ -1,5 +1,6 @@
 pub mod Commands
 pub mod Connections
 mod EndsSeen
+pub mod Outcomes
 pub mod Served
 pub mod Sharing

@@ -6,8 +6,7 @@ use Rattle.hose_io.specs.declared.Failed.{Failed}
 use Rattle.hose_io.specs.declared.sink.Sink.{Ghosts as SinkGhosts}
 use Rattle.hose_graph.specs.Network.{Network}
 use Rattle.hose_graph.specs.declared.entry.Entry.{Entry}
-use Rattle.hose_law.specs.Book.{Book}
-use Rattle.hose_law.specs.History.{IsDecidedAt, IsSound, book_of}
+use Rattle.hose_law.specs.History.{IsDecidedAt, IsSound}
 use Rattle.hose_book.specs.Ledger.{IsLedgerOf, Ledger}
 use Rattle.hose_disk.specs.Disk.{IsCalled}
 use Rattle.hose_disk.specs.declared.disk.Disk.{Ghosts as DiskGhosts}
@@ -17,7 +16,7 @@ use Rattle.hose_store.specs.Commit.{Closes}
 use Rattle.hose_journal.specs.Image.{Meaning}
 use Rattle.hose_journal.specs.Moments.{LeavesOnly}
 use Rattle.hose_journal.specs.Opening.{KeepsDisk}
-use Rattle.hose_store.specs.Opening.{IsAtOpening, IsOpenedOn, IsRefused}
+use Rattle.hose_store.specs.Opening.{IsAtOpening, IsOpenedOn, IsRefusedStore}
 use Rattle.hose_store.specs.Recovery.{IsRecoveredAs}
 use Rattle.hose_store.specs.Store.{Kept}
 use Rattle.hose_store.specs.declared.fault.StoreFault.{StoreFault}
@@ -161,7 +160,7 @@ module _ {E : Type 0} (disk : DiskGhosts E) (old : E) (network : Network) where
 
   pub refused_of : (result : Result (Kept E) (StoreFault × E)) → ((image : List ℕ) (one two : Meaning Entry) → IsRecoveredAs network image one → IsRecoveredAs network image two → one ≡ two)
       → MatchResult result (λ store. LeavesOnly disk old store.journal.disk (IsAtOpening disk old network)) (λ refused. LeavesOnly disk old refused.1 (IsAtOpening disk old network))
-      → IfErr result (λ refused. IsRefused disk old refused.1 network refused.0)
+      → IfErr result (λ refused. IsRefusedStore disk old refused.1 network refused.0)
       → IfErr result (λ refused. IsNotOpened disk old refused.1 network (Err (of_store refused.0)))
   refused_of (Ok store) one leaves refused = tt
   refused_of (Err why) one leaves refused = not_opened disk network old why.1 why.0 one leaves refused

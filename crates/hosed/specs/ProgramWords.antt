@@ -4,7 +4,7 @@ use Rattle.std.specs.Prelude.{◌≡◌, ◌≢◌, ℕ, ◌-◌, ◌<◌, ◌�
 use Rattle.hose_words.specs.Cursor.{Position}
 use Rattle.hose_words.specs.Form.{Fits64, Form, IsWithin, TellsNumber, branch, finish, grammar_of, maybe, number, place}
 use Rattle.hose_words.specs.Grammar.{IsFirst, IsFirstNotAllowed}
-use Rattle.hose_gen.specs.declared.limits.TheConstants.{LEAST_NODES, MOST_HOSES}
+use Rattle.hose_gen.specs.declared.orders.TheConstants.{LEAST_NODES, MOST_HOSES}
 use Rattle.hose_graph.specs.Network.{Network}
 use Rattle.hose_graph.specs.declared.limits.TheConstants.{MOST_EPOCH, MOST_LINKS, MOST_NODES}
 use Rattle.hose_offline.specs.TopologyTold.{own_costs}
@@ -12,8 +12,10 @@ use Rattle.hose_proto.specs.EndWords.{AreEndWords, end_words_form}
 use Rattle.std.specs.String.{string_bytes}
 use Rattle.hose_pool.specs.declared.rows.TheConstants.{MOST_WORKERS}
 use Rattle.hose_price.specs.declared.sheet.TheConstants.{MOST_TARIFFS}
-use Rattle.hosed.specs.declared.words.Command.{Command}
-use Rattle.hosed.specs.declared.words.Command.TheVariants.{Audit, Check, Follow, Generate, Price, Prove, Run, Ship}
+use Rattle.hosed.specs.declared.words.Request.{Request}
+use Rattle.hosed.specs.declared.words.Request.TheVariants.{Audit, Check, Follow, Generate, Price, Prove, Run, Ship}
+use Rattle.hosed.specs.declared.words.OfJournal.{OfJournal}
+use Rattle.hosed.specs.declared.words.OfTopology.{OfTopology}
 use Rattle.hosed.specs.declared.words.Service.{Service}
 use Rattle.hosed.specs.declared.words.TheConstants.{MOST_CONNECTIONS}
 
@@ -44,180 +46,30 @@ pub record IsFirstNamed (names : List (List ℕ)) (place : ℕ) : Type 0 where
 abbrev pub IsChosen : List (List ℕ) → Option ℕ → Type 0
 IsChosen names tariff = MatchOption tariff ⊤ (IsFirstNamed names)
 
--- what the tariff that is chosen makes of a network; its own costs where none is
+-- the tariff that is chosen, if one is
+abbrev pub chosen_of : {T : Type 0} → List T → Option ℕ → Option T
+chosen_of tariffs None = None
+chosen_of [] (Some which) = None
+chosen_of (tariff ∷ tariffs) (Some zero) = Some tariff
+chosen_of (tariff ∷ tariffs) (Some (suc which)) = chosen_of tariffs (Some which)
+
+-- what a tariff makes of a network; its own costs where there is none
+abbrev pub prices_of : {T : Type 0} → (T → Network → Network → Type 0) → Option T → Network
+    → Network → Type 0
+prices_of prices None = own_costs
+prices_of prices (Some tariff) = prices tariff
+
+-- what the tariff that is chosen makes of a network
 abbrev pub costs_at : {T : Type 0} → (T → Network → Network → Type 0) → List T → Option ℕ → Network
     → Network → Type 0
-costs_at prices tariffs None = own_costs
-costs_at prices [] (Some which) = own_costs
-costs_at prices (tariff ∷ tariffs) (Some zero) = prices tariff
-costs_at prices (tariff ∷ tariffs) (Some (suc which)) = costs_at prices tariffs (Some which)
+costs_at prices tariffs tariff = prices_of prices (chosen_of tariffs tariff)
 
 -- the words by which it is
 abbrev pub tariff_words : List (List ℕ) → Option ℕ → List (List ℕ)
 tariff_words names None = []
 tariff_words names (Some which) = tariff_option ∷ get_or names which [] ∷ []
 
--- ---- the words of each command
-
--- the words of a name, if there is one
-abbrev pub name_words : Option (List ℕ) → List (List ℕ)
-name_words None = []
-name_words (Some name) = name ∷ []
-
--- the words are `run`, those of a tariff if one is chosen, and the name of a journal if there is
--- one
-pub record AreRunWords (names words : List (List ℕ)) (tariff : Option ℕ)
-    (journal : Option (List ℕ)) : Type 0 where
-  pub are : words ≡ codes "run" ∷ tariff_words names tariff ++ name_words journal
-  pub is_tariff : IsChosen names tariff
-  pub is_journal : MatchOption journal ⊤ IsFileName
-
--- the words are `audit`, those of a tariff if one is chosen, and the names of a topology and of a
--- journal
-pub record AreAuditWords (names words : List (List ℕ)) (tariff : Option ℕ)
-    (topology journal : List ℕ) : Type 0 where
-  pub are : words ≡ codes "audit" ∷ tariff_words names tariff ++ topology ∷ journal ∷ []
-  pub is_tariff : IsChosen names tariff
-  pub is_topology : IsFileName topology
-  pub is_journal : IsFileName journal
-
--- a generated network may have so many nodes
-abbrev pub IsNodeCount : ℕ → Type 0
-IsNodeCount = IsWithin LEAST_NODES MOST_NODES
-
--- a generated network of so many nodes may have so many links: enough to join them
-abbrev pub IsLinkCount : ℕ → ℕ → Type 0
-IsLinkCount nodes = IsWithin (nodes - 1) MOST_LINKS
-
--- a generated script may ask for so many hoses
-abbrev pub IsHoseCount : ℕ → Type 0
-IsHoseCount = IsWithin 0 MOST_HOSES
-
--- the words are `gen` and four numbers: a seed, and how many nodes, links and hoses are made of it
-pub record AreGenerateWords (words : List (List ℕ)) (seed nodes links hoses : ℕ) : Type 0 where
-  pub are : words
-      ≡ codes "gen" ∷ decimal seed ∷ decimal nodes ∷ decimal links ∷ decimal hoses ∷ []
-  pub is_seed : Fits64 seed
-  pub nodes_within : IsNodeCount nodes
-  pub links_within : IsLinkCount nodes links
-  pub hoses_within : IsHoseCount hoses
-
--- the words are `prove`, those of a tariff if one is chosen, the name of a topology and the
--- endpoints of a hose
-pub record AreProveWords (names words : List (List ℕ)) (tariff : Option ℕ)
-    (topology : List ℕ) (ends : List (List ℕ)) : Type 0 where
-  pub are : words ≡ codes "prove" ∷ tariff_words names tariff ++ topology ∷ ends
-  pub is_tariff : IsChosen names tariff
-  pub is_topology : IsFileName topology
-  pub are_ends : AreEndWords ends
-
--- the number of the first of these endpoints among the words
-abbrev pub first_end : Option ℕ → ℕ
-first_end None = 3
-first_end (Some which) = 5
-
--- the words are `check`, those of a tariff if one is chosen, and the name of a topology
-pub record AreCheckWords (names words : List (List ℕ)) (tariff : Option ℕ)
-    (topology : List ℕ) : Type 0 where
-  pub are : words ≡ codes "check" ∷ tariff_words names tariff ++ topology ∷ []
-  pub is_tariff : IsChosen names tariff
-  pub is_topology : IsFileName topology
-
--- there are tariffs with these names to price under, and no more than there may be
-abbrev pub ArePriceable : List (List ℕ) → Type 0
-ArePriceable names = IsWithin 1 MOST_TARIFFS (length names)
-
--- the words are `price` and the name of a topology, and there are tariffs to price under
-pub record ArePriceWords (names words : List (List ℕ)) (topology : List ℕ) : Type 0 where
-  pub are : words ≡ codes "price" ∷ topology ∷ []
-  pub tariffs : ArePriceable names
-  pub is_topology : IsFileName topology
-
--- entries may be shipped from this epoch on: the first one's is 1
-abbrev pub IsFrom : ℕ → Type 0
-IsFrom = IsWithin 1 MOST_EPOCH
-
--- the words are `ship`, those of a tariff if one is chosen, the names of a topology and of a
--- journal, and the number of an epoch
-pub record AreShipWords (names words : List (List ℕ)) (tariff : Option ℕ)
-    (topology journal : List ℕ) (from : ℕ) : Type 0 where
-  pub are : words
-      ≡ codes "ship" ∷ tariff_words names tariff ++ topology ∷ journal ∷ decimal from ∷ []
-  pub is_tariff : IsChosen names tariff
-  pub is_topology : IsFileName topology
-  pub is_journal : IsFileName journal
-  pub is_from : IsFrom from
-
--- the words are `follow`, those of a tariff if one is chosen, and the names of a topology and of a
--- journal
-pub record AreFollowWords (names words : List (List ℕ)) (tariff : Option ℕ)
-    (topology journal : List ℕ) : Type 0 where
-  pub are : words ≡ codes "follow" ∷ tariff_words names tariff ++ topology ∷ journal ∷ []
-  pub is_tariff : IsChosen names tariff
-  pub is_topology : IsFileName topology
-  pub is_journal : IsFileName journal
-
--- a number may be that of a port: 16 bits hold it, and it is not 0
-abbrev pub IsPort : ℕ → Type 0
-IsPort = IsWithin 1 65535
-
--- the words are `serve`, those of a tariff if one is chosen, the names of a topology and of a
--- journal, and then three numbers: of a port, of connections and of workers
-pub record AreServeWords (names words : List (List ℕ)) (tariff : Option ℕ)
-    (topology journal : List ℕ) (port connections workers : ℕ) : Type 0 where
-  pub are : words ≡ codes "serve" ∷ tariff_words names tariff ++ topology ∷ journal ∷ decimal port
-      ∷ decimal connections ∷ decimal workers ∷ []
-  pub is_tariff : IsChosen names tariff
-  pub is_topology : IsFileName topology
-  pub is_journal : IsFileName journal
-  pub is_port : IsPort port
-  pub connections_within : IsWithin 1 MOST_CONNECTIONS connections
-  pub workers_within : IsWithin 1 MOST_WORKERS workers
-
--- the words are those of no command
-pub record AreWrongWords (names words : List (List ℕ)) : Type 0 where
-  pub no_run : (tariff : Option ℕ) (journal : Option (List ℕ))
-      → ¬ AreRunWords names words tariff journal
-  pub no_audit : (tariff : Option ℕ) (topology journal : List ℕ)
-      → ¬ AreAuditWords names words tariff topology journal
-  pub no_generate : (seed nodes links hoses : ℕ) → ¬ AreGenerateWords words seed nodes links hoses
-  pub no_prove : (tariff : Option ℕ) (topology : List ℕ) (ends : List (List ℕ))
-      → ¬ AreProveWords names words tariff topology ends
-  pub no_check : (tariff : Option ℕ) (topology : List ℕ)
-      → ¬ AreCheckWords names words tariff topology
-  pub no_price : (topology : List ℕ) → ¬ ArePriceWords names words topology
-  pub no_ship : (tariff : Option ℕ) (topology journal : List ℕ) (from : ℕ)
-      → ¬ AreShipWords names words tariff topology journal from
-  pub no_follow : (tariff : Option ℕ) (topology journal : List ℕ)
-      → ¬ AreFollowWords names words tariff topology journal
-  pub no_serve : (tariff : Option ℕ) (topology journal : List ℕ) (port connections workers : ℕ)
-      → ¬ AreServeWords names words tariff topology journal port connections workers
-
--- the words are those of a command that waits for nobody
-abbrev pub AreWordsOf : List (List ℕ) → List (List ℕ) → Command → Type 0
-AreWordsOf names words (Run tariff journal) =
-    AreRunWords names words tariff (option_map (λ name. name.now) journal)
-AreWordsOf names words (Audit tariff topology journal) =
-    AreAuditWords names words tariff topology.now journal.now
-AreWordsOf names words (Generate seed nodes links hoses) =
-    AreGenerateWords words seed nodes links hoses
-AreWordsOf names words (Prove tariff topology ends first) =
-    AreProveWords names words tariff topology.now (map string_bytes ends.now)
-    × (first ≡ first_end tariff)
-AreWordsOf names words (Check tariff topology) = AreCheckWords names words tariff topology.now
-AreWordsOf names words (Price topology) = ArePriceWords names words topology.now
-AreWordsOf names words (Ship tariff topology journal from) =
-    AreShipWords names words tariff topology.now journal.now from
-AreWordsOf names words (Follow tariff topology journal) =
-    AreFollowWords names words tariff topology.now journal.now
-
--- the words are those of a server
-abbrev pub AreServiceWords : List (List ℕ) → List (List ℕ) → Service → Type 0
-AreServiceWords names words service =
-    AreServeWords names words service.tariff service.topology.now service.journal.now service.port
-    service.connections service.workers
-
--- ---- which words are wrong
+-- ---- commands and what they are to do
 
 -- the commands, by their first word
 pub data Verb : Type 0 where
@@ -232,32 +84,265 @@ pub data Verb : Type 0 where
   serve : Verb
 
 -- the word that a command begins with
-abbrev pub verb_word : Verb → List ℕ
-verb_word run = codes "run"
-verb_word audit = codes "audit"
-verb_word generate = codes "gen"
-verb_word prove = codes "prove"
-verb_word check = codes "check"
-verb_word price = codes "price"
-verb_word ship = codes "ship"
-verb_word follow = codes "follow"
-verb_word serve = codes "serve"
+abbrev pub program_word : Verb → List ℕ
+program_word run = codes "run"
+program_word audit = codes "audit"
+program_word generate = codes "gen"
+program_word prove = codes "prove"
+program_word check = codes "check"
+program_word price = codes "price"
+program_word ship = codes "ship"
+program_word follow = codes "follow"
+program_word serve = codes "serve"
+
+-- a tariff, if one is chosen, and a journal, if the book is to be kept in one
+pub record RunTask : Type 0 where
+  pub tariff : Option ℕ
+  pub journal : Option (List ℕ)
+
+-- a tariff, if one is chosen, the text of a topology, and a journal
+pub record JournalTask : Type 0 where
+  pub tariff : Option ℕ
+  pub topology : List ℕ
+  pub journal : List ℕ
+
+-- the four numbers of which a network and a script are made
+pub record GenerateTask : Type 0 where
+  pub seed : ℕ
+  pub nodes : ℕ
+  pub links : ℕ
+  pub hoses : ℕ
+
+-- a tariff, if one is chosen, the text of a topology, and the endpoints of a hose
+pub record ProveTask : Type 0 where
+  pub tariff : Option ℕ
+  pub topology : List ℕ
+  pub ends : List (List ℕ)
+
+-- a tariff, if one is chosen, and the text of a topology
+pub record CheckTask : Type 0 where
+  pub tariff : Option ℕ
+  pub topology : List ℕ
+
+-- the text of a topology
+pub record PriceTask : Type 0 where
+  pub topology : List ℕ
+
+-- a tariff, if one is chosen, the text of a topology, a journal, and the epoch of the first entry
+pub record ShipTask : Type 0 where
+  pub tariff : Option ℕ
+  pub topology : List ℕ
+  pub journal : List ℕ
+  pub from : ℕ
+
+-- a tariff, if one is chosen, the text of a topology, a journal, the port of a door, how many
+-- connections it accepts, and how many workers answer them
+pub record ServeTask : Type 0 where
+  pub tariff : Option ℕ
+  pub topology : List ℕ
+  pub journal : List ℕ
+  pub port : ℕ
+  pub connections : ℕ
+  pub workers : ℕ
+
+-- what a command is to do
+abbrev pub Task : Verb → Type 0
+Task run = RunTask
+Task audit = JournalTask
+Task generate = GenerateTask
+Task prove = ProveTask
+Task check = CheckTask
+Task price = PriceTask
+Task ship = ShipTask
+Task follow = JournalTask
+Task serve = ServeTask
+
+-- ---- the words of each command
+
+-- the words of a name, if there is one
+abbrev pub name_words : Option (List ℕ) → List (List ℕ)
+name_words None = []
+name_words (Some name) = name ∷ []
+
+-- the words that tell what a command is to do: after its own word those of a tariff, if one is
+-- chosen, and then names, endpoints and numbers
+abbrev pub task_words : List (List ℕ) → (verb : Verb) → Task verb → List (List ℕ)
+task_words names run task = tariff_words names task.tariff ++ name_words task.journal
+task_words names audit task =
+    tariff_words names task.tariff ++ task.topology ∷ task.journal ∷ []
+task_words names generate task =
+    decimal task.seed ∷ decimal task.nodes ∷ decimal task.links ∷ decimal task.hoses ∷ []
+task_words names prove task = tariff_words names task.tariff ++ task.topology ∷ task.ends
+task_words names check task = tariff_words names task.tariff ++ task.topology ∷ []
+task_words names price task = task.topology ∷ []
+task_words names ship task =
+    tariff_words names task.tariff ++ task.topology ∷ task.journal ∷ decimal task.from ∷ []
+task_words names follow task =
+    tariff_words names task.tariff ++ task.topology ∷ task.journal ∷ []
+task_words names serve task = tariff_words names task.tariff
+    ++ task.topology ∷ task.journal ∷ decimal task.port ∷ decimal task.connections
+    ∷ decimal task.workers ∷ []
+
+-- a generated network may have so many nodes
+abbrev pub IsNodeCount : ℕ → Type 0
+IsNodeCount = IsWithin LEAST_NODES MOST_NODES
+
+-- a generated network of so many nodes may have so many links: enough to join them
+abbrev pub IsLinkCount : ℕ → ℕ → Type 0
+IsLinkCount nodes = IsWithin (nodes - 1) MOST_LINKS
+
+-- a generated script may ask for so many hoses
+abbrev pub IsHoseCount : ℕ → Type 0
+IsHoseCount = IsWithin 0 MOST_HOSES
+
+-- there are tariffs with these names to price under, and no more than there may be
+abbrev pub ArePriceable : List (List ℕ) → Type 0
+ArePriceable names = IsWithin 1 MOST_TARIFFS (length names)
+
+-- entries may be shipped from this epoch on: the first one's is 1
+abbrev pub IsFromEpoch : ℕ → Type 0
+IsFromEpoch = IsWithin 1 MOST_EPOCH
+
+-- a number may be that of a port: 16 bits hold it, and it is not 0
+abbrev pub IsPort : ℕ → Type 0
+IsPort = IsWithin 1 65535
+
+-- the parts of a run may be so
+pub record IsRunTask (names : List (List ℕ)) (task : RunTask) : Type 0 where
+  pub is_tariff : IsChosen names task.tariff
+  pub is_journal : MatchOption task.journal ⊤ IsFileName
+
+-- those of an audit or of a following
+pub record IsJournalTask (names : List (List ℕ)) (task : JournalTask) : Type 0 where
+  pub is_tariff : IsChosen names task.tariff
+  pub is_topology : IsFileName task.topology
+  pub is_journal : IsFileName task.journal
+
+-- those of a network and a script that are generated
+pub record IsGenerateTask (task : GenerateTask) : Type 0 where
+  pub is_seed : Fits64 task.seed
+  pub nodes_within : IsNodeCount task.nodes
+  pub links_within : IsLinkCount task.nodes task.links
+  pub hoses_within : IsHoseCount task.hoses
+
+-- those of a certificate that is to be written
+pub record IsProveTask (names : List (List ℕ)) (task : ProveTask) : Type 0 where
+  pub is_tariff : IsChosen names task.tariff
+  pub is_topology : IsFileName task.topology
+  pub are_ends : AreEndWords task.ends
+
+-- those of a certificate that is to be judged
+pub record IsCheckTask (names : List (List ℕ)) (task : CheckTask) : Type 0 where
+  pub is_tariff : IsChosen names task.tariff
+  pub is_topology : IsFileName task.topology
+
+-- those of a sheet of prices, for which there have to be tariffs
+pub record IsPriceTask (names : List (List ℕ)) (task : PriceTask) : Type 0 where
+  pub tariffs : ArePriceable names
+  pub is_topology : IsFileName task.topology
+
+-- those of a shipping
+pub record IsShipTask (names : List (List ℕ)) (task : ShipTask) : Type 0 where
+  pub is_tariff : IsChosen names task.tariff
+  pub is_topology : IsFileName task.topology
+  pub is_journal : IsFileName task.journal
+  pub is_from : IsFromEpoch task.from
+
+-- those of a server
+pub record IsServeTask (names : List (List ℕ)) (task : ServeTask) : Type 0 where
+  pub is_tariff : IsChosen names task.tariff
+  pub is_topology : IsFileName task.topology
+  pub is_journal : IsFileName task.journal
+  pub is_port : IsPort task.port
+  pub connections_within : IsWithin 1 MOST_CONNECTIONS task.connections
+  pub workers_within : IsWithin 1 MOST_WORKERS task.workers
+
+-- a program that has tariffs with these names may be given such a task
+abbrev pub MayDo : List (List ℕ) → (verb : Verb) → Task verb → Type 0
+MayDo names run task = IsRunTask names task
+MayDo names audit task = IsJournalTask names task
+MayDo names generate task = IsGenerateTask task
+MayDo names prove task = IsProveTask names task
+MayDo names check task = IsCheckTask names task
+MayDo names price task = IsPriceTask names task
+MayDo names ship task = IsShipTask names task
+MayDo names follow task = IsJournalTask names task
+MayDo names serve task = IsServeTask names task
+
+-- the words are that of the command, and then those of its task, which it may be given
+pub record AreWords (names words : List (List ℕ)) (verb : Verb) (task : Task verb) : Type 0 where
+  pub are : words ≡ program_word verb ∷ task_words names verb task
+  pub may : MayDo names verb task
+
+-- the words are those of no command
+abbrev pub AreWrongWords : List (List ℕ) → List (List ℕ) → Type 0
+AreWrongWords names words = (verb : Verb) (task : Task verb) → ¬ AreWords names words verb task
+
+-- the number of the first of the endpoints of a certificate among the words
+abbrev pub first_end : Option ℕ → ℕ
+first_end None = 3
+first_end (Some which) = 5
+
+-- what names a topology, and what names a journal too, as a task
+abbrev pub topology_task : OfTopology → CheckTask
+topology_task of = record { tariff = of.tariff; topology = of.topology.now }
+
+abbrev pub journal_task : OfJournal → JournalTask
+journal_task of =
+    record { tariff = of.tariff; topology = of.topology.now; journal = of.journal.now }
+
+-- the words are those of this request
+abbrev pub AreWordsOf : List (List ℕ) → List (List ℕ) → Request → Type 0
+AreWordsOf names words (Run tariff journal) = AreWords names words run
+    (record { tariff = tariff; journal = option_map (λ name. name.now) journal })
+AreWordsOf names words (Audit of) = AreWords names words audit (journal_task of)
+AreWordsOf names words (Generate sizes) = AreWords names words generate (record {
+  seed = sizes.seed;
+  nodes = sizes.nodes;
+  links = sizes.links;
+  hoses = sizes.hoses;
+})
+AreWordsOf names words (Prove of ends first) = AreWords names words prove (record {
+  tariff = of.tariff;
+  topology = of.topology.now;
+  ends = map string_bytes ends.now;
+}) × (first ≡ first_end of.tariff)
+AreWordsOf names words (Check of) = AreWords names words check (topology_task of)
+AreWordsOf names words (Price topology) =
+    AreWords names words price (record { topology = topology.now })
+AreWordsOf names words (Ship of from) = AreWords names words ship (record {
+  tariff = of.tariff;
+  topology = of.topology.now;
+  journal = of.journal.now;
+  from = from;
+})
+AreWordsOf names words (Follow of) = AreWords names words follow (journal_task of)
+
+-- what a server is to do
+abbrev pub task_of : Service → ServeTask
+task_of service = record {
+  tariff = service.tariff;
+  topology = service.topology.now;
+  journal = service.journal.now;
+  port = service.port;
+  connections = service.connections;
+  workers = service.workers;
+}
+
+-- the words are those of a server
+abbrev pub AreServiceWords : List (List ℕ) → List (List ℕ) → Service → Type 0
+AreServiceWords names words service = AreWords names words serve (task_of service)
+
+-- ---- which words are wrong
 
 -- the command is one of a program that has tariffs with these names
-abbrev pub IsOffered : List (List ℕ) → Verb → Type 0
-IsOffered names run = ⊤
-IsOffered names audit = ⊤
-IsOffered names generate = ⊤
-IsOffered names prove = ⊤
-IsOffered names check = ⊤
-IsOffered names price = ArePriceable names
-IsOffered names ship = ⊤
-IsOffered names follow = ⊤
-IsOffered names serve = ⊤
+abbrev pub IsAvailable : List (List ℕ) → Verb → Type 0
+IsAvailable names price = ArePriceable names
+IsAvailable names _ = ⊤
 
 -- the first word is that of the command, whatever follows it
 abbrev pub AsksFor : Verb → List (List ℕ) → Type 0
-AsksFor verb words = IsFirst (λ word. word ≡ verb_word verb) words
+AsksFor verb words = IsFirst (λ word. word ≡ program_word verb) words
 
 -- the first word is `serve`
 abbrev pub AsksToServe : List (List ℕ) → Type 0
@@ -290,13 +375,13 @@ abbrev pub named_form : Form → Form
 named_form form = place IsFileName form
 
 -- the numbers of a server
-abbrev pub numbers_form : Form
-numbers_form = place (TellsNumber IsPort) (place (TellsNumber (IsWithin 1 MOST_CONNECTIONS))
+abbrev pub server_form : Form
+server_form = place (TellsNumber IsPort) (place (TellsNumber (IsWithin 1 MOST_CONNECTIONS))
     (place (TellsNumber (IsWithin 1 MOST_WORKERS)) finish))
 
 -- the epoch from which on a journal is shipped
 abbrev pub from_form : Form
-from_form = place (TellsNumber IsFrom) finish
+from_form = place (TellsNumber IsFromEpoch) finish
 
 -- the numbers of links and of hoses, after that of nodes
 abbrev pub sizes_form : ℕ → Form
@@ -307,22 +392,22 @@ sizes_form nodes =
 -- names of a topology and of a journal; four numbers; the name of a topology and endpoints, after a
 -- tariff or none; the name of a topology, after a tariff or none, or alone; or those of a topology
 -- and of a journal, and an epoch, nothing more, or the numbers of a server.
-abbrev pub verb_form : List (List ℕ) → Verb → Form
-verb_form names run = maybe (with_tariff names (maybe (named_form finish)) finish)
-verb_form names audit = with_tariff names (named_form (named_form finish)) (named_form finish)
-verb_form names generate = number (branch IsNodeCount decimal sizes_form)
-verb_form names prove = with_tariff names (named_form end_words_form) end_words_form
-verb_form names check = with_tariff names (named_form finish) finish
-verb_form names price = named_form finish
-verb_form names ship =
+abbrev pub program_form : List (List ℕ) → Verb → Form
+program_form names run = maybe (with_tariff names (maybe (named_form finish)) finish)
+program_form names audit = with_tariff names (named_form (named_form finish)) (named_form finish)
+program_form names generate = number (branch IsNodeCount decimal sizes_form)
+program_form names prove = with_tariff names (named_form end_words_form) end_words_form
+program_form names check = with_tariff names (named_form finish) finish
+program_form names price = named_form finish
+program_form names ship =
     with_tariff names (named_form (named_form from_form)) (named_form from_form)
-verb_form names follow = with_tariff names (named_form (named_form finish)) (named_form finish)
-verb_form names serve =
-    with_tariff names (named_form (named_form numbers_form)) (named_form numbers_form)
+program_form names follow = with_tariff names (named_form (named_form finish)) (named_form finish)
+program_form names serve =
+    with_tariff names (named_form (named_form server_form)) (named_form server_form)
 
 -- what the words may be
 abbrev pub words_form : List (List ℕ) → Form
-words_form names = branch (IsOffered names) verb_word (verb_form names)
+words_form names = branch (IsAvailable names) program_word (program_form names)
 
 -- the first of the words that is not allowed
 abbrev pub IsFirstWrong : List (List ℕ) → List (List ℕ) → ℕ → Type 0

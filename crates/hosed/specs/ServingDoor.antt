@@ -12,7 +12,7 @@ use Rattle.hose_graph.specs.declared.entry.Entry.{Entry}
 use Rattle.hose_law.specs.Book.{IsOversold}
 use Rattle.hose_law.specs.Cheapest.{AreCheapest}
 use Rattle.hose_law.specs.History.{IsDecided, IsDecidedAt, book_of}
-use Rattle.hose_law.specs.Live.{AreLiveHeld, StaysLive}
+use Rattle.hose_law.specs.Live.{AreLiveUnreleased, StaysLive}
 use Rattle.hose_book.specs.Ledger.{IsLedgerOf, Ledger}
 use Rattle.hose_crew.specs.Crew.{AreServed}
 use Rattle.hose_disk.specs.Cabinet.{Has, object_of}
@@ -27,7 +27,7 @@ use Rattle.hose_turn.specs.Known.{Known}
 use Rattle.hose_turn.specs.Places.{HasPlaces}
 use Rattle.hose_store.specs.declared.fault.StoreFault.{StoreFault}
 use Rattle.hose_offline.specs.Fault.{of_store}
-use Rattle.hose_offline.specs.OnDisk.{Held, opening_of}
+use Rattle.hose_offline.specs.OnDisk.{HadContent, opening_of}
 use Rattle.hose_offline.specs.ServingOnDisk.{IsNotOpened, IsNotServed}
 use Rattle.hose_offline.specs.declared.fault.Fault.{Fault}
 use Rattle.hosed.specs.declared.serving.Opened.{Opened}
@@ -54,7 +54,8 @@ pub record IsOpening {E : Type 0} (disk : DiskGhosts E) (was : E) (network : Net
   pub stands : StandsFor disk IsDecidedAt (disk.may_leave was) (opening_of disk network since was)
       since store
 
--- The same of a disk that had these images and this content at this moment.
+-- A store was just opened on a disk that had these images and this content at this moment, and
+-- stood for this history.
 pub record OpensAt {E : Type 0} (disk : DiskGhosts E) (Had : List ℕ → Type 0)
     (content : Option (List ℕ)) (moment : ℕ) (network : Network) (since : List Entry)
     (store : Kept E) : Type 0 where
@@ -160,9 +161,9 @@ ServesByJournal disk sink was left network count output output' door door' (Ok s
     ServesByStore disk sink was left network count output output' door door' served
 
 -- why no store was opened, as a fault of the program
-abbrev pub as_fault : Result Served StoreFault → Result Served Fault
-as_fault (Ok served) = Ok served
-as_fault (Err why) = Err (of_store why)
+abbrev pub served_or_fault : Result Served StoreFault → Result Served Fault
+served_or_fault (Ok served) = Ok served
+served_or_fault (Err why) = Err (of_store why)
 
 -- ---- in a cabinet
 
@@ -174,7 +175,7 @@ as_fault (Err why) = Err (of_store why)
 pub record HasKeptIn {C E : Type 0} (cabinet : CabinetGhosts C E) (disk : DiskGhosts E)
     (name : List ℕ) (old new : C) (network : Network) (since history : List Entry)
     (closing : Result ⊤ Failed) : Type 0 where
-  pub begun : Held cabinet disk old new name (IsHistoryOf network since)
+  pub begun : HadContent cabinet disk old new name (IsHistoryOf network since)
   pub begins : IsPrefix since history
   pub decided : IsDecided network 0 (length since) history
   pub met : Met (object_of (cabinet.frame old)) (object_of (cabinet.frame new)) closing
@@ -183,7 +184,7 @@ pub record HasKeptIn {C E : Type 0} (cabinet : CabinetGhosts C E) (disk : DiskGh
       HasLeft disk IsDecidedAt (disk.may_leave was) (opening_of disk network since was) history
       left closing))
   pub none_oversold : (place l : ℕ) → ¬ IsOversold network (book_of 0 (take place history)) l
-  pub held : (place : ℕ) → place ≤ length history → AreLiveHeld 0 history place
+  pub held : (place : ℕ) → place ≤ length history → AreLiveUnreleased 0 history place
   pub kept : (place : ℕ) → StaysLive 0 history place
   pub cheapest : AreCheapest network 0 (length since) history
 

@@ -29,10 +29,9 @@ ghost use Rattle.std.specs.Prelude.{◌≡◌, ◌⊎◌, None, map};
 ghost use Rattle.std.specs.String.{string_bytes};
 ghost use Rattle.hose_io.specs.Frame.{Stays};
 ghost use Rattle.hose_disk.specs.Cabinet.{object_of};
-ghost use Rattle.hose_offline.specs.PriceOutcome.{IsSheetBy};
-ghost use Rattle.hosed.specs.Hosed.{HosedOutcome};
-ghost use Rattle.hosed.specs.Offline.{OfflineOutcome};
-ghost use Rattle.hosed.specs.ProgramWords.{AsksToServe, costs_at};
+ghost use Rattle.hosed.specs.Hosed.{HosedOutcome, with_door};
+ghost use Rattle.hosed.specs.Offline.{OfflineOutcome, offer_of, outside, tellings};
+ghost use Rattle.hosed.specs.ProgramWords.{AsksToServe};
 ghost use Rattle.hosed.specs.ServingDoor.{seen_of};
 
 mod chosen;
@@ -40,17 +39,18 @@ mod end_words;
 mod serving;
 mod words;
 
-use chosen::{audit_by, check_by, follow_by, prove_by, run_by, serve_by, ship_by};
+use chosen::costs_of;
 use hose_disk::Cabinet;
 use hose_io::{Door, Sink, Source};
-use hose_offline::{Fault, end, price, run_generated};
+use hose_offline::{Fault, audit, check, end, follow, price, prove, run, run_generated, ship};
 use hose_pool::Gate;
 use hose_tariff::{Prices, Tariff};
+use serving::{Means, serve};
 use std::alloc::Global;
 use std::sync::Wait;
 use std::thread::Threads;
 pub use words::MOST_CONNECTIONS;
-use words::{Command, asks_to_serve, command_of, service_of};
+use words::{Request, asks_to_serve, request_of, service_of};
 
 /// Does what the words say, and gives the exit status. The words are those after the program's
 /// name: `run`, and the name of a journal in the cabinet if the book is to be kept in one; `audit`,
@@ -95,15 +95,12 @@ pub fn hosed<
     gate: &G,
 ) -> u8
     requires { (C.frame cabinet.old).out ≡ None }
-    ensures outcome { HosedOutcome I.Source O.Sink C.Cabinet C.Disk.Disk
-        (map (λ tariff. tariff.name) tariffs.now)
-        (λ tariff. costs_at ⟦<Tariff as Prices>⟧.prices tariffs.now tariff)
-        (IsSheetBy ⟦<Tariff as Prices>⟧.prices (λ tariff. tariff.base) (λ tariff. tariff.per)
-        tariffs.now)
-        (map string_bytes words.now) input.old input.new output.old output.new
-        cabinet.old cabinet.new
-        (seen_of (L.frame door.old) (L.told door.old))
-        (seen_of (L.frame door.new) (L.told door.new)) result }
+    ensures outcome { HosedOutcome (tellings I.Source O.Sink C.Cabinet C.Disk.Disk)
+        (offer_of ⟦<Tariff as Prices>⟧.prices (λ tariff. tariff.name) (λ tariff. tariff.base)
+        (λ tariff. tariff.per) tariffs.now)
+        (with_door input.old output.old cabinet.old (seen_of (L.frame door.old) (L.told door.old)))
+        (with_door input.new output.new cabinet.new (seen_of (L.frame door.new) (L.told door.new)))
+        result (map string_bytes words.now) }
     // The disk of a journal is not put back where there was no memory to share it.
     ensures back { ((C.frame cabinet.new).out ≡ None)
         ⊎ (AsksToServe (map string_bytes words.now) × (result ≡ 7)) }
@@ -117,15 +114,18 @@ pub fn hosed<
     }
     match service_of(words, tariffs) {
         Ok(service) => {
-            let (status, _) = serve_by(rt, alloc, tariffs, service, output, cabinet, door, gate);
+            let costs = costs_of(tariffs, service.tariff);
+            let means = Means { rt, alloc, gate };
+            let (status, _) = serve(means, &costs, service, output, cabinet, door);
             status
         }
         Err(wrong) => end(Err(Fault::Words(wrong)), output),
     }
 }
 
-/// The same for every command that waits for nobody, and for wrong words that do not begin with
-/// `serve`: it returns where the calls of its input, its output and its cabinet do.
+/// Does what the words say, and gives the exit status, for every command that waits for nobody, and
+/// for wrong words that do not begin with `serve`: as `hosed` does, which calls it. It returns
+/// where the calls of its input, its output and its cabinet do.
 pub fn offline<I: Source, O: Sink, C: Cabinet>(
     alloc: Global,
     words: &[String],
@@ -136,72 +136,47 @@ pub fn offline<I: Source, O: Sink, C: Cabinet>(
 ) -> u8
     requires none_out { (C.frame cabinet.old).out ≡ None }
     requires waits_for_nobody { ¬ AsksToServe (map string_bytes words.now) }
-    ensures outcome { OfflineOutcome I.Source O.Sink C.Cabinet C.Disk.Disk
-        (map (λ tariff. tariff.name) tariffs.now)
-        (λ tariff. costs_at ⟦<Tariff as Prices>⟧.prices tariffs.now tariff)
-        (IsSheetBy ⟦<Tariff as Prices>⟧.prices (λ tariff. tariff.base) (λ tariff. tariff.per)
-        tariffs.now)
-        (map string_bytes words.now) input.old input.new output.old output.new
-        cabinet.old cabinet.new result }
+    ensures outcome { OfflineOutcome (tellings I.Source O.Sink C.Cabinet C.Disk.Disk)
+        (offer_of ⟦<Tariff as Prices>⟧.prices (λ tariff. tariff.name) (λ tariff. tariff.base)
+        (λ tariff. tariff.per) tariffs.now)
+        (outside input.old output.old cabinet.old) (outside input.new output.new cabinet.new)
+        result (map string_bytes words.now) }
     ensures back { (C.frame cabinet.new).out ≡ None }
     ensures input { Stays (I.frame input.old) (I.frame input.new) }
     ensures output { Stays (O.frame output.old) (O.frame output.new) }
     ensures cabinet { Stays (object_of (C.frame cabinet.old)) (object_of (C.frame cabinet.new)) }
 {
-    match command_of(words, tariffs) {
-        Ok(Command::Run { tariff, journal }) => {
-            run_by(alloc, tariffs, tariff, journal, input, output, cabinet)
+    match request_of(words, tariffs) {
+        Ok(Request::Run { tariff, journal }) => {
+            let by = costs_of(tariffs, tariff);
+            run(alloc, &by, journal, input, output, cabinet)
         }
-        Ok(
-            Command::Audit {
-                tariff,
-                topology,
-                journal,
-            },
-        ) => audit_by(alloc, tariffs, tariff, topology, journal, output, cabinet),
-        Ok(
-            Command::Generate {
-                seed,
-                nodes,
-                links,
-                hoses,
-            },
-        ) => run_generated(alloc, seed, nodes, links, hoses, output),
-        Ok(
-            Command::Prove {
-                tariff,
-                topology,
-                ends,
-                first,
-            },
-        ) => prove_by(
-            alloc, tariffs, tariff, topology, ends, first, output, cabinet,
-        ),
-        Ok(Command::Check { tariff, topology }) => {
-            check_by(alloc, tariffs, tariff, topology, input, output, cabinet)
+        Ok(Request::Audit(of)) => {
+            let by = costs_of(tariffs, of.tariff);
+            audit(alloc, &by, of.topology, of.journal, output, cabinet)
         }
-        Ok(Command::Price { topology }) => {
+        Ok(Request::Generate(of)) => {
+            run_generated(alloc, of.seed, of.nodes, of.links, of.hoses, output)
+        }
+        Ok(Request::Prove { of, ends, first }) => {
+            let by = costs_of(tariffs, of.tariff);
+            prove(alloc, &by, of.topology, ends, first, output, cabinet)
+        }
+        Ok(Request::Check(of)) => {
+            let by = costs_of(tariffs, of.tariff);
+            check(alloc, &by, of.topology, input, output, cabinet)
+        }
+        Ok(Request::Price { topology }) => {
             price(alloc, tariffs, topology, input, output, cabinet)
         }
-        Ok(
-            Command::Ship {
-                tariff,
-                topology,
-                journal,
-                from,
-            },
-        ) => ship_by(
-            alloc, tariffs, tariff, topology, journal, from, output, cabinet,
-        ),
-        Ok(
-            Command::Follow {
-                tariff,
-                topology,
-                journal,
-            },
-        ) => follow_by(
-            alloc, tariffs, tariff, topology, journal, input, output, cabinet,
-        ),
+        Ok(Request::Ship { of, from }) => {
+            let by = costs_of(tariffs, of.tariff);
+            ship(alloc, &by, of.topology, of.journal, from, output, cabinet)
+        }
+        Ok(Request::Follow(of)) => {
+            let by = costs_of(tariffs, of.tariff);
+            follow(alloc, &by, of.topology, of.journal, input, output, cabinet)
+        }
         Err(wrong) => end(Err(Fault::Words(wrong)), output),
     }
 }

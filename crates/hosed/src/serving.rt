@@ -9,7 +9,7 @@ ghost use Rattle.hose_shared.specs.Sharing.{IsPassOf, IsSamePass};
 ghost use Rattle.hose_offline.specs.Fault.{of_store};
 ghost use Rattle.hosed.specs.ServeOutcome.{EndsServed, ServeOutcome, first_failed};
 ghost use Rattle.hose_offline.specs.ServingOnDisk.{IsNotOpened};
-ghost use Rattle.hosed.specs.ServingDoor.{IsOpening, ServesByJournal, ServesByStore, ServesConnectionsIn, ServesOpened, as_fault, seen_of, served_of};
+ghost use Rattle.hosed.specs.ServingDoor.{IsOpening, ServesByJournal, ServesByStore, ServesConnectionsIn, ServesOpened, seen_of, served_of, served_or_fault};
 
 use crate::words::Service;
 use hose_book::{Book, Books};
@@ -30,6 +30,14 @@ use std::snapshot::Snapshot;
 use std::sync::Wait;
 use std::sync::ledger::Blank;
 use std::thread::Threads;
+
+/// What a server works with: threads and waiting, memory, and the gate that its sessions pass.
+#[derive(Clone, Copy)]
+pub struct Means<'a, R, G> {
+    pub rt: &'a R,
+    pub alloc: Global,
+    pub gate: &'a G,
+}
 
 /// What came of serving connections by a store that was opened.
 pub enum Served {
@@ -95,6 +103,28 @@ pub enum Opened {
     Ended(Result<(), Failed>),
 }
 
+/// Workers, and what is to become the ledger of what they accept.
+#[derive(Drop)]
+pub struct Staff<L: Door, N: Start> {
+    pub crew: Crew<L, N>,
+    pub blank: Blank,
+}
+
+/// The book that all sessions share, a pass along it, and the rows that they plan with.
+#[derive(Drop)]
+pub struct SharedBooks<'a, D: Disk, B: Begun<D>> {
+    pub shared: &'a Shared<D, B>,
+    pub table: &'a RowTable,
+    pub pass: Pass,
+}
+
+/// A store that was just opened, and what its disk was then.
+#[derive(Drop)]
+pub struct JustOpen<D: Disk> {
+    pub store: Store<D>,
+    pub was: Snapshot<D>,
+}
+
 // Opens the door, says that the server is ready, and serves its connections along the pass.
 fn open_and_serve<
     R: Threads + Wait + Sync,
@@ -105,36 +135,36 @@ fn open_and_serve<
     N: Start + Send + Sync,
     G: Gate + Sync,
 >(
-    rt: &R,
-    alloc: Global,
-    crew: Crew<L, N>,
-    blank: Blank,
-    shared: &Shared<D, B>,
-    table: &RowTable,
-    pass: Pass,
+    means: Means<'_, R, G>,
+    staff: Staff<L, N>,
+    books: SharedBooks<'_, D, B>,
     port: u16,
     output: &mut O,
     door: L,
-    gate: &G,
 ) -> (Opened, Pass, L)
-    requires of { IsPassOf shared.now pass }
-    requires shares { crew.workers < pass.share }
-    requires own { pass.own ≡ [] }
-    requires since { IsPrefix pass.origin.since pass.seen }
-    requires name { blank.name ≡ N.name }
-    requires parts { (blank.parts ≡ N.parts) × (blank.parts ≡ crew.workers) }
+    requires of { IsPassOf books.shared.now books.pass }
+    requires shares { staff.crew.workers < books.pass.share }
+    requires own { books.pass.own ≡ [] }
+    requires since { IsPrefix books.pass.origin.since books.pass.seen }
+    requires name { staff.blank.name ≡ N.name }
+    requires parts { (staff.blank.parts ≡ N.parts) × (staff.blank.parts ≡ staff.crew.workers) }
     requires start { N.start ≡ record {
       frame = L.frame door;
       told = L.told door;
-      connections = crew.connections;
+      connections = staff.crew.connections;
     } }
-    ensures serves { ServesOpened O.Sink crew.connections output.old output.new
+    ensures serves { ServesOpened O.Sink staff.crew.connections output.old output.new
         (seen_of (L.frame door) (L.told door))
-        (seen_of (L.frame result.2) (L.told result.2)) pass result.1 result.0 }
-    ensures same { IsSamePass pass result.1 }
+        (seen_of (L.frame result.2) (L.told result.2)) books.entry.pass result.1 result.0 }
+    ensures same { IsSamePass books.entry.pass result.1 }
     ensures output { Stays (O.frame output.old) (O.frame output.new) }
     ensures door { Stays (L.frame door) (L.frame result.2) }
 {
+    let SharedBooks {
+        shared,
+        table,
+        pass,
+    } = books;
     law_passes(&pass);
     let mut door = door;
     if door.open(port).is_err() {
@@ -143,6 +173,8 @@ fn open_and_serve<
     if write_all(output, b"ready\n").is_err() {
         return (Opened::Unheard, pass, door);
     }
+    let Means { rt, alloc, gate } = means;
+    let Staff { crew, blank } = staff;
     let (accepting, pass, door) = crew.serve(rt, alloc, shared, table, pass, door, blank, gate);
     (Opened::Ended(accepting), pass, door)
 }
@@ -157,15 +189,12 @@ fn serve_store<
     N: AtOpening + Send + Sync,
     G: Gate + Sync,
 >(
-    rt: &R,
-    alloc: Global,
-    store: Store<D>,
-    was: Snapshot<D>,
+    means: Means<'_, R, G>,
+    opening: JustOpen<D>,
     service: Service<'_>,
     blank: Blank,
     output: &mut O,
     door: L,
-    gate: &G,
 ) -> (Served, Option<D>, L)
     requires workers { (1 ≤ service.workers) × (service.workers ≤ MOST_WORKERS) }
     requires name { blank.name ≡ N.name }
@@ -175,13 +204,14 @@ fn serve_store<
       told = L.told door;
       connections = service.connections;
     } }
-    requires had { (image : List ℕ) → N.had image ↔ D.may_leave was.value image }
-    requires content { N.content ≡ D.content was.value }
-    requires moment { N.moment ≡ D.moment was.value }
-    requires network { N.network ≡ store.ledger.network }
+    requires had { (image : List ℕ) → N.had image ↔ D.may_leave opening.was.value image }
+    requires content { N.content ≡ D.content opening.was.value }
+    requires moment { N.moment ≡ D.moment opening.was.value }
+    requires network { N.network ≡ opening.store.ledger.network }
     requires opened { (since : List Entry)
-        × IsOpening D.Disk was.value store.ledger.network since store }
-    ensures serves { ServesByStore D.Disk O.Sink was.value result.1 store.ledger.network
+        × IsOpening D.Disk opening.was.value opening.store.ledger.network since opening.store }
+    ensures serves { ServesByStore D.Disk O.Sink opening.was.value result.1
+        opening.store.ledger.network
         service.entry.connections output.old output.new
         (seen_of (L.frame door) (L.told door))
         (seen_of (L.frame result.2) (L.told result.2)) result.0 }
@@ -191,27 +221,22 @@ fn serve_store<
     law_run::<D, Decided>();
     law_closed::<D, Decided>();
     // What the disk was is there for the clauses alone.
-    let _ = was;
-    let Ok((crew, table)) = begin::<R, L, N>(rt, alloc, store.book().topology(), service) else {
+    let JustOpen { store, was: _ } = opening;
+    let top = store.book().topology();
+    let Ok((crew, table)) = begin::<R, L, N>(means.rt, means.alloc, top, service) else {
         let (_, disk, _) = store.close();
         return (Served::Starved, Some(disk), door);
     };
-    let Ok((shared, pass)) = Shared::<D, JustOpened<N>>::new(alloc, store) else {
+    let Ok((shared, pass)) = Shared::<D, JustOpened<N>>::new(means.alloc, store) else {
         return (Served::Starved, None, door);
     };
-    let (opened, pass, door) = open_and_serve(
-        rt,
-        alloc,
-        crew,
-        blank,
-        &shared,
-        &table,
+    let books = SharedBooks {
+        shared: &shared,
+        table: &table,
         pass,
-        service.port,
-        output,
-        door,
-        gate,
-    );
+    };
+    let staff = Staff { crew, blank };
+    let (opened, pass, door) = open_and_serve(means, staff, books, service.port, output, door);
     let (closing, disk, book) = shared.close(pass).close();
     (served_of(opened, book, closing), Some(disk), door)
 }
@@ -267,14 +292,12 @@ fn open_store<D: Disk>(
 // Serves the connections of a door by the journal on a disk, which comes back but for want of
 // memory to share it.
 fn serve_on_disk<R: Threads + Wait + Sync, O: Sink, D: Disk + Send, L: Door + Send, G: Gate + Sync>(
-    rt: &R,
-    alloc: Global,
+    means: Means<'_, R, G>,
     topology: Topology,
     disk: D,
     service: Service<'_>,
     output: &mut O,
     door: L,
-    gate: &G,
 ) -> (Result<Served, StoreFault>, Option<D>, L)
     requires workers { (1 ≤ service.workers) × (service.workers ≤ MOST_WORKERS) }
     ensures serves { ServesByJournal D.Disk O.Sink disk result.1 topology service.entry.connections
@@ -285,13 +308,14 @@ fn serve_on_disk<R: Threads + Wait + Sync, O: Sink, D: Disk + Send, L: Door + Se
     ensures door { Stays (L.frame door) (L.frame result.2) }
 {
     let was = Snapshot::of(&disk);
-    let store = match open_store(alloc, topology, disk) {
+    let store = match open_store(means.alloc, topology, disk) {
         Ok(store) => store,
         Err(refused) => return (Err(refused.0), Some(refused.1), door),
     };
     let blank = Blank::new(u64::from(service.workers));
+    let opening = JustOpen { store, was };
     let (served, disk, door) = serve_store::<R, O, D, L, Brand, G>(
-        rt, alloc, store, was, service, blank, output, door, gate,
+        means, opening, service, blank, output, door,
     );
     (Ok(served), disk, door)
 }
@@ -299,14 +323,12 @@ fn serve_on_disk<R: Threads + Wait + Sync, O: Sink, D: Disk + Send, L: Door + Se
 // Serves the connections of a door by the journal that is named. Its disk is back in the cabinet
 // then, but for want of memory to share its store.
 fn serve_in_cabinet<R: Threads + Wait + Sync, O: Sink, C: Cabinet, L: Door + Send, G: Gate + Sync>(
-    rt: &R,
-    alloc: Global,
+    means: Means<'_, R, G>,
     topology: Topology,
     service: Service<'_>,
     output: &mut O,
     cabinet: &mut C,
     door: L,
-    gate: &G,
 ) -> (Result<Served, Fault>, L)
     requires none_out { (C.frame cabinet.old).out ≡ None }
     requires workers { (1 ≤ service.workers) × (service.workers ≤ MOST_WORKERS) }
@@ -323,10 +345,8 @@ fn serve_in_cabinet<R: Threads + Wait + Sync, O: Sink, C: Cabinet, L: Door + Sen
     let Ok(disk) = cabinet.disk(service.journal) else {
         return (Err(Fault::Cabinet), door);
     };
-    let (served, disk, door) = serve_on_disk(
-        rt, alloc, topology, disk, service, output, door, gate,
-    );
-    let served = as_fault(served);
+    let (served, disk, door) = serve_on_disk(means, topology, disk, service, output, door);
+    let served = served_or_fault(served);
     match disk {
         Some(disk) => {
             cabinet.back(disk);
@@ -337,8 +357,8 @@ fn serve_in_cabinet<R: Threads + Wait + Sync, O: Sink, C: Cabinet, L: Door + Sen
 }
 
 // Why no store was opened, as a fault of the program.
-fn as_fault(served: Result<Served, StoreFault>) -> Result<Served, Fault>
-    ensures { result ≡ as_fault served }
+fn served_or_fault(served: Result<Served, StoreFault>) -> Result<Served, Fault>
+    ensures { result ≡ served_or_fault served }
 {
     match served {
         Ok(served) => Ok(served),
@@ -357,14 +377,12 @@ pub fn serve<
     L: Door + Send,
     G: Gate + Sync,
 >(
-    rt: &R,
-    alloc: Global,
+    means: Means<'_, R, G>,
     costs: &P,
     service: Service<'_>,
     output: &mut O,
     cabinet: &mut C,
     door: L,
-    gate: &G,
 ) -> (u8, L)
     requires none_out { (C.frame cabinet.old).out ≡ None }
     requires workers { (1 ≤ service.workers) × (service.workers ≤ MOST_WORKERS) }
@@ -379,13 +397,11 @@ pub fn serve<
     ensures cabinet { Stays (object_of (C.frame cabinet.old)) (object_of (C.frame cabinet.new)) }
     ensures door { Stays (L.frame door) (L.frame result.1) }
 {
-    let topology = match read_topology(alloc, costs, service.topology, cabinet) {
+    let topology = match read_topology(means.alloc, costs, service.topology, cabinet) {
         Ok(topology) => topology,
         Err(why) => return (end(Err(why), output), door),
     };
-    let (served, door) = serve_in_cabinet(
-        rt, alloc, topology, service, output, cabinet, door, gate,
-    );
+    let (served, door) = serve_in_cabinet(means, topology, service, output, cabinet, door);
     match served {
         Ok(served) => (tell_served(served, output), door),
         Err(why) => (end(Err(why), output), door),

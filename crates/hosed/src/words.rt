@@ -1,11 +1,11 @@
 // The words of the program, and what they ask for.
-ghost use Rattle.std.specs.Prelude.{◌≡◌, ◌↔◌, ◌+◌, ◌<◌, ◌≤◌, ℕ, [], IfErr, IfNone, IfOk, IfSome, IsTrue, OnOk, decimal, get_or, length, map};
+ghost use Rattle.std.specs.Prelude.{◌≡◌, ◌↔◌, ◌+◌, ◌<◌, ◌≤◌, [], IfErr, IfNone, IfOk, IfSome, IsTrue, OnOk, decimal, get_or, length, map};
 ghost use Rattle.std.specs.String.{string_bytes};
 ghost use Rattle.hose_words.specs.Cursor.{Misses, Took};
 ghost use Rattle.hose_words.specs.Form.{Fits64, IsWithin, TellsNumber};
 ghost use Rattle.hose_words.specs.Grammar.{IsFirst};
-ghost use Rattle.hosed.specs.ProgramWords.{ArePriceable, AreServiceWords, AreWordsOf, AsksFor, AsksToServe, IsFileName, IsFirstNamed, IsFirstWrong, IsTariffName, at_word, tariff_option};
-ghost use Rattle.hosed.specs.Reading.{Chooses};
+ghost use Rattle.hosed.specs.ProgramWords.{ArePriceable, AreServiceWords, AsksFor, AsksToServe, IsFileName, IsFirstNamed, IsFirstWrong, IsTariffName, Verb, at_word, journal_task, tariff_option, topology_task};
+ghost use Rattle.hosed.specs.Reading.{Chooses, IsOfJournal, IsOfTopology, NamesJournal, NamesTopology, Reads};
 ghost use Rattle.hosed.specs.ProgramWords.Verb.{audit, check, follow, generate, price, prove, run, ship};
 
 use crate::end_words::ends_at;
@@ -21,55 +21,60 @@ pub const MOST_CONNECTIONS: u32 = 10_000;
 
 /// What the program is to do, where it waits for nobody. A tariff is chosen by its place.
 #[derive(Clone, Copy)]
-pub enum Command<'w> {
+pub enum Request<'w> {
     /// Answers lines, by a book in the journal that is named, or in memory.
     Run {
         tariff: Option<usize>,
         journal: Option<&'w str>,
     },
     /// Tells the book of a journal.
-    Audit {
-        tariff: Option<usize>,
-        topology: &'w str,
-        journal: &'w str,
-    },
+    Audit(OfJournal<'w>),
     /// Runs a script that is made of four numbers.
-    Generate {
-        seed: u64,
-        nodes: u32,
-        links: u32,
-        hoses: u32,
-    },
+    Generate(Sizes),
     /// Writes a certificate for the hose of these endpoints, of which the first is the word of this
     /// number.
     Prove {
-        tariff: Option<usize>,
-        topology: &'w str,
+        of: OfTopology<'w>,
         ends: &'w [String],
         first: u64,
     },
     /// Judges a certificate.
-    Check {
-        tariff: Option<usize>,
-        topology: &'w str,
-    },
+    Check(OfTopology<'w>),
     /// Prices a sheet of hoses under all tariffs.
     Price {
         topology: &'w str,
     },
     /// Writes the entries of a journal as packets, from the one of an epoch on.
     Ship {
-        tariff: Option<usize>,
-        topology: &'w str,
-        journal: &'w str,
+        of: OfJournal<'w>,
         from: u64,
     },
     /// Answers packets by a journal that follows the one that they come from.
-    Follow {
-        tariff: Option<usize>,
-        topology: &'w str,
-        journal: &'w str,
-    },
+    Follow(OfJournal<'w>),
+}
+
+/// The tariff that is chosen, and the name of the text of a topology.
+#[derive(Clone, Copy)]
+pub struct OfTopology<'w> {
+    pub tariff: Option<usize>,
+    pub topology: &'w str,
+}
+
+/// The tariff that is chosen, and the names of the text of a topology and of a journal.
+#[derive(Clone, Copy)]
+pub struct OfJournal<'w> {
+    pub tariff: Option<usize>,
+    pub topology: &'w str,
+    pub journal: &'w str,
+}
+
+/// What a network and a script are made of: a seed, and how many nodes, links and hoses there are.
+#[derive(Clone, Copy)]
+pub struct Sizes {
+    pub seed: u64,
+    pub nodes: u32,
+    pub links: u32,
+    pub hoses: u32,
 }
 
 /// A server: the callers of a door are answered by the book of a journal.
@@ -95,14 +100,11 @@ pub fn asks_to_serve(words: &[String]) -> bool
     begin_with(words, "serve")
 }
 
-/// The command of words that do not ask to serve, or the first of them that is not allowed, counted
+/// The request of words that do not ask to serve, or the first of them that is not allowed, counted
 /// from 1. A word that is missing counts as one that is not allowed.
-pub fn command_of<'w>(words: &'w [String], tariffs: &[Tariff]) -> Result<Command<'w>, u64>
+pub fn request_of<'w>(words: &'w [String], tariffs: &[Tariff]) -> Result<Request<'w>, u64>
     requires { ¬ AsksToServe (map string_bytes words.now) }
-    ensures ok { IfOk result (AreWordsOf (map (λ tariff. tariff.name) tariffs.now)
-        (map string_bytes words.now)) }
-    ensures wrong { IfErr result (IsFirstWrong (map (λ tariff. tariff.name) tariffs.now)
-        (map string_bytes words.now)) }
+    ensures { Reads (map (λ tariff. tariff.name) tariffs.now) (map string_bytes words.now) result }
 {
     if begin_with(words, "run") {
         run_of(words, tariffs)
@@ -137,55 +139,39 @@ fn begin_with(words: &[String], word: &str) -> bool
 }
 
 // The run that the words ask for: a tariff and the name of a journal may follow, and nothing else.
-fn run_of<'w>(words: &'w [String], tariffs: &[Tariff]) -> Result<Command<'w>, u64>
+fn run_of<'w>(words: &'w [String], tariffs: &[Tariff]) -> Result<Request<'w>, u64>
     requires { AsksFor run (map string_bytes words.now) }
-    ensures ok { IfOk result (AreWordsOf (map (λ tariff. tariff.name) tariffs.now)
-        (map string_bytes words.now)) }
-    ensures wrong { IfErr result (IsFirstWrong (map (λ tariff. tariff.name) tariffs.now)
-        (map string_bytes words.now)) }
+    ensures { Reads (map (λ tariff. tariff.name) tariffs.now) (map string_bytes words.now) result }
 {
     let (tariff, at) = tariff_at(words, tariffs)?;
     if (words.len() as u64) < at {
-        return Ok(Command::Run {
+        return Ok(Request::Run {
             tariff,
             journal: None,
         });
     }
     let journal = name_at(words, at)?;
     none_at(words, at + 1)?;
-    Ok(Command::Run {
+    Ok(Request::Run {
         tariff,
         journal: Some(journal),
     })
 }
 
-// The audit that the words ask for: a tariff may follow, the names of a topology and of a journal
-// have to, and nothing else.
-fn audit_of<'w>(words: &'w [String], tariffs: &[Tariff]) -> Result<Command<'w>, u64>
+// The audit that the words ask for: nothing follows the name of the journal.
+fn audit_of<'w>(words: &'w [String], tariffs: &[Tariff]) -> Result<Request<'w>, u64>
     requires { AsksFor audit (map string_bytes words.now) }
-    ensures ok { IfOk result (AreWordsOf (map (λ tariff. tariff.name) tariffs.now)
-        (map string_bytes words.now)) }
-    ensures wrong { IfErr result (IsFirstWrong (map (λ tariff. tariff.name) tariffs.now)
-        (map string_bytes words.now)) }
+    ensures { Reads (map (λ tariff. tariff.name) tariffs.now) (map string_bytes words.now) result }
 {
-    let (tariff, at) = tariff_at(words, tariffs)?;
-    let topology = name_at(words, at)?;
-    let journal = name_at(words, at + 1)?;
-    none_at(words, at + 2)?;
-    Ok(Command::Audit {
-        tariff,
-        topology,
-        journal,
-    })
+    let (of, at) = journal_at(words, tariffs)?;
+    none_at(words, at)?;
+    Ok(Request::Audit(of))
 }
 
 // The four numbers that the words tell, and nothing else.
-fn generate_of<'w>(words: &'w [String], tariffs: &[Tariff]) -> Result<Command<'w>, u64>
+fn generate_of<'w>(words: &'w [String], tariffs: &[Tariff]) -> Result<Request<'w>, u64>
     requires { AsksFor generate (map string_bytes words.now) }
-    ensures ok { IfOk result (AreWordsOf (map (λ tariff. tariff.name) tariffs.now)
-        (map string_bytes words.now)) }
-    ensures wrong { IfErr result (IsFirstWrong (map (λ tariff. tariff.name) tariffs.now)
-        (map string_bytes words.now)) }
+    ensures { Reads (map (λ tariff. tariff.name) tariffs.now) (map string_bytes words.now) result }
 {
     // No tariff stands among them.
     let _ = tariffs;
@@ -194,64 +180,51 @@ fn generate_of<'w>(words: &'w [String], tariffs: &[Tariff]) -> Result<Command<'w
     let links = number_at(words, 4, nodes - 1, MOST_LINKS)?;
     let hoses = number_at(words, 5, 0, MOST_HOSES)?;
     none_at(words, 6)?;
-    Ok(Command::Generate {
+    Ok(Request::Generate(Sizes {
         seed,
         nodes,
         links,
         hoses,
-    })
+    }))
 }
 
-// The certificate that the words ask for: a tariff may follow, the name of a topology and the
-// endpoints of a hose have to, and nothing else.
-fn prove_of<'w>(words: &'w [String], tariffs: &[Tariff]) -> Result<Command<'w>, u64>
+// The certificate that the words ask for: the endpoints of a hose follow the name of the topology,
+// and nothing else.
+fn prove_of<'w>(words: &'w [String], tariffs: &[Tariff]) -> Result<Request<'w>, u64>
     requires { AsksFor prove (map string_bytes words.now) }
-    ensures ok { IfOk result (AreWordsOf (map (λ tariff. tariff.name) tariffs.now)
-        (map string_bytes words.now)) }
-    ensures wrong { IfErr result (IsFirstWrong (map (λ tariff. tariff.name) tariffs.now)
-        (map string_bytes words.now)) }
+    ensures { Reads (map (λ tariff. tariff.name) tariffs.now) (map string_bytes words.now) result }
 {
-    let (tariff, at) = tariff_at(words, tariffs)?;
-    let topology = name_at(words, at)?;
-    let ends = ends_at(words, at + 1)?;
-    Ok(Command::Prove {
-        tariff,
-        topology,
+    let (of, at) = topology_at(words, tariffs)?;
+    let ends = ends_at(words, at)?;
+    Ok(Request::Prove {
+        of,
         ends,
-        first: at + 1,
+        first: at,
     })
 }
 
-// The judgement that the words ask for: a tariff may follow, the name of a topology has to, and
-// nothing else.
-fn check_of<'w>(words: &'w [String], tariffs: &[Tariff]) -> Result<Command<'w>, u64>
+// The judgement that the words ask for: nothing follows the name of the topology.
+fn check_of<'w>(words: &'w [String], tariffs: &[Tariff]) -> Result<Request<'w>, u64>
     requires { AsksFor check (map string_bytes words.now) }
-    ensures ok { IfOk result (AreWordsOf (map (λ tariff. tariff.name) tariffs.now)
-        (map string_bytes words.now)) }
-    ensures wrong { IfErr result (IsFirstWrong (map (λ tariff. tariff.name) tariffs.now)
-        (map string_bytes words.now)) }
+    ensures { Reads (map (λ tariff. tariff.name) tariffs.now) (map string_bytes words.now) result }
 {
-    let (tariff, at) = tariff_at(words, tariffs)?;
-    let topology = name_at(words, at)?;
-    none_at(words, at + 1)?;
-    Ok(Command::Check { tariff, topology })
+    let (of, at) = topology_at(words, tariffs)?;
+    none_at(words, at)?;
+    Ok(Request::Check(of))
 }
 
 // The sheet of prices that the words ask for, where there are tariffs to price under: the name of a
 // topology has to follow, and nothing else.
-fn price_of<'w>(words: &'w [String], tariffs: &[Tariff]) -> Result<Command<'w>, u64>
+fn price_of<'w>(words: &'w [String], tariffs: &[Tariff]) -> Result<Request<'w>, u64>
     requires { AsksFor price (map string_bytes words.now) }
-    ensures ok { IfOk result (AreWordsOf (map (λ tariff. tariff.name) tariffs.now)
-        (map string_bytes words.now)) }
-    ensures wrong { IfErr result (IsFirstWrong (map (λ tariff. tariff.name) tariffs.now)
-        (map string_bytes words.now)) }
+    ensures { Reads (map (λ tariff. tariff.name) tariffs.now) (map string_bytes words.now) result }
 {
     if !are_priceable(tariffs) {
         return Err(1);
     }
     let topology = name_at(words, 2)?;
     none_at(words, 3)?;
-    Ok(Command::Price { topology })
+    Ok(Request::Price { topology })
 }
 
 // Whether there are tariffs to price under, and no more than there may be.
@@ -261,46 +234,28 @@ fn are_priceable(tariffs: &[Tariff]) -> bool
     (1..=MOST_TARIFFS).contains(&tariffs.len())
 }
 
-// The shipping that the words ask for: a tariff may follow, the names of a topology and of a journal
-// and an epoch have to, and nothing else.
-fn ship_of<'w>(words: &'w [String], tariffs: &[Tariff]) -> Result<Command<'w>, u64>
+// The shipping that the words ask for: an epoch follows the name of the journal, and nothing else.
+fn ship_of<'w>(words: &'w [String], tariffs: &[Tariff]) -> Result<Request<'w>, u64>
     requires { AsksFor ship (map string_bytes words.now) }
-    ensures ok { IfOk result (AreWordsOf (map (λ tariff. tariff.name) tariffs.now)
-        (map string_bytes words.now)) }
-    ensures wrong { IfErr result (IsFirstWrong (map (λ tariff. tariff.name) tariffs.now)
-        (map string_bytes words.now)) }
+    ensures { Reads (map (λ tariff. tariff.name) tariffs.now) (map string_bytes words.now) result }
 {
-    let (tariff, at) = tariff_at(words, tariffs)?;
-    let topology = name_at(words, at)?;
-    let journal = name_at(words, at + 1)?;
-    let from = number_at(words, at + 2, 1, MOST_EPOCH as u32)?;
-    none_at(words, at + 3)?;
-    Ok(Command::Ship {
-        tariff,
-        topology,
-        journal,
+    let (of, at) = journal_at(words, tariffs)?;
+    let from = number_at(words, at, 1, MOST_EPOCH as u32)?;
+    none_at(words, at + 1)?;
+    Ok(Request::Ship {
+        of,
         from: u64::from(from),
     })
 }
 
-// The following that the words ask for: a tariff may follow, the names of a topology and of a
-// journal have to, and nothing else.
-fn follow_of<'w>(words: &'w [String], tariffs: &[Tariff]) -> Result<Command<'w>, u64>
+// The following that the words ask for: nothing follows the name of the journal.
+fn follow_of<'w>(words: &'w [String], tariffs: &[Tariff]) -> Result<Request<'w>, u64>
     requires { AsksFor follow (map string_bytes words.now) }
-    ensures ok { IfOk result (AreWordsOf (map (λ tariff. tariff.name) tariffs.now)
-        (map string_bytes words.now)) }
-    ensures wrong { IfErr result (IsFirstWrong (map (λ tariff. tariff.name) tariffs.now)
-        (map string_bytes words.now)) }
+    ensures { Reads (map (λ tariff. tariff.name) tariffs.now) (map string_bytes words.now) result }
 {
-    let (tariff, at) = tariff_at(words, tariffs)?;
-    let topology = name_at(words, at)?;
-    let journal = name_at(words, at + 1)?;
-    none_at(words, at + 2)?;
-    Ok(Command::Follow {
-        tariff,
-        topology,
-        journal,
-    })
+    let (of, at) = journal_at(words, tariffs)?;
+    none_at(words, at)?;
+    Ok(Request::Follow(of))
 }
 
 /// The server that the words ask for, or the first of them that is not allowed.
@@ -311,21 +266,58 @@ pub fn service_of<'w>(words: &'w [String], tariffs: &[Tariff]) -> Result<Service
     ensures wrong { IfErr result (IsFirstWrong (map (λ tariff. tariff.name) tariffs.now)
         (map string_bytes words.now)) }
 {
-    let (tariff, at) = tariff_at(words, tariffs)?;
-    let topology = name_at(words, at)?;
-    let journal = name_at(words, at + 1)?;
-    let port = number_at(words, at + 2, 1, u32::from(u16::MAX))?;
-    let connections = number_at(words, at + 3, 1, MOST_CONNECTIONS)?;
-    let workers = number_at(words, at + 4, 1, MOST_WORKERS)?;
-    none_at(words, at + 5)?;
+    let (of, at) = journal_at(words, tariffs)?;
+    let port = number_at(words, at, 1, u32::from(u16::MAX))?;
+    let connections = number_at(words, at + 1, 1, MOST_CONNECTIONS)?;
+    let workers = number_at(words, at + 2, 1, MOST_WORKERS)?;
+    none_at(words, at + 3)?;
     Ok(Service {
-        tariff,
-        topology,
-        journal,
+        tariff: of.tariff,
+        topology: of.topology,
+        journal: of.journal,
         port: port as u16,
         connections,
         workers,
     })
+}
+
+// The tariff that the words choose, the names of a topology and of a journal that have to follow,
+// and the number of the word after them.
+fn journal_at<'w>(words: &'w [String], tariffs: &[Tariff]) -> Result<(OfJournal<'w>, u64), u64>
+    ensures ok { IfOk result (λ found. NamesJournal (map (λ tariff. tariff.name) tariffs.now)
+        (map string_bytes words.now) (journal_task found.0) found.1) }
+    ensures at { IfOk result (λ found. (4 ≤ found.1) × (found.1 ≤ 6)) }
+    ensures wrong { IfErr result (λ wrong. (verb : Verb) → IsOfJournal verb
+        → AsksFor verb (map string_bytes words.now)
+        → IsFirstWrong (map (λ tariff. tariff.name) tariffs.now) (map string_bytes words.now)
+        wrong) }
+{
+    let (of, at) = topology_at(words, tariffs)?;
+    let journal = name_at(words, at)?;
+    Ok((
+        OfJournal {
+            tariff: of.tariff,
+            topology: of.topology,
+            journal,
+        },
+        at + 1,
+    ))
+}
+
+// The tariff that the words choose, the name of a topology that has to follow, and the number of
+// the word after it.
+fn topology_at<'w>(words: &'w [String], tariffs: &[Tariff]) -> Result<(OfTopology<'w>, u64), u64>
+    ensures ok { IfOk result (λ found. NamesTopology (map (λ tariff. tariff.name) tariffs.now)
+        (map string_bytes words.now) (topology_task found.0) found.1) }
+    ensures at { IfOk result (λ found. (3 ≤ found.1) × (found.1 ≤ 5)) }
+    ensures wrong { IfErr result (λ wrong. (verb : Verb) → IsOfTopology verb
+        → AsksFor verb (map string_bytes words.now)
+        → IsFirstWrong (map (λ tariff. tariff.name) tariffs.now) (map string_bytes words.now)
+        wrong) }
+{
+    let (tariff, at) = tariff_at(words, tariffs)?;
+    let topology = name_at(words, at)?;
+    Ok((OfTopology { tariff, topology }, at + 1))
 }
 
 // The tariff that the words after the first choose, and the number of the word from which on the

@@ -5,13 +5,12 @@ ghost use Rattle.hose_io.specs.Frame.{Stays};
 ghost use Rattle.hose_disk.specs.Cabinet.{object_of};
 ghost use Rattle.hose_offline.specs.Ending.{IsOut};
 ghost use Rattle.hose_offline.specs.Fault.{last_line};
-ghost use Rattle.hose_offline.specs.PriceOutcome.{IsSheetBy};
-ghost use Rattle.hosed.specs.Hosed.{HosedOutcome};
-ghost use Rattle.hosed.specs.ProgramWords.{AsksToServe, costs_at};
+ghost use Rattle.hosed.specs.Hosed.{HosedOutcome, with_door};
+ghost use Rattle.hosed.specs.Offline.{offer_of, tellings};
+ghost use Rattle.hosed.specs.ProgramWords.{AsksToServe};
 ghost use Rattle.hosed.specs.ServingDoor.{seen_of};
 ghost use Rattle.hose_offline.specs.declared.fault.Fault.TheVariants as fault;
-ghost use Rattle.hosed_program.specs.Asked.{asked_of};
-ghost use Rattle.hosed_program.specs.Told.{IsTold};
+ghost use Rattle.hosed_program.specs.Asked.{IsTold, asked_of};
 
 use crate::texts::{HELP, VERSION};
 use hose_disk::Cabinet;
@@ -60,15 +59,12 @@ pub fn program<
 
     // All else is as the server's one call says.
     ensures service { asked_of (map string_bytes words.now) ≡ Asked.Service
-        → HosedOutcome I.Source O.Sink C.Cabinet C.Disk.Disk
-        (map (λ tariff. tariff.name) tariffs.now)
-        (λ tariff. costs_at ⟦<Tariff as Prices>⟧.prices tariffs.now tariff)
-        (IsSheetBy ⟦<Tariff as Prices>⟧.prices (λ tariff. tariff.base) (λ tariff. tariff.per)
-        tariffs.now)
-        (map string_bytes words.now) input.old input.new output.old output.new
-        cabinet.old cabinet.new
-        (seen_of (L.frame door.old) (L.told door.old))
-        (seen_of (L.frame door.new) (L.told door.new)) result }
+        → HosedOutcome (tellings I.Source O.Sink C.Cabinet C.Disk.Disk)
+        (offer_of ⟦<Tariff as Prices>⟧.prices (λ tariff. tariff.name) (λ tariff. tariff.base)
+        (λ tariff. tariff.per) tariffs.now)
+        (with_door input.old output.old cabinet.old (seen_of (L.frame door.old) (L.told door.old)))
+        (with_door input.new output.new cabinet.new (seen_of (L.frame door.new) (L.told door.new)))
+        result (map string_bytes words.now) }
 
     // The disk of a journal is not put back where there was no memory to share it.
     ensures back { ((C.frame cabinet.new).out ≡ None)

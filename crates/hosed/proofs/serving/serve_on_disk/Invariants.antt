@@ -14,8 +14,8 @@ ghosts-serve_store-N-Ledger g a = record { name = a.blank.name; parts = a.blank.
 
 abbrev pub ghosts-serve_store-N-AtOpening : goal.ghosts-serve_store-N-AtOpening
 ghosts-serve_store-N-AtOpening g a = record {
-  had = g.D.Disk.may_leave a.was.value;
-  content = g.D.Disk.content a.was.value;
-  moment = g.D.Disk.moment a.was.value;
-  network = a.store.ledger.network;
+  had = g.D.Disk.may_leave a.opening.was.value;
+  content = g.D.Disk.content a.opening.was.value;
+  moment = g.D.Disk.moment a.opening.was.value;
+  network = a.opening.store.ledger.network;
 }

@@ -8,21 +8,21 @@ use Rattle.hosed.proofs.serving.serve_store.Goals as goal
 pub returns-in_default-clause-serves : goal.returns-in_default-clause-serves
 returns-in_default-clause-serves g c =
     let asked = c.requires.opened in
-    let network = c.args.store.ledger.network in
-    let was = c.args.was.value in
+    let network = c.args.opening.store.ledger.network in
+    let was = c.args.opening.was.value in
     let left = c.close-disk.result.1 in
     let closing = c.close-disk.result.0 in (
       closed_at_once g.D.Disk was left network closing
           (λ since history store stands closes. c.law_closed.ensures (opening_of g.D.Disk network since was) was left history store closing stands closes)
-          asked.0 c.args.store asked.1 c.close-disk.ensures.closes c.close-disk.ensures.call,
+          asked.0 c.args.opening.store asked.1 c.close-disk.ensures.closes c.close-disk.ensures.call,
       refl,
       refl,
     )
 
 pub returns-clause-serves : goal.returns-clause-serves
 returns-clause-serves g c =
-    let network = c.args.store.ledger.network in
-    let was = c.args.was.value in
+    let network = c.args.opening.store.ledger.network in
+    let was = c.args.opening.was.value in
     let left = c.close-closing.result.1 in
     let closing = c.close-closing.result.0 in
     let made = c.in-Ok-new.ensures in
@@ -38,7 +38,7 @@ new-requires g c =
     let asked = c.requires in
     let opening = asked.opened in (
       opening.0,
-      opens_at g.D.Disk c.args.was.value _ _ _ _ c.args.store.ledger.network asked.had asked.content asked.moment asked.network opening.0 c.args.store opening.1,
+      opens_at g.D.Disk c.args.opening.was.value _ _ _ _ c.args.opening.store.ledger.network asked.had asked.content asked.moment asked.network opening.0 c.args.opening.store opening.1,
       opening.1.stands.has.book,
       opening.1.stands.has.tracks,
     )

@@ -1,38 +1,20 @@
-use Rattle.std.proofs.Common.{◌≡◌, ◌+◌, ◌≤◌, Err, arith, length, map, rules}
+use Rattle.std.proofs.Common.{◌≡◌, ◌≤◌, Err, arith, length, map, rules}
 use Rattle.std.proofs.lemmas.List.{length-map}
 use Rattle.std.specs.String.{string_bytes}
 use Rattle.hose_words.specs.Form.{finish}
-use Rattle.hose_words.proofs.Forms.{wrong_later, wrong_place}
-use Rattle.hosed.specs.ProgramWords.{named_form}
 use Rattle.hosed.specs.ProgramWords.Verb.{audit}
-use Rattle.hosed.proofs.Commands.{chosen_wrong, no_tariff, one_too_many, took_to, verb_wrong}
+use Rattle.hosed.proofs.Commands.{journal_then, of_journal, one_too_many}
 use Rattle.hosed.proofs.words.audit_of.Goals as goal
 
-pub returns-in_err-journal-clause-wrong : goal.returns-in_err-journal-clause-wrong
-returns-in_err-journal-clause-wrong g c =
-    let words = map string_bytes c.args.words.now in
-    let is : c.from_residual-in_err-journal.result ≡ Err c.in_err-journal.field-0.0 = search rules in
-    rw is (verb_wrong _ audit words _ tt c.requires (chosen_wrong _ (named_form finish) words c.in_ok-tariff.tariff c.in_ok-tariff.at _ c.in_ok-tariff.ensures.ok
-    (wrong_later c.in_ok-topology.ensures.ok c.in_ok-topology.ensures.named (wrong_place c.in_err-journal.ensures.wrong))))
+pub returns-in_err-of : goal.returns-in_err-of
+returns-in_err-of g c =
+    let is : c.from_residual.result ≡ Err c.in_err-of.field-0.0 = search rules in
+    rw is (c.in_err-of.ensures.wrong audit tt c.requires)
 
-pub returns-in_err-none_at-clause-wrong : goal.returns-in_err-none_at-clause-wrong
-returns-in_err-none_at-clause-wrong g c =
+pub returns-in_err-none_at : goal.returns-in_err-none_at
+returns-in_err-none_at g c =
     let words = map string_bytes c.args.words.now in
     let is : c.from_residual-in_err-none_at.result ≡ Err c.in_err-none_at.field-0.0 = search rules in
     let wrong = c.in_err-none_at.ensures.wrong in
-    let more : c.in_ok-tariff.at + 2 ≤ length words = omega (arith, wrong.1, length-map c.args.words.now string_bytes) in
-    rw (is, wrong.0) (verb_wrong _ audit words _ tt c.requires (chosen_wrong _ (named_form finish) words c.in_ok-tariff.tariff c.in_ok-tariff.at _ c.in_ok-tariff.ensures.ok
-    (wrong_later c.in_ok-topology.ensures.ok c.in_ok-topology.ensures.named (wrong_later (took_to words (c.in_ok-tariff.at + 1 + 1) (c.in_ok-tariff.at + 2) (omega arith) c.in_ok-journal.ensures.ok) c.in_ok-journal.ensures.named (one_too_many words (c.in_ok-tariff.at + 2) (omega arith) more)))))
-
-pub returns-in_err-tariff-clause-wrong : goal.returns-in_err-tariff-clause-wrong
-returns-in_err-tariff-clause-wrong g c =
-    let words = map string_bytes c.args.words.now in
-    let is : c.from_residual.result ≡ Err c.in_err-tariff.field-0.0 = search rules in
-    let wrong = c.in_err-tariff.ensures.wrong in
-    rw is (verb_wrong _ audit words _ tt c.requires (no_tariff _ (named_form (named_form finish)) (named_form finish) words _ wrong.1 wrong.2))
-
-pub returns-in_err-topology-clause-wrong : goal.returns-in_err-topology-clause-wrong
-returns-in_err-topology-clause-wrong g c =
-    let words = map string_bytes c.args.words.now in
-    let is : c.from_residual-in_err-topology.result ≡ Err c.in_err-topology.field-0.0 = search rules in
-    rw is (verb_wrong _ audit words _ tt c.requires (chosen_wrong _ (named_form finish) words c.in_ok-tariff.tariff c.in_ok-tariff.at _ c.in_ok-tariff.ensures.ok (wrong_place c.in_err-topology.ensures.wrong)))
+    let more : c.in_ok-of.at ≤ length words = omega (arith, wrong.1, length-map c.args.words.now string_bytes) in
+    rw (is, wrong.0) (of_journal _ words _ audit tt c.requires (journal_then _ words _ c.in_ok-of.at _ finish c.in_ok-of.ensures.ok (one_too_many words c.in_ok-of.at (omega (arith, c.in_ok-of.ensures.at)) more)))

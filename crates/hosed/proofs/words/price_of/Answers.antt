@@ -6,17 +6,17 @@ use Rattle.hosed.specs.ProgramWords.Verb.{price}
 use Rattle.hosed.proofs.Commands.{not_offered, one_too_many, verb_wrong}
 use Rattle.hosed.proofs.words.price_of.Goals as goal
 
-pub returns-then-not-are_priceable-clause-wrong : goal.returns-then-not-are_priceable-clause-wrong
-returns-then-not-are_priceable-clause-wrong g c = not_offered _ (map string_bytes c.args.words.now) c.requires (search rules)
+pub returns-then-not-are_priceable : goal.returns-then-not-are_priceable
+returns-then-not-are_priceable g c = not_offered _ (map string_bytes c.args.words.now) c.requires (search rules)
 
-pub returns-in_err-topology-clause-wrong : goal.returns-in_err-topology-clause-wrong
-returns-in_err-topology-clause-wrong g c =
+pub returns-in_err-topology : goal.returns-in_err-topology
+returns-in_err-topology g c =
     let words = map string_bytes c.args.words.now in
     let is : c.from_residual.result ≡ Err c.in_err-topology.field-0.0 = search rules in
     rw is (verb_wrong _ price words _ (search rules) c.requires (wrong_place c.in_err-topology.ensures.wrong))
 
-pub returns-in_err-none_at-clause-wrong : goal.returns-in_err-none_at-clause-wrong
-returns-in_err-none_at-clause-wrong g c =
+pub returns-in_err-none_at : goal.returns-in_err-none_at
+returns-in_err-none_at g c =
     let words = map string_bytes c.args.words.now in
     let is : c.from_residual-in_err-none_at.result ≡ Err c.in_err-none_at.field-0.0 = search rules in
     let wrong = c.in_err-none_at.ensures.wrong in
