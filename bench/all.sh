@@ -14,8 +14,8 @@ if [ "${1-}" = -l ]; then
     logs=$2
     shift 2
 fi
-all=(admits book codec commands decisions journal json long_lines orders puts quotes serve store takes
-    topology)
+all=(admits book codec commands decisions journal json long_lines orders puts quotes serve standby
+    store takes topology)
 scripts=("$@")
 if (($# == 0)); then scripts=("${all[@]/%/.sh}"); fi
 mkdir -p "$logs"

@@ -6,7 +6,7 @@
 # sha256sum of its text: the least of some runs. An audit of 64 endpoints is to take less than a
 # second. A sync may take many times as long at one moment as at another, so the orders and the loop
 # go by short turns, and their figures are those of all turns.
-# usage: bench/orders.sh [FOLDER]     FOLDER: on a real disk; else the current one
+# usage: bench/orders.sh [FOLDER [PROGRAM]]     FOLDER: on a real disk; else the current one
 . "$(dirname "$0")/place.sh"
 
 python3 - "$program" "$place" <<'END'

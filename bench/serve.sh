@@ -12,7 +12,7 @@
 # The customers are processes in Python on the same machine, so these are figures of both together:
 # the greatest of the runs, which are made by turns, and the least and greatest ratio. Ends with
 # status 1 where a reply is not as wanted.
-# usage: bench/serve.sh [FOLDER]     FOLDER: on a real disk; else the current one
+# usage: bench/serve.sh [FOLDER [PROGRAM]]     FOLDER: on a real disk; else the current one
 . "$(dirname "$0")/place.sh"
 
 PYTHONPATH=tools python3 - "$program" "$place" <<'END'

@@ -1,20 +1,22 @@
 #!/usr/bin/env bash
 # How long a run without a command takes to open a journal of 20,000 live VPNs of 3 and of 64
-# endpoints as a store, and a program in Python to read and digest the same bytes; and how many
-# times as long the second takes as the first. What a run without a journal, and the program without
-# a file, take is taken off. Before that, an audit is to find all VPNs of the journal and what they
-# cost.
-# usage: bench/store.sh [PROGRAM]
+# endpoints as a store, and two programs to read and digest the same bytes, in seconds of a
+# processor; and how many times as long each of these takes as the first. One is in Python, whose
+# SHA-256 is by instructions of the processor's own where it has them; the other, DIGESTS, has the
+# SHA-256 of the opening itself. What a run without a journal, and the programs without a file, take
+# is taken off. Before that, an audit is to find all VPNs of the journal and what they cost.
+# usage: bench/store.sh [PROGRAM] [DIGESTS]     DIGESTS: else it is built
 . "$(dirname "$0")/setup.sh"
+digests=${2:-$(bench/figures/build.sh digests)}
 
-python3 - "$program" "$work" <<'END'
+python3 - "$program" "$work" "$digests" <<'END'
 import hashlib
+import resource
 import subprocess
 import sys
-import time
 
-PROGRAM, PLACE = sys.argv[1:]
-VPNS, RUNS = 20_000, 5
+PROGRAM, PLACE, DIGESTS = sys.argv[1:]
+VPNS, RUNS = 20_000, 15
 JOURNAL, TOPOLOGY = f"{PLACE}/journal", f"{PLACE}/topology"
 DIGEST = "import hashlib, sys\nfor path in sys.argv[1:]: hashlib.sha256(open(path, 'rb').read()).digest()"
 
@@ -37,14 +39,18 @@ def journal(ends):
     return b"".join(records) + b"\0"
 
 
-def least_seconds(words, text):
-    """The least seconds of some runs on this input."""
-    seconds = []
+def least_seconds(runs):
+    """The least seconds of a processor of each of these, words and an input, run by turns."""
+    least = [float("inf")] * len(runs)
     for _ in range(RUNS):
-        start = time.perf_counter()
-        subprocess.run(words, input=text, check=True, capture_output=True, text=True)
-        seconds.append(time.perf_counter() - start)
-    return min(seconds)
+        for place, (words, path) in enumerate(runs):
+            before = resource.getrusage(resource.RUSAGE_CHILDREN)
+            with open(path, "rb") as file:
+                subprocess.run(words, stdin=file, check=True, capture_output=True)
+            after = resource.getrusage(resource.RUSAGE_CHILDREN)
+            seconds = after.ru_utime - before.ru_utime + after.ru_stime - before.ru_stime
+            least[place] = min(least[place], seconds)
+    return least
 
 
 def audited():
@@ -61,10 +67,17 @@ for ends in (3, 64):
     wanted = f"link 0 n0 h capacity 1000000000 cost 1 load {VPNS}"
     assert told[:2] == [f"epoch {VPNS}", wanted], told[:2]
     assert told[-2] == f"live {VPNS} cost {VPNS * ends}", told[-2]
-    python = [sys.executable, "-c", DIGEST]
-    opened = least_seconds([PROGRAM, "run", JOURNAL], star(ends))
-    opened -= least_seconds([PROGRAM, "run"], star(ends))
-    read = least_seconds([*python, JOURNAL], "") - least_seconds(python, "")
-    print(f"store: {VPNS} VPNs of {ends} endpoints opened in {opened:.3f} s, {size} bytes")
-    print(f"reference: {read:.3f} s to read and digest them, ratio {read / opened:.2f}")
+    python, library = [sys.executable, "-c", DIGEST], [DIGESTS, "input"]
+    opening, empty, reading, started, same, nothing = least_seconds([
+        ([PROGRAM, "run", JOURNAL], TOPOLOGY),
+        ([PROGRAM, "run"], TOPOLOGY),
+        ([*python, JOURNAL], "/dev/null"),
+        (python, "/dev/null"),
+        (library, JOURNAL),
+        (library, "/dev/null"),
+    ])
+    opened, read, same = opening - empty, reading - started, same - nothing
+    print(f"store: {VPNS} VPNs of {ends} endpoints opened in {opened:.4f} s, {size} bytes")
+    print(f"reference: {read:.4f} s to read and digest them, ratio {read / opened:.2f}")
+    print(f"reference: {same:.4f} s by the same SHA-256, ratio {same / opened:.2f}")
 END

@@ -2,7 +2,7 @@
 # Builds a program whose figures no part of the gate takes, and prints where it lies. Its sources
 # stand in bench/figures/NAME under names with `.txt` behind them, since the gate takes none of
 # Rattle outside of crates/; they are built as the crate figures_NAME in a copy of this repository.
-# usage: bench/figures/build.sh NAME     NAME: codec, quotes or takes
+# usage: bench/figures/build.sh NAME     NAME: codec, digests, quotes or takes
 set -euo pipefail
 export LC_ALL=C
 cd "$(dirname "${BASH_SOURCE[0]}")/../.."
