@@ -75,9 +75,9 @@ struct Hearing<'a> {
 }
 
 impl Sink for Hearing<'_> {
-    ghost use Rattle.hose_io.specs.SinkState.{frame_of};
+    ghost use Rattle.hose_io.specs.SinkState.{mem_sink_frame};
 
-    ghost frame = { λ s. frame_of s.stored };
+    ghost frame = { λ s. mem_sink_frame s.stored };
 
     ghost content = { λ _. None };
 

@@ -8,7 +8,7 @@ ghost use Rattle.hose_tariff.specs.Fact.{IsPrice};
 
 use crate::case::{Case, Connection, Stream};
 use crate::streams::{LongSource, NarrowSink};
-use hose_disk::{Cabinet, Disk, MemCabinet, MemDisk};
+use hose_disk::{Cabinet, Disk, DiskCall, MemCabinet, MemDisk};
 use hose_io::{MemDoor, MemSink, MemSource};
 use hose_pool::Gate;
 use hose_tariff::Tariff;
@@ -54,10 +54,6 @@ pub fn run_program<R: Threads + Wait + Sync, G: Gate + Sync>(
     journal: &[u8],
     gate: &G,
 ) -> Result<Outcome, AllocError> {
-    let mut input = source_of(alloc, case, input)?;
-    let mut output = sink_of(alloc, &case.output, 0)?;
-    let mut cabinet = cabinet_of(alloc, case, journal)?;
-    let mut door = door_of(alloc, case)?;
     let by_flat = Box::new(
         alloc,
         |length: u64| -> u64
@@ -80,36 +76,80 @@ pub fn run_program<R: Threads + Wait + Sync, G: Gate + Sync>(
         { long(length) },
     )?;
     let tariffs = tariffs(alloc, by_flat, by_hops, by_long)?;
+    run_by(rt, alloc, case, input, journal, &tariffs, gate)
+}
+
+fn run_by<R: Threads + Wait + Sync, G: Gate + Sync>(
+    rt: &R,
+    alloc: Global,
+    case: &Case,
+    input: &[u8],
+    journal: &[u8],
+    tariffs: &[Tariff],
+    gate: &G,
+) -> Result<Outcome, AllocError> {
+    let mut world = world_of(alloc, case, input, journal)?;
+    run_in(rt, alloc, case, &mut world, tariffs, gate)
+}
+
+// What the program is handed of a case.
+#[derive(Drop)]
+struct World {
+    input: LongSource,
+    output: NarrowSink,
+    cabinet: MemCabinet,
+    door: MemDoor,
+}
+
+fn world_of(alloc: Global, case: &Case, input: &[u8], journal: &[u8]) -> Result<World, AllocError>
+    ensures { IfOk result (λ world. (cabinet_frame world.cabinet).out ≡ None) }
+{
+    let input = source_of(alloc, case, input)?;
+    let output = sink_of(alloc, &case.output, 0)?;
+    let cabinet = cabinet_of(alloc, case, journal)?;
+    let door = door_of(alloc, case)?;
+    Ok(World {
+        input,
+        output,
+        cabinet,
+        door,
+    })
+}
+
+fn run_in<R: Threads + Wait + Sync, G: Gate + Sync>(
+    rt: &R,
+    alloc: Global,
+    case: &Case,
+    world: &mut World,
+    tariffs: &[Tariff],
+    gate: &G,
+) -> Result<Outcome, AllocError>
+    requires { (cabinet_frame world.old.cabinet).out ≡ None }
+{
     let status = call(
         rt,
         alloc,
-        case,
-        &mut input,
-        &mut output,
-        &mut cabinet,
-        &mut door,
-        &tariffs,
+        &case.words,
+        &mut world.input,
+        &mut world.output,
+        &mut world.cabinet,
+        &mut world.door,
+        tariffs,
         gate,
     );
     let disk = if status == NO_MEMORY {
         None
     } else {
-        taken_out(&mut cabinet)
+        taken_out(&mut world.cabinet)
     };
-    Ok(Outcome {
-        status: u64::from(status),
-        output: Vec::from_slice(alloc, output.bytes())?,
-        taken: input.taken(),
-        disk,
-        given: given_of(alloc, &door, case.connections.len())?,
-    })
+    outcome_of(alloc, world, status, disk, case.connections.len())
 }
 
 // The program's call, whose contract is met here alone.
 fn call<R: Threads + Wait + Sync, G: Gate + Sync>(
     rt: &R,
     alloc: Global,
-    case: &Case,
+    words: &[String],
     input: &mut LongSource,
     output: &mut NarrowSink,
     cabinet: &mut MemCabinet,
@@ -121,16 +161,26 @@ fn call<R: Threads + Wait + Sync, G: Gate + Sync>(
     ensures { result ≢ 7 → (cabinet_frame cabinet.new).out ≡ None }
 {
     program(
-        rt,
-        alloc,
-        &case.words,
-        input,
-        output,
-        cabinet,
-        door,
-        tariffs,
-        gate,
+        rt, alloc, words, input, output, cabinet, door, tariffs, gate,
     )
+}
+
+fn outcome_of(
+    alloc: Global,
+    world: &World,
+    status: u8,
+    disk: Option<MemDisk>,
+    connections: usize,
+) -> Result<Outcome, AllocError> {
+    let output = Vec::from_slice(alloc, world.output.bytes())?;
+    let given = given_of(alloc, &world.door, connections)?;
+    Ok(Outcome {
+        status: u64::from(status),
+        output,
+        taken: world.input.taken(),
+        disk,
+        given,
+    })
 }
 
 // The journal's disk, as it was put back.
@@ -153,28 +203,43 @@ pub fn held(alloc: Global, disk: &mut MemDisk) -> Result<Vec<u8>, AllocError> {
 /// A source of this input, as the case says.
 pub fn source_of(alloc: Global, case: &Case, input: &[u8]) -> Result<LongSource, AllocError> {
     let piece = case.input.piece;
+    let again = again_of(alloc, case, input)?;
     let mut source = MemSource::new(alloc, input, piece.bytes)?;
-    for nth in &case.input.failing {
+    fail_takes(alloc, &mut source, &case.input.failing)?;
+    Ok(LongSource::new(source, piece, again, case.more))
+}
+
+fn fail_takes(alloc: Global, source: &mut MemSource, calls: &[u64]) -> Result<(), AllocError> {
+    for nth in calls {
         source.fail(alloc, *nth)?;
     }
-    let again = if case.repeats {
-        Vec::from_slice(alloc, input)?
-    } else if case.more > 0 {
-        Vec::from_elem(alloc, b'x', FILLING)?
-    } else {
-        Vec::new(alloc)
-    };
-    Ok(LongSource::new(source, piece, again, case.more))
+    Ok(())
+}
+
+// What comes again and again after the input.
+fn again_of(alloc: Global, case: &Case, input: &[u8]) -> Result<Vec<u8>, AllocError> {
+    if case.repeats {
+        return Vec::from_slice(alloc, input);
+    }
+    if case.more > 0 {
+        return Vec::from_elem(alloc, b'x', FILLING);
+    }
+    Ok(Vec::new(alloc))
 }
 
 /// A sink as the case says, of which one more call fails where its number is not 0.
 pub fn sink_of(alloc: Global, stream: &Stream, cut: u64) -> Result<NarrowSink, AllocError> {
     let mut sink = MemSink::new(alloc)?;
-    for nth in &stream.failing {
-        sink.fail(alloc, *nth)?;
-    }
+    fail_puts(alloc, &mut sink, &stream.failing)?;
     sink.fail(alloc, cut)?;
     Ok(NarrowSink::new(sink, stream.piece))
+}
+
+fn fail_puts(alloc: Global, sink: &mut MemSink, calls: &[u64]) -> Result<(), AllocError> {
+    for nth in calls {
+        sink.fail(alloc, *nth)?;
+    }
+    Ok(())
 }
 
 // A cabinet with the journal, and the text if there is one.
@@ -203,10 +268,19 @@ pub fn disk_of(alloc: Global, case: &Case, journal: &[u8]) -> Result<MemDisk, Al
         let _ = disk.write_at(0, journal);
         let _ = disk.sync();
     }
-    for (kind, nth) in &case.journal.failing {
+    fail_disk(alloc, &mut disk, &case.journal.failing)?;
+    Ok(disk)
+}
+
+fn fail_disk(
+    alloc: Global,
+    disk: &mut MemDisk,
+    calls: &[(DiskCall, u64)],
+) -> Result<(), AllocError> {
+    for (kind, nth) in calls {
         disk.fail(alloc, *kind, *nth)?;
     }
-    Ok(disk)
+    Ok(())
 }
 
 // What the connections of a case give, in the order in which they are accepted.
@@ -234,14 +308,28 @@ fn door_of(alloc: Global, case: &Case) -> Result<MemDoor, AllocError> {
     let mut peers = Peers {
         sources: Vec::new(alloc),
     };
-    for connection in &case.connections {
+    add_peers(alloc, &mut peers, &case.connections)?;
+    let mut door = peers.into_door(alloc)?;
+    fail_door(alloc, &mut door, &case.door_failing)?;
+    Ok(door)
+}
+
+fn add_peers(
+    alloc: Global,
+    peers: &mut Peers,
+    connections: &[Connection],
+) -> Result<(), AllocError> {
+    for connection in connections {
         peers.add(alloc, connection)?;
     }
-    let mut door = peers.into_door(alloc)?;
-    for nth in &case.door_failing {
+    Ok(())
+}
+
+fn fail_door(alloc: Global, door: &mut MemDoor, calls: &[u64]) -> Result<(), AllocError> {
+    for nth in calls {
         door.fail(alloc, *nth)?;
     }
-    Ok(door)
+    Ok(())
 }
 
 // What each of so many connections was given, in their order: nothing where it did not end.

@@ -4,6 +4,7 @@ ghost use Rattle.hose_shared.specs.Sharing.{IsPassOf, IsSamePass};
 
 use crate::case::{Case, Connection};
 use crate::run::{Outcome, disk_of, sink_of, source_of};
+use crate::streams::{LongSource, NarrowSink};
 use crate::trouble::Trouble;
 use hose_disk::MemDisk;
 use hose_io::{MemSink, MemSource, Sink, Source};
@@ -30,14 +31,26 @@ pub fn run_session<W: Wait>(
 ) -> Result<Outcome, Trouble> {
     let mut input = source_of(alloc, case, &case.input.bytes)?;
     let mut output = sink_of(alloc, &case.output, cut)?;
+    serve_case(rt, alloc, case, &mut input, &mut output)
+}
+
+fn serve_case<W: Wait>(
+    rt: &W,
+    alloc: Global,
+    case: &Case,
+    input: &mut LongSource,
+    output: &mut NarrowSink,
+) -> Result<Outcome, Trouble> {
+    let mut given = Vec::new(alloc);
     let (book, pass) = share(alloc, case)?;
-    let (given, pass) = serve_before(rt, alloc, &case.connections, &book, pass)?;
-    let (end, pass) = serve(rt, alloc, &mut input, &mut output, &book, pass);
+    let pass = serve_before(rt, alloc, &case.connections, &book, pass, &mut given)?;
+    let (end, pass) = serve(rt, alloc, input, output, &book, pass);
+    let disk = close(book, pass)?;
     Ok(Outcome {
         status: status_of(end),
         output: Vec::from_slice(alloc, output.bytes())?,
         taken: input.taken(),
-        disk: Some(close(book, pass)?),
+        disk: Some(disk),
         given,
     })
 }
@@ -81,26 +94,41 @@ pub fn close(book: Book, pass: Pass) -> Result<MemDisk, Trouble>
     Ok(disk)
 }
 
-// What the first of these is given.
+// Serves the first of these, and adds what it is given.
 fn serve_before<W: Wait>(
     rt: &W,
     alloc: Global,
     connections: &[Connection],
     book: &Book,
     pass: Pass,
-) -> Result<(Vec<Vec<u8>>, Pass), Trouble>
+    given: &mut Vec<Vec<u8>>,
+) -> Result<Pass, Trouble>
     requires { IsPassOf book.now pass }
-    ensures { IfOk result (λ served. IsSamePass pass served.1) }
+    ensures { IfOk result (IsSamePass pass) }
 {
-    let mut given = Vec::new(alloc);
     let Some(connection) = connections.first() else {
-        return Ok((given, pass));
+        return Ok(pass);
     };
     let mut input = MemSource::new(alloc, &connection.bytes, 4_096)?;
     let mut output = MemSink::new(alloc)?;
-    let (_, pass) = serve(rt, alloc, &mut input, &mut output, book, pass);
+    serve_peer(rt, alloc, &mut input, &mut output, book, pass, given)
+}
+
+fn serve_peer<W: Wait>(
+    rt: &W,
+    alloc: Global,
+    input: &mut MemSource,
+    output: &mut MemSink,
+    book: &Book,
+    pass: Pass,
+    given: &mut Vec<Vec<u8>>,
+) -> Result<Pass, Trouble>
+    requires { IsPassOf book.now pass }
+    ensures { IfOk result (IsSamePass pass) }
+{
+    let (_, pass) = serve(rt, alloc, input, output, book, pass);
     given.push(Vec::from_slice(alloc, output.bytes())?)?;
-    Ok((given, pass))
+    Ok(pass)
 }
 
 /// Serves a session.

@@ -35,9 +35,9 @@ impl LongSource {
 }
 
 impl Source for LongSource {
-    ghost use Rattle.hose_io.specs.SourceState.{frame_of};
+    ghost use Rattle.hose_io.specs.SourceState.{mem_source_frame};
 
-    ghost frame = { λ s. frame_of s.stored };
+    ghost frame = { λ s. mem_source_frame s.stored };
 
     ghost content = { λ _. None };
 
@@ -87,9 +87,9 @@ impl NarrowSink {
 }
 
 impl Sink for NarrowSink {
-    ghost use Rattle.hose_io.specs.SinkState.{frame_of};
+    ghost use Rattle.hose_io.specs.SinkState.{mem_sink_frame};
 
-    ghost frame = { λ s. frame_of s.stored };
+    ghost frame = { λ s. mem_sink_frame s.stored };
 
     ghost content = { λ _. None };
 

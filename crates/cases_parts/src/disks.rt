@@ -1,0 +1,184 @@
+// Disks in memory: calls, some of which fail, and what a stop then leaves.
+use crate::change::Range;
+use crate::trouble::Trouble;
+use crate::words::{from_hex, number};
+use hose_disk::{Disk, DiskCall, Failed, MemDisk, Pick};
+use std::alloc::Global;
+
+// How many bytes of a disk are read at most.
+const HELD: usize = 8;
+
+const PICKS: [Pick; 4] = [Pick::Kept, Pick::Lost, Pick::Fill(0), Pick::Fill(9)];
+
+/// What comes of the calls of these words on an empty disk: a point for each call that is done and
+/// an `x` for each that fails, and what the disk holds or what the words ask for.
+pub fn outcome(alloc: Global, words: &str) -> Result<String, Trouble> {
+    let mut disk = MemDisk::new(alloc)?;
+    let mut told = String::new(alloc);
+    tell_words(alloc, &mut disk, words, &mut told)?;
+    Ok(told)
+}
+
+fn tell_words(
+    alloc: Global,
+    disk: &mut MemDisk,
+    words: &str,
+    told: &mut String,
+) -> Result<(), Trouble> {
+    for word in words.split_whitespace() {
+        tell_word(alloc, disk, word, told)?;
+    }
+    Ok(())
+}
+
+fn tell_word(
+    alloc: Global,
+    disk: &mut MemDisk,
+    word: &str,
+    told: &mut String,
+) -> Result<(), Trouble> {
+    let (call, rest) = word.split_once(':').unwrap_or((word, ""));
+    match call {
+        "fail" => fail(alloc, disk, rest),
+        "held" => tell_held(alloc, disk, told),
+        "count" => tell_counts(alloc, disk, told),
+        "stops" => tell_stops(alloc, disk, Range::read(rest)?, told),
+        _ => tell_made(alloc, disk, call, rest, told),
+    }
+}
+
+/// The calls of this kind and number are to fail.
+pub fn fail(alloc: Global, disk: &mut MemDisk, rest: &str) -> Result<(), Trouble> {
+    let (kind, nth) = rest.split_once(':').ok_or(Trouble::Word)?;
+    disk.fail(alloc, kind_of(kind)?, number(nth)?)?;
+    Ok(())
+}
+
+fn kind_of(word: &str) -> Result<DiskCall, Trouble> {
+    match word {
+        "len" => Ok(DiskCall::Len),
+        "read" => Ok(DiskCall::Read),
+        "write" => Ok(DiskCall::Write),
+        "cut" => Ok(DiskCall::Cut),
+        "sync" => Ok(DiskCall::Sync),
+        _ => Err(Trouble::Word),
+    }
+}
+
+fn tell_made(
+    alloc: Global,
+    disk: &mut MemDisk,
+    call: &str,
+    rest: &str,
+    told: &mut String,
+) -> Result<(), Trouble> {
+    told.push_str(made(alloc, disk, call, rest)?)?;
+    Ok(())
+}
+
+// How each call went that a word makes: the length is asked before a write and a cut.
+fn made(
+    alloc: Global,
+    disk: &mut MemDisk,
+    call: &str,
+    rest: &str,
+) -> Result<&'static str, Trouble> {
+    match call {
+        "len" => Ok(mark(&disk.len())),
+        "read" => Ok(mark(&disk.read_at(0, &mut [0; HELD]))),
+        "sync" => Ok(mark(&disk.sync())),
+        "cut" => Ok(marks(cut(disk, number(rest)?))),
+        "write" => {
+            let (at, digits) = rest.split_once(':').ok_or(Trouble::Word)?;
+            let bytes = from_hex(alloc, digits)?;
+            Ok(marks(write(disk, number(at)?, &bytes)))
+        }
+        _ => Err(Trouble::Word),
+    }
+}
+
+fn mark<T>(outcome: &Result<T, Failed>) -> &'static str {
+    match outcome {
+        Ok(_) => ".",
+        Err(Failed) => "x",
+    }
+}
+
+// The marks of a length and of what follows it, which is not made where the first fails.
+fn marks(outcome: Result<Result<(), Failed>, Failed>) -> &'static str {
+    match outcome {
+        Ok(Ok(())) => "..",
+        Ok(Err(Failed)) => ".x",
+        Err(Failed) => "x",
+    }
+}
+
+// Writes at the place, at most at the eighth, or at the end where that lies before it.
+fn write(disk: &mut MemDisk, at: u64, bytes: &[u8]) -> Result<Result<(), Failed>, Failed> {
+    let at = disk.len()?.min(at).min(HELD as u64);
+    if bytes.len() > HELD {
+        return Err(Failed);
+    }
+    Ok(disk.write_at(at, bytes))
+}
+
+// Cuts to the length, where the disk is longer.
+fn cut(disk: &mut MemDisk, to: u64) -> Result<Result<(), Failed>, Failed> {
+    let to = disk.len()?.min(to);
+    Ok(disk.cut(to))
+}
+
+// What the disk holds, in digits.
+fn tell_held(alloc: Global, disk: &mut MemDisk, told: &mut String) -> Result<(), Trouble> {
+    let mut bytes = [0; HELD];
+    let len = disk.read_at(0, &mut bytes)?;
+    told.push_str(" ")?;
+    if len == 0 {
+        told.push_str("empty")?;
+        return Ok(());
+    }
+    told.push_str(hex::encode(alloc, &bytes[..len])?.as_str())?;
+    Ok(())
+}
+
+fn tell_counts(alloc: Global, disk: &MemDisk, told: &mut String) -> Result<(), Trouble> {
+    let (calls, faults, starved) = (disk.calls(), disk.faults(), disk.starved());
+    let counts = format!(in alloc; " {calls} calls {faults} faults {starved} starved")?;
+    told.push_str(counts.as_str())?;
+    Ok(())
+}
+
+// What a stop after each of these numbers of calls leaves by each pick.
+fn tell_stops(
+    alloc: Global,
+    disk: &MemDisk,
+    range: Range,
+    told: &mut String,
+) -> Result<(), Trouble> {
+    for calls in range.from..range.to {
+        told.push_str(" /")?;
+        for pick in PICKS {
+            tell_stop(alloc, disk, calls, pick, told)?;
+        }
+    }
+    Ok(())
+}
+
+fn tell_stop(
+    alloc: Global,
+    disk: &MemDisk,
+    calls: u64,
+    pick: Pick,
+    told: &mut String,
+) -> Result<(), Trouble> {
+    let mut stopped = stopped(alloc, disk, calls, pick)?;
+    tell_held(alloc, &mut stopped, told)
+}
+
+/// The disk that a stop leaves after so many calls.
+pub fn stopped(alloc: Global, disk: &MemDisk, calls: u64, pick: Pick) -> Result<MemDisk, Trouble> {
+    if calls > disk.calls() {
+        return Err(Trouble::Word);
+    }
+    Ok(disk.stop_image(alloc, calls, pick)?)
+}

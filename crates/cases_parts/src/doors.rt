@@ -1,0 +1,59 @@
+// Doors in memory: connections that come from a list, and come back.
+ghost use Rattle.std.specs.Prelude.{◌≡◌, length};
+
+use crate::trouble::Trouble;
+use hose_io::{Door, Failed, MemDone, MemDoor, MemSource, Sink, Source};
+use std::alloc::{AllocError, Global};
+
+// What is passed may go to another thread.
+fn is_movable<D: Door + Send>(_door: &D) {}
+
+/// What became of the only connection of a door, of which two bytes are taken and to which three
+/// are put, and whether another one comes.
+pub fn only_one(alloc: Global) -> Result<String, Trouble> {
+    let mut inputs = Vec::new(alloc);
+    inputs.push(MemSource::new(alloc, b"abc", 4)?)?;
+    let mut door = MemDoor::new(alloc, inputs)?;
+    is_movable(&door);
+    door.open(1)?;
+    serve_one(&mut door)?;
+    let comes = comes(&mut door);
+    let [done] = door.ended() else {
+        return Err(Trouble::Word);
+    };
+    Ok(format!(in alloc; "{}\nanother one comes: {comes:?}", done_told(alloc, done)?)?)
+}
+
+// The number of a connection, what was taken of it, what is left, and what was put.
+fn done_told(alloc: Global, done: &MemDone) -> Result<String, AllocError> {
+    let (taken, left, put) = (done.input.taken(), done.input.left(), done.output.bytes());
+    format!(in alloc; "{} {taken:?} {left:?} {put:?}", done.number)
+}
+
+// Takes two bytes of the next connection, puts three, and ends it. Fails where none comes.
+fn serve_one(door: &mut MemDoor) -> Result<(), Failed>
+    requires { door.old.accepted ≡ length door.old.ended }
+{
+    let Some((mut input, mut output)) = door.accept()? else {
+        return Err(Failed);
+    };
+    input.take(&mut [0; 2])?;
+    output.put(b"yes")?;
+    door.back(MemDoor::done(input, output));
+    Ok(())
+}
+
+fn comes(door: &mut MemDoor) -> Result<bool, Failed> {
+    Ok(door.accept()?.is_some())
+}
+
+/// What comes of opening a door and of accepting twice, of which the first and the third call fail,
+/// and how many calls failed then.
+pub fn failing(alloc: Global) -> Result<String, Trouble> {
+    let mut door = MemDoor::new(alloc, Vec::new(alloc))?;
+    door.fail(alloc, 1)?;
+    door.fail(alloc, 3)?;
+    let opened = door.open(1);
+    let comes = [comes(&mut door), comes(&mut door)];
+    Ok(format!(in alloc; "{opened:?} {comes:?} {}", door.faults())?)
+}
