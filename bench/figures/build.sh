@@ -20,7 +20,7 @@ is_new() {
 }
 
 build() {
-    local work folder
+    local folder
     work=$(mktemp -d)
     trap 'rm -rf "$work"' EXIT
     folder=$work/crates/$crate
