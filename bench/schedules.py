@@ -327,12 +327,14 @@ class Schedule:
     def kill(self, given):
         """Kills a follower after some of its lines, which may have one entry more than it told."""
         lines, _, after = followed(self.own, given)
+        # That no packet begins somewhere may be told only at the end of the input.
+        soon = sum(not line.startswith("packet") for line in lines)
         words = [self.program, "follow", self.leader.topology, self.journal]
         pipes = {"stdin": subprocess.PIPE, "stdout": subprocess.PIPE}
         with subprocess.Popen(words, **pipes) as process:
             process.stdin.write(given)
             process.stdin.flush()
-            got = [process.stdout.readline() for _ in range(self.draw.randint(0, len(lines)))]
+            got = [process.stdout.readline() for _ in range(self.draw.randint(0, soon))]
             if self.draw.random() < 0.5:
                 time.sleep(self.draw.random() / 500)
             process.kill()
