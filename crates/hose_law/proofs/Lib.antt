@@ -8,6 +8,7 @@ pub mod Cheapest
 mod Counting
 pub mod Crossing
 pub mod Distances
+pub mod Epochs
 pub mod Fronts
 mod Halves
 pub mod Joined

@@ -1,5 +1,6 @@
 -- The set of links in service, link by link, and what a link taken out or put back makes of it.
 use Rattle.std.proofs.Common.{◌≡◌, ◌≢◌, ◌∙◌, ℕ, ◌<◌, ◌||◌, Bool, true, false, not, List, [], ◌∷◌, length, get_or, set, replicate, eqb, refl, sym, ap, inl, inr, arith}
+use Rattle.std.proofs.Math.Bool.{or-false, or-true}
 use Rattle.std.proofs.lemmas.Bool.{cases_eq, eq-eqb, ne_eqb}
 use Rattle.std.proofs.lemmas.List.{get_or-replicate, get_or-set_other, get_or-set_same, length-replicate, length-set, same_lists}
 use Rattle.std.proofs.lemmas.List.Folds.{list_any-append}
@@ -12,22 +13,14 @@ use Rattle.hose_law.specs.Room.{first_links}
 use Rattle.hose_law.specs.Service.{is_out, links_in_service, put_back, taken_out}
 use Rattle.hose_law.specs.Walk.{all_links}
 
-or_false : (b : Bool) → (b || false) ≡ b
-or_false true = refl
-or_false false = refl
-
-or_true : (b : Bool) → (b || true) ≡ true
-or_true true = refl
-or_true false = refl
-
 -- a link that is taken out is out, and all others are as they were
 pub out_same : (out : List ℕ) (link : ℕ) → is_out (taken_out out link) link ≡ true
 out_same out link =
-    list_any-append (λ o. eqb o link) out (link ∷ []) ∙ ap (λ (b : Bool). is_out out link || (b || false)) (eq-eqb link link refl) ∙ or_true (is_out out link)
+    list_any-append (λ o. eqb o link) out (link ∷ []) ∙ ap (λ (b : Bool). is_out out link || (b || false)) (eq-eqb link link refl) ∙ or-true (is_out out link)
 
 pub out_other : (out : List ℕ) (link l : ℕ) → l ≢ link → is_out (taken_out out link) l ≡ is_out out l
 out_other out link l differ =
-    list_any-append (λ o. eqb o l) out (link ∷ []) ∙ ap (λ (b : Bool). is_out out l || (b || false)) (ne_eqb link l (λ same. differ (sym same))) ∙ or_false (is_out out l)
+    list_any-append (λ o. eqb o l) out (link ∷ []) ∙ ap (λ (b : Bool). is_out out l || (b || false)) (ne_eqb link l (λ same. differ (sym same))) ∙ or-false (is_out out l)
 
 -- a link that is put back is in, and all others are as they were
 pub back_same : (out : List ℕ) (link : ℕ) → is_out (put_back out link) link ≡ false
