@@ -4,5 +4,6 @@ pub mod Counted
 pub mod Decoded
 pub mod Entries
 pub mod Lengths
+pub mod NumberFields
 pub mod Numbers
 pub mod Pairs

@@ -208,16 +208,16 @@ pub fn pairs_of(alloc: Global, bytes: &[u8]) -> Result<Vec<(u32, u64)>, AllocErr
     Ok(pairs)
 }
 
-// The number whose bytes these two are.
-fn number_of_two(bytes: &[u8]) -> u16
+/// The number whose bytes these two are, highest byte first.
+pub fn number_of_two(bytes: &[u8]) -> u16
     requires { length bytes.now ≡ 2 }
     ensures { big_bytes 2 result ≡ bytes.now }
 {
     BigEndian::read_u16(bytes)
 }
 
-// The number whose bytes these four are.
-fn number_of_four(bytes: &[u8]) -> u32
+/// The number whose bytes these four are, highest byte first.
+pub fn number_of_four(bytes: &[u8]) -> u32
     requires { length bytes.now ≡ 4 }
     ensures { big_bytes 4 result ≡ bytes.now }
 {

@@ -12,6 +12,7 @@ mod limits;
 mod reading;
 mod writing;
 
+pub use fields::{number_of_four, number_of_two};
 pub use limits::{CodecFault, MOST_PAIRS, MOST_SPELLING};
 pub use reading::decode;
 pub use writing::encode;
