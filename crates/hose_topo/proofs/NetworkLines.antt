@@ -4,6 +4,7 @@ use Rattle.std.proofs.lemmas.List.Elements.{All-nil, All-push}
 use Rattle.hose_graph.specs.Name.{IsName}
 use Rattle.hose_graph.specs.Network.{Network, IsNetwork, IsLink}
 use Rattle.hose_graph.specs.declared.topology.Link.{Link}
+use Rattle.hose_graph.proofs.Growth.{IsLink-kept}
 use Rattle.hose_topo.specs.TopologyText.{AddsLine, AddLines, no_more, one_more, no_network, IsTopologyText}
 use Rattle.hose_topo.proofs.TopologyLines.{HasDistinctNames, no_names, distinct_more}
 
@@ -17,32 +18,6 @@ IsNetwork-none = record {
   links = All-nil (IsLink no_network);
 }
 
--- a network with a node more may have the links that it could have before
-IsLink-more : (network : Network) (name : List ℕ) (link : Link) → IsLink network link → IsLink (record network { nodes = network.nodes ++ name ∷ [] }) link
-IsLink-more network name link can = record {
-  in_range = record {
-    a = omega (arith, can.in_range.a, length-append network.nodes (name ∷ []));
-    b = omega (arith, can.in_range.b, length-append network.nodes (name ∷ []));
-    capacity = can.in_range.capacity;
-    distance = can.in_range.distance;
-    cost = can.in_range.cost;
-  };
-  no_loop = can.no_loop;
-}
-
--- which links a network may have does not depend on those that it has
-IsLink-beside : (network : Network) (links : List Link) (link : Link) → IsLink network link → IsLink (record network { links = links }) link
-IsLink-beside network links link can = record {
-  in_range = record {
-    a = can.in_range.a;
-    b = can.in_range.b;
-    capacity = can.in_range.capacity;
-    distance = can.in_range.distance;
-    cost = can.in_range.cost;
-  };
-  no_loop = can.no_loop;
-}
-
 -- a line leaves a network
 pub IsNetwork-line : (network : Network) (words : List (List ℕ)) (next : Network) → IsNetwork network → AddsLine network words next → IsNetwork next
 IsNetwork-line network words next is (inl passed) = rw passed.1 is
@@ -52,7 +27,7 @@ IsNetwork-line network words next is (inr (inl adds)) =
       few_links = is.few_links;
       names = All-push IsName network.nodes adds.name is.names adds.is_name;
       differ = subst HasDistinctNames adds.added (distinct_more network words next is.differ (inr (inl adds)));
-      links = λ k d below. IsLink-more network adds.name _ (is.links k d below);
+      links = λ k d below. IsLink-kept network (record network { nodes = network.nodes ++ adds.name ∷ [] }) (omega (arith, length-append network.nodes (adds.name ∷ []))) _ (is.links k d below);
     })
 IsNetwork-line network words next is (inr (inr adds)) =
     let more = All-push (IsLink network) network.links adds.link is.links adds.is_link in
@@ -61,7 +36,7 @@ IsNetwork-line network words next is (inr (inr adds)) =
       few_links = omega (arith, adds.room, length-append network.links (adds.link ∷ []));
       names = is.names;
       differ = is.differ;
-      links = λ k d below. IsLink-beside network (network.links ++ adds.link ∷ []) _ (more k d below);
+      links = λ k d below. IsLink-kept network (record network { links = network.links ++ adds.link ∷ [] }) (omega arith) _ (more k d below);
     })
 
 -- so do lines one after the other

@@ -3,10 +3,8 @@ use Rattle.std.proofs.Common.{◌≡◌, ◌∙◌, ℕ, List, [], Option, Some,
 use Rattle.std.specs.List.{slice_get}
 use Rattle.std.proofs.lemmas.Option.{get_or_from_slice_get}
 use Rattle.hose_graph.specs.Name.{IsName}
-use Rattle.hose_graph.specs.Network.{Network, IsLink, IsNetwork, IsNodeOf, name_of}
-use Rattle.hose_graph.specs.declared.topology.Link.{Link}
+use Rattle.hose_graph.specs.Network.{Network, IsNetwork, IsNodeOf, name_of}
 use Rattle.hose_graph.proofs.NodesByName.{same_name}
-use Rattle.hose_topo_json.specs.JsonTopology.{unlinked}
 
 some_same : {X : Type 0} {x y : X} → Some x ≡ Some y → x ≡ y
 some_same is = cc
@@ -23,31 +21,6 @@ pub named_node : (nodes : List (List ℕ)) (told : Option (List ℕ)) (name : Li
     → IfSome found (λ node. slice_get nodes node ≡ Some name) → IfSome found (λ node. told ≡ Some (slice_index_or nodes node []))
 named_node nodes told name None says at = tt
 named_node nodes told name (Some node) says at = says ∙ ap Some (sym (get_or_from_slice_get nodes node name [] at))
-
--- a link of nodes of these names is one of a network of them, whatever links that has
-pub IsLink-unlinked : (network : Network) (link : Link) → IsLink network link → IsLink (unlinked network.nodes) link
-IsLink-unlinked network link is = record {
-  in_range = record {
-    a = is.in_range.a;
-    b = is.in_range.b;
-    capacity = is.in_range.capacity;
-    distance = is.in_range.distance;
-    cost = is.in_range.cost;
-  };
-  no_loop = is.no_loop;
-}
-
-pub IsLink-linked : (network : Network) (link : Link) → IsLink (unlinked network.nodes) link → IsLink network link
-IsLink-linked network link is = record {
-  in_range = record {
-    a = is.in_range.a;
-    b = is.in_range.b;
-    capacity = is.in_range.capacity;
-    distance = is.in_range.distance;
-    cost = is.in_range.cost;
-  };
-  no_loop = is.no_loop;
-}
 
 -- nodes of one name are one
 pub one_node : (network : Network) (told : Option (List ℕ)) (node other : ℕ) → IsNetwork network → IsNodeOf network node → IsNodeOf network other

@@ -1,8 +1,8 @@
 use Rattle.std.proofs.Common.{◌≡◌, length, map, subst, sym, arith, length-take}
 use Rattle.std.proofs.lemmas.List.{length-map}
 use Rattle.serde_json.specs.View.{view}
-use Rattle.hose_topo_json.specs.JsonTopology.{TellsJsonLink}
-use Rattle.hose_topo_json.proofs.LinkEnds.{IsLink-linked}
+use Rattle.hose_graph.proofs.Growth.{IsLink-kept}
+use Rattle.hose_topo_json.specs.JsonTopology.{TellsJsonLink, unlinked}
 use Rattle.hose_topo_json.proofs.Values.{length-AllZip, told_more, value_here}
 use Rattle.hose_topo_json.proofs.links.add_links.Goals as goal
 
@@ -23,7 +23,8 @@ push_link-requires-clause-room c =
     omega (arith, same, front, whole, c.requires.few, c.loop-place-test.true)
 
 pub push_link-requires-clause-is_link : goal.push_link-requires-clause-is_link
-push_link-requires-clause-is_link c = IsLink-linked c.loop-place.top c.in-Some.link c.in-Some.ensures.some.is_link
+push_link-requires-clause-is_link c =
+    IsLink-kept (unlinked c.loop-place.top.nodes) c.loop-place.top (omega arith) c.in-Some.link c.in-Some.ensures.some.is_link
 
 pub loop-place-preserved : goal.loop-place-preserved
 loop-place-preserved c =
