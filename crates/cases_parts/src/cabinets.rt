@@ -23,7 +23,7 @@ fn filled(alloc: Global) -> Result<MemCabinet, Trouble>
     ensures { IfOk result (λ cabinet. (cabinet_frame cabinet).out ≡ None) }
 {
     let mut disk = MemDisk::new(alloc)?;
-    disk.fail(alloc, DiskCall::Write, 2)?;
+    disk.fail(DiskCall::Write, 2)?;
     let mut cabinet = MemCabinet::of(alloc, b"j", disk)?;
     cabinet.add_text(alloc, b"t", &[5, 6, 7])?;
     Ok(cabinet)
@@ -54,7 +54,7 @@ fn tell_word(
 {
     let (call, rest) = word.split_once(':').ok_or(Trouble::Word)?;
     match call {
-        "fail" => Ok(cabinet.fail(alloc, number(rest)?)?),
+        "fail" => Ok(cabinet.fail(number(rest)?)?),
         "text" => tell_text(alloc, cabinet, rest, told),
         _ => tell_append(alloc, cabinet, rest, told),
     }
@@ -71,7 +71,7 @@ fn tell_text(
 {
     let (name, from) = rest.split_once(':').ok_or(Trouble::Word)?;
     let got = text(cabinet, name, number(from)?);
-    tell(alloc, got, cabinet.faults(), cabinet.absent(), told)
+    tell(alloc, got, cabinet.faults().count, cabinet.absent(), told)
 }
 
 fn tell_append(
@@ -86,7 +86,7 @@ fn tell_append(
     let (name, digits) = rest.split_once(':').ok_or(Trouble::Word)?;
     let bytes = from_hex(alloc, digits)?;
     let got = append_in(cabinet, name, &bytes);
-    tell(alloc, got, cabinet.faults(), cabinet.absent(), told)
+    tell(alloc, got, cabinet.faults().count, cabinet.absent(), told)
 }
 
 // What a call gave, and how many calls have failed by then and how many texts were not there.

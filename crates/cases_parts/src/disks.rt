@@ -39,7 +39,7 @@ fn tell_word(
 ) -> Result<(), Trouble> {
     let (call, rest) = word.split_once(':').unwrap_or((word, ""));
     match call {
-        "fail" => fail(alloc, disk, rest),
+        "fail" => fail(disk, rest),
         "held" => tell_held(alloc, disk, told),
         "count" => tell_counts(alloc, disk, told),
         "stops" => tell_stops(alloc, disk, Range::read(rest)?, told),
@@ -48,9 +48,9 @@ fn tell_word(
 }
 
 /// The calls of this kind and number are to fail.
-pub fn fail(alloc: Global, disk: &mut MemDisk, rest: &str) -> Result<(), Trouble> {
+pub fn fail(disk: &mut MemDisk, rest: &str) -> Result<(), Trouble> {
     let (kind, nth) = rest.split_once(':').ok_or(Trouble::Word)?;
-    disk.fail(alloc, kind_of(kind)?, number(nth)?)?;
+    disk.fail(kind_of(kind)?, number(nth)?)?;
     Ok(())
 }
 
@@ -142,8 +142,9 @@ fn tell_held(alloc: Global, disk: &mut MemDisk, told: &mut String) -> Result<(),
 }
 
 fn tell_counts(alloc: Global, disk: &MemDisk, told: &mut String) -> Result<(), Trouble> {
-    let (calls, faults, starved) = (disk.calls(), disk.faults(), disk.starved());
-    let counts = format!(in alloc; " {calls} calls {faults} faults {starved} starved")?;
+    let (calls, faults) = (disk.calls(), disk.faults());
+    let (failed, starved) = (faults.count, faults.starved);
+    let counts = format!(in alloc; " {calls} calls {failed} faults {starved} starved")?;
     told.push_str(counts.as_str())?;
     Ok(())
 }

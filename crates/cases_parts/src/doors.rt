@@ -51,9 +51,9 @@ fn comes(door: &mut MemDoor) -> Result<bool, Failed> {
 /// and how many calls failed then.
 pub fn failing(alloc: Global) -> Result<String, Trouble> {
     let mut door = MemDoor::new(alloc, Vec::new(alloc))?;
-    door.fail(alloc, 1)?;
-    door.fail(alloc, 3)?;
+    door.fail(1)?;
+    door.fail(3)?;
     let opened = door.open(1);
     let comes = [comes(&mut door), comes(&mut door)];
-    Ok(format!(in alloc; "{opened:?} {comes:?} {}", door.faults())?)
+    Ok(format!(in alloc; "{opened:?} {comes:?} {}", door.faults().count)?)
 }

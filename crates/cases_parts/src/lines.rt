@@ -69,7 +69,7 @@ fn put_failing(
     requires { NamesPlaces top.now reply.now }
 {
     let mut sink = MemSink::new(alloc)?;
-    sink.fail(alloc, failing)?;
+    sink.fail(failing)?;
     let done = put_reply(&mut sink, top, reply);
     Ok((done, sink.bytes().len()))
 }

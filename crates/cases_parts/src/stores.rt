@@ -215,7 +215,7 @@ fn run(
     told: &mut String,
 ) -> Result<MemDisk, Trouble> {
     let mut disk = first_disk(alloc, names, words)?;
-    fail_all(alloc, &mut disk, words)?;
+    fail_all(&mut disk, words)?;
     match open(alloc, disk, named(alloc, network)?) {
         Ok(store) => went(alloc, names, store, words, told),
         Err(refused) => returned(alloc, refused, told),
@@ -254,10 +254,10 @@ fn first_disk(alloc: Global, names: &Names, words: &str) -> Result<MemDisk, Trou
     Ok(MemDisk::new(alloc)?)
 }
 
-fn fail_all(alloc: Global, disk: &mut MemDisk, words: &str) -> Result<(), Trouble> {
+fn fail_all(disk: &mut MemDisk, words: &str) -> Result<(), Trouble> {
     for word in words.split_whitespace() {
         if !names_entry(word) && !word.starts_with("on:") {
-            fail(alloc, disk, word)?;
+            fail(disk, word)?;
         }
     }
     Ok(())

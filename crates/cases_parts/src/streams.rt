@@ -11,9 +11,9 @@ use std::io::{self, ErrorKind, Read, Write};
 /// last fails; and what was taken, how many calls failed and how many bytes are left then.
 pub fn source(alloc: Global) -> Result<String, AllocError> {
     let mut source = MemSource::new(alloc, b"abc", 2)?;
-    source.fail(alloc, 4)?;
+    source.fail(4)?;
     let taken: [_; 4] = array::from_fn(|_| source.take(&mut [0; 4]));
-    let (bytes, faults, left) = (source.taken(), source.faults(), source.left().len());
+    let (bytes, faults, left) = (source.taken(), source.faults().count, source.left().len());
     format!(in alloc; "{taken:?} {bytes:?} {faults} {left}")
 }
 
@@ -21,16 +21,16 @@ pub fn source(alloc: Global) -> Result<String, AllocError> {
 /// how many calls failed and how many found no memory then.
 pub fn sink(alloc: Global) -> Result<String, AllocError> {
     let mut sink = MemSink::new(alloc)?;
-    sink.fail(alloc, 1)?;
+    sink.fail(1)?;
     let put: [_; 3] = array::from_fn(|_| sink.put(b"ab"));
-    let (bytes, faults, starved) = (sink.bytes(), sink.faults(), sink.starved());
-    format!(in alloc; "{put:?} {bytes:?} {faults} {starved}")
+    let (bytes, faults) = (sink.bytes(), sink.faults());
+    format!(in alloc; "{put:?} {bytes:?} {} {}", faults.count, faults.starved)
 }
 
 /// What comes of a text of 4,096 bytes and then a few where this call fails, and how much is out.
 pub fn gathered(alloc: Global, failing: u64) -> Result<String, AllocError> {
     let mut sink = MemSink::new(alloc)?;
-    sink.fail(alloc, failing)?;
+    sink.fail(failing)?;
     let mut text = Gather::new();
     text.add(&mut sink, &[b'a'; 4_096]);
     text.add(&mut sink, b"b");
@@ -100,7 +100,7 @@ pub fn passed(alloc: Global) -> Result<String, Trouble> {
 pub fn lines(alloc: Global, piece: u64, failing: u64, text: &str) -> Result<String, Trouble> {
     let bytes = parted(alloc, text)?;
     let mut source = MemSource::new(alloc, &bytes, piece.max(1))?;
-    source.fail(alloc, failing)?;
+    source.fail(failing)?;
     let mut lines = LineReader::new(source);
     let mut told = String::new(alloc);
     for _ in 0..4 {

@@ -23,7 +23,7 @@ pub fn canonical(alloc: Global, top: &Topology) -> Result<String, Trouble> {
 /// line is then; or, where the second call fails, why it is not read.
 pub fn ended(alloc: Global, failing: u64) -> Result<String, Trouble> {
     let mut source = MemSource::new(alloc, b"node a\nend\nbye", 7)?;
-    source.fail(alloc, failing)?;
+    source.fail(failing)?;
     let mut lines = LineReader::new(source);
     match read(alloc, &mut lines) {
         Ok(top) => Ok(format!(in alloc; "{} {:?}", top.nodes(), lines.next())?),

@@ -205,13 +205,13 @@ pub fn source_of(alloc: Global, case: &Case, input: &[u8]) -> Result<LongSource,
     let piece = case.input.piece;
     let again = again_of(alloc, case, input)?;
     let mut source = MemSource::new(alloc, input, piece.bytes)?;
-    fail_takes(alloc, &mut source, &case.input.failing)?;
+    fail_takes(&mut source, &case.input.failing)?;
     Ok(LongSource::new(source, piece, again, case.more))
 }
 
-fn fail_takes(alloc: Global, source: &mut MemSource, calls: &[u64]) -> Result<(), AllocError> {
+fn fail_takes(source: &mut MemSource, calls: &[u64]) -> Result<(), AllocError> {
     for nth in calls {
-        source.fail(alloc, *nth)?;
+        source.fail(*nth)?;
     }
     Ok(())
 }
@@ -230,14 +230,14 @@ fn again_of(alloc: Global, case: &Case, input: &[u8]) -> Result<Vec<u8>, AllocEr
 /// A sink as the case says, of which one more call fails where its number is not 0.
 pub fn sink_of(alloc: Global, stream: &Stream, cut: u64) -> Result<NarrowSink, AllocError> {
     let mut sink = MemSink::new(alloc)?;
-    fail_puts(alloc, &mut sink, &stream.failing)?;
-    sink.fail(alloc, cut)?;
+    fail_puts(&mut sink, &stream.failing)?;
+    sink.fail(cut)?;
     Ok(NarrowSink::new(sink, stream.piece))
 }
 
-fn fail_puts(alloc: Global, sink: &mut MemSink, calls: &[u64]) -> Result<(), AllocError> {
+fn fail_puts(sink: &mut MemSink, calls: &[u64]) -> Result<(), AllocError> {
     for nth in calls {
-        sink.fail(alloc, *nth)?;
+        sink.fail(*nth)?;
     }
     Ok(())
 }
@@ -255,7 +255,7 @@ fn cabinet_of(alloc: Global, case: &Case, journal: &[u8]) -> Result<MemCabinet, 
         cabinet.add_text(alloc, b".json", &case.text)?;
     }
     if let Some(nth) = case.failing {
-        cabinet.fail(alloc, nth)?;
+        cabinet.fail(nth)?;
     }
     Ok(cabinet)
 }
@@ -268,17 +268,13 @@ pub fn disk_of(alloc: Global, case: &Case, journal: &[u8]) -> Result<MemDisk, Al
         let _ = disk.write_at(0, journal);
         let _ = disk.sync();
     }
-    fail_disk(alloc, &mut disk, &case.journal.failing)?;
+    fail_disk(&mut disk, &case.journal.failing)?;
     Ok(disk)
 }
 
-fn fail_disk(
-    alloc: Global,
-    disk: &mut MemDisk,
-    calls: &[(DiskCall, u64)],
-) -> Result<(), AllocError> {
+fn fail_disk(disk: &mut MemDisk, calls: &[(DiskCall, u64)]) -> Result<(), AllocError> {
     for (kind, nth) in calls {
-        disk.fail(alloc, *kind, *nth)?;
+        disk.fail(*kind, *nth)?;
     }
     Ok(())
 }
@@ -293,7 +289,7 @@ struct Peers {
 impl Peers {
     fn add(&mut self, alloc: Global, connection: &Connection) -> Result<(), AllocError> {
         let mut source = MemSource::new(alloc, &connection.bytes, PIECE)?;
-        source.fail(alloc, connection.failing)?;
+        source.fail(connection.failing)?;
         self.sources.push(source)?;
         Ok(())
     }
@@ -310,7 +306,7 @@ fn door_of(alloc: Global, case: &Case) -> Result<MemDoor, AllocError> {
     };
     add_peers(alloc, &mut peers, &case.connections)?;
     let mut door = peers.into_door(alloc)?;
-    fail_door(alloc, &mut door, &case.door_failing)?;
+    fail_door(&mut door, &case.door_failing)?;
     Ok(door)
 }
 
@@ -325,9 +321,9 @@ fn add_peers(
     Ok(())
 }
 
-fn fail_door(alloc: Global, door: &mut MemDoor, calls: &[u64]) -> Result<(), AllocError> {
+fn fail_door(door: &mut MemDoor, calls: &[u64]) -> Result<(), AllocError> {
     for nth in calls {
-        door.fail(alloc, *nth)?;
+        door.fail(*nth)?;
     }
     Ok(())
 }

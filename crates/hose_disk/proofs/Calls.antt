@@ -1,13 +1,30 @@
 -- What each call of a disk in memory does to what it tells.
-use Rattle.std.proofs.Common.{◌≡◌, ◌⊎◌, inl, inr, ℕ, ◌≤◌, List, length, Some, refl, sym, ap, subst}
-use Rattle.std.specs.Prelude.{Result, Ok, Err, OnOk, OnErr}
+use Rattle.std.proofs.Common.{◌≡◌, ◌⊎◌, ◌↔◌, inl, inr, ℕ, Bool, true, false, IsTrue, IsFalse, List, length, Contains, Some, refl, sym, ◌∙◌, ap, subst}
+use Rattle.std.proofs.lemmas.Bool.{false≢true}
+use Rattle.std.specs.Prelude.{Result, Ok, Err, OnOk, OnErr, is_err, ⊤}
+use Rattle.hose_io.specs.Faults.{one_fault, one_starved}
 use Rattle.hose_io.specs.declared.Failed.{Failed}
-use Rattle.hose_disk.specs.Disk.{Torn, IsCut, StepsTo, NoneNew, Elapses}
-use Rattle.hose_disk.specs.Images.{Step, idle, wrote, tried_write, cut_to, tried_cut, synced, IsImage, LeftSince}
+use Rattle.hose_disk.specs.Disk.{StepsTo, NoneNew, Elapses}
+use Rattle.hose_disk.specs.Images.{Step, IsImage, LeftSince}
 use Rattle.hose_disk.specs.Recording.{CallRecord, with_call, reads}
-use Rattle.hose_disk.specs.MemState.{MemState, IsMemCall, content_of, moment_of, image_of, left_since_of}
+use Rattle.hose_disk.specs.MemState.{Ends, IsMemCall, MemState, ToFail, after_kind, content_of, image_of, left_since_of, moment_of, of_kind}
 use Rattle.hose_disk.specs.declared.call.DiskCall.{DiskCall}
-use Rattle.hose_disk.proofs.Images.{torn_same, cut_same, elapses, elapses_same, steps_write, steps_tried_write, steps_cut, steps_tried_cut, none_new_synced, none_new_idle}
+use Rattle.hose_disk.proofs.Images.{elapses, elapses_same}
+
+-- A call whose record was made, or found no memory, and that ended so.
+pub mem_call : {E : Type 0} (kind : DiskCall) (done begun : Step) (old new : MemState) (made : CallRecord) (failing : ToFail) (fails : Bool) (recorded : Result ⊤ E) (result : Result ⊤ Failed)
+    → (IsTrue fails ↔ Contains (of_kind kind old.failing) 1) → failing ≡ after_kind kind old.failing
+    → (IsFalse fails → OnOk recorded (made ≡ with_call old.made done)) → (IsTrue fails → OnOk recorded (made ≡ with_call old.made begun)) → OnErr recorded (made ≡ old.made)
+    → Ends (is_err recorded) fails (record old { made = made; failing = failing }) new result → IsMemCall kind done begun old new result
+mem_call kind done begun old new made failing fails (Err none) (Ok value) listed later is_done is_begun same ends = absurd (false≢true ends.0)
+mem_call kind done begun old new made failing fails (Err none) (Err failed) listed later is_done is_begun same ends =
+    inl (ends.1 ∙ (λ i. record old { made = same i; failing = later i; faults = one_starved old.faults; has_failed = true }))
+mem_call kind done begun old new made failing true (Ok _) (Ok value) listed later is_done is_begun same ends = absurd (false≢true ends.0)
+mem_call kind done begun old new made failing true (Ok _) (Err failed) listed later is_done is_begun same ends =
+    inr (listed.0 refl, ends.1 ∙ (λ i. record old { made = is_begun refl i; failing = later i; faults = one_fault old.faults; has_failed = true }))
+mem_call kind done begun old new made failing false (Ok _) (Ok value) listed later is_done is_begun same ends =
+    (λ there. false≢true (listed.1 there), ends.1 ∙ (λ i. record old { made = is_done refl i; failing = later i; has_failed = false }))
+mem_call kind done begun old new made failing false (Ok _) (Err failed) listed later is_done is_begun same ends = absurd (false≢true ends.0)
 
 -- what the record is after a call: no call more, one that was done, or one that was begun
 abbrev Made : CallRecord → Step → Step → CallRecord → Type 0
@@ -36,38 +53,24 @@ module _ {T : Type 0} (kind : DiskCall) (old new : MemState) (result : Result T 
       (elapses_same old.made.first old.made.calls) (elapses old.made.first old.made.calls done) (elapses old.made.first old.made.calls begun)
       (made_is kind done begun old new result is)
 
-  pub idle_images : IsMemCall kind idle idle old new result → NoneNew (image_of old) (image_of new)
-  idle_images is =
-      of_made (λ (made : CallRecord). NoneNew (image_of old) (Image made)) old.made new.made idle idle
-      (λ image was. was) (none_new_idle old.made.first old.made.calls) (none_new_idle old.made.first old.made.calls) (made_is kind idle idle old new result is)
+  -- neither a call that is done nor one that is begun changes what is read
+  pub same_content : (done begun : Step) → reads (with_call old.made done) ≡ reads old.made → reads (with_call old.made begun) ≡ reads old.made
+      → IsMemCall kind done begun old new result → content_of new ≡ content_of old
+  same_content done begun ended tried is =
+      of_made (λ (made : CallRecord). Some (reads made) ≡ content_of old) old.made new.made done begun refl (ap Some ended) (ap Some tried) (made_is kind done begun old new result is)
 
-  pub idle_content : IsMemCall kind idle idle old new result → content_of new ≡ content_of old
-  idle_content is =
-      of_made (λ (made : CallRecord). Some (reads made) ≡ content_of old) old.made new.made idle idle refl refl refl (made_is kind idle idle old new result is)
+  -- neither leaves a new image
+  pub no_new_image : (done begun : Step) → NoneNew (image_of old) (Image (with_call old.made done)) → NoneNew (image_of old) (Image (with_call old.made begun))
+      → IsMemCall kind done begun old new result → NoneNew (image_of old) (image_of new)
+  no_new_image done begun ended tried is =
+      of_made (λ (made : CallRecord). NoneNew (image_of old) (Image made)) old.made new.made done begun (λ image was. was) ended tried (made_is kind done begun old new result is)
 
-  pub sync_images : IsMemCall kind synced idle old new result → NoneNew (image_of old) (image_of new)
-  sync_images is =
-      of_made (λ (made : CallRecord). NoneNew (image_of old) (Image made)) old.made new.made synced idle
-      (λ image was. was) (none_new_synced old.made.first old.made.calls) (none_new_idle old.made.first old.made.calls) (made_is kind synced idle old new result is)
-
-  pub sync_content : IsMemCall kind synced idle old new result → content_of new ≡ content_of old
-  sync_content is =
-      of_made (λ (made : CallRecord). Some (reads made) ≡ content_of old) old.made new.made synced idle refl refl refl (made_is kind synced idle old new result is)
-
-  pub write_images : (at : ℕ) (bytes : List ℕ) → at ≤ length (reads old.made) → IsMemCall kind (wrote at bytes) (tried_write at (length bytes)) old new result
-      → StepsTo (Torn at (length bytes)) (image_of old) (image_of new)
-  write_images at bytes within is =
-      of_made (λ (made : CallRecord). StepsTo (Torn at (length bytes)) (image_of old) (Image made)) old.made new.made (wrote at bytes) (tried_write at (length bytes))
-      (λ image was. (image, was, torn_same at (length bytes) image))
-      (steps_write old.made.first old.made.calls at bytes within) (steps_tried_write old.made.first old.made.calls at (length bytes))
-      (made_is kind (wrote at bytes) (tried_write at (length bytes)) old new result is)
-
-  pub cut_images : (len : ℕ) → IsMemCall kind (cut_to len) (tried_cut len) old new result → StepsTo (IsCut len) (image_of old) (image_of new)
-  cut_images len is =
-      of_made (λ (made : CallRecord). StepsTo (IsCut len) (image_of old) (Image made)) old.made new.made (cut_to len) (tried_cut len)
-      (λ image was. (image, was, cut_same len image))
-      (steps_cut old.made.first old.made.calls len) (steps_tried_cut old.made.first old.made.calls len)
-      (made_is kind (cut_to len) (tried_cut len) old new result is)
+  -- each image is one of before after a step
+  pub step_of_images : (step : List ℕ → List ℕ → Type 0) (done begun : Step) → ((image : List ℕ) → step image image)
+      → StepsTo step (image_of old) (Image (with_call old.made done)) → StepsTo step (image_of old) (Image (with_call old.made begun))
+      → IsMemCall kind done begun old new result → StepsTo step (image_of old) (image_of new)
+  step_of_images step done begun none ended tried is =
+      of_made (λ (made : CallRecord). StepsTo step (image_of old) (Image made)) old.made new.made done begun (λ image was. (image, was, none image)) ended tried (made_is kind done begun old new result is)
 
 -- what a call that was done leaves, and what one that failed does
 pub on_done : {T : Type 0} (kind : DiskCall) (done begun : Step) (old new : MemState) (result : Result T Failed) (P : CallRecord → Type 0)

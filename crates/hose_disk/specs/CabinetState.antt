@@ -1,9 +1,10 @@
 -- What contracts see of a cabinet in memory, and what each of its calls does to that.
 use Rattle.std.specs.Prelude.{◌≡◌, ◌⊎◌, ℕ, List, [], ◌∷◌, length, true, false, if◌then◌else◌, Option, Some, None, Result, Ok, Err, Contains, remove, slice_index_or}
 use Rattle.std.specs.Str.{bytes_eq}
-use Rattle.hose_io.specs.Count.{one_more}
 use Rattle.hose_io.specs.FailingCalls.{later_calls}
+use Rattle.hose_io.specs.Faults.{no_faults, one_fault, one_starved}
 use Rattle.hose_io.specs.declared.Failed.{Failed}
+use Rattle.hose_io.specs.declared.faults.Faults.{Faults}
 use Rattle.hose_disk.specs.Cabinet.{CabinetFrame, absent_after}
 use Rattle.hose_disk.specs.MemState.{MemState, fresh_disk}
 
@@ -49,8 +50,7 @@ or_empty (Some disk) = disk
 abbrev pub reopened : MemState → MemState
 reopened disk = record disk {
   opened = length disk.made.calls;
-  faults = 0;
-  starved = 0;
+  faults = no_faults;
   has_failed = false;
 }
 
@@ -67,14 +67,12 @@ shelf_after_putting name disk shelf = record {
 
 -- ---- cabinets
 
--- its texts, its disks, its faults, those of them that were want of memory, the texts that were
--- asked for and are not there, the count of the disk that was put back last, and the calls of
--- `text` and `disk` that are to fail
+-- its texts, its disks, its faults, the texts that were asked for and are not there, the count of
+-- the disk that was put back last, and the calls of `text` and `disk` that are to fail
 pub record CabinetState : Type 0 where
   pub texts : List (NamedItem (List ℕ))
   pub shelf : ShelfState
-  pub faults : ℕ
-  pub starved : ℕ
+  pub faults : Faults
   pub absent : ℕ
   pub returned : ℕ
   pub failing : List ℕ
@@ -82,7 +80,7 @@ pub record CabinetState : Type 0 where
 -- its frame
 abbrev pub cabinet_frame : CabinetState → CabinetFrame
 cabinet_frame cabinet = record {
-  faults = cabinet.faults;
+  faults = cabinet.faults.count;
   absent = cabinet.absent;
   returned = cabinet.returned;
   out = cabinet.shelf.out;
@@ -110,12 +108,12 @@ cabinet_after_done cabinet = record cabinet { failing = later_calls cabinet.fail
 -- after a call that failed: it was to fail, or asked for a text that is not there
 abbrev pub cabinet_after_fault : CabinetState → CabinetState
 cabinet_after_fault cabinet =
-    record (cabinet_after_done cabinet) { faults = one_more cabinet.faults }
+    record (cabinet_after_done cabinet) { faults = one_fault cabinet.faults }
 
 -- after a call that found no memory
 abbrev pub cabinet_after_starving : CabinetState → CabinetState
 cabinet_after_starving cabinet =
-    record (cabinet_after_fault cabinet) { starved = one_more cabinet.starved }
+    record (cabinet_after_done cabinet) { faults = one_starved cabinet.faults }
 
 -- after a call of `text` that failed
 abbrev pub cabinet_after_refusal : List ℕ → CabinetState → CabinetState
@@ -138,6 +136,6 @@ IsMemOpening name old new (Err failed) =
 abbrev pub cabinet_after_return : List ℕ → MemState → CabinetState → CabinetState
 cabinet_after_return name disk cabinet = record cabinet {
   shelf = shelf_after_putting name disk cabinet.shelf;
-  faults = if disk.has_failed then one_more cabinet.faults else cabinet.faults;
-  returned = disk.faults;
+  faults = if disk.has_failed then one_fault cabinet.faults else cabinet.faults;
+  returned = disk.faults.count;
 }

@@ -1,9 +1,10 @@
 -- What contracts see of a disk in memory, and what each of its calls does to that.
-use Rattle.std.specs.Prelude.{◌≡◌, ◌⊎◌, ℕ, List, [], length, Bool, true, false, Option, Some, None, Result, Ok, Err, Contains, MatchOption, ⊤}
+use Rattle.std.specs.Prelude.{◌≡◌, ◌⊎◌, ℕ, List, [], length, Bool, true, false, Option, Some, None, Result, Ok, Err, IsOk, IsErr, Contains, MatchOption, ⊤}
 use Rattle.std.proofs.Common.{subst}
-use Rattle.hose_io.specs.Count.{one_more}
 use Rattle.hose_io.specs.FailingCalls.{later_calls}
+use Rattle.hose_io.specs.Faults.{no_faults, one_fault, one_starved}
 use Rattle.hose_io.specs.declared.Failed.{Failed}
+use Rattle.hose_io.specs.declared.faults.Faults.{Faults}
 use Rattle.hose_disk.specs.Disk.{DiskFrame}
 use Rattle.hose_disk.specs.Images.{Step, IsImage, LeftSince}
 use Rattle.hose_disk.specs.Recording.{CallRecord, with_call, reads}
@@ -42,14 +43,13 @@ after_kind kind failing = with_kind kind failing (later_calls (of_kind kind fail
 abbrev pub none_to_fail : ToFail
 none_to_fail = record { lens = []; reads = []; writes = []; cuts = []; syncs = [] }
 
--- the record of its calls, those that are to fail, the moment of its opening, its faults, those of
--- them that were want of memory, and whether its last call failed
+-- the record of its calls, those that are to fail, the moment of its opening, its faults, and
+-- whether its last call failed
 pub record MemState : Type 0 where
   pub made : CallRecord
   pub failing : ToFail
   pub opened : ℕ
-  pub faults : ℕ
-  pub starved : ℕ
+  pub faults : Faults
   pub has_failed : Bool
 
 -- a disk of this content, on which no call was made
@@ -58,8 +58,7 @@ fresh_disk bytes = record {
   made = record { first = bytes; calls = [] };
   failing = none_to_fail;
   opened = 0;
-  faults = 0;
-  starved = 0;
+  faults = no_faults;
   has_failed = false;
 }
 
@@ -68,7 +67,7 @@ fresh_disk bytes = record {
 -- its frame
 abbrev pub mem_disk_frame : MemState → DiskFrame
 mem_disk_frame disk =
-    record { faults = disk.faults; opened = disk.opened; has_failed = disk.has_failed }
+    record { faults = disk.faults.count; opened = disk.opened; has_failed = disk.has_failed }
 
 -- what a read gives
 abbrev pub content_of : MemState → Option (List ℕ)
@@ -105,7 +104,7 @@ abbrev pub disk_after_fault : DiskCall → MemState → Step → MemState
 disk_after_fault kind disk begun = record disk {
   made = with_call disk.made begun;
   failing = after_kind kind disk.failing;
-  faults = one_more disk.faults;
+  faults = one_fault disk.faults;
   has_failed = true;
 }
 
@@ -113,8 +112,7 @@ disk_after_fault kind disk begun = record disk {
 abbrev pub disk_after_starving : DiskCall → MemState → MemState
 disk_after_starving kind disk = record disk {
   failing = after_kind kind disk.failing;
-  faults = one_more disk.faults;
-  starved = one_more disk.starved;
+  faults = one_starved disk.faults;
   has_failed = true;
 }
 
@@ -127,3 +125,11 @@ IsMemCall kind done begun old new (Ok value) =
 IsMemCall kind done begun old new (Err failed) =
     (new ≡ disk_after_starving kind old)
     ⊎ (Contains (of_kind kind old.failing) 1 × (new ≡ disk_after_fault kind old begun))
+
+-- How a call ends: its record found no memory, or it was to fail, or it was done.
+abbrev pub Ends : {T : Type 0} → Bool → Bool → MemState → MemState → Result T Failed → Type 0
+Ends true fails old new result =
+    IsErr result × (new ≡ record old { faults = one_starved old.faults; has_failed = true })
+Ends false true old new result =
+    IsErr result × (new ≡ record old { faults = one_fault old.faults; has_failed = true })
+Ends false false old new result = IsOk result × (new ≡ record old { has_failed = false })

@@ -1,8 +1,7 @@
 // A cabinet in memory, whose disks keep records of their calls.
 ghost use Rattle.std.specs.Prelude.{◌≡◌, ◌≢◌, ◌⊎◌, ◌↔◌, ◌-◌, ◌<◌, ◌≤◌, ℕ, List, [], ◌∷◌, ◌++◌, None, Some, true, false, Contains, IfNone, IfOk, IfSome, IsErr, IsFalse, IsSome, IsTrue, MatchResult, OnErr, OnOk, length, min};
-ghost use Rattle.hose_io.specs.Count.{one_more};
-ghost use Rattle.hose_io.specs.Frame.{Rose};
-ghost use Rattle.hose_disk.specs.Cabinet.{Has, IsDiskCall, IsTextAt, IsTextCall, absent_after, after_back, object_of, opened_at, where_told};
+ghost use Rattle.hose_io.specs.Faults.{no_faults};
+ghost use Rattle.hose_disk.specs.Cabinet.{Has, IsDiskCall, IsTextAt, IsTextCall, absent_after, after_back, opened_at, where_told};
 ghost use Rattle.hose_disk.specs.CabinetState.{IsMemOpening, cabinet_after_done, cabinet_after_refusal, cabinet_after_return, cabinet_frame, held_of, item_of, text_of};
 ghost use Rattle.hose_disk.specs.Disk.{NoneNew};
 ghost use Rattle.hose_disk.specs.MemState.{content_of, mem_disk_frame, image_of, moment_of};
@@ -11,7 +10,7 @@ use crate::cabinet::Cabinet;
 use crate::mem_disk::{MemDisk, read};
 use crate::named::{Named, place_of};
 use crate::shelf::Shelf;
-use hose_io::{Failed, FailingCalls};
+use hose_io::{Failed, FailingCalls, Faults};
 use std::alloc::{AllocError, Global};
 use std::marker::Model;
 
@@ -34,8 +33,7 @@ impl Model for Text {
 pub struct MemCabinet {
     texts: Vec<Named<Text>>,
     shelf: Shelf,
-    faults: u64,
-    starved: u64,
+    faults: Faults,
     absent: u64,
     returned: u64,
     failing: FailingCalls,
@@ -50,7 +48,6 @@ impl Model for MemCabinet {
       texts = cabinet.texts.items;
       shelf = cabinet.shelf;
       faults = cabinet.faults;
-      starved = cabinet.starved;
       absent = cabinet.absent;
       returned = cabinet.returned;
       failing = cabinet.failing;
@@ -63,8 +60,7 @@ impl MemCabinet {
         ensures { IfOk result (λ cabinet. cabinet ≡ record {
           texts = [];
           shelf = record { disks = record { name = name.now; item = disk } ∷ []; out = None };
-          faults = 0;
-          starved = 0;
+          faults = no_faults;
           absent = 0;
           returned = 0;
           failing = [];
@@ -73,8 +69,7 @@ impl MemCabinet {
         Ok(MemCabinet {
             texts: Vec::new(alloc),
             shelf: Shelf::of(alloc, name, disk)?,
-            faults: 0,
-            starved: 0,
+            faults: Faults::none(),
             absent: 0,
             returned: 0,
             failing: FailingCalls::new(alloc),
@@ -97,7 +92,7 @@ impl MemCabinet {
     }
 
     /// The `nth` call of `text` and `disk` together from now on, counted from 1, is to fail.
-    pub fn fail(&mut self, _alloc: Global, nth: u64) -> Result<(), AllocError>
+    pub fn fail(&mut self, nth: u64) -> Result<(), AllocError>
         ensures ok { OnOk result
             (self.new ≡ record self.old { failing = self.old.failing ++ nth ∷ [] }) }
         ensures err { OnErr result (self.new ≡ self.old) }
@@ -105,19 +100,12 @@ impl MemCabinet {
         self.failing.add(nth)
     }
 
-    /// How many calls have failed, those among them that were the last call of a disk that was
-    /// put back.
-    pub fn faults(&self) -> u64
+    /// What it counts of its calls that failed, those among them that were the last call of a disk
+    /// that was put back.
+    pub fn faults(&self) -> Faults
         ensures { result ≡ self.now.faults }
     {
         self.faults
-    }
-
-    /// How many of the failed calls found no memory.
-    pub fn starved(&self) -> u64
-        ensures { result ≡ self.now.starved }
-    {
-        self.starved
     }
 
     /// How many texts were asked for that are not there.
@@ -125,31 +113,6 @@ impl MemCabinet {
         ensures { result ≡ self.now.absent }
     {
         self.absent
-    }
-
-    // Counts a call that failed.
-    fn fault(&mut self) -> Failed
-        ensures after { self.new ≡ record self.old { faults = one_more self.old.faults } }
-        ensures rose { Rose
-            (object_of (cabinet_frame self.old)) (object_of (cabinet_frame self.new)) }
-        ensures never_falls { self.old.faults ≤ self.new.faults }
-    {
-        self.faults = self.faults.saturating_add(1);
-        Failed
-    }
-
-    // Counts a call that found no memory.
-    fn starve(&mut self) -> Failed
-        ensures after { self.new ≡ record self.old {
-          faults = one_more self.old.faults;
-          starved = one_more self.old.starved;
-        } }
-        ensures rose { Rose
-            (object_of (cabinet_frame self.old)) (object_of (cabinet_frame self.new)) }
-        ensures never_falls { self.old.faults ≤ self.new.faults }
-    {
-        self.starved = self.starved.saturating_add(1);
-        self.fault()
     }
 }
 
@@ -188,10 +151,10 @@ impl Cabinet for MemCabinet {
         let fails = self.failing.next();
         let Some(count) = read else {
             self.absent = self.absent.saturating_add(1);
-            return Err(self.fault());
+            return Err(self.faults.fail());
         };
         if fails {
-            return Err(self.fault());
+            return Err(self.faults.fail());
         }
         Ok(count)
     }
@@ -214,11 +177,11 @@ impl Cabinet for MemCabinet {
         ensures exact { IsMemOpening name.now self.old self.new result }
     {
         if self.failing.next() {
-            return Err(self.fault());
+            return Err(self.faults.fail());
         }
         match self.shelf.take_out(name.as_bytes()) {
             Ok(disk) => Ok(disk.opened_again()),
-            Err(_) => Err(self.starve()),
+            Err(_) => Err(self.faults.starve()),
         }
     }
 
@@ -229,16 +192,16 @@ impl Cabinet for MemCabinet {
         ensures others { IfSome self.old.shelf.out (λ name. (other : List ℕ) → other ≢ name →
             held_of self.new other ≡ held_of self.old other) }
         ensures texts { text_of self.new ≡ text_of self.old }
-        ensures never_falls { self.old.faults ≤ self.new.faults }
+        ensures never_falls { self.old.faults.count ≤ self.new.faults.count }
         ensures call { cabinet_frame self.new
             ≡ after_back (mem_disk_frame disk) (cabinet_frame self.old) }
 
         ensures exact { IfSome self.old.shelf.out
             (λ name. self.new ≡ cabinet_after_return name disk self.old) }
     {
-        self.returned = disk.faults();
+        self.returned = disk.faults().count;
         if disk.has_failed() {
-            self.fault();
+            self.faults.fail();
         }
         self.shelf.put_back(disk);
     }

@@ -1,11 +1,9 @@
 // A disk in memory, which keeps a record of its calls.
-ghost use Rattle.std.specs.Prelude.{◌≡◌, ◌+◌, ◌<◌, ◌≤◌, ◌^◌, ℕ, ◌∷◌, ◌++◌, [], true, false, IfOk, OnOk, OnErr, length, take};
-ghost use Rattle.hose_io.specs.Count.{one_more};
-ghost use Rattle.hose_io.specs.Frame.{Rose};
+ghost use Rattle.std.specs.Prelude.{◌≡◌, ◌+◌, ◌<◌, ◌≤◌, ◌^◌, ℕ, ◌∷◌, ◌++◌, [], IfOk, OnOk, OnErr, length, take};
 ghost use Rattle.hose_disk.specs.CabinetState.{reopened};
-ghost use Rattle.hose_disk.specs.Disk.{IsCalled, IsOverwritten, Torn, IsCut, IsTruncated, IsReadAt, Told, StepsTo, NoneNew, Only, Elapses, object_frame};
+ghost use Rattle.hose_disk.specs.Disk.{IsCalled, IsOverwritten, Torn, IsCut, IsTruncated, IsReadAt, Told, StepsTo, NoneNew, Only, Elapses};
 ghost use Rattle.hose_disk.specs.Images.{IsImage, calls_at, idle, wrote, tried_write, cut_to, tried_cut, synced};
-ghost use Rattle.hose_disk.specs.MemState.{of_kind, with_kind, fresh_disk, mem_disk_frame, content_of, moment_of, image_of, left_since_of, IsMemCall};
+ghost use Rattle.hose_disk.specs.MemState.{of_kind, with_kind, fresh_disk, mem_disk_frame, content_of, moment_of, image_of, left_since_of, Ends, IsMemCall};
 ghost use Rattle.hose_disk.specs.Picks.{picked};
 ghost use Rattle.hose_disk.specs.Recording.{reads};
 ghost use Rattle.hose_disk.specs.declared.call.DiskCall.TheVariants.{Len, Read, Write, Cut, Sync};
@@ -13,7 +11,7 @@ ghost use Rattle.hose_disk.specs.declared.call.DiskCall.TheVariants.{Len, Read, 
 use crate::call::{DiskCall, FailingByKind};
 use crate::disk::Disk;
 use crate::recording::{Pick, Recording};
-use hose_io::Failed;
+use hose_io::{Failed, Faults};
 use std::alloc::{AllocError, Global};
 use std::marker::Model;
 
@@ -24,8 +22,7 @@ pub struct MemDisk {
     made: Recording,
     failing: FailingByKind,
     opened: usize,
-    faults: u64,
-    starved: u64,
+    faults: Faults,
     has_failed: bool,
 }
 
@@ -39,7 +36,6 @@ impl Model for MemDisk {
       failing = disk.failing;
       opened = disk.opened;
       faults = disk.faults;
-      starved = disk.starved;
       has_failed = disk.has_failed;
     } };
 }
@@ -53,7 +49,7 @@ impl MemDisk {
     }
 
     /// The `nth` call of this kind from now on, counted from 1, is to fail.
-    pub fn fail(&mut self, _alloc: Global, kind: DiskCall, nth: u64) -> Result<(), AllocError>
+    pub fn fail(&mut self, kind: DiskCall, nth: u64) -> Result<(), AllocError>
         ensures ok { OnOk result (self.new ≡ record self.old {
           failing = with_kind kind self.old.failing (of_kind kind self.old.failing ++ nth ∷ []);
         }) }
@@ -62,18 +58,11 @@ impl MemDisk {
         self.failing.add(kind, nth)
     }
 
-    /// How many calls have failed.
-    pub fn faults(&self) -> u64
+    /// What it counts of its calls that failed.
+    pub fn faults(&self) -> Faults
         ensures { result ≡ self.now.faults }
     {
         self.faults
-    }
-
-    /// How many of the failed calls found no memory.
-    pub fn starved(&self) -> u64
-        ensures { result ≡ self.now.starved }
-    {
-        self.starved
     }
 
     /// How many calls were made and recorded.
@@ -109,8 +98,7 @@ impl MemDisk {
             made: Recording::new(alloc, bytes)?,
             failing: FailingByKind::new(alloc),
             opened: 0,
-            faults: 0,
-            starved: 0,
+            faults: Faults::none(),
             has_failed: false,
         })
     }
@@ -127,110 +115,38 @@ impl MemDisk {
         ensures { result ≡ reopened self }
     {
         self.opened = self.made.calls();
-        self.faults = 0;
-        self.starved = 0;
+        self.faults = Faults::none();
         self.has_failed = false;
         self
     }
 
-    // Counts a call that was to fail.
-    fn fault(&mut self) -> Failed
-        ensures after { self.new ≡ record self.old {
-          faults = one_more self.old.faults;
-          has_failed = true;
-        } }
-        ensures rose { Rose (object_frame (mem_disk_frame self.old))
-            (object_frame (mem_disk_frame self.new)) }
-        ensures never_falls { self.old.faults ≤ self.new.faults }
+    // Ends a call whose record found no memory, or that was to fail, or that is done.
+    fn end(&mut self, starves: bool, fails: bool) -> Result<(), Failed>
+        ensures ends { Ends starves fails self.old self.new result }
+        ensures call { IsCalled (mem_disk_frame self.old) (mem_disk_frame self.new) result }
     {
-        self.faults = self.faults.saturating_add(1);
-        self.has_failed = true;
-        Failed
-    }
-
-    // Counts a call that found no memory.
-    fn starve(&mut self) -> Failed
-        ensures after { self.new ≡ record self.old {
-          faults = one_more self.old.faults;
-          starved = one_more self.old.starved;
-          has_failed = true;
-        } }
-        ensures rose { Rose (object_frame (mem_disk_frame self.old))
-            (object_frame (mem_disk_frame self.new)) }
-        ensures never_falls { self.old.faults ≤ self.new.faults }
-    {
-        self.starved = self.starved.saturating_add(1);
-        self.fault()
+        self.has_failed = starves | fails;
+        if starves {
+            return Err(self.faults.starve());
+        }
+        if fails {
+            return Err(self.faults.fail());
+        }
+        Ok(())
     }
 
     // A call that changes nothing.
     fn make_idle(&mut self, kind: DiskCall) -> Result<(), Failed>
-        ensures exact { IsMemCall kind idle idle self.old self.new result }
+        ensures same { content_of self.new ≡ content_of self.old }
+        ensures images { NoneNew (image_of self.old) (image_of self.new) }
+        ensures time { Elapses (moment_of self.old) (moment_of self.new)
+            (left_since_of self.old) (left_since_of self.new) (image_of self.new) }
         ensures call { IsCalled (mem_disk_frame self.old) (mem_disk_frame self.new) result }
+        ensures exact { IsMemCall kind idle idle self.old self.new result }
     {
         let fails = self.failing.next(kind);
-        if self.made.idle().is_err() {
-            return Err(self.starve());
-        }
-        if fails {
-            return Err(self.fault());
-        }
-        self.has_failed = false;
-        Ok(())
-    }
-
-    fn make_write(&mut self, at: u64, bytes: &[u8]) -> Result<(), Failed>
-        requires small { at + length bytes.now < 2 ^ 62 }
-        requires within { at ≤ length (reads self.old.made) }
-        ensures exact { IsMemCall Write (wrote at bytes.now) (tried_write at (length bytes.now))
-            self.old self.new result }
-        ensures call { IsCalled (mem_disk_frame self.old) (mem_disk_frame self.new) result }
-    {
-        if self.failing.next(DiskCall::Write) {
-            if self.made.try_write(at as usize, bytes.len()).is_err() {
-                return Err(self.starve());
-            }
-            return Err(self.fault());
-        }
-        if self.made.write(at as usize, bytes).is_err() {
-            return Err(self.starve());
-        }
-        self.has_failed = false;
-        Ok(())
-    }
-
-    fn make_cut(&mut self, len: u64) -> Result<(), Failed>
-        ensures exact { IsMemCall Cut (cut_to len) (tried_cut len) self.old self.new result }
-        ensures call { IsCalled (mem_disk_frame self.old) (mem_disk_frame self.new) result }
-    {
-        if self.failing.next(DiskCall::Cut) {
-            if self.made.try_cut(len as usize).is_err() {
-                return Err(self.starve());
-            }
-            return Err(self.fault());
-        }
-        if self.made.cut(len as usize).is_err() {
-            return Err(self.starve());
-        }
-        self.has_failed = false;
-        Ok(())
-    }
-
-    fn make_sync(&mut self) -> Result<(), Failed>
-        ensures exact { IsMemCall Sync synced idle self.old self.new result }
-        ensures call { IsCalled (mem_disk_frame self.old) (mem_disk_frame self.new) result }
-    {
-        if self.failing.next(DiskCall::Sync) {
-            if self.made.idle().is_err() {
-                return Err(self.starve());
-            }
-            return Err(self.fault());
-        }
-        if self.made.sync().is_err() {
-            return Err(self.starve());
-        }
-        self.has_failed = false;
-        Ok(())
+        let recorded = self.made.idle();
+        self.end(recorded.is_err(), fails)
     }
 }
 
@@ -305,7 +221,9 @@ impl Disk for MemDisk {
         ensures exact { IsMemCall Write (wrote at bytes.now) (tried_write at (length bytes.now))
             self.old self.new result }
     {
-        self.make_write(at, bytes)
+        let fails = self.failing.next(DiskCall::Write);
+        let recorded = self.made.write(at as usize, bytes, fails);
+        self.end(recorded.is_err(), fails)
     }
 
     fn cut(&mut self, len: u64) -> Result<(), Failed>
@@ -321,7 +239,9 @@ impl Disk for MemDisk {
         ensures call { IsCalled (mem_disk_frame self.old) (mem_disk_frame self.new) result }
         ensures exact { IsMemCall Cut (cut_to len) (tried_cut len) self.old self.new result }
     {
-        self.make_cut(len)
+        let fails = self.failing.next(DiskCall::Cut);
+        let recorded = self.made.cut(len as usize, fails);
+        self.end(recorded.is_err(), fails)
     }
 
     fn sync(&mut self) -> Result<(), Failed>
@@ -333,7 +253,9 @@ impl Disk for MemDisk {
         ensures call { IsCalled (mem_disk_frame self.old) (mem_disk_frame self.new) result }
         ensures exact { IsMemCall Sync synced idle self.old self.new result }
     {
-        self.make_sync()
+        let fails = self.failing.next(DiskCall::Sync);
+        let recorded = self.made.sync(fails);
+        self.end(recorded.is_err(), fails)
     }
 }
 

@@ -1,5 +1,5 @@
 // What a disk in memory held at first, a record of its calls, and which images a stop may leave.
-ghost use Rattle.std.specs.Prelude.{◌≡◌, ◌≤◌, ◌+◌, ◌^◌, ◌<◌, [], ◌∷◌, length, OnOk, OnErr, IfOk};
+ghost use Rattle.std.specs.Prelude.{◌≡◌, ◌≤◌, ◌+◌, ◌^◌, ◌<◌, [], ◌∷◌, length, OnOk, OnErr, IfOk, IsFalse, IsTrue};
 ghost use Rattle.hose_disk.specs.Disk.{IsOverwritten};
 ghost use Rattle.hose_disk.specs.Picks.{filled, pick_after, picked};
 ghost use Rattle.hose_disk.specs.Images as images;
@@ -92,13 +92,19 @@ impl Recording {
         note(&mut self.calls, Recorded::Idle)
     }
 
-    /// A write that is done.
-    pub fn write(&mut self, at: usize, bytes: &[u8]) -> Result<(), AllocError>
+    /// A write, which is only begun where it fails.
+    pub fn write(&mut self, at: usize, bytes: &[u8], fails: bool) -> Result<(), AllocError>
         requires small { at + length bytes.now < 2 ^ 62 }
         requires within { at ≤ length (reads self.old) }
-        ensures ok { OnOk result (self.new ≡ with_call self.old (wrote at bytes.now)) }
+        ensures done { IsFalse fails → OnOk result
+            (self.new ≡ with_call self.old (wrote at bytes.now)) }
+        ensures begun { IsTrue fails → OnOk result
+            (self.new ≡ with_call self.old (tried_write at (length bytes.now))) }
         ensures err { OnErr result (self.new ≡ self.old) }
     {
+        if fails {
+            return note(&mut self.calls, Recorded::TriedWrite(at, bytes.len()));
+        }
         let next = overwrite(self.alloc, &self.bytes, at, bytes)?;
         let kept = Vec::from_slice(self.alloc, bytes)?;
         note(&mut self.calls, Recorded::Wrote(at, kept))?;
@@ -106,39 +112,30 @@ impl Recording {
         Ok(())
     }
 
-    /// A write that is begun and fails.
-    pub fn try_write(&mut self, at: usize, count: usize) -> Result<(), AllocError>
-        requires small { at + count < 2 ^ 62 }
-        requires within { at ≤ length (reads self.old) }
-        ensures ok { OnOk result (self.new ≡ with_call self.old (tried_write at count)) }
+    /// A cut, which is only begun where it fails.
+    pub fn cut(&mut self, len: usize, fails: bool) -> Result<(), AllocError>
+        ensures done { IsFalse fails → OnOk result (self.new ≡ with_call self.old (cut_to len)) }
+        ensures begun { IsTrue fails → OnOk result
+            (self.new ≡ with_call self.old (tried_cut len)) }
         ensures err { OnErr result (self.new ≡ self.old) }
     {
-        note(&mut self.calls, Recorded::TriedWrite(at, count))
-    }
-
-    /// A cut that is done.
-    pub fn cut(&mut self, len: usize) -> Result<(), AllocError>
-        ensures ok { OnOk result (self.new ≡ with_call self.old (cut_to len)) }
-        ensures err { OnErr result (self.new ≡ self.old) }
-    {
+        if fails {
+            return note(&mut self.calls, Recorded::TriedCut(len));
+        }
         note(&mut self.calls, Recorded::CutTo(len))?;
         self.bytes.truncate(len);
         Ok(())
     }
 
-    /// A cut that is begun and fails.
-    pub fn try_cut(&mut self, len: usize) -> Result<(), AllocError>
-        ensures ok { OnOk result (self.new ≡ with_call self.old (tried_cut len)) }
+    /// A sync, which changes nothing where it fails.
+    pub fn sync(&mut self, fails: bool) -> Result<(), AllocError>
+        ensures done { IsFalse fails → OnOk result (self.new ≡ with_call self.old synced) }
+        ensures begun { IsTrue fails → OnOk result (self.new ≡ with_call self.old idle) }
         ensures err { OnErr result (self.new ≡ self.old) }
     {
-        note(&mut self.calls, Recorded::TriedCut(len))
-    }
-
-    /// A sync that is done.
-    pub fn sync(&mut self) -> Result<(), AllocError>
-        ensures ok { OnOk result (self.new ≡ with_call self.old synced) }
-        ensures err { OnErr result (self.new ≡ self.old) }
-    {
+        if fails {
+            return note(&mut self.calls, Recorded::Idle);
+        }
         note(&mut self.calls, Recorded::Synced)
     }
 

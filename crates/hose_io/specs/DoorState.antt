@@ -1,11 +1,12 @@
 -- What contracts see of a door in memory, and what each of its calls does to that.
 use Rattle.std.specs.Prelude.{◌≡◌, ℕ, ◌+◌, List, [], ◌∷◌, ◌++◌, map, Some, ⊤}
 use Rattle.hose_io.specs.Connections.{Connection, Connections}
-use Rattle.hose_io.specs.Count.{one_more}
 use Rattle.hose_io.specs.FailingCalls.{later_calls}
+use Rattle.hose_io.specs.Faults.{faults_frame, no_faults, one_fault}
 use Rattle.hose_io.specs.Frame.{Frame}
-use Rattle.hose_io.specs.SinkState.{SinkState, mem_sink_frame as sink_frame}
+use Rattle.hose_io.specs.SinkState.{SinkState, fresh_sink, mem_sink_frame as sink_frame}
 use Rattle.hose_io.specs.SourceState.{SourceState, mem_source_frame as source_frame}
+use Rattle.hose_io.specs.declared.faults.Faults.{Faults}
 use Rattle.hose_io.specs.declared.sink.Sink.{Ghosts as SinkGhosts}
 use Rattle.hose_io.specs.declared.source.Source.{Ghosts as SourceGhosts}
 
@@ -21,13 +22,13 @@ pub record DoorState : Type 0 where
   pub coming : List SourceState
   pub accepted : ℕ
   pub ended : List DoneState
-  pub faults : ℕ
+  pub faults : Faults
   pub failing : List ℕ
 
 -- Nothing was taken from a source, and no call of it has failed.
 pub record IsFresh (source : SourceState) : Type 0 where
   pub untaken : source.content.taken ≡ []
-  pub unfailed : source.faults ≡ 0
+  pub unfailed : source.faults ≡ no_faults
 
 -- a source in memory, as a source
 abbrev pub mem_source : SourceGhosts SourceState
@@ -45,22 +46,11 @@ mem_sink = record {
   pieces = λ sink. sink.pieces;
 }
 
--- a sink that was given nothing
-abbrev pub fresh_sink : SinkState
-fresh_sink = record {
-  given = [];
-  faults = 0;
-  starved = 0;
-  pieces = 0;
-  failing = [];
-  number = 0;
-}
-
 -- ---- what a door tells
 
 -- its frame
 abbrev pub mem_door_frame : DoorState → Frame
-mem_door_frame door = record { faults = door.faults; number = 0; loan = [] }
+mem_door_frame door = faults_frame door.faults 0
 
 -- what a connection that ended came to
 abbrev pub outcome : DoneState → Connection
@@ -68,8 +58,8 @@ outcome done = record {
   taken = done.input.content.taken;
   left = done.input.content.left;
   given = done.output.given;
-  reading = done.input.faults;
-  writing = done.output.faults;
+  reading = done.input.faults.count;
+  writing = done.output.faults.count;
 }
 
 -- its connections
@@ -88,7 +78,7 @@ door_after_call door = record door { failing = later_calls door.failing }
 
 -- after a call that failed
 abbrev pub door_after_fault : DoorState → DoorState
-door_after_fault door = record (door_after_call door) { faults = one_more door.faults }
+door_after_fault door = record (door_after_call door) { faults = one_fault door.faults }
 
 -- A call of `accept` gave the next connection: its input and its output have its number.
 pub record IsHandedOut (old new : DoorState) (input : SourceState) (output : SinkState) :

@@ -1,8 +1,10 @@
+pub mod Borrowed
 pub mod Calls
 pub mod Connections
 pub mod Count
 pub mod DoorState
 pub mod FailingCalls
+pub mod Faults
 pub mod Frame
 pub mod Gather
 pub mod SinkState

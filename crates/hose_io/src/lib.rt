@@ -4,6 +4,7 @@
 
 mod door;
 mod failing;
+mod faults;
 mod gather;
 mod mem_door;
 mod mem_sink;
@@ -14,12 +15,13 @@ mod std_streams;
 
 pub use door::Door;
 pub use failing::FailingCalls;
+pub use faults::Faults;
 pub use gather::{GATHER_LIMIT, Gather, write_all};
 pub use mem_door::{MemDone, MemDoor};
 pub use mem_sink::MemSink;
 pub use mem_source::MemSource;
 pub use sink::Sink;
-pub use source::Source;
+pub use source::{Source, take_after};
 pub use std_streams::{StdSink, StdSource};
 
 /// A call of a source or a sink failed. The object's count of faults rose in that call.

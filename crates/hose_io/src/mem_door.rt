@@ -1,11 +1,12 @@
 // Connections in memory.
 ghost use Rattle.std.specs.Prelude.{◌≡◌, ◌↔◌, ◌<◌, ◌+◌, Option, Some, List, [], ◌∷◌, ◌++◌, All, IfOk, IsErr, OnOk, OnErr, MatchOption, MatchResult, Contains, length};
 ghost use Rattle.hose_io.specs.Connections.{Accepts, AreAccounted, AreUsedUp, ComesBack, IsConnection, MayComeBack, connection_of};
-ghost use Rattle.hose_io.specs.Count.{one_more};
-ghost use Rattle.hose_io.specs.DoorState.{IsFresh, IsHandedOut, door_after_return, door_after_call, door_after_fault, connections_of, fresh_sink, mem_door_frame, mem_sink, mem_source, outcome};
-ghost use Rattle.hose_io.specs.Frame.{Frame, Met, Rose};
+ghost use Rattle.hose_io.specs.DoorState.{IsFresh, IsHandedOut, door_after_return, door_after_call, door_after_fault, connections_of, mem_door_frame, mem_sink, mem_source, outcome};
+ghost use Rattle.hose_io.specs.Faults.{no_faults};
+ghost use Rattle.hose_io.specs.Frame.{Met};
+ghost use Rattle.hose_io.specs.SinkState.{fresh_sink};
 
-use crate::{Door, Failed, FailingCalls, MemSink, MemSource};
+use crate::{Door, Failed, FailingCalls, Faults, MemSink, MemSource};
 use std::alloc::{AllocError, Global};
 use std::collections::VecDeque;
 use std::marker::Model;
@@ -40,7 +41,8 @@ struct Coming {
 
 impl Model for Coming {
     ghost use Rattle.std.specs.Prelude.{◌≡◌};
-    ghost use Rattle.hose_io.specs.DoorState.{IsFresh, fresh_sink};
+    ghost use Rattle.hose_io.specs.DoorState.{IsFresh};
+    ghost use Rattle.hose_io.specs.SinkState.{fresh_sink};
     ghost use Rattle.hose_io.specs.SourceState.{SourceState};
 
     ghost Value = { SourceState };
@@ -81,7 +83,7 @@ pub struct MemDoor {
     coming: VecDeque<Coming>,
     accepted: u64,
     ended: Vec<MemDone>,
-    faults: u64,
+    faults: Faults,
     failing: FailingCalls,
 }
 
@@ -113,7 +115,7 @@ impl MemDoor {
           coming = inputs.items;
           accepted = 0;
           ended = [];
-          faults = 0;
+          faults = no_faults;
           failing = [];
         }) }
     {
@@ -126,7 +128,7 @@ impl MemDoor {
             coming,
             accepted: 0,
             ended,
-            faults: 0,
+            faults: Faults::none(),
             failing: FailingCalls::new(alloc),
         })
     }
@@ -138,15 +140,15 @@ impl MemDoor {
         &self.ended
     }
 
-    /// How many calls have failed.
-    pub fn faults(&self) -> u64
+    /// What it counts of its calls that failed, of which none finds no memory.
+    pub fn faults(&self) -> Faults
         ensures { result ≡ self.now.faults }
     {
         self.faults
     }
 
     /// The `nth` call of `open` and `accept` together from now on, counted from 1, is to fail.
-    pub fn fail(&mut self, _alloc: Global, nth: u64) -> Result<(), AllocError>
+    pub fn fail(&mut self, nth: u64) -> Result<(), AllocError>
         ensures ok { OnOk result
             (self.new ≡ record self.old { failing = self.old.failing ++ nth ∷ [] }) }
         ensures err { OnErr result (self.new ≡ self.old) }
@@ -164,8 +166,7 @@ impl MemDoor {
             (λ _. self.new ≡ door_after_fault self.old) }
     {
         if self.failing.next() {
-            self.faults = self.faults.saturating_add(1);
-            return Err(Failed);
+            return Err(self.faults.fail());
         }
         Ok(())
     }
@@ -230,7 +231,8 @@ impl Door for MemDoor {
     fn done(input: MemSource, output: MemSink) -> MemDone
         requires { input.number ≡ output.number }
         ensures came_to { Some (outcome result)
-            ≡ connection_of (Some input.content) (Some output.given) input.faults output.faults }
+            ≡ connection_of (Some input.content) (Some output.given)
+            input.faults.count output.faults.count }
 
         ensures done { result ≡ record {
           number = input.number;

@@ -2,10 +2,10 @@
 ghost use Rattle.std.specs.Prelude.{◌≡◌, ◌<◌, ◌≤◌, ℕ, Option, Some, List, [], ◌∷◌, ◌++◌, IfOk, IsErr, OnOk, OnErr, MatchResult, Contains, length, take};
 ghost use Rattle.hose_io.specs.Count.{pieces_after};
 ghost use Rattle.hose_io.specs.Frame.{Frame, Met};
-ghost use Rattle.hose_io.specs.SinkState.{SinkState, mem_sink_frame, sink_after_putting, sink_after_fault, sink_after_starving};
+ghost use Rattle.hose_io.specs.SinkState.{SinkState, fresh_sink, mem_sink_frame, sink_after_putting, sink_after_fault, sink_after_starving};
 ghost use Rattle.hose_io.specs.Stream.{Grows};
 
-use crate::{Failed, FailingCalls, Sink};
+use crate::{Failed, FailingCalls, Faults, Sink};
 use std::alloc::{AllocError, Global};
 use std::marker::Model;
 
@@ -14,9 +14,8 @@ use std::marker::Model;
 #[derive(Debug, Drop)]
 pub struct MemSink {
     bytes: Vec<u8>,
-    faults: u64,
-    starved: u64,
     pieces: u64,
+    faults: Faults,
     failing: FailingCalls,
     number: u64,
 }
@@ -28,9 +27,8 @@ impl Model for MemSink {
 
     ghost view = { λ s. record {
       given = s.bytes.items;
-      faults = s.faults;
-      starved = s.starved;
       pieces = s.pieces;
+      faults = s.faults;
       failing = s.failing;
       number = s.number;
     } };
@@ -39,20 +37,12 @@ impl Model for MemSink {
 impl MemSink {
     /// A sink that was given nothing. Its number is 0.
     pub fn new(alloc: Global) -> Result<MemSink, AllocError>
-        ensures { IfOk result (λ sink. sink ≡ record {
-          given = [];
-          faults = 0;
-          starved = 0;
-          pieces = 0;
-          failing = [];
-          number = 0;
-        }) }
+        ensures { IfOk result (λ sink. sink ≡ fresh_sink) }
     {
         Ok(MemSink {
             bytes: Vec::new(alloc),
-            faults: 0,
-            starved: 0,
             pieces: 0,
+            faults: Faults::none(),
             failing: FailingCalls::new(alloc),
             number: 0,
         })
@@ -73,22 +63,15 @@ impl MemSink {
         &self.bytes
     }
 
-    /// How many calls have failed.
-    pub fn faults(&self) -> u64
+    /// What it counts of its calls that failed.
+    pub fn faults(&self) -> Faults
         ensures { result ≡ self.now.faults }
     {
         self.faults
     }
 
-    /// How many of the failed calls found no memory.
-    pub fn starved(&self) -> u64
-        ensures { result ≡ self.now.starved }
-    {
-        self.starved
-    }
-
     /// The `nth` call of `put` from now on, counted from 1, is to fail.
-    pub fn fail(&mut self, _alloc: Global, nth: u64) -> Result<(), AllocError>
+    pub fn fail(&mut self, nth: u64) -> Result<(), AllocError>
         ensures ok { OnOk result
             (self.new ≡ record self.old { failing = self.old.failing ++ nth ∷ [] }) }
         ensures err { OnErr result (self.new ≡ self.old) }
@@ -129,13 +112,10 @@ impl Sink for MemSink {
             OnErr result (self.new ≡ sink_after_starving self.old) }
     {
         if self.failing.next() {
-            self.faults = self.faults.saturating_add(1);
-            return Err(Failed);
+            return Err(self.faults.fail());
         }
         if self.bytes.extend_from_slice(bytes).is_err() {
-            self.faults = self.faults.saturating_add(1);
-            self.starved = self.starved.saturating_add(1);
-            return Err(Failed);
+            return Err(self.faults.starve());
         }
         self.pieces = self.pieces.saturating_add(1);
         Ok(bytes.len())

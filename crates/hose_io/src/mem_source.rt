@@ -1,10 +1,11 @@
 // Bytes in memory that are read.
 ghost use Rattle.std.specs.Prelude.{◌≡◌, ◌↔◌, ◌<◌, ◌≤◌, ℕ, Option, Ok, List, [], ◌∷◌, ◌++◌, IfOk, IsErr, OnOk, OnErr, MatchResult, Contains, length, min, take};
+ghost use Rattle.hose_io.specs.Faults.{no_faults};
 ghost use Rattle.hose_io.specs.Frame.{Frame, Met};
 ghost use Rattle.hose_io.specs.SourceState.{SourceState, mem_source_frame, source_after_taking, source_after_fault};
 ghost use Rattle.hose_io.specs.Stream.{Stream, Gives, IsAtEnd};
 
-use crate::{Failed, FailingCalls, Source};
+use crate::{Failed, FailingCalls, Faults, Source};
 use std::alloc::{AllocError, Global};
 use std::marker::Model;
 
@@ -15,7 +16,7 @@ pub struct MemSource {
     bytes: Vec<u8>,
     taken: usize,
     piece: u64,
-    faults: u64,
+    faults: Faults,
     failing: FailingCalls,
     number: u64,
 }
@@ -44,7 +45,7 @@ impl MemSource {
         ensures { IfOk result (λ source. source ≡ record {
           content = record { taken = []; left = bytes.now };
           piece = piece;
-          faults = 0;
+          faults = no_faults;
           failing = [];
           number = 0;
         }) }
@@ -53,7 +54,7 @@ impl MemSource {
             bytes: Vec::from_slice(alloc, bytes)?,
             taken: 0,
             piece,
-            faults: 0,
+            faults: Faults::none(),
             failing: FailingCalls::new(alloc),
             number: 0,
         })
@@ -87,15 +88,15 @@ impl MemSource {
         &self.bytes[..self.taken]
     }
 
-    /// How many calls have failed.
-    pub fn faults(&self) -> u64
+    /// What it counts of its calls that failed, of which none finds no memory.
+    pub fn faults(&self) -> Faults
         ensures { result ≡ self.now.faults }
     {
         self.faults
     }
 
     /// The `nth` call of `take` from now on, counted from 1, is to fail.
-    pub fn fail(&mut self, _alloc: Global, nth: u64) -> Result<(), AllocError>
+    pub fn fail(&mut self, nth: u64) -> Result<(), AllocError>
         ensures ok { OnOk result
             (self.new ≡ record self.old { failing = self.old.failing ++ nth ∷ [] }) }
         ensures err { OnErr result (self.new ≡ self.old) }
@@ -129,8 +130,7 @@ impl Source for MemSource {
             (λ _. self.new ≡ source_after_fault self.old) }
     {
         if self.failing.next() {
-            self.faults = self.faults.saturating_add(1);
-            return Err(Failed);
+            return Err(self.faults.fail());
         }
         let left = &self.bytes[self.taken..];
         let count = left.len().min(into.len()).min(self.piece as usize);

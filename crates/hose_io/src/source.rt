@@ -1,5 +1,5 @@
 // What is read: its contract, and the same through a borrow.
-ghost use Rattle.std.specs.Prelude.{◌≡◌, ◌<◌, ◌≤◌, Option, Ok, ◌∷◌, IfOk, MatchResult, length, take, ⊤};
+ghost use Rattle.std.specs.Prelude.{◌≡◌, ◌+◌, ◌<◌, ◌≤◌, Option, Ok, ◌∷◌, IfOk, MatchResult, drop, length, take, ⊤};
 ghost use Rattle.hose_io.specs.Frame.{Frame, Met};
 ghost use Rattle.hose_io.specs.Stream.{Stream, Gives, IsAtEnd};
 
@@ -44,4 +44,26 @@ impl<S: Source> Source for &mut S {
     fn take(&mut self, into: &mut [u8]) -> Result<usize, Failed> {
         Source::take(&mut **self, into)
     }
+}
+
+/// Takes at most `most` bytes of the source, after the first `end` bytes.
+pub fn take_after<S: Source>(
+    source: &mut S,
+    bytes: &mut [u8],
+    end: usize,
+    most: usize,
+) -> Result<usize, Failed>
+    requires some { 0 < most }
+    requires room { end + most ≤ length bytes.old }
+    ensures most { IfOk result (λ count. count ≤ most) }
+    ensures before { take end bytes.new ≡ take end bytes.old }
+    ensures taken { MatchResult result
+        (λ count. Gives (S.content source.old) (S.content source.new)
+        (take count (drop end bytes.new)))
+        (λ _. S.content source.new ≡ S.content source.old) }
+    ensures none_only_at_end { result ≡ Ok 0 → IsAtEnd (S.content source.old) }
+    ensures met { Met (S.frame source.old) (S.frame source.new) result }
+    ensures went { S.went source.old source.new }
+{
+    source.take(&mut bytes[end..end + most])
 }

@@ -7,10 +7,12 @@ use Rattle.std.proofs.lemmas.Bool.{ltb-true, ltb-false, eqb-true, eqb-false, cas
 use Rattle.std.proofs.lemmas.List.Elements.{All-contains, Contains-append_left}
 use Rattle.hose_io.proofs.Calling.{HasGone-once, HasGone-then}
 use Rattle.hose_io.proofs.Frames.{Stays-same}
+pub use Rattle.hose_io.proofs.Streams.{Gives-append, Gives-nil}
+use Rattle.hose_io.proofs.Streams.{Gives-none}
 use Rattle.hose_io.specs.Calls.{HasGone, call_more, none_yet}
-use Rattle.hose_io.specs.Stream.{Stream, Gives, IsAtEnd}
+use Rattle.hose_io.specs.Stream.{Appends, Stream, Gives, IsAtEnd}
 use Rattle.hose_io.specs.declared.source.Source.{Ghosts}
-use Rattle.hose_words.specs.Buffer.{Appends, CutsLine}
+use Rattle.hose_words.specs.Buffer.{CutsLine}
 use Rattle.hose_words.specs.Intake.{found_of, found_at_end, ShowsFound, TakesBytes, MeetsEnd, IsIntake}
 use Rattle.hose_words.specs.Lines.{Reader, is_line_feed, GivesLine, IsAfterLines, IsDropped, StopsAt, IsNext}
 use Rattle.hose_words.specs.declared.intake.Found.TheVariants as found
@@ -20,27 +22,6 @@ use Rattle.hose_words.specs.declared.lines.LineFault.TheVariants.{Read, TooLong}
 use Rattle.hose_words.proofs.FirstLine.{IsPlain, IsPlain-append, All-from_IsPlain, before_first-found, after_first-found, before_first-plain, after_first-plain, line_feed_found, shows_found, GivesLine-shown}
 
 -- ---- what sources give
-
-pub Gives-nil : (o : Option Stream) → Gives o o []
-Gives-nil None = tt
-Gives-nil (Some s) = record { taken = sym (append-nil s.taken); left = refl }
-
-Gives-none : (o n : Option Stream) → Gives o n [] → n ≡ o
-Gives-none None None gives = refl
-Gives-none None (Some n) gives = absurd gives
-Gives-none (Some o) None gives = absurd gives
-Gives-none (Some o) (Some n) gives = λ i. Some (record { taken = (gives.taken ∙ append-nil o.taken) i; left = sym gives.left i })
-
-pub Gives-append : (o m n : Option Stream) (xs ys : List ℕ) → Gives o m xs → Gives m n ys → Gives o n (xs ++ ys)
-Gives-append None None None xs ys a b = tt
-Gives-append None None (Some n) xs ys a b = absurd b
-Gives-append None (Some m) n xs ys a b = absurd a
-Gives-append (Some o) None n xs ys a b = absurd a
-Gives-append (Some o) (Some m) None xs ys a b = absurd b
-Gives-append (Some o) (Some m) (Some n) xs ys a b = record {
-  taken = b.taken ∙ (ap (λ l. l ++ ys) a.taken ∙ append_assoc o.taken xs ys);
-  left = a.left ∙ (ap (λ l. xs ++ l) b.left ∙ sym (append_assoc xs ys n.left));
-}
 
 -- what holds of all that may be left, where a source tells what it gave
 pub told : (o n : Option Stream) (bytes : List ℕ) (P : List ℕ → List ℕ → Type 0) → Gives o n bytes → ((rest : List ℕ) → P (bytes ++ rest) rest) → IfSome o (λ before. IfSome n (λ after. P before.left after.left))
@@ -223,11 +204,11 @@ module _ {S : Type 0} (source : Ghosts S) where
   pub MeetsEnd-now : (old new : Reader S) (count : ℕ) → Appends (source.content old.source) (source.content new.source) old.pending new.pending count → count ≡ 0 → IsAtEnd (source.content old.source)
       → new.taken ≡ old.taken → new.fault ≡ None → IsTrue new.ended → source.frame new.source ≡ source.frame old.source → source.went old.source new.source → IsFalse old.ended → MeetsEnd source old new
   MeetsEnd-now old new count appends none at_end taken fault ended frame went before =
-      let empty : appends.0 ≡ [] = nil_from_length appends.0 (omega (arith, appends.3, none)) in
+      let empty : appends.bytes ≡ [] = nil_from_length appends.bytes (omega (arith, appends.counted, none)) in
       record {
-        content = Gives-none _ _ (rw empty at appends.1);
+        content = Gives-none _ _ (rw empty at appends.gives);
         at_end = at_end;
-        pending = appends.2 ∙ (ap (λ l. old.pending ++ l) empty ∙ append-nil old.pending);
+        pending = appends.pending ∙ (ap (λ l. old.pending ++ l) empty ∙ append-nil old.pending);
         taken = taken;
         fault = fault;
         ended = ended;

@@ -9,7 +9,7 @@ use Rattle.hose_words.specs.Lines.{Reader, IsAfterLines, IsNext}
 use Rattle.hose_words.specs.Reading.{ReadsOn, WhereTold}
 use Rattle.hose_words.specs.declared.lines.Line.{Line}
 use Rattle.hose_words.specs.declared.lines.LineFault.{LineFault}
-use Rattle.hose_words.proofs.Coming.{Gives-nil, Gives-append}
+use Rattle.hose_io.proofs.Streams.{Gives-append, Gives-nil}
 
 -- ---- what is told
 

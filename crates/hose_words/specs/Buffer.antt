@@ -1,7 +1,6 @@
 -- What a buffer of a reader holds, and what its calls do to that.
-use Rattle.std.specs.Prelude.{◌≡◌, ◌<◌, ℕ, Bool, true, false, List, ◌++◌, length, Option}
+use Rattle.std.specs.Prelude.{◌≡◌, ◌<◌, ℕ, Bool, true, false, List, length}
 use Rattle.std.specs.List.{position_or_len, before_first, after_first}
-use Rattle.hose_io.specs.Stream.{Stream, Gives}
 use Rattle.hose_words.specs.Lines.{is_line_feed}
 
 -- the line that was cut off last, the bytes that are pending, and how many more fit after them
@@ -16,8 +15,3 @@ CutsLine true pending line rest = (position_or_len is_line_feed pending < length
     × (line ≡ before_first is_line_feed pending) × (rest ≡ after_first is_line_feed pending)
 CutsLine false pending line rest =
     (position_or_len is_line_feed pending ≡ length pending) × (rest ≡ pending)
-
--- this many bytes that a source gave come after those that were pending
-abbrev pub Appends : Option Stream → Option Stream → List ℕ → List ℕ → ℕ → Type 0
-Appends before after old new count = (bytes : List ℕ)
-    × Gives before after bytes × (new ≡ old ++ bytes) × (length bytes ≡ count)

@@ -1,14 +1,14 @@
 // The bytes that were taken of a source and not yet given in a line.
-ghost use Rattle.std.specs.Prelude.{◌≡◌, ◌+◌, ◌<◌, ◌≤◌, ◌^◌, [], length, take, drop, Ok, IfOk, MatchResult};
+ghost use Rattle.std.specs.Prelude.{◌≡◌, ◌<◌, ◌≤◌, [], length, Ok, IfOk, MatchResult};
 ghost use Rattle.std.specs.Bool.{MatchBool};
 ghost use Rattle.std.specs.List.{position, position_or_len};
 ghost use Rattle.hose_io.specs.Frame.{Met};
-ghost use Rattle.hose_io.specs.Stream.{Gives, IsAtEnd};
+ghost use Rattle.hose_io.specs.Stream.{Appends, IsAtEnd};
 ghost use Rattle.hose_words.specs.Lines.{is_line_feed};
-ghost use Rattle.hose_words.specs.Buffer.{CutsLine, Appends};
+ghost use Rattle.hose_words.specs.Buffer.{CutsLine};
 
 use crate::lines::PENDING_LIMIT;
-use hose_io::{Failed, Source};
+use hose_io::{Failed, Source, take_after};
 use std::marker::Model;
 
 const LINE_FEED: u8 = b'\n';
@@ -143,26 +143,4 @@ fn before_line_feed(bytes: &[u8]) -> usize
     ensures bound { result ≤ length bytes.now }
 {
     bytes.iter().take_while(|byte| **byte != LINE_FEED).count()
-}
-
-// Takes at most `most` bytes of the source, after the first `end` bytes.
-fn take_after<S: Source>(
-    source: &mut S,
-    bytes: &mut [u8],
-    end: usize,
-    most: usize,
-) -> Result<usize, Failed>
-    requires some { 0 < most }
-    requires room { end + most ≤ length bytes.old }
-    ensures most { IfOk result (λ count. count ≤ most) }
-    ensures before { take end bytes.new ≡ take end bytes.old }
-    ensures taken { MatchResult result
-        (λ count. Gives (S.content source.old) (S.content source.new)
-        (take count (drop end bytes.new)))
-        (λ _. S.content source.new ≡ S.content source.old) }
-    ensures none_only_at_end { result ≡ Ok 0 → IsAtEnd (S.content source.old) }
-    ensures met { Met (S.frame source.old) (S.frame source.new) result }
-    ensures went { S.went source.old source.new }
-{
-    source.take(&mut bytes[end..end + most])
 }
