@@ -9,8 +9,8 @@ ghost use Rattle.hose_paths.specs.Chain.{AreChains, Meets};
 ghost use Rattle.hose_paths.specs.Queue.{IsQueued, IsSettledBut, Relaxes};
 
 use crate::chains::Chains;
-use crate::settling::{Settling, row_by};
-use crate::{MadeRow, RowMaker};
+use crate::entries::lower;
+use crate::settling::{RowsBy, Settling};
 use hose_graph::{Link, Topology};
 use hose_links::LinkSet;
 use std::alloc::{AllocError, Global};
@@ -18,25 +18,13 @@ use std::cmp::Reverse;
 use std::collections::BinaryHeap;
 
 /// Makes each row by following the links of the nearest node first.
+pub type HeapRows = RowsBy<ByHeap>;
+
+/// A heap of what fell.
 #[derive(Clone, Copy, Debug, Default)]
-pub struct HeapRows;
+pub struct ByHeap;
 
-impl HeapRows {
-    /// A maker, which keeps nothing.
-    pub fn new() -> HeapRows
-        ensures { result ≡ record {} }
-    {
-        HeapRows
-    }
-}
-
-impl RowMaker for HeapRows {
-    fn row(&mut self, alloc: Global, top: &Topology, links: &LinkSet, root: u32) -> MadeRow {
-        row_by::<HeapRows>(alloc, top, links, root)
-    }
-}
-
-impl Settling for HeapRows {
+impl Settling for ByHeap {
     fn settle(
         alloc: Global,
         top: &Topology,
@@ -130,16 +118,7 @@ fn follow(
     ensures len { OnOk result ((heap_len queue.new ≡ heap_len queue.old) × (dist.new ≡ dist.old)
         ⊎ (heap_len queue.new ≡ heap_len queue.old + 1) × Lowers dist.old dist.new from to cost) }
 {
-    let Some(near) = dist[from as usize] else {
-        return Ok(());
-    };
-    let far = near + cost;
-    let lowers = match dist[to as usize] {
-        Some(known) => far < known,
-        None => true,
-    };
-    if lowers {
-        dist[to as usize] = Some(far);
+    if let Some(far) = lower(dist, from, to, cost) {
         queue.push(Reverse((far, to)))?;
     }
     Ok(())

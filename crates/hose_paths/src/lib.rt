@@ -19,6 +19,7 @@ ghost use Rattle.hose_law.specs.Row.{IsRow};
 ghost use Rattle.hose_paths.specs.Rows.{AreRows};
 
 mod chains;
+mod entries;
 mod heap;
 mod plain;
 mod settling;
@@ -30,6 +31,7 @@ pub use heap::HeapRows;
 use hose_graph::{Row, Topology};
 use hose_links::LinkSet;
 pub use plain::PlainRows;
+pub use settling::RowsBy;
 use std::alloc::{AllocError, Global};
 pub use table::{RowTable, TableRows, row_of};
 pub use whole::{all_links, rows_of_all};

@@ -1,15 +1,14 @@
-// The row of a root, whichever way its table of distances settles.
-ghost use Rattle.std.specs.Prelude.{◌≡◌, ◌≢◌, ℕ, ◌<◌, IfOk, None, OnOk, Some, length};
+// The maker of rows, whichever way its table of distances settles.
+ghost use Rattle.std.specs.Prelude.{◌≡◌, ◌≢◌, ℕ, IfOk, None, OnOk, Some, length};
 ghost use Rattle.hose_graph.specs.Network.{IsNetwork};
-ghost use Rattle.hose_graph.specs.Row.{HasBoundedDistances};
-ghost use Rattle.hose_law.specs.Row.{IsRow};
 ghost use Rattle.hose_paths.specs.Table.{entry, IsBounded, IsFound, IsSettled};
 
-use crate::MadeRow;
 use crate::tight::mark_tight_links;
+use crate::{MadeRow, RowMaker};
 use hose_graph::{Row, Topology};
 use hose_links::LinkSet;
 use std::alloc::{AllocError, Global};
+use std::marker::PhantomData;
 
 // A way to lower the entries of nodes to their distances.
 pub trait Settling {
@@ -33,18 +32,29 @@ pub trait Settling {
         ensures settled { OnOk result (IsSettled top.now links.now dist.new) };
 }
 
-// The row of a root over a set of the topology's links.
-pub fn row_by<S: Settling>(alloc: Global, top: &Topology, links: &LinkSet, root: u32) -> MadeRow
-    requires places { length links.now ≡ length top.now.links }
-    requires is_node { root < length top.now.nodes }
-    ensures row { IfOk result (IsRow top.now links.now root) }
-    ensures bounded { IfOk result HasBoundedDistances }
-{
-    let nodes = top.nodes() as usize;
-    let mut dist = vec![in alloc; None; nodes]?;
-    let mut tight = vec![in alloc; None; nodes]?;
-    dist[root as usize] = Some(0);
-    S::settle(alloc, top, links, &mut dist, root)?;
-    mark_tight_links(top, links, &dist, &mut tight);
-    Ok(Row { root, dist, tight })
+/// Makes each row in one way.
+#[derive(Clone, Copy, Debug, Default)]
+pub struct RowsBy<W> {
+    way: PhantomData<W>,
+}
+
+impl<W> RowsBy<W> {
+    /// A maker, which keeps nothing.
+    pub fn new() -> RowsBy<W>
+        ensures { result ≡ record { way = record {} } }
+    {
+        RowsBy { way: PhantomData }
+    }
+}
+
+impl<W: Settling> RowMaker for RowsBy<W> {
+    fn row(&mut self, alloc: Global, top: &Topology, links: &LinkSet, root: u32) -> MadeRow {
+        let nodes = top.nodes() as usize;
+        let mut dist = vec![in alloc; None; nodes]?;
+        let mut tight = vec![in alloc; None; nodes]?;
+        dist[root as usize] = Some(0);
+        W::settle(alloc, top, links, &mut dist, root)?;
+        mark_tight_links(top, links, &dist, &mut tight);
+        Ok(Row { root, dist, tight })
+    }
 }

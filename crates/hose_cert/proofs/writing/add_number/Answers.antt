@@ -1,5 +1,0 @@
-use Rattle.hose_io.proofs.Gathering.{IsAdded-next}
-use Rattle.hose_cert.proofs.writing.add_number.Goals as goal
-
-pub returns : goal.returns
-returns g c = IsAdded-next c.add.ensures c.add_number.ensures
