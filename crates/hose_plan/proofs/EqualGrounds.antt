@@ -10,7 +10,7 @@ use Rattle.std.proofs.lemmas.List.Elements.{All-contains, All-contains_itself, A
 use Rattle.std.proofs.lemmas.List.FromFn.{fill_by_all, get_or-map-range_with_len, length-map-range_with_len}
 use Rattle.hose_graph.specs.Hose.{IsHose}
 use Rattle.hose_graph.specs.Network.{Network, IsNetwork}
-use Rattle.hose_law.specs.Book.{Book, loads_of}
+use Rattle.hose_law.specs.Book.{Book}
 use Rattle.hose_law.specs.CanonicalPlan.{IsCanonicalPlan}
 use Rattle.hose_law.specs.Decision.{AreGrounds, CanBeReserved, Fits, HasFirstFit, HaveEqualGrounds, IsPlanned}
 use Rattle.hose_law.specs.Room.{Room, first_links, free_rates, half_rate, room_of, safe_links}
@@ -53,7 +53,7 @@ pub service_is : (network : Network) (room : Room) (hose : List (ℕ × ℕ)) (s
 service_is network room hose service true safe are = are.0
 service_is network room hose service false safe are = are.0
 
-places_of : (network : Network) (room : Room) (hose : List (ℕ × ℕ)) → length room.links ≡ length network.links → (service : List Bool) (fits : Bool) (safe : List Bool)
+pub places_of : (network : Network) (room : Room) (hose : List (ℕ × ℕ)) → length room.links ≡ length network.links → (service : List Bool) (fits : Bool) (safe : List Bool)
     → AreGrounds network room hose service fits safe → length safe ≡ length network.links
 places_of network room hose places service true safe are = ap length are.2 ∙ length-replicate (length network.links) false
 places_of network room hose places service false safe are = ap length are.2 ∙ length-map-range_with_len _ 0 (length room.links) ∙ places

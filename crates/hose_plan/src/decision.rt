@@ -1,12 +1,13 @@
 // The decision on a hose, and its grounds.
-ghost use Rattle.std.specs.Prelude.{◌≡◌, IfOk, length};
+ghost use Rattle.std.specs.Prelude.{◌≡◌, ◌↔◌, IfOk, IfSome, IsSomeAnd, IsTrue, false, length, replicate, true};
 ghost use Rattle.hose_graph.specs.Hose.{IsHose};
-ghost use Rattle.hose_law.specs.Decision.{HasFirstFit};
+ghost use Rattle.hose_graph.specs.Network.{IsNetwork};
+ghost use Rattle.hose_law.specs.Decision.{Fits};
 ghost use Rattle.hose_law.specs.Plan.{AreNodes};
-ghost use Rattle.hose_law.specs.Room.{safe_links};
-ghost use Rattle.hose_plan.specs.Planning.{IsCheapestDecision, IsDecision, IsSoundDecision, NamesNodes, room_beside};
+ghost use Rattle.hose_law.specs.Room.{Room, free_rates, safe_links};
+ghost use Rattle.hose_plan.specs.Planning.{AreGroundsOf, IsCheapestDecision, IsDecision, IsSoundDecision, NamesNodes, allowed_links, room_beside};
 ghost use Rattle.hose_plan.specs.Rooting.{IsPlanOver};
-ghost use Rattle.hose_tree.specs.Amounts.{AreCarried};
+ghost use Rattle.hose_tree.specs.Amounts.{AreCarried, AreOnLinks};
 
 use crate::canonical::plan;
 use hose_graph::{Amounts, Hose, NodeList, Topology};
@@ -79,90 +80,105 @@ pub fn decide<R: RowMaker>(
     ensures names { IfOk result (NamesNodes top.now) }
     ensures hose { IfOk result (λ _. IsHose hose.now) }
 {
-    let Some(first) = plan(alloc, top, service, hose, rows)? else {
-        return decide_over_safe(alloc, top, service, loads, hose, None, rows);
-    };
-    if !fits(top, loads, &first) {
-        return decide_over_safe(alloc, top, service, loads, hose, Some(first), rows);
-    }
-    let cost = cost(top, &first);
-    let amounts = first.copy(alloc)?;
-    let grounds = Grounds {
-        first: Some(first),
-        half: hose.total() / 2,
-        first_fits: true,
-        safe: LinkSet::new(alloc, top.links())?,
-        service: service.copy(alloc)?,
+    let first = plan(alloc, top, service, hose, rows)?;
+    let grounds = grounds_of(alloc, top, service, loads, hose, first)?;
+    let Some(amounts) = allowed_plan(alloc, top, hose, &grounds, rows)? else {
+        let side = reached(alloc, top, &grounds.safe, hose.ends()[0].0)?;
+        return Ok(Decision::Refused { side });
     };
     Ok(Decision::Plan {
+        cost: cost(top, &amounts),
         grounds,
         amounts,
-        cost,
     })
 }
 
-// The decision where the first plan does not exist or fit. A plan over the safe links always fits,
-// so there is no second test.
-fn decide_over_safe<R: RowMaker>(
+// The grounds of a decision on a hose with this first plan, or with none.
+fn grounds_of(
     alloc: Global,
     top: &Topology,
     service: &LinkSet,
     loads: &[u64],
     hose: &Hose,
     first: Option<Amounts>,
-    rows: &mut R,
-) -> Result<Decision, AllocError>
+) -> Result<Grounds, AllocError>
+    requires network { IsNetwork top.now }
     requires service { length service.now ≡ length top.now.links }
     requires loads { AreCarried top.now loads.now }
-    requires nodes { AreNodes top.now hose.now }
     requires first { IsPlanOver top.now service.now hose.now first }
-    requires no_fit { ¬ HasFirstFit top.now (room_beside top.now service.now loads.now) hose.now }
-    ensures decision { IfOk result
-        (IsDecision top.now (room_beside top.now service.now loads.now) hose.now) }
-    ensures sound { IfOk result
-        (IsSoundDecision top.now (room_beside top.now service.now loads.now) hose.now) }
-    ensures cheapest { IfOk result
-        (IsCheapestDecision top.now (room_beside top.now service.now loads.now) hose.now) }
-    ensures names { IfOk result (NamesNodes top.now) }
-    ensures hose { IfOk result (λ _. IsHose hose.now) }
+    requires links { IfSome first (AreOnLinks top.now) }
+    ensures { IfOk result
+        (AreGroundsOf top.now (room_beside top.now service.now loads.now) hose.now) }
 {
-    let safe = safe_links(alloc, top, service, loads, hose)?;
-    let Some(amounts) = plan(alloc, top, &safe, hose, rows)? else {
-        let side = reached(alloc, top, &safe, hose.ends()[0].0)?;
-        return Ok(Decision::Refused { side });
-    };
-    let cost = cost(top, &amounts);
+    let first_fits = first_fits(top, loads, &first);
+    let safe = safe_links(alloc, top, service, loads, hose, first_fits)?;
     let service = service.copy(alloc)?;
-    let grounds = Grounds {
+    Ok(Grounds {
         first,
         half: hose.total() / 2,
-        first_fits: false,
+        first_fits,
         safe,
         service,
-    };
-    Ok(Decision::Plan {
-        grounds,
-        amounts,
-        cost,
     })
 }
 
-// The links that are safe for a hose: those in service with half of its rates free.
+// Whether there is a first plan, and it fits.
+pub(crate) fn first_fits(top: &Topology, loads: &[u64], first: &Option<Amounts>) -> bool
+    requires loads { AreCarried top.now loads.now }
+    requires links { IfSome first.now (AreOnLinks top.now) }
+    ensures { IsTrue result ↔ IsSomeAnd first.now (Fits (free_rates top.now loads.now)) }
+{
+    match first {
+        Some(first) => fits(top, loads, first),
+        None => false,
+    }
+}
+
+// The links that are safe for a hose: those in service with half of its rates free. No link where
+// its first plan fits.
 fn safe_links(
     alloc: Global,
     top: &Topology,
     service: &LinkSet,
     loads: &[u64],
     hose: &Hose,
+    first_fits: bool,
 ) -> Result<LinkSet, AllocError>
     requires service { length service.now ≡ length top.now.links }
     requires loads { AreCarried top.now loads.now }
-    ensures links { IfOk result
+    ensures none { first_fits ≡ true
+        → IfOk result (λ links. links ≡ replicate (length top.now.links) false) }
+    ensures links { first_fits ≡ false → IfOk result
         (λ links. links ≡ safe_links (room_beside top.now service.now loads.now) hose.now) }
-    ensures places { IfOk result (λ links. length links ≡ length top.now.links) }
 {
-    let half = hose.total() / 2;
     let mut links = LinkSet::new(alloc, top.links())?;
+    if first_fits {
+        return Ok(links);
+    }
+    let half = hose.total() / 2;
     links.fill_where(|link| service.has(link) && half <= free_rate(top, loads, link));
     Ok(links)
+}
+
+// The first plan where it fits, else the plan over the safe links, or none. A plan over the safe
+// links always fits, so there is no second test.
+fn allowed_plan<R: RowMaker>(
+    alloc: Global,
+    top: &Topology,
+    hose: &Hose,
+    grounds: &Grounds,
+    rows: &mut R,
+) -> Result<Option<Amounts>, AllocError>
+    requires nodes { AreNodes top.now hose.now }
+    requires places { length grounds.now.safe ≡ length top.now.links }
+    ensures { (room : Room) → AreGroundsOf top.now room hose.now grounds.now
+        → IfOk result (IsPlanOver top.now (allowed_links room grounds.now) hose.now) }
+{
+    if !grounds.first_fits {
+        return plan(alloc, top, &grounds.safe, hose, rows);
+    }
+    match &grounds.first {
+        Some(first) => Ok(Some(first.copy(alloc)?)),
+        None => Ok(None),
+    }
 }

@@ -6,10 +6,10 @@ ghost use Rattle.hose_law.specs.Room.{Room, free_rates, half_rate, safe_links};
 ghost use Rattle.hose_plan.specs.Planning.{AreGroundsOf, AreMade, HoldBySafe, IsSafeStill, TellsBooks, TellsRooms, room_beside};
 ghost use Rattle.hose_tree.specs.Amounts.{AreCarried, AreOnLinks};
 
-use crate::decision::Grounds;
-use hose_graph::{Amounts, Topology};
+use crate::decision::{Grounds, first_fits};
+use hose_graph::Topology;
 use hose_links::LinkSet;
-use hose_tree::{fits, free_rate};
+use hose_tree::free_rate;
 
 /// Whether the grounds of the hose over these links in service and beside these loads equal the
 /// given ones, which are those of a decision on it over others and beside others: then the decision
@@ -31,7 +31,7 @@ pub fn grounds_hold(top: &Topology, service: &LinkSet, loads: &[u64], grounds: &
     if grounds.first_fits {
         return true;
     }
-    are_safe(top, service, loads, grounds.half, &grounds.safe)
+    are_safe(top, service, loads, grounds)
 }
 
 // Whether the first plan fits just where it did, over the same links in service. Then the grounds
@@ -55,49 +55,40 @@ pub(crate) fn fits_as_before(
     first_fits(top, loads, &grounds.first) == grounds.first_fits
 }
 
-// Whether there is a first plan, and it fits.
-fn first_fits(top: &Topology, loads: &[u64], first: &Option<Amounts>) -> bool
-    requires loads { AreCarried top.now loads.now }
-    requires links { IfSome first.now (AreOnLinks top.now) }
-    ensures { IsTrue result ↔ IsSomeAnd first.now (Fits (free_rates top.now loads.now)) }
-{
-    match first {
-        Some(first) => fits(top, loads, first),
-        None => false,
-    }
-}
-
-// Whether the links in service that have this much free are those of the set.
-fn are_safe(top: &Topology, service: &LinkSet, loads: &[u64], half: u64, safe: &LinkSet) -> bool
+// Whether the links in service that have half of the hose's rates free are the safe ones of the
+// grounds.
+fn are_safe(top: &Topology, service: &LinkSet, loads: &[u64], grounds: &Grounds) -> bool
     requires service { length service.now ≡ length top.now.links }
     requires loads { AreCarried top.now loads.now }
-    requires places { length safe.now ≡ length top.now.links }
-    ensures { (hose : List Endpoint) → half ≡ half_rate hose
+    requires places { length grounds.now.safe ≡ length top.now.links }
+    ensures { (hose : List Endpoint) → grounds.now.half ≡ half_rate hose
         → (IsTrue result
-        ↔ (safe.now ≡ safe_links (room_beside top.now service.now loads.now) hose)) }
+        ↔ (grounds.now.safe ≡ safe_links (room_beside top.now service.now loads.now) hose)) }
 {
     for link in 0..top.links() {
-        if !is_safe_as_before(top, service, loads, half, safe, link) {
+        if !is_safe_as_before(top, service, loads, grounds, link) {
             return false;
         }
     }
     true
 }
 
-// Whether a link of the topology is in the set just where it is in service and has this much free.
+// Whether a link of the topology is safe by the grounds just where it is in service and has half of
+// the hose's rates free.
 pub(crate) fn is_safe_as_before(
     top: &Topology,
     service: &LinkSet,
     loads: &[u64],
-    half: u64,
-    safe: &LinkSet,
+    grounds: &Grounds,
     link: u32,
 ) -> bool
     requires service { length service.now ≡ length top.now.links }
     requires loads { AreCarried top.now loads.now }
-    requires places { length safe.now ≡ length top.now.links }
+    requires places { length grounds.now.safe ≡ length top.now.links }
     requires link { link < length top.now.links }
-    ensures { IsTrue result ↔ IsSafeStill top.now service.now loads.now half safe.now link }
+    ensures { IsTrue result
+        ↔ IsSafeStill top.now service.now loads.now grounds.now.half grounds.now.safe link }
 {
-    safe.has(link) == (service.has(link) && half <= free_rate(top, loads, link))
+    let is_safe = service.has(link) && grounds.half <= free_rate(top, loads, link);
+    grounds.safe.has(link) == is_safe
 }

@@ -14,8 +14,9 @@ use hose_paths::{RowMaker, row_of};
 use hose_root::choose;
 use std::alloc::{AllocError, Global};
 
-/// The root of a hose over a set of links; none where no node reaches all endpoints. It is as far from
-/// an endpoint to a node as back, so the endpoints' rows give what the hose costs from each node.
+/// The root of a hose over a set of links; none where no node reaches all endpoints. It is as far
+/// from an endpoint to a node as back, so the endpoints' rows give what the hose costs from each
+/// node.
 pub fn best_root<R: RowMaker>(
     alloc: Global,
     top: &Topology,

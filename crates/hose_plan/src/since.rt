@@ -41,15 +41,7 @@ pub fn grounds_hold_since(
     if grounds.first_fits {
         return true;
     }
-    are_safe_since(
-        top,
-        service,
-        loads,
-        grounds.half,
-        &grounds.safe,
-        changes,
-        seen,
-    )
+    are_safe_since(top, service, loads, grounds, changes, seen)
 }
 
 // Whether the links in service are those that were, where it is known of all but those that changes
@@ -75,29 +67,28 @@ fn is_service_since(
     true
 }
 
-// Whether the links in service that have this much free are those of the set, where it is known of
-// all but those that changes of later epochs name.
+// Whether the links in service that have half of the hose's rates free are the safe ones of the
+// grounds, where it is known of all but those that changes of later epochs name.
 fn are_safe_since(
     top: &Topology,
     service: &LinkSet,
     loads: &[u64],
-    half: u64,
-    safe: &LinkSet,
+    grounds: &Grounds,
     changes: &[(u64, u32)],
     seen: u64,
 ) -> bool
     requires service { length service.now ≡ length top.now.links }
     requires loads { AreCarried top.now loads.now }
-    requires places { length safe.now ≡ length top.now.links }
+    requires places { length grounds.now.safe ≡ length top.now.links }
     requires others { (l : ℕ) → l < length top.now.links → (¬ IsNamedSince changes.now seen l)
-        → IsSafeStill top.now service.now loads.now half safe.now l }
-    ensures { (hose : List Endpoint) → half ≡ half_rate hose
+        → IsSafeStill top.now service.now loads.now grounds.now.half grounds.now.safe l }
+    ensures { (hose : List Endpoint) → grounds.now.half ≡ half_rate hose
         → (IsTrue result
-        ↔ (safe.now ≡ safe_links (room_beside top.now service.now loads.now) hose)) }
+        ↔ (grounds.now.safe ≡ safe_links (room_beside top.now service.now loads.now) hose)) }
 {
     for &(epoch, link) in changes {
         let is_named = epoch > seen && link < top.links();
-        if is_named && !is_safe_as_before(top, service, loads, half, safe, link) {
+        if is_named && !is_safe_as_before(top, service, loads, grounds, link) {
             return false;
         }
     }

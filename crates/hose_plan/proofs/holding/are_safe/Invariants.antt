@@ -3,4 +3,4 @@ use Rattle.hose_plan.specs.Planning.{IsSafeStill}
 use Rattle.hose_plan.proofs.holding.are_safe.Given as goal
 
 abbrev pub invariant-loop-link : goal.invariant-loop-link
-invariant-loop-link l = (k : ℕ) → k < l.link → IsSafeStill l.top l.service l.loads l.half l.safe k
+invariant-loop-link l = (k : ℕ) → k < l.link → IsSafeStill l.top l.service l.loads l.grounds.half l.grounds.safe k

@@ -9,13 +9,13 @@ returns-then-not-is_safe_as_before c hose halves = (
   λ no. absurd (false≢true no),
   λ same.
       absurd (false≢true (sym c.if-not-is_safe_as_before.true
-      ∙ c.is_safe_as_before.ensures.1 (safe_at c.args.top.now c.args.service.now c.args.loads.now hose c.requires.service c.args.half c.args.safe.now halves same _ (search rules)))),
+      ∙ c.is_safe_as_before.ensures.1 (safe_at c.args.top.now c.args.service.now c.args.loads.now hose c.requires.service c.args.grounds.now.half c.args.grounds.now.safe halves same _ (search rules)))),
 )
 
 pub returns : goal.returns
 returns c hose halves = (
   λ yes.
-      safe_from c.args.top.now c.args.service.now c.args.loads.now hose c.requires.service c.args.half c.args.safe.now halves c.requires.places
-      (all_settled c.args.top.now c.args.service.now c.args.loads.now c.args.changes.now c.args.seen c.args.half c.args.safe.now c.requires.others (λ k below. c.loop-epoch.invariant k (omega arith))),
+      safe_from c.args.top.now c.args.service.now c.args.loads.now hose c.requires.service c.args.grounds.now.half c.args.grounds.now.safe halves c.requires.places
+      (all_settled c.args.top.now c.args.service.now c.args.loads.now c.args.changes.now c.args.seen c.args.grounds.now.half c.args.grounds.now.safe c.requires.others (λ k below. c.loop-epoch.invariant k (omega arith))),
   λ same. refl,
 )
