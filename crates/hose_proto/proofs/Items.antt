@@ -1,5 +1,5 @@
 -- The items of lists: amounts, nodes and endpoints. Each is told by its own word, and lists grow item by item.
-use Rattle.std.proofs.Common.{◌≡◌, ◌≢◌, ◌∙◌, ℕ, ◌^◌, ◌<◌, List, [], ◌∷◌, ◌++◌, Some, decimal, length, get_or, sym, ap, subst, arith, length-append}
+use Rattle.std.proofs.Common.{◌≡◌, ◌≢◌, ◌∙◌, ℕ, ◌^◌, ◌<◌, List, [], ◌∷◌, ◌++◌, Some, decimal, length, get_or, sym, ap, subst, inl, inr, arith, length-append}
 use Rattle.std.specs.List.{All, Any}
 use Rattle.std.specs.List.Sorted.{IsStrictlyIncreasing}
 use Rattle.std.proofs.Math.ListN.{get_or-append}
@@ -19,7 +19,7 @@ use Rattle.hose_graph.specs.Network.{Network, IsNetwork, IsLinkOf, IsNodeOf, nam
 use Rattle.hose_graph.proofs.NodesByName.{same_node}
 use Rattle.hose_proto.specs.Command.{AreNewEnds}
 use Rattle.hose_proto.specs.Places.{end_word}
-use Rattle.hose_proto.specs.Reading.{IsEndOf, IsNewEnd, IsNextEnd, IsNextNode, IsNextPair}
+use Rattle.hose_proto.specs.Reading.{AreSoFar, IsEndOf, IsNewEnd, IsNextEnd, IsNextNode, IsNextPair}
 use Rattle.hose_proto.specs.ReplyGrammar.{AreEnds}
 use Rattle.hose_proto.specs.ReplyWords.{AreAmounts, IsSide, pair_word}
 use Rattle.hose_proto.proofs.Colons.{end_cut, no_colon, no_colon_decimal, pair_cut, same_parts}
@@ -52,18 +52,18 @@ pub record ArePairs (network : Network) (pairs : List (ℕ × ℕ)) : Type 0 whe
   pub ascending : IsStrictlyIncreasing (firsts pairs)
   pub all : All (IsPair network) pairs
 
-pub pairs_more : (network : Network) (pairs : List (ℕ × ℕ)) (pair : ℕ × ℕ) → ArePairs network pairs → IsNextPair network pairs pair → ArePairs network (pairs ++ pair ∷ [])
-pairs_more network pairs pair are next = record {
-  ascending = subst IsStrictlyIncreasing (sym (map-append (λ (p : ℕ × ℕ). p.0) pairs (pair ∷ []))) next.ascending;
-  all = push (IsPair network) pairs pair are.all (record { link = next.link; amount = next.amount });
-}
+-- so are those of a list, and none
+pub pairs_so_far : (network : Network) (pairs : List (ℕ × ℕ)) → AreSoFar (AreAmounts network) pairs → ArePairs network pairs
+pairs_so_far network pairs (inl none) = subst (ArePairs network) (sym none) (record { ascending = λ k below. absurd (omega (arith, below)); all = All-nil (IsPair network) })
+pairs_so_far network pairs (inr are) = record { ascending = are.ascending; all = λ k d below. record { link = are.links k d below; amount = are.numbers k d below } }
 
-pub amounts_of : (network : Network) (pairs : List (ℕ × ℕ)) → ArePairs network pairs → 0 < length pairs → AreAmounts network pairs
-amounts_of network pairs are some = record {
-  some = some;
-  ascending = are.ascending;
-  links = λ k d below. (are.all k d below).link;
-  numbers = λ k d below. (are.all k d below).amount;
+-- one amount more
+pub amounts_more : (network : Network) (pairs : List (ℕ × ℕ)) (pair : ℕ × ℕ) → ArePairs network pairs → IsNextPair network pairs pair → AreAmounts network (pairs ++ pair ∷ [])
+amounts_more network pairs pair are next = record {
+  some = omega (arith, length-append pairs (pair ∷ []));
+  ascending = subst IsStrictlyIncreasing (sym (map-append (λ (p : ℕ × ℕ). p.0) pairs (pair ∷ []))) next.ascending;
+  links = push (λ (p : ℕ × ℕ). IsLinkOf network p.0) pairs pair (λ k d below. (are.all k d below).link) next.link;
+  numbers = push (λ (p : ℕ × ℕ). Fits64 p.1) pairs pair (λ k d below. (are.all k d below).amount) next.amount;
 }
 
 pair_may_come : (network : Network) (pairs : List (ℕ × ℕ)) (pair : ℕ × ℕ) → AreAmounts network (pairs ++ pair ∷ []) → IsNextPair network pairs pair
@@ -105,11 +105,18 @@ pub record AreNodes (network : Network) (nodes : List ℕ) : Type 0 where
   pub ascending : IsStrictlyIncreasing nodes
   pub all : All (IsNodeOf network) nodes
 
-pub nodes_more : (network : Network) (nodes : List ℕ) (node : ℕ) → AreNodes network nodes → IsNextNode network nodes node → AreNodes network (nodes ++ node ∷ [])
-nodes_more network nodes node are next = record { ascending = next.ascending; all = push (IsNodeOf network) nodes node are.all next.is_node }
+-- so are those of a list, and none
+pub nodes_so_far : (network : Network) (nodes : List ℕ) → AreSoFar (IsSide network) nodes → AreNodes network nodes
+nodes_so_far network nodes (inl none) = subst (AreNodes network) (sym none) (record { ascending = λ k below. absurd (omega (arith, below)); all = All-nil (IsNodeOf network) })
+nodes_so_far network nodes (inr side) = record { ascending = side.ascending; all = side.nodes }
 
-pub side_of : (network : Network) (nodes : List ℕ) → AreNodes network nodes → 0 < length nodes → IsSide network nodes
-side_of network nodes are some = record { some = some; ascending = are.ascending; nodes = are.all }
+-- one node more
+pub side_more : (network : Network) (nodes : List ℕ) (node : ℕ) → AreNodes network nodes → IsNextNode network nodes node → IsSide network (nodes ++ node ∷ [])
+side_more network nodes node are next = record {
+  some = omega (arith, length-append nodes (node ∷ []));
+  ascending = next.ascending;
+  nodes = push (IsNodeOf network) nodes node are.all next.is_node;
+}
 
 pub makes_side : (network : Network) (nodes : List ℕ) → IsNetwork network → AreNodes network nodes → MakesList (IsNodeOf network) (name_of network) (IsSide network) nodes (IsNextNode network nodes)
 makes_side network nodes is are = record {
@@ -181,6 +188,10 @@ no_ends network = record {
   distinct = λ i j d order below. absurd (omega (arith, below));
   nodes = All-nil (λ (e : ℕ × ℕ). IsNodeOf network e.0);
 }
+
+pub new_ends_so_far : (network : Network) (ends : List (ℕ × ℕ)) → AreSoFar (AreNewEnds network) ends → AreNewEnds network ends
+new_ends_so_far network ends (inl none) = subst (AreNewEnds network) (sym none) (no_ends network)
+new_ends_so_far network ends (inr are) = are
 
 pub new_ends_more : (network : Network) (ends : List (ℕ × ℕ)) (end : ℕ × ℕ) → AreNewEnds network ends → IsNewEnd network ends end → AreNewEnds network (ends ++ end ∷ [])
 new_ends_more network ends end are new = record {

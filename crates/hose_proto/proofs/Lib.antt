@@ -5,6 +5,7 @@ pub mod EndWords
 pub mod EndsUntil
 pub mod Faults
 pub mod Hoses
+pub mod ItemByItem
 pub mod Items
 pub mod OneCommand
 pub mod PassingReplies

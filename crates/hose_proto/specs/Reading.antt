@@ -1,8 +1,8 @@
 -- What is read of the words of commands and replies.
-use Rattle.std.specs.Prelude.{◌≡◌, ℕ, ◌+◌, ◌<◌, ◌≤◌, List, [], ◌∷◌, ◌++◌, Any, codes, length}
+use Rattle.std.specs.Prelude.{◌≡◌, ◌⊎◌, ℕ, ◌+◌, ◌<◌, ◌≤◌, List, [], ◌∷◌, ◌++◌, Any, codes, length, map}
 use Rattle.std.specs.List.Sorted.{IsStrictlyIncreasing}
 use Rattle.hose_words.specs.Cursor.{Position, IsWrong}
-use Rattle.hose_words.specs.Form.{Form, Fits64}
+use Rattle.hose_words.specs.Form.{Form, Fits64, TellsItems}
 use Rattle.hose_words.specs.Grammar.{IsFirst}
 use Rattle.hose_graph.specs.Amounts.{ReservedLink, amount_of, link_of}
 use Rattle.hose_graph.specs.Ascending.{firsts}
@@ -24,6 +24,19 @@ pub record IsEndOf (network : Network) (end : Endpoint) : Type 0 where
   pub is_node : IsNodeOf network (node_of end)
 
 -- ---- lists
+
+-- no item yet, or items that may stand in a list
+abbrev pub AreSoFar : {A : Type 0} → (List A → Type 0) → List A → Type 0
+AreSoFar fine items = (items ≡ []) ⊎ fine items
+
+-- The next word tells no item more of a list of so many at least; or the line ends before they are
+-- there. This is the word's number.
+pub record EndsList {A : Type 0} (word_of : A → List ℕ) (fine : List A → Type 0) (least : ℕ)
+    (items : List A) (old : Position) (number : ℕ) : Type 0 where
+  pub none : ¬ IsFirst
+      (λ word. TellsItems word_of fine (map word_of items ++ word ∷ [])) old.left
+  pub few : old.left ≡ [] → length items < least
+  pub at : number ≡ old.read + 1
 
 -- an endpoint may come after others, which stand in any order
 pub record IsNewEnd (network : Network) (ends : List Endpoint) (end : Endpoint) : Type 0 where

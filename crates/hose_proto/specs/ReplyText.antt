@@ -1,5 +1,5 @@
 -- The texts of replies.
-use Rattle.std.specs.Prelude.{ℕ, Bool, true, false, List, [], ◌∷◌, ◌++◌, Option, None, Some, codes, decimal, slice_get}
+use Rattle.std.specs.Prelude.{◌≢◌, ℕ, Bool, true, false, List, [], ◌∷◌, ◌++◌, Option, None, Some, codes, decimal, slice_get}
 use Rattle.std.specs.List.{flat_map}
 use Rattle.hose_graph.specs.Amounts.{ReservedLink, amount_of, link_of}
 use Rattle.hose_graph.specs.Hose.{Endpoint, node_of, rate_of}
@@ -72,6 +72,17 @@ reply_text network Memory = codes "memory"
 reply_text network (Bad word) = codes "bad " ++ decimal word
 reply_text network Long = codes "long"
 reply_text network Bye = codes "bye"
+
+-- the text of a reply has neither lists nor names
+pub record IsShort (reply : Reply) : Type 0 where
+  pub not_admitted : (id cost at : ℕ) (amounts : List ReservedLink)
+      → reply ≢ Admitted id cost at amounts
+  pub not_quoted : (quote cost at : ℕ) (amounts : List ReservedLink)
+      → reply ≢ Quoted quote cost at amounts
+  pub not_refused : (at : ℕ) (side : List ℕ) → reply ≢ Refused at side
+  pub not_shown : (id cost at : ℕ) (hose : List Endpoint) (amounts : List ReservedLink)
+      → reply ≢ Shown id cost at hose amounts
+  pub not_state : (link load : ℕ) (out : Bool) (at : ℕ) → reply ≢ LinkState link load out at
 
 -- a line of output: a text and a line feed
 abbrev pub line_of : List ℕ → List ℕ

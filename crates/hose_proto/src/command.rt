@@ -1,18 +1,19 @@
 // Commands read from words.
 ghost use Rattle.std.specs.Prelude.{◌≡◌, ◌⊎◌, ℕ, List, ◌+◌, ◌≤◌, ◌↔◌, [], ◌∷◌, decimal, length, drop, Ok, Err, IfOk, IfErr, IfSome, IfNone, IsTrue, Any};
-ghost use Rattle.hose_words.specs.Cursor.{Took, IsWrong, MissesItem};
+ghost use Rattle.hose_words.specs.Cursor.{IsWrong};
 ghost use Rattle.hose_words.specs.Form.{IsChoice, grammar_of};
 ghost use Rattle.hose_words.specs.Grammar.{IsFirst, IsFirstNotAllowed};
 ghost use Rattle.hose_words.specs.Words.{words_of};
 ghost use Rattle.hose_graph.specs.Hose.{Endpoint, node_of};
 ghost use Rattle.hose_graph.specs.Network.{IsNetwork, IsLinkOf};
 ghost use Rattle.hose_graph.specs.declared.command.Command.{Command};
-ghost use Rattle.hose_proto.specs.Command.{AreEndsOf, IsId, IsCommand, TakesMemory, command_form, command_grammar, ends_form, verb_form, sole_id_form, sole_link_form, verb_word};
+ghost use Rattle.hose_proto.specs.Command.{AreEndsOf, AreNewEnds, IsId, IsCommand, TakesMemory, command_form, command_grammar, ends_form, verb_form, sole_id_form, sole_link_form, verb_word};
 ghost use Rattle.hose_proto.specs.Places.{end_word};
 ghost use Rattle.hose_proto.specs.Reading.{IsFaultOf, IsNewEnd};
 ghost use Rattle.hose_graph.specs.Naming.{AsksOf};
 
 use crate::fault::ReadFault;
+use crate::lists::{Items, read_items};
 use crate::places::{endpoint, read_link_number};
 use crate::verb::Verb;
 use hose_graph::{Command, Endpoint, Hose, LEAST_ENDS, MOST_ENDS, MOST_EPOCH, Topology};
@@ -157,36 +158,23 @@ fn read_ends(alloc: Global, top: &Topology, words: &mut Cursor<'_>) -> Result<Ho
     ensures ok { IfOk result (AreEndsOf top.now words.old.left) }
     ensures bad { IfErr result (IsFaultOf (ends_form top.now) words.old) }
 {
-    let mut ends = Vec::new(alloc);
-    while let Some(end) = next_end(top, &ends, words)? {
-        ends.push(end)?;
-    }
+    let ends = read_items::<NewEnds>(alloc, top, LEAST_ENDS, words)?;
     let hose = Hose::from_ends(alloc, &ends)?;
     Ok(hose)
 }
 
-// The endpoint that the next word spells, or none where the line ends.
-fn next_end(
-    top: &Topology,
-    ends: &[Endpoint],
-    words: &mut Cursor<'_>,
-) -> Result<Option<Endpoint>, WrongWord>
-    requires { IsNetwork top.now }
-    ensures next { IfOk result (λ next. IfSome next
-        (λ end. Took words.old words.new (end_word top.now end) × IsNewEnd top.now ends.now end)) }
-    ensures last { IfOk result (λ next. IfNone next
-        ((words.old.left ≡ []) × (LEAST_ENDS ≤ length ends.now))) }
-    ensures wrong { IfErr result (λ wrong. MissesItem (end_word top.now) (IsNewEnd top.now ends.now)
-        LEAST_ENDS ends.now words.old wrong.number) }
-{
-    let wrong = words.wrong();
-    match words.next() {
-        None if ends.len() < LEAST_ENDS => Err(wrong),
-        None => Ok(None),
-        Some(word) => match new_end(top, ends, word) {
-            None => Err(wrong),
-            end => Ok(end),
-        },
+// Endpoints of a hose, in any order.
+struct NewEnds;
+
+impl Items for NewEnds {
+    type Item = Endpoint;
+
+    ghost word_of = { end_word };
+
+    ghost fine = { AreNewEnds };
+
+    fn next(top: &Topology, ends: &[Endpoint], word: &[u8]) -> Option<Endpoint> {
+        new_end(top, ends, word)
     }
 }
 

@@ -9,6 +9,7 @@
 mod command;
 mod fault;
 mod head;
+mod lists;
 mod pieces;
 mod places;
 mod reply_lists;

@@ -1,7 +1,7 @@
 // The lists of replies, read from words.
 ghost use Rattle.std.specs.Prelude.{◌≡◌, ◌↔◌, ℕ, ◌<◌, ◌≤◌, ◌++◌, [], ◌∷◌, codes, length, map, IfOk, OnOk, IfErr, IfSome, IfNone, IsTrue};
 ghost use Rattle.std.specs.List.Sorted.{IsStrictlyIncreasing};
-ghost use Rattle.hose_words.specs.Cursor.{Took, IsWrong, MissesItem};
+ghost use Rattle.hose_words.specs.Cursor.{Took, IsWrong};
 ghost use Rattle.hose_graph.specs.Amounts.{ReservedLink};
 ghost use Rattle.hose_graph.specs.Hose.{Endpoint};
 ghost use Rattle.hose_graph.specs.Ascending.{IsAscending, firsts};
@@ -12,6 +12,7 @@ ghost use Rattle.hose_proto.specs.ReplyGrammar.{amounts_form, names_form, hose_f
 ghost use Rattle.hose_proto.specs.ReplyWords.{AreAmounts, IsSide, pair_word};
 
 use crate::fault::ReadFault;
+use crate::lists::{Items, read_items};
 use crate::places::{endpoint, link_number, parts};
 use hose_graph::{
     Amounts, Endpoint, Hose, LEAST_ENDS, MOST_ENDS, Name, NodeList, ReservedLink, Topology,
@@ -30,37 +31,23 @@ pub(crate) fn read_amounts(
     ensures amounts { IfOk result (AreAmounts top.now) }
     ensures bad { IfErr result (IsFaultOf (amounts_form top.now) words.old) }
 {
-    let mut pairs = Vec::new(alloc);
-    while let Some(pair) = next_pair(top, &pairs, words)? {
-        pairs.push(pair)?;
-    }
+    let pairs = read_items::<Pairs>(alloc, top, 1, words)?;
     let amounts = Amounts::build(alloc, &pairs)?;
     Ok(amounts)
 }
 
-// The amount that the next word tells, or none where the line ends.
-fn next_pair(
-    top: &Topology,
-    pairs: &[ReservedLink],
-    words: &mut Cursor<'_>,
-) -> Result<Option<ReservedLink>, WrongWord>
-    requires ascending { IsAscending pairs.now }
-    requires network { IsNetwork top.now }
-    ensures next { IfOk result (λ next. IfSome next
-        (λ pair. Took words.old words.new (pair_word pair) × IsNextPair top.now pairs.now pair)) }
-    ensures last { IfOk result (λ next. IfNone next
-        ((words.old.left ≡ []) × (0 < length pairs.now))) }
-    ensures wrong { IfErr result (λ wrong. MissesItem pair_word (IsNextPair top.now pairs.now)
-        1 pairs.now words.old wrong.number) }
-{
-    let wrong = words.wrong();
-    match words.next() {
-        None if pairs.is_empty() => Err(wrong),
-        None => Ok(None),
-        Some(word) => match pair_after(top, pairs, word) {
-            None => Err(wrong),
-            pair => Ok(pair),
-        },
+// Amounts on links, in ascending order of links.
+struct Pairs;
+
+impl Items for Pairs {
+    type Item = ReservedLink;
+
+    ghost word_of = { λ _. pair_word };
+
+    ghost fine = { AreAmounts };
+
+    fn next(top: &Topology, pairs: &[ReservedLink], word: &[u8]) -> Option<ReservedLink> {
+        pair_after(top, pairs, word)
     }
 }
 
@@ -98,38 +85,23 @@ pub(crate) fn read_side(
     ensures side { IfOk result (IsSide top.now) }
     ensures bad { IfErr result (IsFaultOf (names_form top.now) words.old) }
 {
-    let mut nodes = Vec::new(alloc);
-    while let Some(node) = next_node(top, &nodes, words)? {
-        nodes.push(node)?;
-    }
+    let nodes = read_items::<Nodes>(alloc, top, 1, words)?;
     let side = NodeList::build(alloc, &nodes)?;
     Ok(side)
 }
 
-// The node that the next word names, or none where the line ends.
-fn next_node(
-    top: &Topology,
-    nodes: &[u32],
-    words: &mut Cursor<'_>,
-) -> Result<Option<u32>, WrongWord>
-    requires ascending { IsStrictlyIncreasing nodes.now }
-    requires network { IsNetwork top.now }
-    ensures next { IfOk result (λ next. IfSome next
-        (λ node. Took words.old words.new (name_of top.now node)
-        × IsNextNode top.now nodes.now node)) }
-    ensures last { IfOk result (λ next. IfNone next
-        ((words.old.left ≡ []) × (0 < length nodes.now))) }
-    ensures wrong { IfErr result (λ wrong. MissesItem (name_of top.now)
-        (IsNextNode top.now nodes.now) 1 nodes.now words.old wrong.number) }
-{
-    let wrong = words.wrong();
-    match words.next() {
-        None if nodes.is_empty() => Err(wrong),
-        None => Ok(None),
-        Some(word) => match node_after(top, nodes, word) {
-            None => Err(wrong),
-            node => Ok(node),
-        },
+// Nodes in ascending order.
+struct Nodes;
+
+impl Items for Nodes {
+    type Item = u32;
+
+    ghost word_of = { name_of };
+
+    ghost fine = { IsSide };
+
+    fn next(top: &Topology, nodes: &[u32], word: &[u8]) -> Option<u32> {
+        node_after(top, nodes, word)
     }
 }
 

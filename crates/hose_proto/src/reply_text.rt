@@ -5,15 +5,15 @@ ghost use Rattle.hose_io.specs.Count.{one_more};
 ghost use Rattle.hose_io.specs.Gather.{IsAdded};
 ghost use Rattle.hose_io.specs.Writing.{IsPut};
 ghost use Rattle.hose_graph.specs.Hose.{node_of};
-ghost use Rattle.hose_graph.specs.Network.{IsLinkOf, IsNodeOf};
-ghost use Rattle.hose_graph.specs.declared.command.Reply.TheVariants.{LinkState};
-ghost use Rattle.hose_proto.specs.ReplyText.{line_of, reply_text, priced_text, pair_text, node_text, end_text, service_text};
+ghost use Rattle.hose_graph.specs.Network.{Network, IsLinkOf, IsNodeOf};
+ghost use Rattle.hose_graph.specs.declared.command.Reply.TheVariants.{LinkState, Refused, Shown};
+ghost use Rattle.hose_proto.specs.ReplyText.{IsShort, line_of, reply_text, priced_text, pair_text, node_text, end_text, service_text};
 ghost use Rattle.hose_graph.specs.Naming.{NamesPlaces};
 ghost use Rattle.hose_proto.specs.ReplyWords.{IsOfKind, IsReply};
 ghost use Rattle.hose_words.specs.Words.{words_of};
 
 use crate::pieces::{add_ends, add_link, add_node, add_pairs};
-use hose_graph::{Amounts, Hose, Reply, Topology};
+use hose_graph::{Amounts, Hose, NodeList, Reply, Topology};
 use hose_io::{Failed, GATHER_LIMIT, Gather, Sink};
 
 /// Writes a reply as a line. A line of up to 4,096 bytes is given to the sink as one piece, and
@@ -43,51 +43,52 @@ fn add_reply<S: Sink>(gather: &mut Gather, sink: &mut S, top: &Topology, reply: 
         (reply_text top.now reply.now) }
 {
     match reply {
-        Reply::Welcome { at } => gather.add_numbered(sink, b"welcome at ", *at),
         Reply::Admitted {
             id,
             cost,
             at,
             amounts,
-        } => add_priced(gather, sink, b"admitted ", *id, *cost, *at, amounts),
+        } => add_priced(gather, sink, b"admitted ", (*id, *cost, *at), amounts),
         Reply::Quoted {
             quote,
             cost,
             at,
             amounts,
-        } => add_priced(gather, sink, b"quoted ", *quote, *cost, *at, amounts),
-        Reply::Refused { at, side } => {
-            gather.add_numbered(sink, b"refused at ", *at);
-            gather.add(sink, b" side");
-            add_side(gather, sink, top, side.nodes());
-        }
-        Reply::Stale { seen, now } => add_numbers(gather, sink, b"stale ", *seen, b" ", *now),
-        Reply::Released { id, at } => add_numbers(gather, sink, b"released ", *id, b" at ", *at),
-        Reply::NoVpn { id, at } => add_numbers(gather, sink, b"no vpn ", *id, b" at ", *at),
-        Reply::NoQuote { quote, at } => {
-            add_numbers(gather, sink, b"no quote ", *quote, b" at ", *at);
-        }
-        Reply::TooMany { at } => gather.add_numbered(sink, b"too many quotes at ", *at),
+        } => add_priced(gather, sink, b"quoted ", (*quote, *cost, *at), amounts),
+        Reply::Refused { at, side } => add_refused(gather, sink, top, *at, side),
         Reply::Shown {
             id,
             cost,
             at,
             hose,
             amounts,
-        } => {
-            add_numbers(gather, sink, b"vpn ", *id, b" cost ", *cost);
-            gather.add_numbered(sink, b" at ", *at);
-            add_lists(gather, sink, top, hose, amounts);
-        }
+        } => add_shown(gather, sink, top, (*id, *cost, *at), hose, amounts),
         Reply::LinkState {
             link,
             load,
             out,
             at,
-        } => add_state(gather, sink, top, *link, *load, *out, *at),
-        Reply::Down { link, at } => add_numbers(gather, sink, b"down ", *link, b" at ", *at),
-        Reply::Up { link, at } => add_numbers(gather, sink, b"up ", *link, b" at ", *at),
-        Reply::Already { link, at } => add_numbers(gather, sink, b"already ", *link, b" at ", *at),
+        } => add_state(gather, sink, top, *link, *load, (*out, *at)),
+        _ => add_short(gather, sink, reply),
+    }
+}
+
+// Adds the text of a reply that has neither lists nor names.
+fn add_short<S: Sink>(gather: &mut Gather, sink: &mut S, reply: &Reply)
+    requires { IsShort reply.now }
+    ensures { (network : Network) → IsAdded S.Sink gather.old sink.old gather.new sink.new
+        (reply_text network reply.now) }
+{
+    match reply {
+        Reply::Welcome { at } => gather.add_numbered(sink, b"welcome at ", *at),
+        Reply::Stale { seen, now } => add_numbers(gather, sink, b"stale ", *seen, b" ", *now),
+        Reply::Released { id, at } => add_at(gather, sink, b"released ", *id, *at),
+        Reply::NoVpn { id, at } => add_at(gather, sink, b"no vpn ", *id, *at),
+        Reply::NoQuote { quote, at } => add_at(gather, sink, b"no quote ", *quote, *at),
+        Reply::TooMany { at } => gather.add_numbered(sink, b"too many quotes at ", *at),
+        Reply::Down { link, at } => add_at(gather, sink, b"down ", *link, *at),
+        Reply::Up { link, at } => add_at(gather, sink, b"up ", *link, *at),
+        Reply::Already { link, at } => add_at(gather, sink, b"already ", *link, *at),
         Reply::Denied { at } => gather.add_numbered(sink, b"denied at ", *at),
         Reply::Full { at } => gather.add_numbered(sink, b"full at ", *at),
         Reply::Spent { at } => gather.add_numbered(sink, b"spent at ", *at),
@@ -96,6 +97,11 @@ fn add_reply<S: Sink>(gather: &mut Gather, sink: &mut S, top: &Topology, reply: 
         Reply::Bad { word } => gather.add_numbered(sink, b"bad ", *word),
         Reply::Long => gather.add(sink, b"long"),
         Reply::Bye => gather.add(sink, b"bye"),
+        Reply::Admitted { .. } => {}
+        Reply::Quoted { .. } => {}
+        Reply::Refused { .. } => {}
+        Reply::Shown { .. } => {}
+        Reply::LinkState { .. } => {}
     }
 }
 
@@ -115,64 +121,86 @@ fn add_numbers<S: Sink>(
     gather.add_numbered(sink, more, other);
 }
 
-// Adds some words, a number, a cost, an epoch, and links with their amounts.
+// Adds some words and the number after them, and an epoch.
+fn add_at<S: Sink>(gather: &mut Gather, sink: &mut S, words: &[u8], number: u64, at: u64)
+    ensures { IsAdded S.Sink gather.old sink.old gather.new sink.new
+        (words.now ++ decimal number ++ codes " at " ++ decimal at) }
+{
+    add_numbers(gather, sink, words, number, b" at ", at);
+}
+
+// Adds some words, a number, a cost and an epoch, and links with their amounts.
 fn add_priced<S: Sink>(
     gather: &mut Gather,
     sink: &mut S,
     words: &[u8],
-    id: u64,
-    cost: u64,
-    at: u64,
+    costed: (u64, u64, u64),
     amounts: &Amounts,
 )
     ensures { IsAdded S.Sink gather.old sink.old gather.new sink.new
-        (words.now ++ decimal id ++ priced_text cost at amounts.now) }
+        (words.now ++ decimal costed.0 ++ priced_text costed.1 costed.2 amounts.now) }
 {
+    let (id, cost, at) = costed;
     gather.add_numbered(sink, words, id);
-    add_numbers(gather, sink, b" cost ", cost, b" at ", at);
+    add_at(gather, sink, b" cost ", cost, at);
     gather.add(sink, b" links");
     add_pairs(gather, sink, amounts.pairs());
 }
 
-// Adds the endpoints of a hose, and links with their amounts.
-fn add_lists<S: Sink>(
+// Adds that a hose is refused, and the side of its lowest endpoint.
+fn add_refused<S: Sink>(gather: &mut Gather, sink: &mut S, top: &Topology, at: u64, side: &NodeList)
+    requires { All (IsNodeOf top.now) side.now }
+    ensures { IsAdded S.Sink gather.old sink.old gather.new sink.new
+        (reply_text top.now (Refused at side.now)) }
+{
+    gather.add_numbered(sink, b"refused at ", at);
+    gather.add(sink, b" side");
+    add_side(gather, sink, top, side.nodes());
+}
+
+// Adds the number of a VPN, its cost and an epoch, the endpoints of its hose, and links with their
+// amounts.
+fn add_shown<S: Sink>(
     gather: &mut Gather,
     sink: &mut S,
     top: &Topology,
+    costed: (u64, u64, u64),
     hose: &Hose,
     amounts: &Amounts,
 )
     requires { All (λ end. IsNodeOf top.now (node_of end)) hose.now }
     ensures { IsAdded S.Sink gather.old sink.old gather.new sink.new
-        (codes " ends" ++ flat_map (end_text top.now) hose.now
-        ++ codes " links" ++ flat_map pair_text amounts.now) }
+        (reply_text top.now (Shown costed.0 costed.1 costed.2 hose.now amounts.now)) }
 {
+    let (id, cost, at) = costed;
+    gather.add_numbered(sink, b"vpn ", id);
+    add_at(gather, sink, b" cost ", cost, at);
     gather.add(sink, b" ends");
     add_ends(gather, sink, top, hose.ends());
     gather.add(sink, b" links");
     add_pairs(gather, sink, amounts.pairs());
 }
 
-// Adds what there is to tell of a link.
+// Adds what there is to tell of a link: what is reserved on it, whether it is out of service, and
+// an epoch.
 fn add_state<S: Sink>(
     gather: &mut Gather,
     sink: &mut S,
     top: &Topology,
     link: u64,
     load: u64,
-    out: bool,
-    at: u64,
+    service: (bool, u64),
 )
     requires { IsLinkOf top.now link }
     ensures { IsAdded S.Sink gather.old sink.old gather.new sink.new
-        (reply_text top.now (LinkState link load out at)) }
+        (reply_text top.now (LinkState link load service.0 service.1)) }
 {
     // The call tells the proof that each network has few links, so that their numbers fit.
     let _links = top.links();
     gather.add_numbered(sink, b"link ", link);
     add_link(gather, sink, top, &top.link(link as u32));
     gather.add_numbered(sink, b" load ", load);
-    add_service(gather, sink, out, at);
+    add_service(gather, sink, service.0, service.1);
 }
 
 // Adds whether a link is out of service, and an epoch.

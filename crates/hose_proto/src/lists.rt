@@ -1,0 +1,81 @@
+// Lists read from words, item by item to the end of the line.
+ghost use Rattle.std.specs.Prelude.{◌≡◌, ℕ, ◌≤◌, List, [], ◌∷◌, ◌++◌, length, map, IfOk, IfErr, IfSome, IfNone};
+ghost use Rattle.hose_words.specs.Cursor.{Took};
+ghost use Rattle.hose_words.specs.Form.{TellsItems, list};
+ghost use Rattle.hose_graph.specs.Network.{Network, IsNetwork};
+ghost use Rattle.hose_proto.specs.Reading.{AreSoFar, EndsList, IsFaultOf};
+
+use crate::fault::ReadFault;
+use hose_graph::Topology;
+use hose_words::{Cursor, WrongWord};
+use std::alloc::Global;
+
+// What the words of a list tell.
+pub(crate) trait Items {
+    type Item: Copy;
+
+    // The word of an item.
+    ghost word_of: { Network → Self.Item → List ℕ };
+
+    // Items that may stand in a list.
+    ghost fine: { Network → List Self.Item → Type 0 };
+
+    // The item that a word tells, where it may come after the others.
+    fn next(top: &Topology, items: &[Self::Item], word: &[u8]) -> Option<Self::Item>
+        requires network { IsNetwork top.now }
+        requires so_far { AreSoFar (fine top.now) items.now }
+        ensures some { IfSome result (λ item.
+            (word.now ≡ word_of top.now item) × fine top.now (items.now ++ item ∷ [])) }
+        ensures none { IfNone result (¬ TellsItems (word_of top.now) (fine top.now)
+            (map (word_of top.now) items.now ++ word.now ∷ [])) };
+}
+
+// The items of a list of so many at least, to the end of the line.
+pub(crate) fn read_items<L: Items>(
+    alloc: Global,
+    top: &Topology,
+    least: usize,
+    words: &mut Cursor<'_>,
+) -> Result<Vec<L::Item>, ReadFault>
+    requires network { IsNetwork top.now }
+    requires some { 1 ≤ least }
+    ensures told { IfOk result (λ items. words.old.left ≡ map (L.word_of top.now) items.items) }
+    ensures fine { IfOk result (λ items. L.fine top.now items.items) }
+    ensures enough { IfOk result (λ items. least ≤ length items.items) }
+    ensures bad { IfErr result
+        (IsFaultOf (list (L.word_of top.now) (L.fine top.now) least) words.old) }
+{
+    let mut items = Vec::new(alloc);
+    while let Some(item) = next_item::<L>(top, &items, least, words)? {
+        items.push(item)?;
+    }
+    Ok(items)
+}
+
+// The item that the next word tells, or none where the line ends.
+fn next_item<L: Items>(
+    top: &Topology,
+    items: &[L::Item],
+    least: usize,
+    words: &mut Cursor<'_>,
+) -> Result<Option<L::Item>, WrongWord>
+    requires network { IsNetwork top.now }
+    requires so_far { AreSoFar (L.fine top.now) items.now }
+    ensures next { IfOk result (λ next. IfSome next (λ item.
+        Took words.old words.new (L.word_of top.now item)
+        × L.fine top.now (items.now ++ item ∷ []))) }
+    ensures last { IfOk result (λ next. IfNone next
+        ((words.old.left ≡ []) × (least ≤ length items.now))) }
+    ensures wrong { IfErr result (λ wrong. EndsList (L.word_of top.now) (L.fine top.now) least
+        items.now words.old wrong.number) }
+{
+    let wrong = words.wrong();
+    match words.next() {
+        None if items.len() < least => Err(wrong),
+        None => Ok(None),
+        Some(word) => match L::next(top, items, word) {
+            None => Err(wrong),
+            item => Ok(item),
+        },
+    }
+}
