@@ -15,6 +15,13 @@ use hose_plan::plan;
 use hose_tree::cost;
 use std::alloc::{AllocError, Global};
 
+// A hose, and all links of the network, over which it is planned.
+#[derive(Clone, Copy)]
+struct Asked<'a> {
+    hose: &'a Hose,
+    links: &'a LinkSet,
+}
+
 impl PriceSheet {
     /// What the hose costs under each tariff, on the whole network and without regard to loads;
     /// none where there is no plan of it. Each cost is that of the hose's first plan by the
@@ -29,12 +36,16 @@ impl PriceSheet {
         ensures line { IfOk result (IsLineOf self.now hose.now) }
     {
         let links = all_links(alloc, &self.top)?;
-        let Some(bounds) = self.bounds(alloc, &links, hose, rows)? else {
+        let asked = &Asked {
+            hose,
+            links: &links,
+        };
+        let Some(bounds) = self.bounds(alloc, asked, rows)? else {
             return Ok(None);
         };
         let mut prices = Vec::with_capacity(alloc, self.count())?;
         for place in 0..self.count() {
-            let Some(price) = self.price(alloc, place, &links, hose, &bounds, rows)? else {
+            let Some(price) = self.price(alloc, place, asked, &bounds, rows)? else {
                 return Ok(None);
             };
             prices.push_reserved(price);
@@ -46,20 +57,19 @@ impl PriceSheet {
     fn bounds<R: RowMaker>(
         &self,
         alloc: Global,
-        links: &LinkSet,
-        hose: &Hose,
+        asked: &Asked<'_>,
         rows: &mut R,
     ) -> Result<Option<Bounds>, AllocError>
-        requires links { links.now ≡ all_links self.now.network }
-        requires nodes { AreNodes self.now.network hose.now }
+        requires links { asked.now.links.now ≡ all_links self.now.network }
+        requires nodes { AreNodes self.now.network asked.now.hose.now }
         ensures { IfOk result
-            (λ found. MatchOption found (HasNoPricedPlan self.now.network hose.now)
-            (AreBounds self.now hose.now)) }
+            (λ found. MatchOption found (HasNoPricedPlan self.now.network asked.now.hose.now)
+            (AreBounds self.now asked.now.hose.now)) }
     {
-        let Some(few) = plan(alloc, &self.hops, links, hose, rows)? else {
+        let Some(few) = plan(alloc, &self.hops, asked.links, asked.hose, rows)? else {
             return Ok(None);
         };
-        let Some(short) = plan(alloc, &self.lengths, links, hose, rows)? else {
+        let Some(short) = plan(alloc, &self.lengths, asked.links, asked.hose, rows)? else {
             return Ok(None);
         };
         Ok(Some(Bounds {
@@ -74,24 +84,23 @@ impl PriceSheet {
         &self,
         alloc: Global,
         place: usize,
-        links: &LinkSet,
-        hose: &Hose,
+        asked: &Asked<'_>,
         bounds: &Bounds,
         rows: &mut R,
     ) -> Result<Option<Price>, AllocError>
         requires place { place < length self.now.columns }
-        requires links { links.now ≡ all_links self.now.network }
-        requires nodes { AreNodes self.now.network hose.now }
-        requires bounds { AreBounds self.now hose.now bounds.now }
+        requires links { asked.now.links.now ≡ all_links self.now.network }
+        requires nodes { AreNodes self.now.network asked.now.hose.now }
+        requires bounds { AreBounds self.now asked.now.hose.now bounds.now }
         ensures { IfOk result
-            (λ found. MatchOption found (HasNoPricedPlan self.now.network hose.now)
-            (λ price. (column : _)
-            → IsPriceOf self.now hose.now (slice_index_or self.now.columns place column) price)) }
+            (λ found. MatchOption found (HasNoPricedPlan self.now.network asked.now.hose.now)
+            (λ price. (column : _) → IsPriceOf self.now asked.now.hose.now
+            (slice_index_or self.now.columns place column) price)) }
     {
         let column = self.column(place);
         // The call tells the proof what holds of each network.
         let _hops = self.hops.nodes();
-        let Some(amounts) = plan(alloc, &column.top, links, hose, rows)? else {
+        let Some(amounts) = plan(alloc, &column.top, asked.links, asked.hose, rows)? else {
             return Ok(None);
         };
         Ok(Some(Price {

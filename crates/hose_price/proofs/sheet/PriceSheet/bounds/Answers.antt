@@ -10,30 +10,30 @@ use Rattle.hose_price.proofs.sheet.PriceSheet.bounds.Goals as goal
 pub returns-in_default : goal.returns-in_default
 returns-in_default g c =
     let own = c.self.inside in
-    let all : c.args.links.now ≡ all_links own.top = rw (sym c.self.view_is) at c.requires.links in
-    let none : (root weight : ℕ) → ¬ IsRoot own.hops c.args.links.now c.args.hose.now root weight = rw c.in_default.is at (c.in_ok-few.ensures).no_root in
-    let has = no_plan costs_one own.top own.hops c.self.invariant.hops c.args.links.now all c.args.hose.now c.plan.ensures.network none in
-    subst (λ (sheet : Sheet). HasNoPricedPlan sheet.network c.args.hose.now) c.self.view_is has
+    let all : c.args.asked.now.links.now ≡ all_links own.top = rw (sym c.self.view_is) at c.requires.links in
+    let none : (root weight : ℕ) → ¬ IsRoot own.hops c.args.asked.now.links.now c.args.asked.now.hose.now root weight = rw c.in_default.is at (c.in_ok-few.ensures).no_root in
+    let has = no_plan costs_one own.top own.hops c.self.invariant.hops c.args.asked.now.links.now all c.args.asked.now.hose.now c.plan.ensures.network none in
+    subst (λ (sheet : Sheet). HasNoPricedPlan sheet.network c.args.asked.now.hose.now) c.self.view_is has
 
 pub plan-requires-2-clause-places : goal.plan-requires-2-clause-places
 plan-requires-2-clause-places g c =
     let own = c.self.inside in
-    let all : c.args.links.now ≡ all_links own.top = rw (sym c.self.view_is) at c.requires.links in
-    links_there costs_length own.top own.lengths c.self.invariant.lengths c.args.links.now all
+    let all : c.args.asked.now.links.now ≡ all_links own.top = rw (sym c.self.view_is) at c.requires.links in
+    links_there costs_length own.top own.lengths c.self.invariant.lengths c.args.asked.now.links.now all
 
 pub returns-in_default-2 : goal.returns-in_default-2
 returns-in_default-2 g c =
     let own = c.self.inside in
-    let all : c.args.links.now ≡ all_links own.top = rw (sym c.self.view_is) at c.requires.links in
-    let none : (root weight : ℕ) → ¬ IsRoot own.lengths c.args.links.now c.args.hose.now root weight = rw c.in_default-2.is at (c.in_ok-short.ensures).no_root in
-    let has = no_plan costs_length own.top own.lengths c.self.invariant.lengths c.args.links.now all c.args.hose.now c.plan-2.ensures.network none in
-    subst (λ (sheet : Sheet). HasNoPricedPlan sheet.network c.args.hose.now) c.self.view_is has
+    let all : c.args.asked.now.links.now ≡ all_links own.top = rw (sym c.self.view_is) at c.requires.links in
+    let none : (root weight : ℕ) → ¬ IsRoot own.lengths c.args.asked.now.links.now c.args.asked.now.hose.now root weight = rw c.in_default-2.is at (c.in_ok-short.ensures).no_root in
+    let has = no_plan costs_length own.top own.lengths c.self.invariant.lengths c.args.asked.now.links.now all c.args.asked.now.hose.now c.plan-2.ensures.network none in
+    subst (λ (sheet : Sheet). HasNoPricedPlan sheet.network c.args.asked.now.hose.now) c.self.view_is has
 
 pub returns : goal.returns
 returns g c =
     let own = c.self.inside in
-    let hose = c.args.hose.now in
-    let set = c.args.links.now in
+    let hose = c.args.asked.now.hose.now in
+    let set = c.args.asked.now.links.now in
     let all : set ≡ all_links own.top = rw (sym c.self.view_is) at c.requires.links in
     let few : IsCanonicalPlan own.hops set hose c.in-Some.few = rw c.in-Some.is at (c.in_ok-few.ensures).plan in
     let short : IsCanonicalPlan own.lengths set hose c.in-Some-2.short = rw c.in-Some-2.is at (c.in_ok-short.ensures).plan in
