@@ -65,7 +65,7 @@ use judging::judge;
 use reading::{read_text, refuse};
 pub use statement::{LINE_NUMBERS, MOST_NUMBER};
 use std::alloc::Global;
-use writing::put_plan;
+use writing::{Linked, put_plan};
 
 /// What is found of a text.
 #[derive(Drop)]
@@ -149,5 +149,6 @@ pub fn put_certificate<S: Sink, R: RowMaker>(
     let Some(amounts) = plan(alloc, top, &links, hose, rows)? else {
         return Ok(false);
     };
-    put_plan(alloc, sink, top, hose, &links, &amounts, rows)
+    let linked = Linked { top, links: &links };
+    put_plan(alloc, sink, &linked, hose, &amounts, rows)
 }

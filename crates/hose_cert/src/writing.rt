@@ -5,15 +5,15 @@ ghost use Rattle.hose_io.specs.Frame.{Stays};
 ghost use Rattle.hose_io.specs.Gather.{IsAdded};
 ghost use Rattle.hose_graph.specs.Amounts.{amount_of};
 ghost use Rattle.hose_graph.specs.Hose.{IsHose};
-ghost use Rattle.hose_graph.specs.Network.{IsNetwork, IsNodeOf};
+ghost use Rattle.hose_graph.specs.Network.{IsNetwork};
 ghost use Rattle.hose_law.specs.CanonicalPlan.{IsCanonicalPlan};
 ghost use Rattle.hose_law.specs.Plan.{AreNodes, plan_cost};
 ghost use Rattle.hose_law.specs.Walk.{all_links};
 ghost use Rattle.hose_tree.specs.Amounts.{AreOnLinks};
-ghost use Rattle.hose_proto.specs.ReplyText.{end_text, line_of, node_text};
+ghost use Rattle.hose_proto.specs.ReplyText.{line_of};
 ghost use Rattle.hose_cert.specs.CertLine.{cost_line, hose_line};
 ghost use Rattle.hose_cert.specs.Adding.{AddsRoots};
-ghost use Rattle.hose_cert.specs.Written.{Writes, block_line, blocks_of, first_lines, line_text, number_text, numbers_of, root_lines, certificate_text, use_text};
+ghost use Rattle.hose_cert.specs.Written.{Writes, first_lines, line_text, number_text, numbers_of, pot_text, root_lines, certificate_text, use_text};
 
 use crate::fault::ProveFault;
 use crate::statement::LINE_NUMBERS;
@@ -21,34 +21,43 @@ use hose_graph::{Amounts, Endpoint, Hose, MOST_AMOUNT, MOST_TREE_LINKS, Reserved
 use hose_io::{Gather, Sink};
 use hose_links::LinkSet;
 use hose_paths::RowMaker;
+use hose_proto::add_ends;
 use hose_tree::cost;
 use std::alloc::{AllocError, Global};
+
+// A network, and the set of all its links.
+#[derive(Clone, Copy)]
+pub(crate) struct Linked<'a> {
+    pub(crate) top: &'a Topology,
+    pub(crate) links: &'a LinkSet,
+}
 
 // Writes the certificate of the hose's plan over all links.
 pub(crate) fn put_plan<S: Sink, R: RowMaker>(
     alloc: Global,
     sink: &mut S,
-    top: &Topology,
+    linked: &Linked<'_>,
     hose: &Hose,
-    links: &LinkSet,
     amounts: &Amounts,
     rows: &mut R,
 ) -> Result<bool, ProveFault>
-    requires network { IsNetwork top.now }
+    requires network { IsNetwork linked.now.top.now }
     requires hose { IsHose hose.now }
-    requires nodes { AreNodes top.now hose.now }
-    requires links { links.now ≡ all_links top.now }
-    requires plan { IsCanonicalPlan top.now (all_links top.now) hose.now amounts.now }
-    requires on_links { AreOnLinks top.now amounts.now }
+    requires nodes { AreNodes linked.now.top.now hose.now }
+    requires links { linked.now.links.now ≡ all_links linked.now.top.now }
+    requires plan { IsCanonicalPlan linked.now.top.now (all_links linked.now.top.now)
+        hose.now amounts.now }
+    requires on_links { AreOnLinks linked.now.top.now amounts.now }
     requires few { length amounts.now ≤ MOST_TREE_LINKS }
     requires amounts { All (λ pair. amount_of pair ≤ MOST_AMOUNT) amounts.now }
-    ensures writes { Writes S.Sink top.now hose.now sink.old sink.new result }
+    ensures writes { Writes S.Sink linked.now.top.now hose.now sink.old sink.new result }
     ensures stays { Stays (S.frame sink.old) (S.frame sink.new) }
 {
+    let top = linked.top;
     let cost = cost(top, amounts);
     let mut gather = Gather::new();
     add_first_lines(&mut gather, sink, top, hose, amounts.pairs(), cost);
-    if let Err(error) = add_roots(alloc, &mut gather, sink, top, links, cost, rows) {
+    if let Err(error) = add_roots(alloc, &mut gather, sink, linked, cost, rows) {
         // The lines that were made before are whole, and go out.
         gather.finish(sink)?;
         return Err(ProveFault::from(error));
@@ -72,7 +81,7 @@ fn add_first_lines<S: Sink>(
     ensures { IsAdded S.Sink gather.old sink.old gather.new sink.new
         (certificate_text top.now (first_lines top.now hose.now pairs.now)) }
 {
-    add_number(gather, sink, b"cost ", cost);
+    gather.add_numbered(sink, b"cost ", cost);
     gather.add(sink, b"\n");
     add_hose(gather, sink, top, hose.ends());
     add_uses(gather, sink, pairs);
@@ -89,27 +98,6 @@ fn add_hose<S: Sink>(gather: &mut Gather, sink: &mut S, top: &Topology, ends: &[
     gather.add(sink, b"\n");
 }
 
-// Adds endpoints with their rates.
-fn add_ends<S: Sink>(gather: &mut Gather, sink: &mut S, top: &Topology, ends: &[Endpoint])
-    requires { AreNodes top.now ends.now }
-    ensures { IsAdded S.Sink gather.old sink.old gather.new sink.new
-        (flat_map (end_text top.now) ends.now) }
-{
-    for end in ends {
-        add_node(gather, sink, top, end.0);
-        add_number(gather, sink, b":", end.1);
-    }
-}
-
-// Adds the name of a node.
-fn add_node<S: Sink>(gather: &mut Gather, sink: &mut S, top: &Topology, node: u32)
-    requires { IsNodeOf top.now node }
-    ensures { IsAdded S.Sink gather.old sink.old gather.new sink.new (node_text top.now node) }
-{
-    gather.add(sink, b" ");
-    gather.add(sink, top.name(node).bytes());
-}
-
 // Adds the lines of the links of the plan.
 fn add_uses<S: Sink>(gather: &mut Gather, sink: &mut S, pairs: &[ReservedLink])
     ensures { IsAdded S.Sink gather.old sink.old gather.new sink.new
@@ -124,8 +112,8 @@ fn add_uses<S: Sink>(gather: &mut Gather, sink: &mut S, pairs: &[ReservedLink])
 fn add_use<S: Sink>(gather: &mut Gather, sink: &mut S, pair: &ReservedLink)
     ensures { IsAdded S.Sink gather.old sink.old gather.new sink.new (line_of (use_text pair.now)) }
 {
-    add_number(gather, sink, b"use ", u64::from(pair.0));
-    add_number(gather, sink, b" ", pair.1);
+    gather.add_numbered(sink, b"use ", u64::from(pair.0));
+    gather.add_numbered(sink, b" ", pair.1);
     gather.add(sink, b"\n");
 }
 
@@ -135,20 +123,20 @@ fn add_roots<S: Sink, R: RowMaker>(
     alloc: Global,
     gather: &mut Gather,
     sink: &mut S,
-    top: &Topology,
-    links: &LinkSet,
+    linked: &Linked<'_>,
     most: u64,
     rows: &mut R,
 ) -> Result<(), AllocError>
-    requires { links.now ≡ all_links top.now }
+    requires { linked.now.links.now ≡ all_links linked.now.top.now }
     ensures { MatchResult result
-        (λ _. AddsRoots S.Sink top.now most gather.old sink.old gather.new sink.new
-        (length top.now.nodes))
-        (λ _. (made : ℕ) × (made ≤ length top.now.nodes)
-        × AddsRoots S.Sink top.now most gather.old sink.old gather.new sink.new made) }
+        (λ _. AddsRoots S.Sink linked.now.top.now most gather.old sink.old gather.new sink.new
+        (length linked.now.top.now.nodes))
+        (λ _. (made : ℕ) × (made ≤ length linked.now.top.now.nodes)
+        × AddsRoots S.Sink linked.now.top.now most gather.old sink.old gather.new sink.new made) }
 {
+    let top = linked.top;
     for root in 0..top.nodes() {
-        let row = rows.row(alloc, top, links, root)?;
+        let row = rows.row(alloc, top, linked.links, root)?;
         add_root(gather, sink, top, root, &row.dist, most);
     }
     Ok(())
@@ -167,38 +155,31 @@ fn add_root<S: Sink>(
     ensures { IsAdded S.Sink gather.old sink.old gather.new sink.new
         (certificate_text top.now (root_lines top.now root (numbers_of most dist.now))) }
 {
-    let blocks = (top.nodes() + (LINE_NUMBERS - 1)) / LINE_NUMBERS;
+    let nodes = top.nodes();
+    let blocks = (nodes + (LINE_NUMBERS - 1)) / LINE_NUMBERS;
     for block in 0..blocks {
-        add_block(gather, sink, top, root, dist, most, block);
+        let from = block * LINE_NUMBERS;
+        let count = LINE_NUMBERS.min(nodes - from);
+        let part = &dist[from as usize..(from + count) as usize];
+        add_block(gather, sink, root, from, part, most);
     }
 }
 
-// Adds a line of a root.
+// Adds a line of a root, with these distances, which are those from a node on.
 fn add_block<S: Sink>(
     gather: &mut Gather,
     sink: &mut S,
-    top: &Topology,
     root: u32,
+    from: u32,
     dist: &[Option<u64>],
     most: u64,
-    block: u32,
 )
-    requires places { length dist.now ≡ length top.now.nodes }
-    requires block { block < blocks_of top.now }
     ensures { IsAdded S.Sink gather.old sink.old gather.new sink.new
-        (line_of (line_text top.now (block_line top.now root (numbers_of most dist.now) block))) }
+        (line_of (pot_text root from (numbers_of most dist.now))) }
 {
-    let nodes = top.nodes();
-    let from = block * LINE_NUMBERS;
-    let count = LINE_NUMBERS.min(nodes - from);
-    add_number(gather, sink, b"pot ", u64::from(root));
-    add_number(gather, sink, b" ", u64::from(from));
-    add_numbers(
-        gather,
-        sink,
-        &dist[from as usize..(from + count) as usize],
-        most,
-    );
+    gather.add_numbered(sink, b"pot ", u64::from(root));
+    gather.add_numbered(sink, b" ", u64::from(from));
+    add_numbers(gather, sink, dist, most);
     gather.add(sink, b"\n");
 }
 
@@ -208,14 +189,6 @@ fn add_numbers<S: Sink>(gather: &mut Gather, sink: &mut S, dist: &[Option<u64>],
         (flat_map number_text (numbers_of most dist.now)) }
 {
     for distance in dist {
-        add_number(gather, sink, b" ", distance.unwrap_or(most));
+        gather.add_numbered(sink, b" ", distance.unwrap_or(most));
     }
-}
-
-// Adds some words and the number after them.
-fn add_number<S: Sink>(gather: &mut Gather, sink: &mut S, words: &[u8], number: u64)
-    ensures { IsAdded S.Sink gather.old sink.old gather.new sink.new (words.now ++ decimal number) }
-{
-    gather.add(sink, words);
-    gather.add_number(sink, number);
 }

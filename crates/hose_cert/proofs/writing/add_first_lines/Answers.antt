@@ -7,7 +7,7 @@ use Rattle.hose_cert.proofs.writing.add_first_lines.Goals as goal
 
 pub returns : goal.returns
 returns g c =
-    let cost = IsAdded-next (rw c.requires.cost at c.add_number.ensures) c.add.ensures in
+    let cost = IsAdded-next (rw c.requires.cost at c.add_numbered.ensures) c.add.ensures in
     let hose = rw c.ends.ensures.value at c.add_hose.ensures in
     rw (flat_map-map (λ (line : CertLine). line_of (line_text c.args.top.now line)) use_line c.args.pairs.now)
     (IsAdded-next cost (IsAdded-next hose c.add_uses.ensures))

@@ -9,7 +9,7 @@ use Rattle.hose_cert.proofs.writing.add_numbers.Goals as goal
 pub loop-distance-preserved : goal.loop-distance-preserved
 loop-distance-preserved g c =
     IsAdded-item [] (λ (distance : Option ℕ). number_text (unwrap_or distance c.args.most)) c.args.dist.now c.loop-distance.distance-index None (omega arith) c.loop-distance.invariant
-    (rw c.unwrap_or.ensures at c.add_number.ensures)
+    (rw c.unwrap_or.ensures at c.add_numbered.ensures)
 
 pub returns : goal.returns
 returns g c =
