@@ -1,6 +1,9 @@
-use Rattle.std.proofs.Common.{false, rules, true}
+use Rattle.std.proofs.Common.{false, rules, sym, true}
 use Rattle.hose_plan.proofs.EqualGrounds.{hold_at_books, safe_places}
 use Rattle.hose_plan.proofs.holding.grounds_hold.Goals as goal
+
+pub fits_as_before-requires-clause-same : goal.fits_as_before-requires-clause-same
+fits_as_before-requires-clause-same c = sym (c.same.ensures.0 c.if-not-same.false)
 
 pub are_safe-requires-clause-places : goal.are_safe-requires-clause-places
 are_safe-requires-clause-places c = safe_places c.args.top.now c.args.grounds.now c.requires.made
