@@ -7,6 +7,7 @@ pub mod Faults
 pub mod Hoses
 pub mod ItemByItem
 pub mod Items
+pub mod NodeNames
 pub mod OneCommand
 pub mod PassingReplies
 pub mod ReadAgain
