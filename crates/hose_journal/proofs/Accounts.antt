@@ -229,7 +229,8 @@ module _ {D : Type 0} (disk : Ghosts D) where
   pub settled_then : (account : Account) (old now : D) (entry : Entry) → LeavesOnly disk old now (IsListAmid account None) → LeavesOnly disk old now (IsListAmid account (Some entry))
   settled_then account old now entry run = weaker disk old now _ (IsListAmid account (Some entry)) (amid_more account entry) run
 
-  pub cleared_then : (account : Account) (old mid now : D) (entry : Entry) (P : List ℕ → Type 0) → ((image : List ℕ) → P image → IsListAmid (with_doubt account None) (Some entry) image)
-      → LeavesOnly disk old mid (IsListAmid account (Some entry)) → LeavesOnly disk mid now P → LeavesOnly disk old now (IsListAmid account (Some entry))
-  cleared_then account old mid now entry P to first second =
-      joined disk old mid now (IsListAmid account (Some entry)) first (weaker disk mid now P (IsListAmid account (Some entry)) (λ image is. amid_cleared account entry image (to image is)) second)
+  -- an append: the entry in doubt is revoked, and then one is added
+  pub appended : (account : Account) (old mid now : D) (entry : Entry) → LeavesOnly disk old mid (IsListAmid account None) → LeavesOnly disk mid now (IsListAmid (with_doubt account None) (Some entry)) → LeavesOnly disk old now (IsListAmid account (Some entry))
+  appended account old mid now entry settled added =
+      joined disk old mid now (IsListAmid account (Some entry)) (settled_then account old mid entry settled)
+      (weaker disk mid now _ (IsListAmid account (Some entry)) (amid_cleared account entry) added)

@@ -11,7 +11,7 @@ use Rattle.hose_journal.specs.Gates.{IsDoubtful, Starts}
 use Rattle.hose_journal.specs.Image.{IsClosed}
 use Rattle.hose_journal.specs.Journal.{Account, IsListAmid, Stands, with_doubt}
 use Rattle.hose_journal.specs.Moments.{Images, LeavesOnly}
-use Rattle.hose_journal.proofs.Accounts.{amid_closed, amid_writing, cleared_then, closed_here, closed_now, here, list_closed, list_sealing, settled_then, written}
+use Rattle.hose_journal.proofs.Accounts.{amid_closed, amid_writing, closed_here, closed_now, here, list_closed, list_sealing, written}
 use Rattle.hose_journal.proofs.Runs.{joined, weaker}
 
 module _ {D : Type 0} (disk : Ghosts D) where
@@ -19,7 +19,7 @@ module _ {D : Type 0} (disk : Ghosts D) where
   pub opened_as : (now : D) (before out bytes : List ℕ) → out ≡ bytes → Images disk now (Starts (before ++ OPEN ∷ out)) → Images disk now (Starts (before ++ OPEN ∷ bytes))
   opened_as now before out bytes is set image is_image = subst (λ (l : List ℕ). Starts (before ++ OPEN ∷ l) image) is (set image is_image)
 
-  -- ---- an append, after the entry in doubt was revoked
+  -- ---- an append where no entry is in doubt
 
   module _ (account : Account) (mid : Journal D) (after : Stands disk mid (with_doubt account None)) where
     abbrev pub before_entry : List ℕ
@@ -37,15 +37,17 @@ module _ {D : Type 0} (disk : Ghosts D) where
     record_is {body} {one} {value} {out} entry is is_sealed is_body is_one next =
         written disk mid (with_doubt account None) after body value out entry is is_sealed is_body (next account.digest account.entries entry after.chain is_one)
 
-    pub until_staged : (old staged : D) (entry : Entry) → LeavesOnly disk old mid.disk (IsListAmid account None) → LeavesOnly disk mid.disk staged (IsClosed before_entry) → LeavesOnly disk old staged (IsListAmid account (Some entry))
-    until_staged old staged entry settled run =
-        cleared_then disk account old mid.disk staged entry (IsClosed before_entry) (λ image is. amid_closed disk mid (with_doubt account None) after (Some entry) image is) (settled_then disk account old mid.disk entry settled) run
+    pub until_staged : (staged : D) (entry : Entry) → LeavesOnly disk mid.disk staged (IsClosed before_entry) → LeavesOnly disk mid.disk staged (IsListAmid (with_doubt account None) (Some entry))
+    until_staged staged entry run =
+        weaker disk mid.disk staged (IsClosed before_entry) (IsListAmid (with_doubt account None) (Some entry)) (λ image is. amid_closed disk mid (with_doubt account None) after (Some entry) image is) run
 
-    pub until_opened : (old staged opened : D) (out : List ℕ) (entry : Entry) → IsEntry entry → out ≡ record_of entry → LeavesOnly disk old mid.disk (IsListAmid account None)
-        → LeavesOnly disk mid.disk staged (IsClosed before_entry) → LeavesOnly disk staged opened (IsDoubtful before_entry out) → LeavesOnly disk old opened (IsListAmid account (Some entry))
-    until_opened old staged opened out entry is_entry is settled run opening =
-        cleared_then disk account old staged opened entry (IsDoubtful before_entry out)
-        (λ image doubtful. amid_writing disk mid (with_doubt account None) after entry image is_entry (subst (λ (l : List ℕ). IsDoubtful before_entry l image) is doubtful)) (until_staged old staged entry settled run) opening
+    pub until_opened : (staged opened : D) (out : List ℕ) (entry : Entry) → IsEntry entry → out ≡ record_of entry
+        → LeavesOnly disk mid.disk staged (IsClosed before_entry) → LeavesOnly disk staged opened (IsDoubtful before_entry out) → LeavesOnly disk mid.disk opened (IsListAmid (with_doubt account None) (Some entry))
+    until_opened staged opened out entry is_entry is run opening =
+        let amid = IsListAmid (with_doubt account None) (Some entry) in
+        joined disk mid.disk staged opened amid (until_staged staged entry run)
+        (weaker disk staged opened (IsDoubtful before_entry out) amid
+        (λ image doubtful. amid_writing disk mid (with_doubt account None) after entry image is_entry (subst (λ (l : List ℕ). IsDoubtful before_entry l image) is doubtful)) opening)
 
   -- ---- a seal
 

@@ -95,17 +95,18 @@ module _ {D : Type 0} (disk : Ghosts D) (old new : D) where
   pub cut_empties : ((image : List ℕ) → disk.may_leave new image → (was : List ℕ) × disk.may_leave old was × IsTruncated 0 was image) → Images disk new (λ image. image ≡ [])
   cut_empties step image is_image = (step image is_image).2
 
-  pub first_keeps : Images disk old (λ image. image ≡ []) → (image : List ℕ) → IsTornFrom disk old 0 1 image → IsUnbegun image
+  first_keeps : Images disk old (λ image. image ≡ []) → (image : List ℕ) → IsTornFrom disk old 0 1 image → IsUnbegun image
   first_keeps empty image (was, is_image, torn) = first_unbegun was image (empty was is_image) torn
 
-  -- a disk that was emptied, and then another write
-  pub cleared_then : (mid synced now : D) → Images disk old IsUnbegun → ((image : List ℕ) → disk.left_since old (disk.moment old) image → disk.may_leave old image)
+  -- a disk is cut to nothing and synced
+  pub emptied_run : (mid : D) → Images disk old IsUnbegun → ((image : List ℕ) → disk.left_since old (disk.moment old) image → disk.may_leave old image)
       → Elapses (disk.moment old) (disk.moment mid) (disk.left_since old) (disk.left_since mid) (disk.may_leave mid) → StepsTo (IsCut 0) (disk.may_leave old) (disk.may_leave mid)
-      → Elapses (disk.moment mid) (disk.moment synced) (disk.left_since mid) (disk.left_since synced) (disk.may_leave synced) → NoneNew (disk.may_leave mid) (disk.may_leave synced)
-      → LeavesOnly disk synced now IsUnbegun → LeavesOnly disk old now IsUnbegun
-  cleared_then mid synced now unbegun only cut_time cut sync_time same then =
-      let begin = started disk old IsUnbegun only unbegun in
+      → Elapses (disk.moment mid) (disk.moment new) (disk.left_since mid) (disk.left_since new) (disk.may_leave new) → NoneNew (disk.may_leave mid) (disk.may_leave new) → LeavesOnly disk old new IsUnbegun
+  emptied_run mid unbegun only cut_time cut sync_time same =
       let cut_images : Images disk mid IsUnbegun = λ image is_image. let from = cut image is_image in cut_unbegun 0 from.0 image from.2 (unbegun from.0 from.1) in
-      let cut_run = goes_on disk old old mid IsUnbegun begin cut_time cut_images in
-      let sync_run = goes_on disk old mid synced IsUnbegun cut_run sync_time (λ image is_image. cut_images image (same image is_image)) in
-      joined disk old synced now IsUnbegun sync_run then
+      let cut_run = goes_on disk old old mid IsUnbegun (started disk old IsUnbegun only unbegun) cut_time cut_images in
+      goes_on disk old mid new IsUnbegun cut_run sync_time (λ image is_image. cut_images image (same image is_image))
+
+-- a disk that was emptied, and then a write of one byte
+pub cleared_run : {D : Type 0} (disk : Ghosts D) (old mid new : D) → LeavesOnly disk old mid IsUnbegun → Images disk mid (λ image. image ≡ []) → LeavesOnly disk mid new (IsTornFrom disk mid 0 1) → LeavesOnly disk old new IsUnbegun
+cleared_run disk old mid new run emptied write = joined disk old mid new IsUnbegun run (weaker disk mid new _ IsUnbegun (first_keeps disk mid new emptied) write)

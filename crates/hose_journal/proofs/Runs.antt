@@ -1,6 +1,6 @@
 -- How runs of calls go on.
 use Rattle.std.proofs.Common.{◌≡◌, inl, inr, ⊎_elim, ℕ, ◌≤◌, List, Option, None, Some, refl, sym, ◌∙◌, subst, arith, IfSome, ap}
-use Rattle.std.specs.Prelude.{Result, Ok, Err, OnErr}
+use Rattle.std.specs.Prelude.{Result, Ok, Err, OnErr, OnOk}
 use Rattle.hose_disk.specs.Disk.{Only, Told, Elapses}
 use Rattle.hose_journal.specs.Moments.{Images, LeavesOnly, IsTornFrom}
 use Rattle.hose_disk.specs.declared.disk.Disk.{Ghosts}
@@ -45,6 +45,11 @@ module _ {D : Type 0} (disk : Ghosts D) where
   pub torn_before : (old : D) (at count : ℕ) → Images disk old (IsTornFrom disk old at count)
   torn_before old at count image is_image = (image, is_image, torn_same at count image)
 
+  -- a write leaves an image of before with the write begun
+  pub torn_run : (old new : D) (at count : ℕ) → ((image : List ℕ) → disk.left_since old (disk.moment old) image → disk.may_leave old image)
+      → Elapses (disk.moment old) (disk.moment new) (disk.left_since old) (disk.left_since new) (disk.may_leave new) → Images disk new (IsTornFrom disk old at count) → LeavesOnly disk old new (IsTornFrom disk old at count)
+  torn_run old new at count only time here = goes_on old old new (IsTornFrom disk old at count) (started old (IsTornFrom disk old at count) only (torn_before old at count)) time here
+
   -- a sync leaves what a step that was done made of one of the images of before
   synced_told : (step : List ℕ → List ℕ → Type 0) (was done : Option (List ℕ)) (old new : List ℕ → Type 0) → IfSome was old → ((image : List ℕ) → was ≡ None → new image → ⊥)
       → Told step was done → IfSome done (λ bytes. Only bytes new) → (image : List ℕ) → new image → (before : List ℕ) × old before × step before image
@@ -84,3 +89,12 @@ module _ {D : Type 0} (disk : Ghosts D) where
 pub on_err_of : {T E : Type 0} (result : Result T E) (P : Type 0) → P → OnErr result P
 on_err_of (Ok value) P p = tt
 on_err_of (Err fault) P p = p
+
+-- what follows of a fact at a result follows there
+pub on_ok_so : {T E P Q : Type 0} (result : Result T E) → OnOk result P → (P → Q) → OnOk result Q
+on_ok_so (Ok value) p to = to p
+on_ok_so (Err fault) p to = tt
+
+pub on_err_so : {T E P Q : Type 0} (result : Result T E) → OnErr result P → (P → Q) → OnErr result Q
+on_err_so (Ok value) p to = tt
+on_err_so (Err fault) p to = to p

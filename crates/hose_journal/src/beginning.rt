@@ -33,9 +33,21 @@ fn clear<D: Disk>(disk: &mut D) -> Result<(), Failed>
     ensures tells { TellsAsBefore D.Disk disk.old disk.new }
     ensures call { IsCalled (D.frame disk.old) (D.frame disk.new) result }
 {
+    empty(disk)?;
+    put(disk, 0, &[CLOSED])?;
+    Ok(())
+}
+
+// Cuts the disk to nothing and syncs.
+fn empty<D: Disk>(disk: &mut D) -> Result<(), Failed>
+    requires { Images D.Disk disk.old IsUnbegun }
+    ensures any_moment { LeavesOnly D.Disk disk.old disk.new IsUnbegun }
+    ensures emptied { OnOk result (Images D.Disk disk.new (λ image. image ≡ [])) }
+    ensures tells { TellsAsBefore D.Disk disk.old disk.new }
+    ensures call { IsCalled (D.frame disk.old) (D.frame disk.new) result }
+{
     disk.cut(0)?;
     disk.sync()?;
-    put(disk, 0, &[CLOSED])?;
     Ok(())
 }
 

@@ -145,6 +145,39 @@ impl<D: Disk> Journal<D> {
         ensures call { IsCalled (D.frame self.old.disk) (D.frame self.new.disk) result }
     {
         self.settle()?;
+        self.add_entry(ready)
+    }
+
+    // Adds an entry where none is in doubt.
+    fn add_entry(&mut self, ready: &Ready) -> Result<(), Failed>
+        requires stands { (account : Account) × (entry : Entry)
+            × Stands D.Disk self.old (with_doubt account None)
+            × IsReady entry ready.now × (length account.entries < MOST_EPOCH) }
+        requires sealed { IsTrue self.old.sealed }
+        ensures any_moment { (account : Account) → (entry : Entry) →
+            Stands D.Disk self.old (with_doubt account None) → IsReady entry ready.now →
+            length account.entries < MOST_EPOCH →
+            LeavesOnly D.Disk self.old.disk self.new.disk
+            (IsListAmid (with_doubt account None) (Some entry)) }
+        ensures added { OnOk result ((account : Account) → (entry : Entry) →
+            Stands D.Disk self.old (with_doubt account None) → IsReady entry ready.now →
+            length account.entries < MOST_EPOCH →
+            Stands D.Disk self.new (account_with account entry)) }
+        ensures durable { OnOk result ((account : Account) → (entry : Entry) →
+            Stands D.Disk self.old (with_doubt account None) → IsReady entry ready.now →
+            length account.entries < MOST_EPOCH →
+            Images D.Disk self.new.disk
+            (IsListOf account.digest (account_with account entry).entries)) }
+        ensures failed { OnErr result ((account : Account) → (entry : Entry) →
+            Stands D.Disk self.old (with_doubt account None) → IsReady entry ready.now →
+            length account.entries < MOST_EPOCH →
+            Stands D.Disk self.new (with_doubt account None)
+            ⊎ Stands D.Disk self.new (with_doubt account (Some entry))) }
+
+        ensures sealed { IsTrue self.new.sealed }
+        ensures tells { TellsAsBefore D.Disk self.old.disk self.new.disk }
+        ensures call { IsCalled (D.frame self.old.disk) (D.frame self.new.disk) result }
+    {
         let value = chain_after(&self.chain, &ready.bytes);
         fill_record(&mut self.buffer, &value, &ready.bytes);
         stage(&mut self.disk, self.gate, &self.buffer)?;

@@ -1,34 +1,24 @@
 use Rattle.std.proofs.Common.{length}
 use Rattle.hose_disk.specs.Disk.{IsOverwritten}
-use Rattle.hose_journal.specs.Moments.{IsTornFrom}
-use Rattle.hose_journal.proofs.Runs.{started, goes_on, torn_before, synced_step, only_content}
+use Rattle.hose_journal.proofs.Runs.{goes_on, only_content, synced_step, torn_run}
 use Rattle.hose_journal.proofs.steps.put.Goals as goal
 
 pub returns-in_err-write_at-clause-any_moment : goal.returns-in_err-write_at-clause-any_moment
 returns-in_err-write_at-clause-any_moment g c =
-    let disk = g.D.Disk in
     let old = c.args.disk.now in
-    let P = IsTornFrom disk old c.args.at (length c.args.bytes.now) in
-    let begin = started disk old P (g.met.D.Disk.only_now old) (torn_before disk old c.args.at (length c.args.bytes.now)) in
-    goes_on disk old old c.write_at.new.self P begin c.write_at.ensures.time c.write_at.ensures.images
+    torn_run g.D.Disk old c.write_at.new.self c.args.at (length c.args.bytes.now) (g.met.D.Disk.only_now old) c.write_at.ensures.time c.write_at.ensures.images
 
 pub returns-in_err-sync-clause-any_moment : goal.returns-in_err-sync-clause-any_moment
 returns-in_err-sync-clause-any_moment g c =
-    let disk = g.D.Disk in
     let old = c.args.disk.now in
-    let P = IsTornFrom disk old c.args.at (length c.args.bytes.now) in
-    let begin = started disk old P (g.met.D.Disk.only_now old) (torn_before disk old c.args.at (length c.args.bytes.now)) in
-    let wrote = goes_on disk old old c.write_at.new.self P begin c.write_at.ensures.time c.write_at.ensures.images in
-    goes_on disk old c.write_at.new.self c.sync.new.self P wrote c.sync.ensures.time (λ d image. c.write_at.ensures.images d (c.sync.ensures.images d image))
+    let wrote = torn_run g.D.Disk old c.write_at.new.self c.args.at (length c.args.bytes.now) (g.met.D.Disk.only_now old) c.write_at.ensures.time c.write_at.ensures.images in
+    goes_on g.D.Disk old c.write_at.new.self c.sync.new.self _ wrote c.sync.ensures.time (λ d image. c.write_at.ensures.images d (c.sync.ensures.images d image))
 
 pub returns-clause-any_moment : goal.returns-clause-any_moment
 returns-clause-any_moment g c =
-    let disk = g.D.Disk in
     let old = c.args.disk.now in
-    let P = IsTornFrom disk old c.args.at (length c.args.bytes.now) in
-    let begin = started disk old P (g.met.D.Disk.only_now old) (torn_before disk old c.args.at (length c.args.bytes.now)) in
-    let wrote = goes_on disk old old c.write_at.new.self P begin c.write_at.ensures.time c.write_at.ensures.images in
-    goes_on disk old c.write_at.new.self c.sync.new.self P wrote c.sync.ensures.time (λ d image. c.write_at.ensures.images d (c.sync.ensures.images d image))
+    let wrote = torn_run g.D.Disk old c.write_at.new.self c.args.at (length c.args.bytes.now) (g.met.D.Disk.only_now old) c.write_at.ensures.time c.write_at.ensures.images in
+    goes_on g.D.Disk old c.write_at.new.self c.sync.new.self _ wrote c.sync.ensures.time (λ d image. c.write_at.ensures.images d (c.sync.ensures.images d image))
 
 pub returns-clause-landed : goal.returns-clause-landed
 returns-clause-landed g c =

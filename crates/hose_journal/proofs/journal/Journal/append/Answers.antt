@@ -1,112 +1,31 @@
-use Rattle.std.proofs.Common.{◌∙◌, ◌+◌, inl, inr, length, List, ℕ, None, Some, refl, sym, subst, ap, arith}
-use Rattle.hose_codec.proofs.Lengths.{length-spelling}
-use Rattle.hose_journal.specs.Gates.{IsDoubtful}
-use Rattle.hose_journal.specs.Image.{IsClosed}
-use Rattle.hose_journal.specs.Journal.{with_doubt}
+use Rattle.std.proofs.Common.{◌∙◌, ap, inr}
 use Rattle.hose_journal.specs.declared.journal.Journal.{Journal}
-use Rattle.hose_journal.proofs.Accounts.{closed_length, gate_low, opened_lists, settled_then, stands_added, stands_on}
-use Rattle.hose_journal.proofs.Appends.{before_entry, closed_entry, opened_as, record_is, until_opened, until_staged}
-use Rattle.hose_journal.proofs.Runs.{now_too, on_err_of}
+use Rattle.hose_journal.proofs.Accounts.{appended, settled_then}
+use Rattle.hose_journal.proofs.Runs.{on_err_so, on_ok_so}
 use Rattle.hose_journal.proofs.journal.Journal.append.Goals as goal
 
 pub returns-in_err-settle-clause-any_moment : goal.returns-in_err-settle-clause-any_moment
 returns-in_err-settle-clause-any_moment g c = λ account entry stands is_ready few.
     settled_then g.D.Disk account c.args.self.now.disk c.settle.new.self.disk entry (c.settle.ensures.any_moment account stands)
 
-pub fill_record-requires-clause-short : goal.fill_record-requires-clause-short
-fill_record-requires-clause-short g c =
-    omega (arith, ap length (c.deref-2.ensures.value ∙ c.requires.stands.3.bytes), length-spelling c.requires.stands.1 c.requires.stands.3.is_entry)
-
-pub stage-requires-clause-small : goal.stage-requires-clause-small
-stage-requires-clause-small g c =
+pub add_entry-requires-clause-stands : goal.add_entry-requires-clause-stands
+add_entry-requires-clause-stands g c =
     let account = c.requires.stands.0 in
-    let entry = c.requires.stands.1 in
-    let is_ready = c.requires.stands.3 in
-    let after = c.in_ok-settle.ensures.settled account c.requires.stands.2 in
-    let mid = c.settle.new.self in
-    let sealed = ap (λ (j : Journal g.row.D.Denot). j.sealed) c.settle.ensures.kept ∙ c.requires.sealed in
-    let is = record_is g.D.Disk account mid after entry (c.deref-3.ensures.value ∙ c.fill_record.ensures.bytes) sealed (c.deref-2.ensures.value ∙ is_ready.bytes) (c.deref.ensures.value ∙ is_ready.bytes) c.chain_after-value.ensures in
-    let left = with_doubt account None in
-    omega (arith, gate_low g.D.Disk mid left after (omega (arith, c.requires.stands.4)), ap length is, closed_length g.D.Disk mid left after entry is_ready.is_entry)
+    (account, c.requires.stands.1, c.in_ok-settle.ensures.settled account c.requires.stands.2, c.requires.stands.3, c.requires.stands.4)
 
-pub stage-requires-clause-closed : goal.stage-requires-clause-closed
-stage-requires-clause-closed g c =
-    let account = c.requires.stands.0 in
-    let mid = c.settle.new.self in
-    let after = c.in_ok-settle.ensures.settled account c.requires.stands.2 in
-    (before_entry g.D.Disk account mid after, after.place, closed_entry g.D.Disk account mid after)
-
-pub returns-in_err-stage-clause-any_moment : goal.returns-in_err-stage-clause-any_moment
-returns-in_err-stage-clause-any_moment g c = λ account entry stands is_ready few.
-    let mid = c.settle.new.self in
-    let after = c.in_ok-settle.ensures.settled account stands in
-    until_staged g.D.Disk account mid after c.args.self.now.disk c.stage.new.disk entry (c.settle.ensures.any_moment account stands) (c.stage.ensures.any_moment _ after.place (closed_entry g.D.Disk account mid after))
-
-pub returns-in_err-stage-clause-failed : goal.returns-in_err-stage-clause-failed
-returns-in_err-stage-clause-failed g c = on_err_of c.from_residual-in_err-stage.result _ (λ account entry stands is_ready few.
-    let mid = c.settle.new.self in
-    let after = c.in_ok-settle.ensures.settled account stands in
-    let run = c.stage.ensures.any_moment _ after.place (closed_entry g.D.Disk account mid after) in
-    inr (inl (stands_on g.D.Disk mid (with_doubt account None) after _ None refl after.doubt refl refl c.fill_record.ensures.room tt
-    (now_too g.D.Disk mid.disk c.stage.new.disk (IsClosed (before_entry g.D.Disk account mid after)) (g.met.D.Disk.counts_now c.stage.new.disk) run))))
-
-pub set_gate-requires-clause-staged : goal.set_gate-requires-clause-staged
-set_gate-requires-clause-staged g c =
-    let account = c.requires.stands.0 in
-    let mid = c.settle.new.self in
-    let after = c.in_ok-settle.ensures.settled account c.requires.stands.2 in
-    (before_entry g.D.Disk account mid after, c.deref-3.result.now, after.place, c.in_ok-stage.ensures.staged _ after.place (closed_entry g.D.Disk account mid after))
-
-pub returns-in_err-set_gate-clause-any_moment : goal.returns-in_err-set_gate-clause-any_moment
-returns-in_err-set_gate-clause-any_moment g c = λ account entry stands is_ready few.
-    let mid = c.settle.new.self in
-    let after = c.in_ok-settle.ensures.settled account stands in
-    let sealed = ap (λ (j : Journal g.row.D.Denot). j.sealed) c.settle.ensures.kept ∙ c.requires.sealed in
-    let is = record_is g.D.Disk account mid after entry (c.deref-3.ensures.value ∙ c.fill_record.ensures.bytes) sealed (c.deref-2.ensures.value ∙ is_ready.bytes) (c.deref.ensures.value ∙ is_ready.bytes) c.chain_after-value.ensures in
-    let closed = closed_entry g.D.Disk account mid after in
-    until_opened g.D.Disk account mid after c.args.self.now.disk c.stage.new.disk c.set_gate.new.disk c.deref-3.result.now entry is_ready.is_entry is (c.settle.ensures.any_moment account stands)
-    (c.stage.ensures.any_moment _ after.place closed) (c.set_gate.ensures.any_moment (before_entry g.D.Disk account mid after) c.deref-3.result.now after.place (c.in_ok-stage.ensures.staged _ after.place closed))
+pub add_entry-requires-clause-sealed : goal.add_entry-requires-clause-sealed
+add_entry-requires-clause-sealed g c = ap (λ (j : Journal g.row.D.Denot). j.sealed) c.settle.ensures.kept ∙ c.requires.sealed
 
 pub returns-clause-any_moment : goal.returns-clause-any_moment
 returns-clause-any_moment g c = λ account entry stands is_ready few.
-    let mid = c.settle.new.self in
-    let after = c.in_ok-settle.ensures.settled account stands in
-    let sealed = ap (λ (j : Journal g.row.D.Denot). j.sealed) c.settle.ensures.kept ∙ c.requires.sealed in
-    let is = record_is g.D.Disk account mid after entry (c.deref-3.ensures.value ∙ c.fill_record.ensures.bytes) sealed (c.deref-2.ensures.value ∙ is_ready.bytes) (c.deref.ensures.value ∙ is_ready.bytes) c.chain_after-value.ensures in
-    let closed = closed_entry g.D.Disk account mid after in
-    until_opened g.D.Disk account mid after c.args.self.now.disk c.stage.new.disk c.set_gate.new.disk c.deref-3.result.now entry is_ready.is_entry is (c.settle.ensures.any_moment account stands)
-    (c.stage.ensures.any_moment _ after.place closed) (c.set_gate.ensures.any_moment (before_entry g.D.Disk account mid after) c.deref-3.result.now after.place (c.in_ok-stage.ensures.staged _ after.place closed))
-
-pub returns-in_err-set_gate-clause-failed : goal.returns-in_err-set_gate-clause-failed
-returns-in_err-set_gate-clause-failed g c = on_err_of c.from_residual-in_err-set_gate.result _ (λ account entry stands is_ready few.
-    let mid = c.settle.new.self in
-    let after = c.in_ok-settle.ensures.settled account stands in
-    let sealed = ap (λ (j : Journal g.row.D.Denot). j.sealed) c.settle.ensures.kept ∙ c.requires.sealed in
-    let is = record_is g.D.Disk account mid after entry (c.deref-3.ensures.value ∙ c.fill_record.ensures.bytes) sealed (c.deref-2.ensures.value ∙ is_ready.bytes) (c.deref.ensures.value ∙ is_ready.bytes) c.chain_after-value.ensures in
-    let staged = c.in_ok-stage.ensures.staged _ after.place (closed_entry g.D.Disk account mid after) in
-    let before = before_entry g.D.Disk account mid after in
-    let kept = now_too g.D.Disk c.stage.new.disk c.set_gate.new.disk (IsDoubtful before c.deref-3.result.now) (g.met.D.Disk.counts_now c.set_gate.new.disk) (c.set_gate.ensures.any_moment before c.deref-3.result.now after.place staged) in
-    inr (inr (stands_on g.D.Disk mid (with_doubt account None) after _ (Some entry) refl refl refl refl c.fill_record.ensures.room is_ready.is_entry
-    (λ image is_image. subst (λ (l : List ℕ). IsDoubtful before l image) is (kept image is_image)))))
+    appended g.D.Disk account c.args.self.now.disk c.settle.new.self.disk c.add_entry.new.self.disk entry (c.settle.ensures.any_moment account stands)
+    (c.add_entry.ensures.any_moment account entry (c.in_ok-settle.ensures.settled account stands) is_ready few)
 
 pub returns-clause-added : goal.returns-clause-added
-returns-clause-added g c = λ account entry stands is_ready few.
-    let mid = c.settle.new.self in
-    let after = c.in_ok-settle.ensures.settled account stands in
-    let sealed = ap (λ (j : Journal g.row.D.Denot). j.sealed) c.settle.ensures.kept ∙ c.requires.sealed in
-    let is = record_is g.D.Disk account mid after entry (c.deref-3.ensures.value ∙ c.fill_record.ensures.bytes) sealed (c.deref-2.ensures.value ∙ is_ready.bytes) (c.deref.ensures.value ∙ is_ready.bytes) c.chain_after-value.ensures in
-    let staged = c.in_ok-stage.ensures.staged _ after.place (closed_entry g.D.Disk account mid after) in
-    let images = opened_as g.D.Disk c.set_gate.new.disk (before_entry g.D.Disk account mid after) _ _ is (c.in_ok-set_gate.ensures.set (before_entry g.D.Disk account mid after) c.deref-3.result.now after.place staged) in
-    let value = c.chain_after-value.ensures account.digest account.entries entry after.chain (c.deref.ensures.value ∙ is_ready.bytes) in
-    let long = c.len.ensures ∙ sym c.deref-3.ensures.len ∙ ap length is in
-    stands_added g.D.Disk mid (with_doubt account None) after _ entry is_ready.is_entry few (ap (λ (n : ℕ). mid.gate + n) long) refl refl value c.fill_record.ensures.room images
+returns-clause-added g c = on_ok_so c.add_entry.result c.add_entry.ensures.added (λ added account entry stands is_ready few. added account entry (c.in_ok-settle.ensures.settled account stands) is_ready few)
 
 pub returns-clause-durable : goal.returns-clause-durable
-returns-clause-durable g c = λ account entry stands is_ready few.
-    let mid = c.settle.new.self in
-    let after = c.in_ok-settle.ensures.settled account stands in
-    let sealed = ap (λ (j : Journal g.row.D.Denot). j.sealed) c.settle.ensures.kept ∙ c.requires.sealed in
-    let is = record_is g.D.Disk account mid after entry (c.deref-3.ensures.value ∙ c.fill_record.ensures.bytes) sealed (c.deref-2.ensures.value ∙ is_ready.bytes) (c.deref.ensures.value ∙ is_ready.bytes) c.chain_after-value.ensures in
-    let staged = c.in_ok-stage.ensures.staged _ after.place (closed_entry g.D.Disk account mid after) in
-    let images = opened_as g.D.Disk c.set_gate.new.disk (before_entry g.D.Disk account mid after) _ _ is (c.in_ok-set_gate.ensures.set (before_entry g.D.Disk account mid after) c.deref-3.result.now after.place staged) in
-    opened_lists g.D.Disk mid (with_doubt account None) after c.set_gate.new.disk entry is_ready.is_entry images
+returns-clause-durable g c = on_ok_so c.add_entry.result c.add_entry.ensures.durable (λ durable account entry stands is_ready few. durable account entry (c.in_ok-settle.ensures.settled account stands) is_ready few)
+
+pub returns-clause-failed : goal.returns-clause-failed
+returns-clause-failed g c = on_err_so c.add_entry.result c.add_entry.ensures.failed (λ failed account entry stands is_ready few. inr (failed account entry (c.in_ok-settle.ensures.settled account stands) is_ready few))
