@@ -109,7 +109,7 @@ module _ {D : Type 0} (disk : Ghosts D) where
   wanting old only_now = started disk old (disk.may_leave old) only_now (λ image is. is)
 
   -- the journal was not opened
-  pub refused_head : (old new : D) (top : Network) (fault : JournalFault) → ((image : List ℕ) → disk.left_since old (disk.moment old) image → disk.may_leave old image)
+  refused_head : (old new : D) (top : Network) (fault : JournalFault) → ((image : List ℕ) → disk.left_since old (disk.moment old) image → disk.may_leave old image)
       → ((t : ℕ) (image : List ℕ) → disk.content new ≡ None → disk.left_since new t image → ⊥) → KeepsDisk disk old new
       → LeavesOnly disk old new (IsOpened disk old (digest_of top)) → IsRefusedThere disk old new (digest_of top) fault → IsRefusedStore disk old new top (store_fault fault)
   refused_head old new top journal.Disk only_now untold keeps run refused = refused
@@ -123,6 +123,13 @@ module _ {D : Type 0} (disk : Ghosts D) where
     told_each (disk.content old) (λ bytes. HasNoHead bytes at) (λ bytes. IsRecoveredAs top bytes (damaged at)) (λ bytes. ⊎_elim (λ headless. inl headless) (λ unmarked. inr (inl unmarked))) refused,
   )
   refused_head old new top journal.Memory only_now untold keeps run refused = subst (λ (now : D). IsUnchanged disk old now) (sym refused) (wanting old only_now)
+
+  -- by the digest that the journal was opened for
+  pub refused_open : (old new : D) (top : Network) (digest : List ℕ) (fault : JournalFault) → digest ≡ digest_of top → ((image : List ℕ) → disk.left_since old (disk.moment old) image → disk.may_leave old image)
+      → ((t : ℕ) (image : List ℕ) → disk.content new ≡ None → disk.left_since new t image → ⊥) → KeepsDisk disk old new
+      → LeavesOnly disk old new (IsOpened disk old digest) → IsRefusedThere disk old new digest fault → IsRefusedStore disk old new top (store_fault fault)
+  refused_open old new top digest fault is only_now untold keeps run refused =
+      refused_head old new top fault only_now untold keeps (subst (λ (d : List ℕ). LeavesOnly disk old new (IsOpened disk old d)) is run) (subst (λ (d : List ℕ). IsRefusedThere disk old new d fault) is refused)
 
   -- its entries were read no further
   pub refused_entries : (old mid new : D) (top : Network) (fault : StoreFault) → length (digest_of top) ≡ DIGEST_BYTES → ((t : ℕ) (image : List ℕ) → disk.content new ≡ None → disk.left_since new t image → ⊥)

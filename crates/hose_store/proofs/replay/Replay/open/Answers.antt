@@ -1,11 +1,11 @@
 use Rattle.std.proofs.Common.{List, ℕ, [], rules, sym, subst}
 use Rattle.hose_journal.specs.Moments.{LeavesOnly}
-use Rattle.hose_journal.specs.Opening.{IsOpened, IsRefusedJournal as IsRefusedThere, KeepsList}
+use Rattle.hose_journal.specs.Opening.{IsOpened, KeepsList}
 use Rattle.hose_journal.specs.Reading.{Reads}
 use Rattle.hose_store.specs.Opening.{IsRefusedStore}
 use Rattle.hose_store.specs.declared.fault.StoreFault.{StoreFault}
 use Rattle.hose_store.proofs.Histories.{is_digest}
-use Rattle.hose_store.proofs.Openings.{at_opening, refused_head}
+use Rattle.hose_store.proofs.Openings.{at_opening, refused_open}
 use Rattle.hose_store.proofs.Readings.{given_first, only_none}
 use Rattle.hose_store.proofs.replay.Replay.open.Goals as goal
 
@@ -32,9 +32,8 @@ returns-in-Err-clause-refused g c =
     let old = c.args.disk in
     let new = c.in-Err.refused.1 in
     let is = is_digest c.args.top c.digest-digest.result c.digest-digest.ensures in
-    let run = subst (λ (digest : List ℕ). LeavesOnly disk old new (IsOpened disk old digest)) is c.in-Err.ensures.any_moment in
-    let refused = subst (λ (digest : List ℕ). IsRefusedThere disk old new digest c.in-Err.refused.0) is c.in-Err.ensures.refused in (
+    let run = subst (λ (digest : List ℕ). LeavesOnly disk old new (IsOpened disk old digest)) is c.in-Err.ensures.any_moment in (
       subst (λ (fault : StoreFault). IsRefusedStore disk old new c.args.top fault) (sym c.from.ensures)
-          (refused_head disk old new c.args.top c.in-Err.refused.0 (g.met.D.Disk.only_now old) (g.met.D.Disk.untold new) c.in-Err.ensures.keeps run refused),
+          (refused_open disk old new c.args.top c.digest-digest.result c.in-Err.refused.0 is (g.met.D.Disk.only_now old) (g.met.D.Disk.untold new) c.in-Err.ensures.keeps c.in-Err.ensures.any_moment c.in-Err.ensures.refused),
       record { run = at_opening disk old new c.args.top run; keeps = c.in-Err.ensures.keeps },
     )

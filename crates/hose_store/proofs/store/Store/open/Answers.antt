@@ -2,14 +2,14 @@ use Rattle.std.proofs.Common.{◌≡◌, ◌∙◌, List, ℕ, [], sym, ap, subs
 use Rattle.hose_graph.specs.Network.{Network}
 use Rattle.hose_book.specs.Ledger.{Ledger}
 use Rattle.hose_journal.specs.Moments.{LeavesOnly}
-use Rattle.hose_journal.specs.Opening.{IsOpened, KeepsList, IsRefusedJournal as IsRefusedThere}
+use Rattle.hose_journal.specs.Opening.{IsOpened, KeepsList}
 use Rattle.hose_journal.specs.Reading.{Reads}
 use Rattle.hose_store.specs.declared.fault.StoreFault.{StoreFault}
 use Rattle.hose_store.specs.Opening.{IsAtOpening, IsOpenedOn, IsRefusedStore, IsStopped}
 use Rattle.hose_store.specs.Recovery.{digest_of}
 use Rattle.hose_store.specs.Store.{account_of}
 use Rattle.hose_store.proofs.Histories.{few_in_history, is_digest, sound_items}
-use Rattle.hose_store.proofs.Openings.{at_opening, has_recovered, opened_on, opened_then, read_history, refused_entries, refused_head, sealing_run}
+use Rattle.hose_store.proofs.Openings.{at_opening, has_recovered, opened_on, opened_then, read_history, refused_entries, refused_open, sealing_run}
 use Rattle.hose_store.proofs.Readings.{given_first}
 use Rattle.hose_store.proofs.store.Store.open.Goals as goal
 
@@ -25,10 +25,8 @@ returns-in-Err-clause-refused g c =
     let old = c.args.disk in
     let new = c.in-Err.refused.1 in
     let is = is_digest c.args.top c.digest-digest.result c.digest-digest.ensures in
-    let run = subst (λ (digest : List ℕ). LeavesOnly disk old new (IsOpened disk old digest)) is c.in-Err.ensures.any_moment in
-    let refused = subst (λ (digest : List ℕ). IsRefusedThere disk old new digest c.in-Err.refused.0) is c.in-Err.ensures.refused in
     subst (λ (fault : StoreFault). IsRefusedStore disk old new c.args.top fault) (sym c.from.ensures)
-    (refused_head disk old new c.args.top c.in-Err.refused.0 (g.met.D.Disk.only_now old) (g.met.D.Disk.untold new) c.in-Err.ensures.keeps run refused)
+    (refused_open disk old new c.args.top c.digest-digest.result c.in-Err.refused.0 is (g.met.D.Disk.only_now old) (g.met.D.Disk.untold new) c.in-Err.ensures.keeps c.in-Err.ensures.any_moment c.in-Err.ensures.refused)
 
 pub recover-requires : goal.recover-requires
 recover-requires g c =
