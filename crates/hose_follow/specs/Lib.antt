@@ -5,9 +5,9 @@ pub mod Buffered
 pub mod Chained
 pub mod Ends
 pub mod Event
+pub mod Exchanging
 pub mod Offering
 pub mod Packet
 pub mod Shipping
 pub mod Splitting
-pub mod Turning
 pub mod World

@@ -3,7 +3,7 @@ ghost use Rattle.std.specs.Prelude.{◌≡◌, ◌<◌, ◌≤◌, [], List, ℕ
 ghost use Rattle.hose_io.specs.Frame.{Stays};
 ghost use Rattle.hose_follow.specs.Ends.{FollowsInput};
 ghost use Rattle.hose_follow.specs.Packet.{IsPartOfPacket};
-ghost use Rattle.hose_follow.specs.Turning.{TakesMore, TakesPart, AdvancesTo};
+ghost use Rattle.hose_follow.specs.Exchanging.{TakesMore, TakesPart, AdvancesTo};
 ghost use Rattle.hose_follow.specs.declared.following.FollowEnd.TheVariants.{Write};
 ghost use Rattle.hose_follow.specs.declared.packet.TheConstants.{MOST_PACKET};
 
@@ -88,14 +88,14 @@ fn follow_all<S: Source, O: Sink, D: Disk>(
     ensures sink { Stays (O.frame sink.old) (O.frame sink.new) }
 {
     loop {
-        if let Err(end) = turn(alloc, intake, source, sink, store) {
+        if let Err(end) = exchange(alloc, intake, source, sink, store) {
             return end;
         }
     }
 }
 
 // Answers the packet that is pending, or takes more of the source.
-fn turn<S: Source, O: Sink, D: Disk>(
+fn exchange<S: Source, O: Sink, D: Disk>(
     alloc: Global,
     intake: &mut Intake,
     source: &mut S,
@@ -104,7 +104,7 @@ fn turn<S: Source, O: Sink, D: Disk>(
 ) -> Result<(), FollowEnd>
     requires limit { intake.old.taken ≤ INPUT_LIMIT }
     requires pending { length intake.old.buffer.pending ≤ intake.old.taken }
-    ensures turns { AdvancesTo S.Source O.Sink D.Disk
+    ensures exchanges { AdvancesTo S.Source O.Sink D.Disk
         (record {
           source = source.old;
           pending = intake.old.buffer.pending;

@@ -1,11 +1,11 @@
-use Rattle.hose_follow.proofs.Turns.{ended, followed_none, turned}
+use Rattle.hose_follow.proofs.Exchanges.{ended, followed_none, exchanged}
 use Rattle.hose_follow.proofs.following.follow_all.Goals as goal
 
 pub loop-end-init : goal.loop-end-init
 loop-end-init g c = followed_none g.S.Source g.O.Sink g.D.Disk _ c.requires.pending c.requires.taken
 
 pub loop-end-preserved : goal.loop-end-preserved
-loop-end-preserved g c = turned g.S.Source g.O.Sink g.D.Disk _ _ _ c.in_default.field-0 c.loop-end.invariant c.in_default.ensures.turns
+loop-end-preserved g c = exchanged g.S.Source g.O.Sink g.D.Disk _ _ _ c.in_default.field-0 c.loop-end.invariant c.in_default.ensures.exchanges
 
 pub returns-in-Err-clause-follows : goal.returns-in-Err-clause-follows
-returns-in-Err-clause-follows g c = ended g.S.Source g.O.Sink g.D.Disk _ _ _ c.in-Err.end c.loop-end.invariant c.in-Err.ensures.turns
+returns-in-Err-clause-follows g c = ended g.S.Source g.O.Sink g.D.Disk _ _ _ c.in-Err.end c.loop-end.invariant c.in-Err.ensures.exchanges

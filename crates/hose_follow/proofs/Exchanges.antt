@@ -1,4 +1,4 @@
--- Turns of following an input, one after another.
+-- Exchanges of following an input, one after another.
 use Rattle.std.proofs.Common.{◌≡◌, ◌≢◌, ◌⊎◌, ◌∙◌, ℕ, ◌+◌, ◌-◌, ◌*◌, ◌≤◌, ◌<◌, ◌^◌, List, [], ◌∷◌, ◌++◌, Option, None, Some, Ok, Err, length, drop, take, refl, sym, ap, subst, inl, inr, arith, append_assoc, append-nil, length-append}
 use Rattle.std.specs.Prelude.{⊤}
 use Rattle.std.specs.List.{flat_map}
@@ -19,7 +19,7 @@ use Rattle.hose_follow.specs.Arriving.{BeginsPacket}
 use Rattle.hose_follow.specs.Ends.{AllLinesOut, EndsSo, FollowsInput}
 use Rattle.hose_follow.specs.Offering.{AreOffered, IsOffered, none_yet, packet_more}
 use Rattle.hose_follow.specs.Packet.{BeginsNoPacket, IsPacket, IsPartOfPacket, Packet, packet_bytes, packets_bytes}
-use Rattle.hose_follow.specs.Turning.{Answers, FollowsOn, FollowState, TakesMoreBytes, TouchesNone, AdvancesTo}
+use Rattle.hose_follow.specs.Exchanging.{Answers, FollowsOn, FollowState, TakesMoreBytes, TouchesNone, AdvancesTo}
 use Rattle.hose_follow.specs.declared.answers.Offered.{Offered}
 use Rattle.hose_follow.specs.declared.answers.Offered.TheVariants.{Have, Want, Differs, Memory, Unsound, Disk}
 use Rattle.hose_follow.specs.declared.following.FollowEnd.{FollowEnd}
@@ -49,7 +49,7 @@ pub whole_inside : (pending rest : List ℕ) (packet : Packet) → BeginsPacket 
 whole_inside pending rest packet begins = omega (arith, ap length begins.is, length-append (packet_bytes packet) rest, length-packet packet begins.is_packet)
 
 -- what is behind a packet that was passed
-pub passed : (pending after rest : List ℕ) (packet : Packet) (size : ℕ) → BeginsPacket pending packet rest → size ≡ 38 + length packet.body → after ≡ drop size pending → after ≡ rest
+passed : (pending after rest : List ℕ) (packet : Packet) (size : ℕ) → BeginsPacket pending packet rest → size ≡ 38 + length packet.body → after ≡ drop size pending → after ≡ rest
 passed pending after rest packet size begins is_size is =
     is ∙ ap (λ (l : List ℕ). drop size l) begins.is ∙ drop_at (packet_bytes packet) rest size (length-packet packet begins.is_packet ∙ sym is_size)
 
@@ -90,7 +90,24 @@ module _ {D : Type 0} (disk : DiskGhosts D) where
   told_more first mid new answers answer (inr full) more = inr (omega (arith, full, more.stays.never_falls))
 
 module _ {S O D : Type 0} (source : SourceGhosts S) (sink : SinkGhosts O) (disk : DiskGhosts D) where
-  -- ---- turns
+  -- ---- exchanges
+
+  -- a packet that was offered, passed and answered
+  pub answers_with : (old new : FollowState S O D) (puts : List ℕ → Type 0) (packet : Packet) (shown rest : List ℕ) (size : ℕ) (answer : Offered) → shown ≡ old.pending → BeginsPacket shown packet rest → size ≡ 38 + length packet.body
+      → new.pending ≡ drop size old.pending → IsOffered disk old.store packet answer new.store → puts (answer_line answer) → new.source ≡ old.source → new.taken ≡ old.taken → Answers source sink disk old new puts
+  answers_with old new puts packet shown rest size answer same starts is_size is offered out same_source same_taken =
+      let begins = subst (λ (l : List ℕ). BeginsPacket l packet rest) same starts in
+      record {
+        packet = packet;
+        rest = rest;
+        begins = begins;
+        pending_is = passed old.pending new.pending rest packet size begins is_size is;
+        answer = answer;
+        offered = offered;
+        out = out;
+        same_source = same_source;
+        same_taken = same_taken;
+      }
 
   pub followed_none : (first : FollowState S O D) → first.pending ≡ [] → first.taken ≡ 0 → FollowsOn source sink disk first first
   followed_none first none zero = record {
@@ -120,56 +137,56 @@ module _ {S O D : Type 0} (source : SourceGhosts S) (sink : SinkGhosts O) (disk 
 
   pub answered : (first now next : FollowState S O D) → FollowsOn source sink disk first now → Answers source sink disk now next (Grows (sink.content now.sink) (sink.content next.sink)) → sink.frame next.sink ≡ sink.frame now.sink
       → FollowsOn source sink disk first next
-  answered first now next before turn held =
-      let told = tells disk now.store next.store turn.packet turn.answer turn.offered in
+  answered first now next before exchange held =
+      let told = tells disk now.store next.store exchange.packet exchange.answer exchange.offered in
       record {
         bytes = before.bytes;
-        gives = subst (λ (s : S). Gives (source.content first.source) (source.content s) before.bytes) (sym turn.same_source) before.gives;
-        packets = before.packets ++ turn.packet ∷ [];
-        parts = parts_more before.packets turn.packet before.bytes now.pending next.pending before.parts (turn.begins.is ∙ ap (λ (l : List ℕ). packet_bytes turn.packet ++ l) (sym turn.pending_is));
-        are = All-push IsPacket before.packets turn.packet before.are turn.begins.is_packet;
-        answers = before.answers ++ turn.answer ∷ [];
-        offered = packet_more turn.packet turn.answer before.offered turn.offered;
-        taken = turn.same_taken ∙ before.taken;
-        limit = omega (arith, before.limit, turn.same_taken);
-        out = subst (λ (l : List ℕ). Grows (sink.content first.sink) (sink.content next.sink) l) (sym (last_of answer_line before.answers turn.answer))
-            (Grows-append (sink.content first.sink) (sink.content now.sink) (sink.content next.sink) (offered_texts before.answers) (answer_line turn.answer) before.out turn.out);
-        source_held = ap source.frame turn.same_source ∙ before.source_held;
+        gives = subst (λ (s : S). Gives (source.content first.source) (source.content s) before.bytes) (sym exchange.same_source) before.gives;
+        packets = before.packets ++ exchange.packet ∷ [];
+        parts = parts_more before.packets exchange.packet before.bytes now.pending next.pending before.parts (exchange.begins.is ∙ ap (λ (l : List ℕ). packet_bytes exchange.packet ++ l) (sym exchange.pending_is));
+        are = All-push IsPacket before.packets exchange.packet before.are exchange.begins.is_packet;
+        answers = before.answers ++ exchange.answer ∷ [];
+        offered = packet_more exchange.packet exchange.answer before.offered exchange.offered;
+        taken = exchange.same_taken ∙ before.taken;
+        limit = omega (arith, before.limit, exchange.same_taken);
+        out = subst (λ (l : List ℕ). Grows (sink.content first.sink) (sink.content next.sink) l) (sym (last_of answer_line before.answers exchange.answer))
+            (Grows-append (sink.content first.sink) (sink.content now.sink) (sink.content next.sink) (offered_texts before.answers) (answer_line exchange.answer) before.out exchange.out);
+        source_held = ap source.frame exchange.same_source ∙ before.source_held;
         sink_held = held ∙ before.sink_held;
         stays = Stays-next before.stays told.stays;
-        disks = told_more disk first.store now.store next.store before.answers turn.answer before.disks told;
+        disks = told_more disk first.store now.store next.store before.answers exchange.answer before.disks told;
       }
 
   pub took : (first now next : FollowState S O D) → FollowsOn source sink disk first now → TakesMoreBytes source now.source next.source now.pending next.pending now.taken next.taken → TouchesNone source sink disk now next
       → FollowsOn source sink disk first next
-  took first now next before turn none = record {
-    bytes = before.bytes ++ turn.bytes;
-    gives = gives_then (source.content first.source) (source.content now.source) (source.content next.source) before.bytes turn.bytes before.gives turn.gives;
+  took first now next before more none = record {
+    bytes = before.bytes ++ more.bytes;
+    gives = gives_then (source.content first.source) (source.content now.source) (source.content next.source) before.bytes more.bytes before.gives more.gives;
     packets = before.packets;
     parts =
-        ap (λ (l : List ℕ). l ++ turn.bytes) before.parts
-        ∙ append_assoc (packets_bytes before.packets) now.pending turn.bytes
-        ∙ ap (λ (l : List ℕ). packets_bytes before.packets ++ l) (sym turn.pending_is);
+        ap (λ (l : List ℕ). l ++ more.bytes) before.parts
+        ∙ append_assoc (packets_bytes before.packets) now.pending more.bytes
+        ∙ ap (λ (l : List ℕ). packets_bytes before.packets ++ l) (sym more.pending_is);
     are = before.are;
     answers = before.answers;
     offered = subst (λ (s : Kept D). AreOffered disk first.store before.packets before.answers s) (sym none.same_store) before.offered;
-    taken = omega (arith, turn.taken_is, before.taken, length-append before.bytes turn.bytes);
-    limit = turn.limit;
+    taken = omega (arith, more.taken_is, before.taken, length-append before.bytes more.bytes);
+    limit = more.limit;
     out = subst (λ (s : O). Grows (sink.content first.sink) (sink.content s) (offered_texts before.answers)) (sym none.same_sink) before.out;
-    source_held = turn.frame ∙ before.source_held;
+    source_held = more.frame ∙ before.source_held;
     sink_held = ap sink.frame none.same_sink ∙ before.sink_held;
     stays = subst (λ (s : Kept D). Stays (object_frame (disk.frame first.store.journal.disk)) (object_frame (disk.frame s.journal.disk))) (sym none.same_store) before.stays;
     disks = subst (λ (s : Kept D). TellsDiskAnswers (disk.frame first.store.journal.disk).faults before.answers (disk.frame s.journal.disk).faults) (sym none.same_store) before.disks;
   }
 
-  pub turned : (first now next : FollowState S O D) (value : ⊤) → FollowsOn source sink disk first now → AdvancesTo source sink disk now next (Ok value) → FollowsOn source sink disk first next
-  turned first now next value before (inl (turn, held)) = answered first now next before turn held
-  turned first now next value before (inr (turn, none)) = took first now next before turn none
+  pub exchanged : (first now next : FollowState S O D) (value : ⊤) → FollowsOn source sink disk first now → AdvancesTo source sink disk now next (Ok value) → FollowsOn source sink disk first next
+  exchanged first now next value before (inl (exchange, held)) = answered first now next before exchange held
+  exchanged first now next value before (inr (more, none)) = took first now next before more none
 
-  -- a turn answers a packet, or takes bytes
+  -- an exchange answers a packet, or takes bytes
   pub goes_down : (now next : FollowState S O D) (value : ⊤) → AdvancesTo source sink disk now next (Ok value) → now.taken ≤ 2 ^ 30 → 2 ^ 31 - 2 * next.taken + length next.pending < 2 ^ 31 - 2 * now.taken + length now.pending
-  goes_down now next value (inl (turn, held)) low = omega (arith, turn.same_taken, whole_inside now.pending turn.rest turn.packet turn.begins, ap length turn.pending_is)
-  goes_down now next value (inr (turn, none)) low = omega (arith, turn.some, turn.limit, turn.taken_is, ap length turn.pending_is, length-append now.pending turn.bytes)
+  goes_down now next value (inl (exchange, held)) low = omega (arith, exchange.same_taken, whole_inside now.pending exchange.rest exchange.packet exchange.begins, ap length exchange.pending_is)
+  goes_down now next value (inr (more, none)) low = omega (arith, more.some, more.limit, more.taken_is, ap length more.pending_is, length-append now.pending more.bytes)
 
   -- what is pending is what was taken and belongs to no packet that was answered
   pub pending_within : (first now : FollowState S O D) → FollowsOn source sink disk first now → length now.pending ≤ now.taken
@@ -241,32 +258,32 @@ module _ {S O D : Type 0} (source : SourceGhosts S) (sink : SinkGhosts O) (disk 
       )
       (omega (arith, low first now before)) (λ long. omega (arith, before.taken, much.limit)) (λ above. refl) (λ is. cc is)
   ended first now next NoMemory before none = absurd none
-  ended first now next Write before (turn, rose) =
-      let told = tells disk now.store next.store turn.packet turn.answer turn.offered in
+  ended first now next Write before (exchange, rose) =
+      let told = tells disk now.store next.store exchange.packet exchange.answer exchange.offered in
       record {
         bytes = before.bytes;
-        gives = subst (λ (s : S). Gives (source.content first.source) (source.content s) before.bytes) (sym turn.same_source) before.gives;
-        packets = before.packets ++ turn.packet ∷ [];
-        rest = turn.rest;
-        parts = parts_more before.packets turn.packet before.bytes now.pending turn.rest before.parts turn.begins.is;
-        are = All-push IsPacket before.packets turn.packet before.are turn.begins.is_packet;
-        answers = before.answers ++ turn.answer ∷ [];
-        offered = packet_more turn.packet turn.answer before.offered turn.offered;
+        gives = subst (λ (s : S). Gives (source.content first.source) (source.content s) before.bytes) (sym exchange.same_source) before.gives;
+        packets = before.packets ++ exchange.packet ∷ [];
+        rest = exchange.rest;
+        parts = parts_more before.packets exchange.packet before.bytes now.pending exchange.rest before.parts exchange.begins.is;
+        are = All-push IsPacket before.packets exchange.packet before.are exchange.begins.is_packet;
+        answers = before.answers ++ exchange.answer ∷ [];
+        offered = packet_more exchange.packet exchange.answer before.offered exchange.offered;
         ends = (
           (
             before.answers,
-            turn.answer,
-            turn.out.0,
+            exchange.answer,
+            exchange.out.0,
             refl,
-            turn.out.1,
-            Grows-append (sink.content first.sink) (sink.content now.sink) (sink.content next.sink) (offered_texts before.answers) (take turn.out.0 (answer_line turn.answer)) before.out turn.out.2,
+            exchange.out.1,
+            Grows-append (sink.content first.sink) (sink.content now.sink) (sink.content next.sink) (offered_texts before.answers) (take exchange.out.0 (answer_line exchange.answer)) before.out exchange.out.2,
           ),
           subst (λ (f : Frame). Rose f (sink.frame next.sink)) before.sink_held rose,
-          ap source.frame turn.same_source ∙ before.source_held,
+          ap source.frame exchange.same_source ∙ before.source_held,
         );
         limit = omega (arith, low first now before);
         too_long = (λ long. absurd (cc long), λ above. absurd (omega (arith, above, low first now before)));
         memory = λ is. absurd (cc is);
         stays = Stays-next before.stays told.stays;
-        disks = told_more disk first.store now.store next.store before.answers turn.answer before.disks told;
+        disks = told_more disk first.store now.store next.store before.answers exchange.answer before.disks told;
       }

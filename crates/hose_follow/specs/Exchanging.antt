@@ -1,4 +1,4 @@
--- Following an input turn by turn: in each a packet is answered, or more is taken.
+-- Following an input by exchanges: in each a packet is answered, or more is taken.
 use Rattle.std.specs.Prelude.{◌≡◌, ◌≢◌, ◌⊎◌, ℕ, ◌+◌, ◌-◌, ◌<◌, ◌≤◌, Bool, true, false, List, [], ◌∷◌, ◌++◌, length, All, Result, Ok, Err, ⊤}
 use Rattle.hose_io.specs.Frame.{Rose, Stays}
 use Rattle.hose_io.specs.Stream.{Gives, Grows, IsAtEnd}
@@ -86,9 +86,10 @@ TakesPart source old new pending after taken now (Err TooLong) =
 TakesPart source old new pending after taken now (Err Write) = ⊥
 TakesPart source old new pending after taken now (Err Memory) = ⊥
 
--- ---- a turn
+-- ---- an exchange
 
-module _ {S O D : Type 0} (source : SourceGhosts S) (sink : SinkGhosts O) (disk : DiskGhosts D) where
+module _ {S O D : Type 0} (source : SourceGhosts S) (sink : SinkGhosts O)
+    (disk : DiskGhosts D) where
   -- The packet that was pending was offered; `puts` says how much is out of its line.
   pub record Answers (old new : FollowState S O D) (puts : List ℕ → Type 0) : Type 0 where
     pub packet : Packet
@@ -106,7 +107,7 @@ module _ {S O D : Type 0} (source : SourceGhosts S) (sink : SinkGhosts O) (disk 
     pub same_sink : new.sink ≡ old.sink
     pub same_store : new.store ≡ old.store
 
-  -- A turn: a packet was answered, or more was taken; or how following ends.
+  -- An exchange: a packet was answered, or more was taken; or how following ends.
   abbrev pub AdvancesTo : FollowState S O D → FollowState S O D → Result ⊤ FollowEnd → Type 0
   AdvancesTo old new (Ok _) =
       (Answers old new (Grows (sink.content old.sink) (sink.content new.sink))
@@ -131,7 +132,7 @@ module _ {S O D : Type 0} (source : SourceGhosts S) (sink : SinkGhosts O) (disk 
       × TakesTooMuch source old.source new.source old.taken × TouchesNone old new
   AdvancesTo old new (Err Memory) = ⊥
 
-  -- Turns from a first state on: packets were answered, and all lines are out.
+  -- Exchanges from a first state on: packets were answered, and all lines are out.
   pub record FollowsOn (first now : FollowState S O D) : Type 0 where
     pub bytes : List ℕ
     pub gives : Gives (source.content first.source) (source.content now.source) bytes
