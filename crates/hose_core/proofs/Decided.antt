@@ -1,5 +1,5 @@
 -- What was decided of a hose at a ledger, and what becomes of it.
-use Rattle.std.proofs.Common.{◌≡◌, ◌∙◌, ℕ, Bool, List, Option, None, Some, MatchResult, Result, Ok, Err, IfOk, inl, refl, ap, subst}
+use Rattle.std.proofs.Common.{◌≡◌, ◌∙◌, ℕ, Bool, List, Option, None, Some, MatchResult, Result, Ok, Err, IfOk, refl, ap, subst}
 use Rattle.hose_graph.specs.Hose.{IsHose}
 use Rattle.hose_graph.specs.Naming.{NamesPlaces}
 use Rattle.hose_graph.specs.Network.{IsNetwork, Network}
@@ -26,6 +26,7 @@ use Rattle.hose_core.specs.Holding.{IsMadeAt}
 use Rattle.hose_core.specs.Planning.{IsNotPlanned, IsPlannedFor}
 use Rattle.hose_core.specs.declared.quotes.Quote.{Quote}
 use Rattle.hose_core.specs.Stepping.{AnswersBy, HasStepped, committed_of}
+use Rattle.hose_core.proofs.Answering.{answers_without}
 use Rattle.hose_core.proofs.Stepped.{stepped_by}
 
 -- the amounts of a sound decision are in their ranges
@@ -74,14 +75,9 @@ module _ {K R : Type 0} (books : Ghosts K R) (old new : K) (epoch : ℕ) (histor
 
   -- a hose was refused
   pub refuse_step : (at : ℕ) (side : List ℕ) → at ≡ (books.ledger old).book.epoch → IsRefused network (room_of network (books.ledger old).book) hose side → new ≡ old → Stepped (reply.Refused at side)
-  refuse_step at side is refused same = admits (IsAdmitAnswer network (books.ledger old).book customer hose) (λ given entry answer. answer) (reply.Refused at side) (record {
-    given = reply.Refused at side;
-    entry = None;
-    is = (is, refused);
-    sound = tt;
-    goes = same;
-    told = inl (refl, ap (λ (k : K). (books.ledger k).book) same);
-  })
+  refuse_step at side is refused same =
+      let Is : Reply → Option Entry → Type 0 = IsAdmitAnswer network (books.ledger old).book customer hose in
+      admits Is (λ given entry answer. answer) (reply.Refused at side) (answers_without books old new Is (reply.Refused at side) (is, refused) same)
 
 -- ---- a quote
 

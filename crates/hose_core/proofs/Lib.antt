@@ -1,3 +1,4 @@
+mod Answering
 mod Customers
 pub mod Decided
 pub mod Earlier

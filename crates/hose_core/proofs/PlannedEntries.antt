@@ -1,12 +1,13 @@
 -- What becomes of an entry whose hose was planned.
 use Rattle.std.proofs.Common.{◌≡◌, ◌+◌, ◌<◌, ◌≤◌, ℕ, Bool, List, Option, None, Some, length, inl, inr, refl, sym, ap, subst, ◌∙◌}
 use Rattle.hose_graph.specs.declared.entry.Entry.{Entry}
+use Rattle.hose_graph.specs.declared.entry.Entry.TheVariants.{Admit}
 use Rattle.hose_graph.specs.declared.command.Reply.{Reply}
 use Rattle.hose_graph.specs.declared.command.Reply.TheVariants as reply
 use Rattle.hose_graph.specs.Network.{IsNetwork, Network}
 use Rattle.hose_law.specs.Answer.{IsPlannedAnswer}
 use Rattle.hose_law.specs.Cheapest.{IsCheapest}
-use Rattle.hose_law.specs.Decision.{IsAllowed, IsPlanned}
+use Rattle.hose_law.specs.Decision.{CanBeReserved, IsAllowed, IsPlanned}
 use Rattle.hose_law.specs.Room.{room_of}
 use Rattle.hose_law.proofs.Cheapest.{canonical_cheapest}
 use Rattle.hose_law.specs.Book.{Book}
@@ -18,6 +19,7 @@ use Rattle.hose_book.specs.Commit.{Commits}
 use Rattle.hose_book.specs.Ledger.{Ledger}
 use Rattle.hose_core.specs.Claiming.{IsPlannedEntry}
 use Rattle.hose_core.specs.Stepping.{AdmitsCheapest, AnswersBy}
+use Rattle.hose_core.proofs.Answering.{answers_entered, answers_failed, answers_without}
 
 module _ {K R : Type 0} (books : Ghosts K R) (old new : K) (customer : List ℕ) (hose plan : List (ℕ × ℕ)) (entry : Entry)
     (planned : IsPlannedEntry (books.ledger old) customer hose plan entry) where
@@ -35,24 +37,10 @@ module _ {K R : Type 0} (books : Ghosts K R) (old new : K) (customer : List ℕ)
   sound_entry epoch room = subst (IsSoundAt ledger.network book) (sym planned.admits) (epoch, room, planned.sound)
 
   pub spent_answers : (at : ℕ) → at ≡ book.epoch → at ≡ last_epoch → new ≡ old → AnswersBy books old new Is (reply.Spent at)
-  spent_answers at here last same = record {
-    given = reply.Spent at;
-    entry = None;
-    is = (here, sym here ∙ last, (plan, planned.planned));
-    sound = tt;
-    goes = same;
-    told = inl (refl, ap (λ (k : K). (books.ledger k).book) same);
-  }
+  spent_answers at here last = answers_without books old new Is (reply.Spent at) (here, sym here ∙ last, (plan, planned.planned))
 
   pub full_answers : (at : ℕ) → at ≡ book.epoch → book.epoch < last_epoch → most_live ≤ length book.live → new ≡ old → AnswersBy books old new Is (reply.Full at)
-  full_answers at here epoch full same = record {
-    given = reply.Full at;
-    entry = None;
-    is = (here, epoch, full, (plan, planned.planned));
-    sound = tt;
-    goes = same;
-    told = inl (refl, ap (λ (k : K). (books.ledger k).book) same);
-  }
+  full_answers at here epoch full = answers_without books old new Is (reply.Full at) (here, epoch, full, (plan, planned.planned))
 
   module _ (epoch : book.epoch < last_epoch) (room : length book.live < most_live) (at cost : ℕ) (here : at ≡ book.epoch) (costs : cost ≡ plan_cost ledger.network plan) where
     abbrev admitted : Reply
@@ -62,24 +50,16 @@ module _ {K R : Type 0} (books : Ghosts K R) (old new : K) (customer : List ℕ)
     is_admitted = (epoch, room, planned.planned, ap (λ n. n + 1) here, ap (λ n. n + 1) here, costs, planned.admits)
 
     pub admitted_answers : books.went old entry Done new → Commits ledger entry Done (books.ledger new) → AnswersBy books old new Is admitted
-    admitted_answers went commits = record {
-      given = admitted;
-      entry = Some entry;
-      is = is_admitted;
-      sound = sound_entry epoch room;
-      goes = went;
-      told = inl (refl, ap (λ (l : Ledger). l.book) commits);
-    }
+    admitted_answers = answers_entered books old new Is admitted entry is_admitted (sound_entry epoch room) refl
 
     pub failed_answers : books.went old entry Disk new → Commits ledger entry Disk (books.ledger new) → AnswersBy books old new Is (reply.Disk at)
-    failed_answers went commits = record {
-      given = admitted;
-      entry = Some entry;
-      is = is_admitted;
-      sound = sound_entry epoch room;
-      goes = went;
-      told = inr (ap reply.Disk here, refl, ap (λ (l : Ledger). l.book) commits);
-    }
+    failed_answers = answers_failed books old new Is admitted entry is_admitted (sound_entry epoch room) at here
+
+-- the entry of a hose with what was told of its plan is planned
+pub told_entry : (ledger : Ledger) (customer : List ℕ) (hose plan told : List (ℕ × ℕ)) → told ≡ plan → IsPlanned ledger.network (room_of ledger.network ledger.book) hose plan
+    → CanBeReserved ledger.network (room_of ledger.network ledger.book) hose plan → IsPlannedEntry ledger customer hose told (Admit customer hose plan)
+told_entry ledger customer hose plan told same planned sound =
+    subst (λ (p : List (ℕ × ℕ)). IsPlannedEntry ledger customer hose p (Admit customer hose plan)) (sym same) (record { admits = refl; planned = planned; sound = sound })
 
 -- What is planned at a book is a cheapest way to carry the hose over the links that are allowed there.
 planned_cheapest : (network : Network) → IsNetwork network → (book : Book) (hose plan : List (ℕ × ℕ)) → IsPlanned network (room_of network book) hose plan

@@ -1,5 +1,5 @@
 -- What becomes of an order to take a link out of service, or to put it back.
-use Rattle.std.proofs.Common.{◌≡◌, ◌+◌, ◌<◌, ◌∙◌, ℕ, Bool, true, false, not, List, Option, None, Some, inl, inr, refl, sym, ap, subst}
+use Rattle.std.proofs.Common.{◌≡◌, ◌+◌, ◌<◌, ◌∙◌, ℕ, Bool, true, false, not, List, Option, None, Some, refl, sym, ap, subst}
 use mathlib.Core.Bool.{beq}
 use Rattle.hose_graph.specs.Name.{operator}
 use Rattle.hose_graph.specs.Naming.{NamesPlaces}
@@ -18,6 +18,7 @@ use Rattle.hose_book.specs.Commit.{Commits}
 use Rattle.hose_book.specs.Ledger.{Ledger}
 use Rattle.hose_core.specs.Serving.{service_command, service_reply}
 use Rattle.hose_core.specs.Stepping.{AnswersBy, HasStepped, committed_of}
+use Rattle.hose_core.proofs.Answering.{answers_entered, answers_failed, answers_without}
 use Rattle.hose_core.proofs.Stepped.{stepped_by}
 
 -- ---- orders
@@ -93,28 +94,11 @@ module _ {K R : Type 0} (books : Ghosts K R) (old new : K) (down : Bool) (link :
   abbrev Answers : Reply → Type 0
   Answers = AnswersBy books old new Is
 
-  abbrev same_book : new ≡ old → (books.ledger new).book ≡ book
-  same_book same = ap (λ (k : K). (books.ledger k).book) same
-
   pub already_answers : (told at : ℕ) → told ≡ link → at ≡ book.epoch → LinkStands ledger.network book link down → new ≡ old → Answers (reply.Already told at)
-  already_answers told at tells here stands same = record {
-    given = reply.Already told at;
-    entry = None;
-    is = (tells, here, stands);
-    sound = tt;
-    goes = same;
-    told = inl (refl, same_book same);
-  }
+  already_answers told at tells here stands = answers_without books old new Is (reply.Already told at) (tells, here, stands)
 
   pub spent_answers : (at : ℕ) → at ≡ book.epoch → LinkStands ledger.network book link (not down) → at ≡ last_epoch → new ≡ old → Answers (reply.Spent at)
-  spent_answers at here stands last same = record {
-    given = reply.Spent at;
-    entry = None;
-    is = (here, sym here ∙ last, stands);
-    sound = tt;
-    goes = same;
-    told = inl (refl, same_book same);
-  }
+  spent_answers at here stands last = answers_without books old new Is (reply.Spent at) (here, sym here ∙ last, stands)
 
   module _ (at : ℕ) (here : at ≡ book.epoch) (epoch : book.epoch < last_epoch) (stands : LinkStands ledger.network book link (not down)) where
     abbrev done : Reply
@@ -136,24 +120,11 @@ module _ {K R : Type 0} (books : Ghosts K R) (old new : K) (down : Bool) (link :
         by false stands is = subst (IsSoundAt ledger.network book) (sym is) (epoch, stands)
 
     pub done_answers : (answer : Reply) → answer ≡ done → books.went old entry Done new → Commits ledger entry Done (books.ledger new) → Answers answer
-    done_answers answer tells went commits = subst Answers (sym tells) (record {
-      given = done;
-      entry = Some entry;
-      is = is_done;
-      sound = sound_at;
-      goes = subst (λ (result : _). books.went old entry result new) (sym (done_committed down link (at + 1))) went;
-      told = inl (refl, ap (λ (l : Ledger). l.book) commits);
-    })
+    done_answers answer tells went commits =
+        subst Answers (sym tells) (answers_entered books old new Is done entry is_done sound_at (done_committed down link (at + 1)) went commits)
 
     pub failed_answers : books.went old entry Disk new → Commits ledger entry Disk (books.ledger new) → Answers (reply.Disk at)
-    failed_answers went commits = record {
-      given = done;
-      entry = Some entry;
-      is = is_done;
-      sound = sound_at;
-      goes = went;
-      told = inr (ap reply.Disk here, refl, ap (λ (l : Ledger). l.book) commits);
-    }
+    failed_answers = answers_failed books old new Is done entry is_done sound_at at here
 
   -- and that is a step of the operator
   pub service_step : (epoch : ℕ) (history : List Entry) (held : Held) (answer : Reply) → book ≡ book_of epoch history → Answers answer → HasStepped books old new epoch history operator held (service_command down link) answer

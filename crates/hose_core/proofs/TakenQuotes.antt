@@ -1,5 +1,5 @@
 -- What becomes of a quote that is taken.
-use Rattle.std.proofs.Common.{◌≡◌, ◌∙◌, ℕ, List, Bool, Option, None, Some, take, inl, refl, sym, ap, subst}
+use Rattle.std.proofs.Common.{◌≡◌, ◌∙◌, ℕ, List, Bool, Option, None, Some, take, refl, sym, subst}
 use Rattle.std.specs.Prelude.{◌↔◌, IsTrue}
 use Rattle.hose_graph.specs.Network.{IsNetwork, Network}
 use Rattle.hose_graph.specs.declared.command.Command.TheVariants as command
@@ -22,6 +22,7 @@ use Rattle.hose_core.specs.declared.claim.Claim.{Claim}
 use Rattle.hose_core.specs.Holding.{IsMadeAt, IsQuoteOf}
 use Rattle.hose_core.specs.Stepping.{AnswersBy, HasStepped}
 use Rattle.hose_core.specs.declared.quotes.Quote.{Quote}
+use Rattle.hose_core.proofs.Answering.{answers_without}
 use Rattle.hose_core.proofs.Stepped.{stepped_by}
 
 -- a quote whose grounds are as they were is the plan of its hose, and can be reserved
@@ -76,14 +77,9 @@ module _ {K R : Type 0} (books : Ghosts K R) (old new : K) (epoch number : ℕ) 
 
   -- and is stale where they differ
   pub stale_step : (HaveEqualGrounds network earlier (books.ledger old).book quote.hose → ⊥) → (now : ℕ) → now ≡ (books.ledger old).book.epoch → new ≡ old → Stepped (reply.Stale quote.seen now)
-  stale_step differ now at same = by_taking (reply.Stale quote.seen now) (record {
-    given = reply.Stale quote.seen now;
-    entry = None;
-    is = (is.made.seen, at, differ);
-    sound = tt;
-    goes = same;
-    told = inl (refl, ap (λ (k : K). (books.ledger k).book) same);
-  })
+  stale_step differ now at same =
+      let given = reply.Stale quote.seen now in
+      by_taking given (answers_without books old new (IsTakingAnswer network earlier (books.ledger old).book customer quote.hose) given (is.made.seen, at, differ) same)
 
 -- what is known of grounds over the links in service of a book and beside its loads is known of them at the book
 pub holds_beside : (top network : Network) (service : List Bool) (loads : List ℕ) (book : Book) (quote : Quote) (result : Bool) → top ≡ network → service ≡ first_links network book → loads ≡ loads_of network book

@@ -29,8 +29,31 @@ pub fn release_now<K: Books>(books: &mut K, claim: Claim<K>) -> Reply
 {
     let Claim { entry, ready, .. } = claim;
     let (customer, id) = released(&entry);
+    enter_release(books, entry, ready, &customer, id)
+}
+
+// Enters the release of a customer's VPN, where there is one of the number and an epoch is left.
+fn enter_release<K: Books>(
+    books: &mut K,
+    entry: Entry,
+    ready: K::Ready,
+    customer: &Name,
+    id: u64,
+) -> Reply
+    requires releases { entry ≡ Entry.Release customer.now id }
+    requires ready { K.fits ready entry }
+    ensures step { (epoch : ℕ) (history : List Entry) (held : Held)
+        → HasBookOf epoch history (K.ledger books.old)
+        → HasStepped K.Books books.old books.new epoch history customer.now held
+        (Command.Release id) result }
+    ensures network { (K.ledger books.new).network ≡ (K.ledger books.old).network }
+    ensures ledger { IsSameOrNext (K.ledger books.old) (K.ledger books.new) }
+    ensures met { IsMet (K.frame books.old) (committed_of result) (K.frame books.new) }
+    ensures names { NamesPlaces (K.ledger books.old).network result }
+    ensures memory { result ≢ Reply.Memory }
+{
     let at = books.book().epoch();
-    if books.book().find(&customer, id).is_none() {
+    if books.book().find(customer, id).is_none() {
         return Reply::NoVpn { id, at };
     }
     if at == MOST_EPOCH {

@@ -35,6 +35,31 @@ pub fn service_now<K: Books>(books: &mut K, claim: Claim<K>) -> Reply
 {
     let Claim { entry, ready, .. } = claim;
     let (link, down) = ordered(&entry);
+    enter_order(books, entry, ready, link, down)
+}
+
+// Enters an order of the operator for a link, where it is not carried out already and an epoch is
+// left.
+fn enter_order<K: Books>(
+    books: &mut K,
+    entry: Entry,
+    ready: K::Ready,
+    link: u32,
+    down: bool,
+) -> Reply
+    requires orders { entry ≡ service_entry down link }
+    requires link { IsLinkOf (K.ledger books.old).network link }
+    requires ready { K.fits ready entry }
+    ensures step { (epoch : ℕ) (history : List Entry) (held : Held)
+        → HasBookOf epoch history (K.ledger books.old)
+        → HasStepped K.Books books.old books.new epoch history operator held
+        (service_command down link) result }
+    ensures network { (K.ledger books.new).network ≡ (K.ledger books.old).network }
+    ensures ledger { IsSameOrNext (K.ledger books.old) (K.ledger books.new) }
+    ensures met { IsMet (K.frame books.old) (committed_of result) (K.frame books.new) }
+    ensures names { NamesPlaces (K.ledger books.old).network result }
+    ensures memory { result ≢ Reply.Memory }
+{
     let at = books.book().epoch();
     let out = is_out(books.book(), link);
     if out == down {

@@ -1,9 +1,7 @@
-use Rattle.std.proofs.Common.{List, ℕ, refl, subst, sym}
-use Rattle.hose_graph.specs.declared.entry.Entry.TheVariants.{Admit}
-use Rattle.hose_core.specs.Claiming.{IsPlannedEntry}
+use Rattle.std.proofs.Common.{List, ℕ, subst}
 use Rattle.hose_core.specs.Stepping.{TellsPlan}
 use Rattle.hose_core.proofs.Decided.{admit_step}
-use Rattle.hose_core.proofs.PlannedEntries.{admits_cheapest}
+use Rattle.hose_core.proofs.PlannedEntries.{admits_cheapest, told_entry}
 use Rattle.hose_core.proofs.admitting.admit_planned.Goals as goal
 
 pub returns-clause-step : goal.returns-clause-step
@@ -11,9 +9,7 @@ returns-clause-step g c = λ epoch history held at.
     let ledger = g.K.Books.ledger c.args.books.now in
     let customer = c.args.customer.now in
     let hose = c.args.hose in
-    let entry = Admit customer hose c.args.amounts in
-    let planned : IsPlannedEntry ledger customer hose c.args.amounts entry = record { admits = refl; planned = c.requires.planned; sound = c.requires.sound } in
-    let told = subst (λ (plan : List (ℕ × ℕ)). IsPlannedEntry ledger customer hose plan entry) (sym c.in-Ok.ensures) planned in
+    let told = told_entry ledger customer hose c.args.amounts _ c.in-Ok.ensures c.requires.planned c.requires.sound in
     admit_step g.K.Books c.args.books.now c.enter_planned.new.books epoch history customer held hose at c.enter_planned.result (c.enter_planned.ensures.answers customer hose told)
 
 pub returns-clause-entered : goal.returns-clause-entered
@@ -29,7 +25,5 @@ returns-clause-cheapest g c =
     let ledger = g.K.Books.ledger c.args.books.now in
     let customer = c.args.customer.now in
     let hose = c.args.hose in
-    let entry = Admit customer hose c.args.amounts in
-    let planned : IsPlannedEntry ledger customer hose c.args.amounts entry = record { admits = refl; planned = c.requires.planned; sound = c.requires.sound } in
-    let told = subst (λ (plan : List (ℕ × ℕ)). IsPlannedEntry ledger customer hose plan entry) (sym c.in-Ok.ensures) planned in
+    let told = told_entry ledger customer hose c.args.amounts _ c.in-Ok.ensures c.requires.planned c.requires.sound in
     admits_cheapest g.K.Books c.args.books.now c.enter_planned.new.books customer hose c.requires.network c.enter_planned.result (c.enter_planned.ensures.answers customer hose told)

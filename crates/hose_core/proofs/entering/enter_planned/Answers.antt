@@ -7,7 +7,7 @@ use Rattle.hose_core.proofs.entering.enter_planned.Goals as goal
 pub returns-then-at-eq-MOST_EPOCH-clause-answers : goal.returns-then-at-eq-MOST_EPOCH-clause-answers
 returns-then-at-eq-MOST_EPOCH-clause-answers g c = λ customer hose planned.
     let here = c.epoch-at.ensures.value ∙ ap (λ (l : Ledger). l.book.epoch) c.book.ensures in
-    spent_answers g.K.Books c.args.books.now _ customer hose c.args.told c.args.entry planned c.epoch-at.result here c.if-at-eq-MOST_EPOCH.true refl
+    spent_answers g.K.Books c.args.books.now c.args.books.now customer hose c.args.told c.args.entry planned c.epoch-at.result here c.if-at-eq-MOST_EPOCH.true refl
 
 pub returns-then-live-ge-MOST_LIVE-clause-answers : goal.returns-then-live-ge-MOST_LIVE-clause-answers
 returns-then-live-ge-MOST_LIVE-clause-answers g c = λ customer hose planned.
@@ -16,7 +16,7 @@ returns-then-live-ge-MOST_LIVE-clause-answers g c = λ customer hose planned.
     let epoch : book.epoch < last_epoch = omega (arith, c.if-at-eq-MOST_EPOCH.false, here, c.epoch-at.ensures.bound) in
     let live = ap length (c.live.ensures.value ∙ ap (λ (l : Ledger). l.book.live) c.book-2.ensures) in
     let full : most_live ≤ length book.live = omega (arith, c.if-live-ge-MOST_LIVE.true, live) in
-    full_answers g.K.Books c.args.books.now _ customer hose c.args.told c.args.entry planned c.epoch-at.result here epoch full refl
+    full_answers g.K.Books c.args.books.now c.args.books.now customer hose c.args.told c.args.entry planned c.epoch-at.result here epoch full refl
 
 pub returns-in-Disk-clause-answers : goal.returns-in-Disk-clause-answers
 returns-in-Disk-clause-answers g c = λ customer hose planned.
@@ -25,7 +25,7 @@ returns-in-Disk-clause-answers g c = λ customer hose planned.
     let epoch : book.epoch < last_epoch = omega (arith, c.if-at-eq-MOST_EPOCH.false, here, c.epoch-at.ensures.bound) in
     let live = ap length (c.live.ensures.value ∙ ap (λ (l : Ledger). l.book.live) c.book-2.ensures) in
     let room : length book.live < most_live = omega (arith, c.if-live-ge-MOST_LIVE.false, live) in
-    failed_answers g.K.Books c.args.books.now _ customer hose c.args.told c.args.entry planned epoch room c.epoch-at.result c.args.cost here c.requires.cost c.in-Disk.ensures.went c.in-Disk.ensures.commits
+    failed_answers g.K.Books c.args.books.now c.commit.new.self customer hose c.args.told c.args.entry planned epoch room c.epoch-at.result c.args.cost here c.requires.cost c.in-Disk.ensures.went c.in-Disk.ensures.commits
 
 pub returns-in-Done-clause-answers : goal.returns-in-Done-clause-answers
 returns-in-Done-clause-answers g c = λ customer hose planned.
@@ -34,4 +34,4 @@ returns-in-Done-clause-answers g c = λ customer hose planned.
     let epoch : book.epoch < last_epoch = omega (arith, c.if-at-eq-MOST_EPOCH.false, here, c.epoch-at.ensures.bound) in
     let live = ap length (c.live.ensures.value ∙ ap (λ (l : Ledger). l.book.live) c.book-2.ensures) in
     let room : length book.live < most_live = omega (arith, c.if-live-ge-MOST_LIVE.false, live) in
-    admitted_answers g.K.Books c.args.books.now _ customer hose c.args.told c.args.entry planned epoch room c.epoch-at.result c.args.cost here c.requires.cost c.in-Done.ensures.went c.in-Done.ensures.commits
+    admitted_answers g.K.Books c.args.books.now c.commit.new.self customer hose c.args.told c.args.entry planned epoch room c.epoch-at.result c.args.cost here c.requires.cost c.in-Done.ensures.went c.in-Done.ensures.commits
