@@ -164,8 +164,9 @@ impl Book {
         self.live.as_slice()
     }
 
-    /// The changes that it keeps, for embeddings and tests alone to look at: each the epoch after an entry and a link that the entry touched:
-    /// those of each epoch above the floor, by epochs and then by links, 65,536 at most.
+    /// The changes that it keeps, for embeddings and tests alone to look at: each the epoch after
+    /// an entry and a link that the entry touched, those of each epoch above the floor, by epochs
+    /// and then by links, 65,536 at most.
     pub fn changes(&self) -> &[(u64, u32)]
         ensures value { result.now ≡ self.now.recent.changes }
         ensures few { length result.now ≤ MOST_CHANGES }
