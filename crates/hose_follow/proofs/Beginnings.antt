@@ -34,14 +34,6 @@ module _ {X : Type 0} where
   pub all_at : (P : X → Type 0) (xs : List X) (place : ℕ) (x : X) → All P xs → slice_get xs place ≡ Some x → P x
   all_at P xs place x all there = subst P (get_at xs place x x there) (all place x (slice_get_within xs place x there))
 
--- a book counts its entries
-epoch_after : (book : Book) (entries : List Entry) → (book_after book entries).epoch ≡ book.epoch + length entries
-epoch_after book [] = omega arith
-epoch_after book (entry ∷ entries) = omega (arith, epoch_after (next_book book entry) entries, next_epoch book entry)
-
-pub epoch_is : (book : Book) (history : List Entry) → book ≡ book_of 0 history → book.epoch ≡ length history
-epoch_is book history is = omega (arith, ap (λ (b : Book). b.epoch) is, epoch_after (opening_book 0) history)
-
 -- ---- sound and decided beginnings
 
 pub decided_sound : (network : Network) (book : Book) (entry : Entry) → IsDecidedAt network book entry → IsSoundAt network book entry

@@ -29,7 +29,8 @@ use Rattle.hose_follow.specs.Packet.{Packet, packet_after}
 use Rattle.hose_follow.specs.World.{Happens, IsBeginning, IsFollowing, IsOfLeader, IsReopened, IsSentOf, Lead, World, packet_at, told_after}
 use Rattle.hose_follow.specs.declared.answers.Offered.{Offered}
 use Rattle.hose_follow.specs.declared.answers.Offered.TheVariants.{Have, Want, Differs, Memory, Unsound, Disk}
-use Rattle.hose_follow.proofs.Beginnings.{all_at, decided_sound, epoch_is, get_longer, legal_front, prefix_next, sound_next}
+use Rattle.hose_law.proofs.Epochs.{epoch_is}
+use Rattle.hose_follow.proofs.Beginnings.{all_at, decided_sound, get_longer, legal_front, prefix_next, sound_next}
 
 -- an image's list, where an image stands for one list only
 listed_same : (one other : List Entry) → listed one ≡ listed other → one ≡ other

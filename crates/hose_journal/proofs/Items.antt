@@ -3,6 +3,7 @@ use Rattle.std.proofs.Common.{◌≡◌, ℕ, ◌+◌, ◌-◌, ◌*◌, ◌≤�
 use Rattle.std.specs.List.{list_any}
 use Rattle.byteorder.specs.Endian.{big_bytes}
 use Rattle.byteorder.specs.Numbers.{length-bytes_high_first}
+use Rattle.std.proofs.Math.Bool.{or-true}
 use Rattle.hose_graph.specs.declared.entry.Entry.{Entry}
 use Rattle.hose_codec.specs.Spelling.{IsEntry, spelling}
 use Rattle.hose_codec.proofs.Lengths.{length-spelling}
@@ -30,13 +31,9 @@ any_entry : (before : List Item) (entry : Entry) → list_any is_seal (before ++
 any_entry [] entry = refl
 any_entry (x ∷ before) entry = ap (λ (b : Bool). is_seal x || b) (any_entry before entry)
 
-or_true : (b : Bool) → (b || true) ≡ true
-or_true true = refl
-or_true false = refl
-
 any_seal : (before : List Item) → list_any is_seal (before ++ sealed ∷ []) ≡ true
 any_seal [] = refl
-any_seal (x ∷ before) = ap (λ (b : Bool). is_seal x || b) (any_seal before) ∙ or_true (is_seal x)
+any_seal (x ∷ before) = ap (λ (b : Bool). is_seal x || b) (any_seal before) ∙ or-true (is_seal x)
 
 pub chained_entry : (version : ℕ) (before : List Item) (entry : Entry) → is_chained version (before ++ entered entry ∷ []) ≡ is_chained version before
 chained_entry version before entry = ap (λ (b : Bool). b || (version == CHAINED)) (any_entry before entry)

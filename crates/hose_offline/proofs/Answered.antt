@@ -5,7 +5,7 @@ use Rattle.hose_graph.specs.Network.{Network}
 use Rattle.hose_graph.specs.declared.entry.Entry.{Entry}
 use Rattle.hose_law.specs.Book.{Book}
 use Rattle.hose_law.specs.History.{IsSoundAt, book_after, book_of, next_book, opening_book}
-use Rattle.hose_law.proofs.LiveIds.{next_epoch}
+use Rattle.hose_law.proofs.Epochs.{epoch_is}
 use Rattle.hose_book.specs.GoingOn.{GoesOn, entry_more, none_yet as nothing_yet}
 use Rattle.hose_book.specs.Ledger.{Ledger}
 use Rattle.hose_book.specs.declared.books.Committed.TheVariants as committed
@@ -21,14 +21,6 @@ use Rattle.hose_follow.specs.declared.answers.Offered.{Offered}
 use Rattle.hose_follow.specs.declared.answers.Offered.TheVariants.{Have, Want, Differs, Memory, Unsound, Disk}
 use Rattle.hose_offline.specs.Following.{AnswersAt, ArePacketsAnswered, BringsAt, IsDueAt, none_yet, packet_more}
 use Rattle.hose_offline.proofs.Packets.{some_bytes}
-
--- a book counts its entries
-epoch_after : (book : Book) (entries : List Entry) → (book_after book entries).epoch ≡ book.epoch + length entries
-epoch_after book [] = omega arith
-epoch_after book (entry ∷ entries) = omega (arith, epoch_after (next_book book entry) entries, next_epoch book entry)
-
-epoch_is : (book : Book) (history : List Entry) → book ≡ book_of 0 history → book.epoch ≡ length history
-epoch_is book history is = omega (arith, ap (λ (b : Book). b.epoch) is, epoch_after (opening_book 0) history)
 
 -- where no byte was taken no packet was answered
 pub none_answered : (network : Network) (since : List Entry) (packets : List Packet) (answers : List Offered) (history : List Entry) (rest : List ℕ) → ArePacketsAnswered network since packets answers history → packets_bytes packets ++ rest ≡ [] → history ≡ since

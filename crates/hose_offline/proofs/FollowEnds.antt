@@ -7,7 +7,7 @@ use Rattle.hose_io.specs.declared.Failed.{Failed}
 use Rattle.hose_io.specs.declared.source.Source.{Ghosts as SourceGhosts}
 use Rattle.hose_io.specs.declared.sink.Sink.{Ghosts as SinkGhosts}
 use Rattle.hose_io.proofs.Frames.{Rose-before}
-use Rattle.hose_words.proofs.Coming.{Gives-nil}
+use Rattle.hose_io.proofs.Streams.{Gives-nil}
 use Rattle.hose_graph.specs.Network.{Network}
 use Rattle.hose_graph.specs.declared.entry.Entry.{Entry}
 use Rattle.hose_disk.specs.Cabinet.{object_of}

@@ -49,14 +49,6 @@ module _ (network : Network) (history : List Entry) (from : ℕ) (tells other : 
   session_moved before after R R' W W' read wrote session_end.TooLong replies own is = answers_moved _ _ _ replies own is
   session_moved before after R R' W W' read wrote session_end.Write replies own is = (answers_moved _ _ _ replies own is.0, wrote is.1)
 
--- a borrow of a source, as a source
-abbrev pub borrowed : {T : Type 0} → SourceGhosts T → SourceGhosts (MutBor T)
-borrowed other = record {
-  frame = λ b. record (other.frame b.now) { loan = b.ghost_name ∷ (other.frame b.now).loan };
-  content = λ b. other.content b.now;
-  went = λ old new. other.went old.now new.now;
-}
-
 -- what is read through a borrow is read of what is behind it, and from a start where nothing is pending
 pub session_behind : {T O : Type 0} (other : SourceGhosts T) (source : SourceGhosts (MutBor T)) (sink : SinkGhosts O) (network : Network) (start now : Reader (MutBor T)) (input behind : T) (output output' : O) (old new : Known) (end : SessionEnd)
     → ((b : MutBor T) → source.content b ≡ other.content b.now) → ((b : MutBor T) → source.frame b ≡ record (other.frame b.now) { loan = b.ghost_name ∷ (other.frame b.now).loan })

@@ -34,16 +34,6 @@ pub prefix_joined : (all : List Entry) (joined : Option Entry) → IsPrefix all 
 prefix_joined all None = prefix_same all
 prefix_joined all (Some entry) = (entry ∷ [], refl)
 
--- ---- epochs
-
-epoch_after : (book : Book) (entries : List Entry) → (book_after book entries).epoch ≡ book.epoch + length entries
-epoch_after book [] = omega arith
-epoch_after book (entry ∷ entries) = let next = next_epoch book entry in let rest = epoch_after (next_book book entry) entries in omega arith
-
--- the epoch of a book is the length of its history
-pub epoch_of : (history : List Entry) → (book_of 0 history).epoch ≡ length history
-epoch_of history = omega (arith, epoch_after (opening_book 0) history)
-
 -- ---- faults
 
 pub met_above : (before after : Frame) (result : Committed) → IsMet before result after → before.faults ≤ after.faults

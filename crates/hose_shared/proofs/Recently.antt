@@ -12,7 +12,7 @@ use Rattle.hose_book.specs.Ledger.{HasBookOf, Ledger}
 use Rattle.hose_core.specs.Holding.{HasGroundsSince, IsQuoteOf}
 use Rattle.hose_core.specs.declared.quotes.Quote.{Quote}
 use Rattle.hose_core.proofs.Earlier.{grounds_beside}
-use Rattle.hose_shared.proofs.Passes.{epoch_of}
+use Rattle.hose_law.proofs.Epochs.{epoch_of}
 
 -- a quote of a history, at the ledger of the history
 pub grounds_since : (ledger : Ledger) (history : List Entry) (one : HeldQuote) (quote : Quote) → HasBookOf 0 history ledger → Tracks 0 history ledger.recent

@@ -6,6 +6,7 @@ use Rattle.hose_graph.specs.declared.entry.Entry.{Entry}
 use Rattle.hose_graph.specs.declared.entry.Entry.TheVariants.{Admit, Release, Down, Up}
 use Rattle.hose_law.specs.Book.{Book}
 use Rattle.hose_law.specs.History.{book_of, book_after, opening_book, next_book, last_epoch, IsSound, IsSoundAt, IsSoundFrom, IsSoundWith}
+use Rattle.hose_law.proofs.Epochs.{epoch_after}
 use Rattle.hose_law.proofs.LiveIds.{next_epoch}
 use Rattle.hose_law.proofs.Scripts.{book_after_push, sound_push}
 use Rattle.hose_topo.specs.Canonical.{canonical_text}
@@ -21,14 +22,6 @@ unfolding digest_of
 is_digest network digest is = is
 
 -- ---- books
-
--- a book counts its entries
-epoch_after : (book : Book) (entries : List Entry) → (book_after book entries).epoch ≡ book.epoch + length entries
-epoch_after book [] = omega arith
-epoch_after book (entry ∷ entries) = omega (arith, epoch_after (next_book book entry) entries, next_epoch book entry)
-
-pub epoch_of : (history : List Entry) → (book_of 0 history).epoch ≡ length history
-epoch_of history = omega (arith, epoch_after (opening_book 0) history)
 
 -- an entry that is sound leaves an epoch
 sound_epoch : (network : Network) (book : Book) (entry : Entry) → IsSoundAt network book entry → book.epoch < last_epoch

@@ -5,6 +5,7 @@ use mathlib.Core.List.{IsPrefix}
 use Rattle.hose_io.specs.declared.Failed.{Failed}
 use Rattle.hose_graph.specs.Network.{Network}
 use Rattle.hose_graph.specs.declared.entry.Entry.{Entry}
+use Rattle.hose_law.proofs.Epochs.{epoch_of}
 use Rattle.hose_law.specs.Book.{Book}
 use Rattle.hose_law.specs.History.{AreFrom, EntryKind, book_of, opening_book}
 use Rattle.hose_law.proofs.Scripts.{from_end, from_push}
@@ -22,7 +23,7 @@ use Rattle.hose_store.specs.Opening.{IsAtOpening, IsOpenedOn}
 use Rattle.hose_store.specs.Recovery.{IsHistoryOf, digest_of}
 use Rattle.hose_store.specs.Store.{HasHistory, IsAmid, IsHistoryWith, Kept}
 use Rattle.hose_journal.proofs.OneList.{one_list}
-use Rattle.hose_store.proofs.Histories.{epoch_of, list_of_history}
+use Rattle.hose_store.proofs.Histories.{list_of_history}
 
 -- ---- parts of a history
 

@@ -7,8 +7,7 @@ use Rattle.std.proofs.lemmas.Bool.{ltb-true, ltb-false, eqb-true, eqb-false, cas
 use Rattle.std.proofs.lemmas.List.Elements.{All-contains, Contains-append_left}
 use Rattle.hose_io.proofs.Calling.{HasGone-once, HasGone-then}
 use Rattle.hose_io.proofs.Frames.{Stays-same}
-pub use Rattle.hose_io.proofs.Streams.{Gives-append, Gives-nil}
-use Rattle.hose_io.proofs.Streams.{Gives-none}
+use Rattle.hose_io.proofs.Streams.{Gives-append, Gives-nil, Gives-none}
 use Rattle.hose_io.specs.Calls.{HasGone, call_more, none_yet}
 use Rattle.hose_io.specs.Stream.{Appends, Stream, Gives, IsAtEnd}
 use Rattle.hose_io.specs.declared.source.Source.{Ghosts}

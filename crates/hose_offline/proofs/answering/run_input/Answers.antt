@@ -1,5 +1,6 @@
 use Rattle.std.proofs.Common.{refl, rules}
-use Rattle.hose_offline.proofs.Leaving.{borrowed, leaves_behind}
+use Rattle.hose_io.specs.Borrowed.{borrowed}
+use Rattle.hose_offline.proofs.Leaving.{leaves_behind}
 use Rattle.hose_offline.proofs.answering.run_input.Goals as goal
 
 pub returns-clause-leaves : goal.returns-clause-leaves

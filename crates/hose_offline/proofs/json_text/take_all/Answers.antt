@@ -2,7 +2,7 @@ use Rattle.std.proofs.Common.{rules, ◌≡◌, ◌∙◌, ◌+◌, ◌≤◌, �
 use Rattle.std.proofs.lemmas.List.{take-append-le}
 use Rattle.std.proofs.lemmas.Result.{err_from_is_err_and}
 use Rattle.hose_io.specs.Calls.{call_more, none_yet}
-use Rattle.hose_words.proofs.Coming.{Gives-append}
+use Rattle.hose_io.proofs.Streams.{Gives-append}
 use Rattle.hose_offline.specs.declared.fault.Fault.TheVariants as fault
 use Rattle.hose_offline.specs.declared.json_text.TheConstants.{JSON_LIMIT}
 use Rattle.hose_offline.proofs.json_text.take_all.Goals as goal

@@ -1,6 +1,7 @@
 use Rattle.std.proofs.Common.{ap, arith, refl, rules}
+use Rattle.hose_io.specs.Borrowed.{borrowed}
 use Rattle.hose_words.specs.Lines.{Reader}
-use Rattle.hose_session.proofs.Completing.{borrowed, session_behind, session_complete}
+use Rattle.hose_session.proofs.Completing.{session_behind, session_complete}
 use Rattle.hose_session.proofs.session.serve_session.Goals as goal
 
 pub returns-clause-session : goal.returns-clause-session

@@ -1,7 +1,7 @@
 use Rattle.std.proofs.Common.{◌∙◌, ap, arith}
 use Rattle.hose_law.specs.Book.{Book}
 use Rattle.hose_book.specs.Ledger.{Ledger}
-use Rattle.hose_shared.proofs.Passes.{epoch_of}
+use Rattle.hose_law.proofs.Epochs.{epoch_of}
 use Rattle.hose_shared.proofs.kept.KeptStands.epoch.Goals as goal
 
 pub returns : goal.returns

@@ -3,7 +3,8 @@ use Rattle.hose_law.specs.Book.{Book}
 use Rattle.hose_book.specs.Ledger.{Ledger}
 use Rattle.hose_turn.specs.Held.{holder}
 use Rattle.hose_turn.specs.Known.{Known}
-use Rattle.hose_shared.proofs.Passes.{epoch_of, locked_more, unlocked_more}
+use Rattle.hose_law.proofs.Epochs.{epoch_of}
+use Rattle.hose_shared.proofs.Passes.{locked_more, unlocked_more}
 use Rattle.hose_shared.proofs.shared.Shared.now.Goals as goal
 
 pub returns-clause-epoch : goal.returns-clause-epoch

@@ -12,7 +12,8 @@ use Rattle.hose_shared.specs.Keeping.{StandsShared}
 use Rattle.hose_shared.specs.Sharing.{SharedBook}
 use Rattle.hose_shared.specs.Turns.{faults_in}
 use Rattle.hose_shared.proofs.Entries.{order_denied, order_entry, order_starved, stays_along}
-use Rattle.hose_shared.proofs.Passes.{along_of, epoch_of, locked_more, met_above, more_same}
+use Rattle.hose_law.proofs.Epochs.{epoch_of}
+use Rattle.hose_shared.proofs.Passes.{along_of, locked_more, met_above, more_same}
 use Rattle.hose_shared.proofs.Turned.{entered, turn_stands, turn_steps}
 use Rattle.hose_shared.proofs.shared.Shared.operate.Goals as goal
 

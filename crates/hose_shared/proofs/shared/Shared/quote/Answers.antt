@@ -6,7 +6,7 @@ use Rattle.hose_law.specs.Quotes.{free_number}
 use Rattle.hose_core.specs.Planning.{IsNotPlanned, IsPlannedFor}
 use Rattle.hose_core.proofs.Decided.{unplanned_done}
 use Rattle.hose_shared.proofs.Entries.{stays_holding, told_quote, unplanned_quote}
-use Rattle.hose_shared.proofs.Passes.{epoch_of}
+use Rattle.hose_law.proofs.Epochs.{epoch_of}
 use Rattle.hose_shared.proofs.shared.Shared.quote.Goals as goal
 
 pub returns-in_default-clause-steps : goal.returns-in_default-clause-steps

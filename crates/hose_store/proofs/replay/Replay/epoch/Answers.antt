@@ -1,6 +1,6 @@
 use Rattle.std.proofs.Common.{◌∙◌, ap}
 use Rattle.hose_law.specs.Book.{Book}
-use Rattle.hose_store.proofs.Histories.{epoch_of}
+use Rattle.hose_law.proofs.Epochs.{epoch_of}
 use Rattle.hose_store.proofs.replay.Replay.epoch.Goals as goal
 
 pub returns-clause-given : goal.returns-clause-given
