@@ -7,7 +7,7 @@ use Rattle.hose_io.proofs.Frames.{Stays-none}
 use Rattle.hose_disk.specs.Disk.{object_frame}
 use Rattle.hose_disk.specs.declared.disk.Disk.{Ghosts as DiskGhosts}
 use Rattle.hose_store.specs.Store.{Kept}
-use Rattle.hose_follow.proofs.Buffers.{gives_none}
+use Rattle.hose_io.proofs.Streams.{Gives-nil}
 use Rattle.hose_follow.specs.Ends.{FollowsInput}
 use Rattle.hose_follow.specs.Offering.{none_yet}
 use Rattle.hose_follow.specs.Packet.{IsPacket}
@@ -18,7 +18,7 @@ module _ {S O D : Type 0} (source : SourceGhosts S) (sink : SinkGhosts O) (disk 
   pub nothing_done : (input : S) (output : O) (store : Kept D) → FollowsInput source sink disk input input output output store store Memory
   nothing_done input output store = record {
     bytes = [];
-    gives = gives_none (source.content input);
+    gives = Gives-nil (source.content input);
     packets = [];
     rest = [];
     parts = refl;

@@ -24,7 +24,7 @@ use Rattle.hose_follow.specs.declared.answers.Offered.{Offered}
 use Rattle.hose_follow.specs.declared.answers.Offered.TheVariants.{Have, Want, Differs, Memory, Unsound, Disk}
 use Rattle.hose_follow.specs.declared.following.FollowEnd.{FollowEnd}
 use Rattle.hose_follow.specs.declared.following.FollowEnd.TheVariants.{End, Packet as BadPacket, Read, Write, TooLong, Memory as NoMemory}
-use Rattle.hose_follow.proofs.Buffers.{gives_none}
+use Rattle.hose_io.proofs.Streams.{Gives-nil}
 use Rattle.hose_follow.proofs.Splits.{length-packet}
 
 -- ---- bytes
@@ -112,7 +112,7 @@ module _ {S O D : Type 0} (source : SourceGhosts S) (sink : SinkGhosts O) (disk 
   pub followed_none : (first : FollowState S O D) → first.pending ≡ [] → first.taken ≡ 0 → FollowsOn source sink disk first first
   followed_none first none zero = record {
     bytes = [];
-    gives = gives_none (source.content first.source);
+    gives = Gives-nil (source.content first.source);
     packets = [];
     parts = sym none;
     are = All-nil IsPacket;
@@ -244,7 +244,7 @@ module _ {S O D : Type 0} (source : SourceGhosts S) (sink : SinkGhosts O) (disk 
       (omega (arith, low first now before)) (λ long. absurd (cc long)) (λ above. absurd (omega (arith, above, low first now before))) (λ is. cc is)
   ended first now next Read before (part, same, rose, touches) =
       ends_at first now next Read before touches []
-      (subst (λ (told : Option Stream). Gives (source.content now.source) told []) (sym same) (gives_none (source.content now.source))) (
+      (subst (λ (told : Option Stream). Gives (source.content now.source) told []) (sym same) (Gives-nil (source.content now.source))) (
         subst IsPartOfPacket (sym (append-nil now.pending)) part,
         all_out first now next before touches,
         subst (λ (f : Frame). Rose f (source.frame next.source)) before.source_held rose,

@@ -2,10 +2,9 @@
 ghost use Rattle.std.specs.Prelude.{◌≡◌, ◌+◌, ◌-◌, ◌<◌, ◌≤◌, [], ◌++◌, List, ℕ, drop, length, take, IfOk, MatchResult, Ok};
 ghost use Rattle.std.specs.List.{slice_range};
 ghost use Rattle.hose_io.specs.Frame.{Met};
-ghost use Rattle.hose_io.specs.Stream.{Gives, IsAtEnd};
-ghost use Rattle.hose_follow.specs.Buffered.{Appends};
+ghost use Rattle.hose_io.specs.Stream.{Appends, IsAtEnd};
 
-use hose_io::{Failed, Source};
+use hose_io::{Failed, Source, take_after};
 use std::alloc::{AllocError, Global};
 use std::marker::Model;
 
@@ -93,25 +92,4 @@ impl Buffer {
         self.end += taken.unwrap_or(0);
         taken
     }
-}
-
-// Takes at most `most` bytes of the source, after the first `end` bytes.
-fn take_after<S: Source>(
-    source: &mut S,
-    bytes: &mut [u8],
-    end: usize,
-    most: usize,
-) -> Result<usize, Failed>
-    requires some { 0 < most }
-    requires room { end + most ≤ length bytes.old }
-    ensures most { IfOk result (λ count. count ≤ most) }
-    ensures before { take end bytes.new ≡ take end bytes.old }
-    ensures taken { MatchResult result
-        (λ count. Gives (S.content source.old) (S.content source.new)
-        (take count (drop end bytes.new)))
-        (λ _. S.content source.new ≡ S.content source.old) }
-    ensures none_only_at_end { result ≡ Ok 0 → IsAtEnd (S.content source.old) }
-    ensures met { Met (S.frame source.old) (S.frame source.new) result }
-{
-    source.take(&mut bytes[end..end + most])
 }

@@ -7,7 +7,7 @@ ghost use Rattle.hose_follow.specs.Arriving.{IsFrontOf};
 ghost use Rattle.hose_follow.specs.Packet.{packet_bytes};
 
 use byteorder::{BigEndian, ByteOrder};
-use hose_codec::MOST_SPELLING;
+use hose_codec::{MOST_SPELLING, number_of_four, number_of_two};
 use hose_io::{Gather, Sink};
 
 /// The number of bytes of the length of a packet's body, at its front.
@@ -62,22 +62,6 @@ pub fn front_of(bytes: &[u8]) -> Front<'_>
         chain: value_of(value),
         body: &after[..len],
     }
-}
-
-// The number whose bytes these two are.
-fn number_of_two(bytes: &[u8]) -> u16
-    requires { length bytes.now ≡ 2 }
-    ensures { big_bytes 2 result ≡ bytes.now }
-{
-    BigEndian::read_u16(bytes)
-}
-
-// The number whose bytes these four are.
-fn number_of_four(bytes: &[u8]) -> u32
-    requires { length bytes.now ≡ 4 }
-    ensures { big_bytes 4 result ≡ bytes.now }
-{
-    BigEndian::read_u32(bytes)
 }
 
 // These bytes, which are as many as a chain value has.

@@ -1,5 +1,6 @@
 use Rattle.std.proofs.Common.{◌≡◌, ◌∙◌, List, ℕ, ap, arith, length, take}
-use Rattle.hose_follow.proofs.Buffers.{appended_back, unwrap_or_zero-le}
+use Rattle.hose_io.proofs.Parts.{unwrap_or_zero-le}
+use Rattle.hose_follow.proofs.Buffers.{appended_back}
 use Rattle.hose_follow.proofs.buffer.Buffer.fill.Goals as goal
 
 pub returns-clause-taken : goal.returns-clause-taken

@@ -1,5 +1,5 @@
 use Rattle.std.proofs.Common.{sym}
-use Rattle.hose_follow.proofs.Buffers.{drop-slice_range}
+use Rattle.hose_io.proofs.Parts.{drop-slice_range}
 use Rattle.hose_follow.proofs.buffer.Buffer.pass.Goals as goal
 
 pub returns : goal.returns
