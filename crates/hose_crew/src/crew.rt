@@ -8,10 +8,9 @@ ghost use Rattle.hose_crew.specs.Desk.{AreArrived, HasStopped};
 ghost use Rattle.hose_crew.specs.Hands.{AreBack, HasWorked, HaveWorked, IsGathered, IsIdle, MayServe};
 
 use crate::desk::{Closed, Desk, Start};
-use crate::hand::{Hand, Place, Work};
+use crate::hand::{Gathered, Hand, Job, Place, Work};
 use hose_disk::Disk;
 use hose_io::{Door, Failed};
-use hose_paths::RowTable;
 use hose_pool::{Gate, MOST_WORKERS};
 use hose_session::law_accounts;
 use hose_shared::{Begun, Shared, law_passes};
@@ -19,7 +18,7 @@ use hose_turn::Pass;
 use std::alloc::{AllocError, Global};
 use std::marker::Model;
 use std::snapshot::Snapshot;
-use std::sync::ledger::{Blank, Book, Share};
+use std::sync::ledger::{Blank, Share};
 use std::sync::{Mutex, Wait};
 use std::thread;
 use std::thread::Threads;
@@ -69,16 +68,12 @@ impl<L: Door + Send, N: Start + Send + Sync> Crew<L, N> {
     /// back whole.
     pub fn serve<R: Threads + Wait + Sync, D: Disk + Send, B: Begun<D> + Send, G: Gate + Sync>(
         self,
-        rt: &R,
-        alloc: Global,
-        shared: &Shared<D, B>,
-        table: &RowTable,
+        work: Work<'_, R, D, B, G>,
         pass: Pass,
         door: L,
         blank: Blank,
-        gate: &G,
     ) -> (Result<(), Failed>, Pass, L)
-        requires of { IsPassOf shared.now pass }
+        requires of { IsPassOf work.shared.now pass }
         requires shares { self.workers < pass.share }
         requires own { pass.own ≡ [] }
         requires since { IsPrefix pass.origin.since pass.seen }
@@ -97,26 +92,29 @@ impl<L: Door + Send, N: Start + Send + Sync> Crew<L, N> {
             mut hands,
             connections,
         } = self;
-        let (total, mut share) = blank.open::<N>();
+        let (tally, mut share) = blank.open::<N>();
         let mut pass = pass;
         let first = &Snapshot::of(&pass);
-        let desk = Desk::new(door, connections, total);
+        let desk = Desk::new(door, connections, tally);
+        let shared = work.shared;
         take_places(shared, &mut pass, &mut share, &mut hands, first);
-        let job = Work {
-            rt,
-            alloc,
-            shared,
-            gate,
-            table,
+        let job = Job {
+            work,
             workers: hands.len() as u32,
             first,
         };
         let Closed {
             door,
-            total,
+            tally,
             stopped,
-        } = serve_all(&job, desk, &mut hands);
-        let (pass, door) = gather(shared, pass, share, total, door, hands, first);
+        } = job.serve_all(desk, &mut hands);
+        let left = Gathered {
+            pass,
+            share,
+            tally,
+            door,
+        };
+        let (pass, door) = gather(shared, left, hands, first);
         (stopped, pass, door)
     }
 }
@@ -149,116 +147,123 @@ fn take_places<D: Disk, B: Begun<D>, L: Door, N: Start>(
     }
 }
 
-// All workers serve connections at once, until there is no more.
-fn serve_all<
-    R: Threads + Wait + Sync,
-    D: Disk + Send,
-    B: Begun<D> + Send,
-    G: Gate + Sync,
-    L: Door + Send,
-    N: Start + Send + Sync,
->(job: &Work<'_, R, D, B, G>, desk: Desk<L, N>, hands: &mut [Hand<L, N>]) -> Closed<L, N>
-    requires may { MayServe job.now.workers job.now.shared.now job.now.first.now.value }
-    requires works { HaveWorked L.came_to N.start job.now.first.now.value hands.old }
-    ensures number { length hands.new ≡ length hands.old }
-    ensures works { HaveWorked L.came_to N.start job.now.first.now.value hands.new }
-    ensures stopped { HasStopped N.start (L.frame result.door) (L.told result.door)
-        result.total.total result.stopped }
-    ensures arrived { AreArrived N.start.told (L.told result.door) result.total.total }
-    ensures few { result.total.total ≤ N.start.connections }
-{
-    let mut desk = desk;
-    for _ in job.rt.forever() {
-        // A worker stops where there is no more. The lock does not tell so, and the desk does.
-        desk = work_once(job, desk, hands);
-        match desk.close() {
-            Ok(closed) => return closed,
-            Err(going) => desk = going,
-        }
-    }
-    unreachable!()
-}
-
-// Each worker serves connections until there is no more.
-fn work_once<
-    R: Threads + Wait + Sync,
-    D: Disk + Send,
-    B: Begun<D> + Send,
-    G: Gate + Sync,
-    L: Door + Send,
-    N: Start + Send + Sync,
->(job: &Work<'_, R, D, B, G>, desk: Desk<L, N>, hands: &mut [Hand<L, N>]) -> Desk<L, N>
-    requires may { MayServe job.now.workers job.now.shared.now job.now.first.now.value }
-    requires works { HaveWorked L.came_to N.start job.now.first.now.value hands.old }
-    ensures number { length hands.new ≡ length hands.old }
-    ensures works { HaveWorked L.came_to N.start job.now.first.now.value hands.new }
-{
-    let desk = Mutex::new(desk);
-    // Its parts are known to be shared by threads, and the whole is not.
-    let Work {
-        rt,
-        alloc,
-        shared,
-        gate,
-        table,
-        workers,
-        first,
-    } = *job;
-    let work = |_: usize, hand: &mut Hand<L, N>|
-        requires { MayServe workers shared.now first.now.value
-            × HasWorked L.came_to N.start first.now.value hand.now }
+impl<'a, R: Threads + Wait + Sync, D: Disk + Send, B: Begun<D> + Send, G: Gate + Sync> Job<
+    'a,
+    R,
+    D,
+    B,
+    G,
+> {
+    // All workers serve connections at once, until there is no more.
+    fn serve_all<L: Door + Send, N: Start + Send + Sync>(
+        &self,
+        desk: Desk<L, N>,
+        hands: &mut [Hand<L, N>],
+    ) -> Closed<L, N>
+        requires may { MayServe self.now.workers self.now.work.shared.now
+            self.now.first.now.value }
+        requires works { HaveWorked L.came_to N.start self.now.first.now.value hands.old }
+        ensures number { length hands.new ≡ length hands.old }
+        ensures works { HaveWorked L.came_to N.start self.now.first.now.value hands.new }
+        ensures stopped { HasStopped N.start (L.frame result.door) (L.told result.door)
+            result.tally.total result.stopped }
+        ensures arrived { AreArrived N.start.told (L.told result.door) result.tally.total }
+        ensures few { result.tally.total ≤ N.start.connections }
     {
-        let job = Work {
-            rt,
-            alloc,
-            shared,
-            gate,
-            table,
+        let mut desk = desk;
+        for _ in self.work.rt.forever() {
+            // A worker stops where there is no more. The lock does not tell so, and the desk does.
+            desk = self.work_once(desk, hands);
+            match desk.close() {
+                Ok(closed) => return closed,
+                Err(going) => desk = going,
+            }
+        }
+        unreachable!()
+    }
+
+    // Each worker serves connections until there is no more.
+    fn work_once<L: Door + Send, N: Start + Send + Sync>(
+        &self,
+        desk: Desk<L, N>,
+        hands: &mut [Hand<L, N>],
+    ) -> Desk<L, N>
+        requires may { MayServe self.now.workers self.now.work.shared.now
+            self.now.first.now.value }
+        requires works { HaveWorked L.came_to N.start self.now.first.now.value hands.old }
+        ensures number { length hands.new ≡ length hands.old }
+        ensures works { HaveWorked L.came_to N.start self.now.first.now.value hands.new }
+    {
+        let desk = Mutex::new(desk);
+        // Its parts are known to be shared by threads, and the whole is not.
+        let Job {
+            work: Work {
+                rt,
+                alloc,
+                shared,
+                table,
+                gate,
+            },
             workers,
             first,
+        } = *self;
+        let serve = |_: usize, hand: &mut Hand<L, N>|
+            requires { MayServe workers shared.now first.now.value
+                × HasWorked L.came_to N.start first.now.value hand.now }
+        {
+            let work = Work {
+                rt,
+                alloc,
+                shared,
+                table,
+                gate,
+            };
+            let job = Job {
+                work,
+                workers,
+                first,
+            };
+            hand.work(&job, &desk)
         };
-        hand.work(&job, &desk)
-    };
-    thread::for_each_mut(rt, hands, workers as usize, &work);
-    desk.into_inner()
+        thread::for_each_mut(rt, hands, workers as usize, &serve);
+        desk.into_inner()
+    }
 }
 
 // Each worker gives up its place, and the connections that it ended go back to the door.
 fn gather<D: Disk, B: Begun<D>, L: Door, N: Start>(
     shared: &Shared<D, B>,
-    pass: Pass,
-    share: Share<N>,
-    total: Book<N>,
-    door: L,
+    left: Gathered<L, N>,
     hands: Vec<Hand<L, N>>,
     first: &Snapshot<Pass>,
 ) -> (Pass, L)
     requires of { IsPassOf shared.now first.now.value }
     requires own { first.now.value.own ≡ [] }
-    requires pass { pass ≡ record first.now.value { share = pass.share } }
-    requires left { pass.share + length hands.items ≡ first.now.value.share }
-    requires share { (share.parts ≡ 0) × (share.amount ≡ 0) }
+    requires pass { left.pass ≡ record first.now.value { share = left.pass.share } }
+    requires left { left.pass.share + length hands.items ≡ first.now.value.share }
+    requires share { (left.share.parts ≡ 0) × (left.share.amount ≡ 0) }
     requires parts { length hands.items ≡ N.parts }
     requires works { HaveWorked L.came_to N.start first.now.value hands.items }
     requires accounted { AreAccounted N.start.told }
-    requires arrived { AreArrived N.start.told (L.told door) total.total }
+    requires arrived { AreArrived N.start.told (L.told left.door) left.tally.total }
     ensures gathered { IsGathered N.parts first.now.value result.0 N.parts }
-    ensures back { AreBack (L.told door) (L.told result.1) total.total result.0 }
-    ensures frame { L.frame result.1 ≡ L.frame door }
+    ensures back { AreBack (L.told left.door) (L.told result.1) left.tally.total result.0 }
+    ensures frame { L.frame result.1 ≡ L.frame left.door }
 {
     law_accounts::<L::In, L::Out>();
-    pass.law_places();
-    let mut pass = pass;
-    let mut share = share;
-    let mut total = total;
-    let was = Snapshot::of(&door);
-    let mut door = door;
+    left.pass.law_places();
+    let was = Snapshot::of(&left.door);
+    let mut gathered = left;
     for hand in hands {
-        hand.end(
-            shared, &mut pass, &mut share, &mut total, &mut door, first, &was,
-        );
+        hand.end(shared, &mut gathered, first, &was);
     }
     // That the whole share is the total is told by this call.
-    total.audit(&mut share);
+    gathered.tally.audit(&mut gathered.share);
+    let Gathered {
+        pass,
+        share: _share,
+        tally: _tally,
+        door,
+    } = gathered;
     (pass, door)
 }

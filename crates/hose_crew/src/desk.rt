@@ -4,7 +4,7 @@ ghost use Rattle.hose_crew.specs.Desk.{AreArrived, AreFresh, DeskState, HasStopp
 
 use hose_io::{Door, Failed};
 use std::marker::{Brand, Model};
-use std::sync::ledger::{Book, Ledger, Share};
+use std::sync::ledger::{Book as Tally, Ledger, Share};
 
 /// What a crew's door was at the start. A caller names it here, since a lock has no other way to
 /// tell what became of it.
@@ -32,10 +32,10 @@ pub struct Accepted<L: Door> {
     pub output: L::Out,
 }
 
-/// What accepting came to, with the door and the total of what was accepted.
+/// What accepting came to, with the door and the tally of what was accepted.
 pub struct Closed<L: Door, N: Start> {
     pub door: L,
-    pub total: Book<N>,
+    pub tally: Tally<N>,
     pub stopped: Result<(), Failed>,
 }
 
@@ -45,7 +45,7 @@ pub struct Desk<L: Door, N: Start> {
     connections: u32,
     accepted: u32,
     stopped: Option<Result<(), Failed>>,
-    total: Book<N>,
+    tally: Tally<N>,
 }
 
 impl<L: Door, N: Start> Model for Desk<L, N> {
@@ -58,7 +58,7 @@ impl<L: Door, N: Start> Model for Desk<L, N> {
       connections = desk.connections;
       accepted = desk.accepted;
       stopped = desk.stopped;
-      total = desk.total.total;
+      total = desk.tally.total;
     } };
 
     ghost invariant = { λ desk. IsDesk L.Door N.start (record {
@@ -66,26 +66,26 @@ impl<L: Door, N: Start> Model for Desk<L, N> {
       connections = desk.connections;
       accepted = desk.accepted;
       stopped = desk.stopped;
-      total = desk.total.total;
+      total = desk.tally.total;
     }) };
 }
 
 impl<L: Door, N: Start> Desk<L, N> {
     /// A door that is to accept so many connections.
-    pub fn new(door: L, connections: u32, total: Book<N>) -> Desk<L, N>
+    pub fn new(door: L, connections: u32, tally: Tally<N>) -> Desk<L, N>
         requires start { N.start ≡ record {
           frame = L.frame door;
           told = L.told door;
           connections = connections;
         } }
-        requires none { total.total ≡ 0 }
+        requires none { tally.total ≡ 0 }
     {
         Desk {
             door,
             connections,
             accepted: 0,
             stopped: None,
-            total,
+            tally,
         }
     }
 
@@ -111,9 +111,9 @@ impl<L: Door, N: Start> Desk<L, N> {
         match self.door.accept() {
             Ok(Some((input, output))) => {
                 self.accepted += 1;
-                self.total.add(share, 1);
+                self.tally.add(share, 1);
                 // That a share is no more than the total is told by this call.
-                self.total.audit(share);
+                self.tally.audit(share);
                 close_if(&mut self.door, self.accepted == self.connections);
                 Some(Accepted {
                     session: u64::from(self.accepted),
@@ -136,10 +136,10 @@ impl<L: Door, N: Start> Desk<L, N> {
     /// What accepting came to, or the desk where it goes on.
     pub fn close(self) -> Result<Closed<L, N>, Desk<L, N>>
         ensures stopped { IfOk result (λ closed. HasStopped N.start (L.frame closed.door)
-            (L.told closed.door) closed.total.total closed.stopped) }
+            (L.told closed.door) closed.tally.total closed.stopped) }
         ensures arrived { IfOk result
-            (λ closed. AreArrived N.start.told (L.told closed.door) closed.total.total) }
-        ensures few { IfOk result (λ closed. closed.total.total ≤ N.start.connections) }
+            (λ closed. AreArrived N.start.told (L.told closed.door) closed.tally.total) }
+        ensures few { IfOk result (λ closed. closed.tally.total ≤ N.start.connections) }
     {
         let Some(stopped) = self.stopped else {
             return Err(self);
@@ -149,11 +149,11 @@ impl<L: Door, N: Start> Desk<L, N> {
             connections: _,
             accepted: _,
             stopped: _,
-            total,
+            tally,
         } = self;
         Ok(Closed {
             door,
-            total,
+            tally,
             stopped,
         })
     }

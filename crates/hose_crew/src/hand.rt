@@ -18,19 +18,25 @@ use hose_turn::Pass;
 use std::alloc::{AllocError, Global};
 use std::marker::Model;
 use std::snapshot::Snapshot;
-use std::sync::ledger::{Book, Share};
+use std::sync::ledger::{Book as Tally, Share};
 use std::sync::{Mutex, Wait};
 use std::thread::Threads;
 
-/// What all workers of a crew work with.
-#[derive(Clone, Copy)]
+/// What a crew works with: threads and waiting, memory, the shared book, the rows that all sessions
+/// plan with, and the gate that they pass.
+#[derive(Drop)]
 pub struct Work<'a, W, D: Disk, B: Begun<D>, G> {
     pub rt: &'a W,
     pub alloc: Global,
     pub shared: &'a Shared<D, B>,
-    pub gate: &'a G,
-    /// The rows that all sessions plan with.
     pub table: &'a RowTable,
+    pub gate: &'a G,
+}
+
+/// What all workers of a crew are given.
+#[derive(Drop)]
+pub struct Job<'a, W, D: Disk, B: Begun<D>, G> {
+    pub work: Work<'a, W, D, B, G>,
     pub workers: u32,
     /// The pass of which each worker has a part, as it was then.
     pub first: &'a Snapshot<Pass>,
@@ -53,6 +59,15 @@ impl<N: Start> Model for Place<N> {
       parts = place.share.parts;
       amount = place.share.amount;
     } };
+}
+
+/// What workers gave up, as far as they did: it is part of the first pass and of its share again,
+/// and what they ended is back at the door.
+pub struct Gathered<L: Door, N: Start> {
+    pub pass: Pass,
+    pub share: Share<N>,
+    pub tally: Tally<N>,
+    pub door: L,
 }
 
 /// A worker.
@@ -126,13 +141,13 @@ impl<'a, W: Wait, D: Disk, B: Begun<D>, G: Gate> Work<'a, W, D, B, G> {
 }
 
 // Serves one connection after another, until there is no more.
-fn serve_all<W: Threads + Wait + Sync, D: Disk, B: Begun<D>, G: Gate, L: Door, N: Start>(
-    job: &Work<'_, W, D, B, G>,
+fn serve_one_by_one<W: Threads + Wait + Sync, D: Disk, B: Begun<D>, G: Gate, L: Door, N: Start>(
+    job: &Job<'_, W, D, B, G>,
     desk: &Mutex<Desk<L, N>>,
     place: Place<N>,
     ended: &mut Vec<L::Done>,
 ) -> Place<N>
-    requires may { MayServe job.now.workers job.now.shared.now job.now.first.now.value }
+    requires may { MayServe job.now.workers job.now.work.shared.now job.now.first.now.value }
     requires works { Works N.start.told job.now.first.now.value place
         (map L.came_to ended.old.items) }
     requires room { N.start.connections ≤ vec_capacity ended.old }
@@ -141,17 +156,17 @@ fn serve_all<W: Threads + Wait + Sync, D: Disk, B: Begun<D>, G: Gate, L: Door, N
     ensures room { vec_capacity ended.new ≡ vec_capacity ended.old }
 {
     law_passes(&place.pass);
-    let mut rows = TableRows::new(job.table);
+    let mut rows = TableRows::new(job.work.table);
     let Place {
         mut pass,
         mut share,
     } = place;
     loop {
         // The lock is let go before the session begins.
-        let Some(one) = desk.lock(job.rt).accept(&mut share) else {
+        let Some(one) = desk.lock(job.work.rt).accept(&mut share) else {
             return Place { pass, share };
         };
-        let (done, later) = job.serve::<L, N, _>(one, pass, &mut rows);
+        let (done, later) = job.work.serve::<L, N, _>(one, pass, &mut rows);
         pass = later;
         ended.push_reserved(done);
     }
@@ -175,15 +190,15 @@ impl<L: Door, N: Start> Hand<L, N> {
     /// Serves one connection after another, until there is no more.
     pub fn work<W: Threads + Wait + Sync, D: Disk, B: Begun<D>, G: Gate>(
         &mut self,
-        job: &Work<'_, W, D, B, G>,
+        job: &Job<'_, W, D, B, G>,
         desk: &Mutex<Desk<L, N>>,
     )
-        requires may { MayServe job.now.workers job.now.shared.now job.now.first.now.value }
+        requires may { MayServe job.now.workers job.now.work.shared.now job.now.first.now.value }
         requires works { HasWorked L.came_to N.start job.now.first.now.value self.old }
         ensures works { HasWorked L.came_to N.start job.now.first.now.value self.new }
     {
         if let Some(place) = self.place.take() {
-            self.place = Some(serve_all(job, desk, place, &mut self.ended));
+            self.place = Some(serve_one_by_one(job, desk, place, &mut self.ended));
         }
     }
 }
@@ -193,33 +208,35 @@ impl<L: Door, N: Start> Hand<L, N> {
     pub fn end<D: Disk, B: Begun<D>>(
         self,
         shared: &Shared<D, B>,
-        pass: &mut Pass,
-        share: &mut Share<N>,
-        total: &mut Book<N>,
-        door: &mut L,
+        gathered: &mut Gathered<L, N>,
         first: &Snapshot<Pass>,
         was: &Snapshot<L>,
     )
         requires of { IsPassOf shared.now first.now.value }
         requires worked { HasWorked L.came_to N.start first.now.value self }
-        requires gathered { IsGathered N.parts first.now.value pass.old share.old.parts }
+        requires gathered { IsGathered N.parts first.now.value gathered.old.pass
+            gathered.old.share.parts }
         requires accounted { AreAccounted N.start.told }
-        requires arrived { AreArrived N.start.told (L.told was.now.value) total.old.total }
-        requires back { AreBack (L.told was.now.value) (L.told door.old) share.old.amount pass.old }
-        ensures gathered { IsGathered N.parts first.now.value pass.new share.new.parts }
-        ensures parts { share.new.parts ≡ share.old.parts + 1 }
-        ensures total { total.new.total ≡ total.old.total }
-        ensures back { AreBack (L.told was.now.value) (L.told door.new) share.new.amount pass.new }
-        ensures frame { L.frame door.new ≡ L.frame door.old }
+        requires arrived { AreArrived N.start.told (L.told was.now.value)
+            gathered.old.tally.total }
+        requires back { AreBack (L.told was.now.value) (L.told gathered.old.door)
+            gathered.old.share.amount gathered.old.pass }
+        ensures gathered { IsGathered N.parts first.now.value gathered.new.pass
+            gathered.new.share.parts }
+        ensures parts { gathered.new.share.parts ≡ gathered.old.share.parts + 1 }
+        ensures total { gathered.new.tally.total ≡ gathered.old.tally.total }
+        ensures back { AreBack (L.told was.now.value) (L.told gathered.new.door)
+            gathered.new.share.amount gathered.new.pass }
+        ensures frame { L.frame gathered.new.door ≡ L.frame gathered.old.door }
     {
         law_accounts::<L::In, L::Out>();
         let Hand { place, ended } = self;
         if let Some(place) = place {
-            shared.join(pass, place.pass);
-            share.merge(place.share);
+            shared.join(&mut gathered.pass, place.pass);
+            gathered.share.merge(place.share);
             // That a share is no more than the total is told by this call.
-            total.audit(share);
-            give_back(door, ended);
+            gathered.tally.audit(&mut gathered.share);
+            give_back(&mut gathered.door, ended);
         }
     }
 }

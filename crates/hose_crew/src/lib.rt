@@ -3,8 +3,8 @@
 //!
 //! ```
 //! let crew = Crew::<_, N>::new(alloc, 4, 200)?;       // four workers, for 200 connections
-//! let (stopped, pass, door) =
-//!     crew.serve(rt, alloc, &shared, pass, door, Blank::new(4), &PlainGate);
+//! let work = Work { rt, alloc, shared: &shared, table: &table, gate: &PlainGate };
+//! let (stopped, pass, door) = crew.serve(work, pass, door, Blank::new(4));
 //! ```
 #![tactic(auto)]
 
@@ -14,3 +14,4 @@ mod hand;
 
 pub use crew::Crew;
 pub use desk::Start;
+pub use hand::Work;

@@ -19,7 +19,7 @@ use Rattle.hose_law.specs.Transcript.SessionLine.{Greets, Asks, Leaves, IsBad, I
 use Rattle.hose_turn.specs.Known.{Known}
 use Rattle.hose_session.specs.Session.{AnswersUpTo, IsGreeted, IsSession, ServesAlong, ServesSession, Telling, TellsOf}
 use Rattle.hose_session.specs.SessionLines.{SaysAfter, SaysFirst, greeting_grammar}
-use Rattle.hose_session.specs.Turns.{ServesLines}
+use Rattle.hose_session.specs.Exchanges.{ServesLines}
 use Rattle.hose_session.specs.declared.ending.SessionEnd.{SessionEnd}
 use Rattle.hose_session.specs.declared.ending.SessionEnd.TheVariants as session_end
 use Rattle.hose_session.proofs.Conversing.{BeginSo, IsGreets, begins_so}

@@ -31,7 +31,7 @@ use Rattle.hose_shared.specs.Sharing.{IsSamePass}
 use Rattle.hose_turn.specs.Known.{Known}
 use Rattle.hose_session.specs.Session.{AnswersUpTo, WasLeft, MayGoOn, WasRefused, IsServing, IsWaiting}
 use Rattle.hose_session.specs.SessionLines.{SaysAfter, SaysFirst, SaysLater}
-use Rattle.hose_session.specs.Turns.{EndsAt, GoesAlong, HasServed, IsAnsweredLine, NoneComes, ServesLines, AnswersInSession}
+use Rattle.hose_session.specs.Exchanges.{EndsAt, GoesAlong, HasServed, IsExchange, NoneComes, ServesLines, AnswersInSession}
 use Rattle.hose_session.specs.declared.ending.SessionEnd.{SessionEnd}
 use Rattle.hose_session.specs.declared.ending.SessionEnd.TheVariants as session_end
 
@@ -105,17 +105,17 @@ module _ (laws : PassLaws) (network : Network) where
   }
 
   along_more : (first old new : Known) (lines : List SessionLine) (replies : List Reply) (stage next : Stage) (own : List ℕ) (said : SessionLine) (reply : Reply) → GoesAlong network first old lines replies stage own
-      → (turn : IsAnsweredLine network old new stage said reply next) → GoesAlong network first new (lines ++ said ∷ []) (replies ++ reply ∷ []) next (own ++ turn.added)
-  along_more first old new lines replies stage next own said reply along turn =
-      let step = turn.step along.last along.reached in
+      → (exchange : IsExchange network old new stage said reply next) → GoesAlong network first new (lines ++ said ∷ []) (replies ++ reply ∷ []) next (own ++ exchange.added)
+  along_more first old new lines replies stage next own said reply along exchange =
+      let step = exchange.step along.last along.reached in
       record {
         last = step.0;
-        transcript = line_more said reply turn.added (transcript_longer network 0 old.seen new.seen turn.same.seen (length first.seen) along.transcript) step.2;
+        transcript = line_more said reply exchange.added (transcript_longer network 0 old.seen new.seen exchange.same.seen (length first.seen) along.transcript) step.2;
         reached = step.1;
-        entries = All-append (HasEntryAt network new.seen) own turn.added (laws.entries network old.seen new.seen own turn.same.seen along.entries) turn.entries;
-        same = laws.goes_on first old new along.same turn.same;
-        owns = turn.own ∙ ap (λ (o : List ℕ). o ++ turn.added) along.owns ∙ append_assoc first.own own turn.added;
-        disks = omega (arith, along.disks, turn.faults, disks_push replies reply);
+        entries = All-append (HasEntryAt network new.seen) own exchange.added (laws.entries network old.seen new.seen own exchange.same.seen along.entries) exchange.entries;
+        same = laws.goes_on first old new along.same exchange.same;
+        owns = exchange.own ∙ ap (λ (o : List ℕ). o ++ exchange.added) along.owns ∙ append_assoc first.own own exchange.added;
+        disks = omega (arith, along.disks, exchange.faults, disks_push replies reply);
       }
 
   module _ {S O : Type 0} (source : SourceGhosts S) (sink : SinkGhosts O) (start now new : Reader S) (begun output output' : O) (first old pass : Known) (stage : Stage) (Is : List ℕ → SessionLine → Type 0) (reads : ReadsOn source start now) where
@@ -125,21 +125,21 @@ module _ (laws : PassLaws) (network : Network) where
     abbrev Fit : Served → Type 0
     Fit served = (bytes : List ℕ) (said : SessionLine) → Is bytes said → SaysAfter network served.lines bytes said
 
-    said_after : (served : Served) → Fit served → (puts : List ℕ → Type 0) (next : Stage) (turn : AnswersInSession source now new network old pass Is stage puts next)
-        → WhereTold (source.content start.source) (source.content new.source) (λ was left. SayLines (SaysAfter network) (start.pending ++ was) (served.lines ++ turn.said ∷ []) (new.pending ++ left))
-    said_after served fit puts next turn = said_more source (SaysAfter network) start now new served.lines served.said reads turn.said (λ bytes. Is bytes turn.said) turn.line (λ bytes is. fit bytes turn.said is)
+    said_after : (served : Served) → Fit served → (puts : List ℕ → Type 0) (next : Stage) (answered : AnswersInSession source now new network old pass Is stage puts next)
+        → WhereTold (source.content start.source) (source.content new.source) (λ was left. SayLines (SaysAfter network) (start.pending ++ was) (served.lines ++ answered.said ∷ []) (new.pending ++ left))
+    said_after served fit puts next answered = said_more source (SaysAfter network) start now new served.lines served.said reads answered.said (λ bytes. Is bytes answered.said) answered.line (λ bytes is. fit bytes answered.said is)
 
     -- a line more
     pub served_more : (served : Served) → Fit served → (next : Stage) → AnswersInSession source now new network old pass Is stage (Grows (sink.content output) (sink.content output')) next
         → HasServed source start new network first pass next (sink.content begun) (sink.content output')
-    served_more served fit next turn = record {
-      lines = served.lines ++ turn.said ∷ [];
-      replies = served.replies ++ turn.reply ∷ [];
-      own = served.own ++ turn.turn.added;
-      said = said_after served fit (Grows (sink.content output) (sink.content output')) next turn;
-      along = along_more first old pass served.lines served.replies stage next served.own turn.said turn.reply served.along turn.turn;
-      out = subst (Grows (sink.content begun) (sink.content output')) (sym (flat_map-last (λ reply. line_of (reply_text network reply)) served.replies turn.reply))
-          (Grows-append (sink.content begun) (sink.content output) (sink.content output') (texts_of network served.replies) (line_of (reply_text network turn.reply)) served.out turn.out);
+    served_more served fit next answered = record {
+      lines = served.lines ++ answered.said ∷ [];
+      replies = served.replies ++ answered.reply ∷ [];
+      own = served.own ++ answered.exchange.added;
+      said = said_after served fit (Grows (sink.content output) (sink.content output')) next answered;
+      along = along_more first old pass served.lines served.replies stage next served.own answered.said answered.reply served.along answered.exchange;
+      out = subst (Grows (sink.content begun) (sink.content output')) (sym (flat_map-last (λ reply. line_of (reply_text network reply)) served.replies answered.reply))
+          (Grows-append (sink.content begun) (sink.content output) (sink.content output') (texts_of network served.replies) (line_of (reply_text network answered.reply)) served.out answered.out);
     }
 
     abbrev Comes : SessionEnd → Type 0
@@ -152,41 +152,41 @@ module _ (laws : PassLaws) (network : Network) where
     Out replies = Grows (sink.content begun) (sink.content output') (texts_of network replies)
 
     -- the last line was answered
-    last_answered : (served : Served) → Fit served → (next : Stage) (ends : Stage → Type 0) → ends next → (turn : AnswersInSession source now new network old pass Is stage (Grows (sink.content output) (sink.content output')) next)
-        → UpTo IsLeftOver ends Out (served.replies ++ turn.reply ∷ []) (served.own ++ turn.turn.added)
-    last_answered served fit next ends is turn =
-        let more = along_more first old pass served.lines served.replies stage next served.own turn.said turn.reply served.along turn.turn in
+    last_answered : (served : Served) → Fit served → (next : Stage) (ends : Stage → Type 0) → ends next → (answered : AnswersInSession source now new network old pass Is stage (Grows (sink.content output) (sink.content output')) next)
+        → UpTo IsLeftOver ends Out (served.replies ++ answered.reply ∷ []) (served.own ++ answered.exchange.added)
+    last_answered served fit next ends is answered =
+        let more = along_more first old pass served.lines served.replies stage next served.own answered.said answered.reply served.along answered.exchange in
         record {
-          lines = served.lines ++ turn.said ∷ [];
+          lines = served.lines ++ answered.said ∷ [];
           stage = next;
           last = more.last;
-          said = said_enough source (SaysAfter network) start new (served.lines ++ turn.said ∷ []) (said_after served fit (Grows (sink.content output) (sink.content output')) next turn);
+          said = said_enough source (SaysAfter network) start new (served.lines ++ answered.said ∷ []) (said_after served fit (Grows (sink.content output) (sink.content output')) next answered);
           transcript = more.transcript;
           ended = is;
-          out = subst (Grows (sink.content begun) (sink.content output')) (sym (flat_map-last (λ reply. line_of (reply_text network reply)) served.replies turn.reply))
-              (Grows-append (sink.content begun) (sink.content output) (sink.content output') (texts_of network served.replies) (line_of (reply_text network turn.reply)) served.out turn.out);
+          out = subst (Grows (sink.content begun) (sink.content output')) (sym (flat_map-last (λ reply. line_of (reply_text network reply)) served.replies answered.reply))
+              (Grows-append (sink.content begun) (sink.content output) (sink.content output') (texts_of network served.replies) (line_of (reply_text network answered.reply)) served.out answered.out);
         }
 
     -- the output failed in the last reply
-    last_cut : (served : Served) → Fit served → (next : Stage) (turn : AnswersInSession source now new network old pass Is stage (GrowsInPart (sink.content output) (sink.content output')) next)
-        → UpTo IsLeftOver (λ s. ⊤) (CutsLast network (sink.content begun) (sink.content output')) (served.replies ++ turn.reply ∷ []) (served.own ++ turn.turn.added)
-    last_cut served fit next turn =
-        let more = along_more first old pass served.lines served.replies stage next served.own turn.said turn.reply served.along turn.turn in
+    last_cut : (served : Served) → Fit served → (next : Stage) (answered : AnswersInSession source now new network old pass Is stage (GrowsInPart (sink.content output) (sink.content output')) next)
+        → UpTo IsLeftOver (λ s. ⊤) (CutsLast network (sink.content begun) (sink.content output')) (served.replies ++ answered.reply ∷ []) (served.own ++ answered.exchange.added)
+    last_cut served fit next answered =
+        let more = along_more first old pass served.lines served.replies stage next served.own answered.said answered.reply served.along answered.exchange in
         record {
-          lines = served.lines ++ turn.said ∷ [];
+          lines = served.lines ++ answered.said ∷ [];
           stage = next;
           last = more.last;
-          said = said_enough source (SaysAfter network) start new (served.lines ++ turn.said ∷ []) (said_after served fit (GrowsInPart (sink.content output) (sink.content output')) next turn);
+          said = said_enough source (SaysAfter network) start new (served.lines ++ answered.said ∷ []) (said_after served fit (GrowsInPart (sink.content output) (sink.content output')) next answered);
           transcript = more.transcript;
           ended = tt;
           out = (
             served.replies,
-            turn.reply,
+            answered.reply,
             refl,
             (
-              turn.out.0,
-              turn.out.1,
-              Grows-append (sink.content begun) (sink.content output) (sink.content output') (texts_of network served.replies) (take turn.out.0 (line_of (reply_text network turn.reply))) served.out turn.out.2,
+              answered.out.0,
+              answered.out.1,
+              Grows-append (sink.content begun) (sink.content output) (sink.content output') (texts_of network served.replies) (take answered.out.0 (line_of (reply_text network answered.reply))) served.out answered.out.2,
             ),
           );
         }
@@ -211,8 +211,8 @@ module _ (laws : PassLaws) (network : Network) where
       stayed : pass ≡ old → GoesAlong network first pass served.lines served.replies stage served.own
       stayed stays = subst (λ (k : Known). GoesAlong network first k served.lines served.replies stage served.own) (sym stays) served.along
 
-      went : (next : Stage) (puts : List ℕ → Type 0) (turn : AnswersInSession source now new network old pass Is stage puts next) → GoesAlong network first pass (served.lines ++ turn.said ∷ []) (served.replies ++ turn.reply ∷ []) next (served.own ++ turn.turn.added)
-      went next puts turn = along_more first old pass served.lines served.replies stage next served.own turn.said turn.reply served.along turn.turn
+      went : (next : Stage) (puts : List ℕ → Type 0) (answered : AnswersInSession source now new network old pass Is stage puts next) → GoesAlong network first pass (served.lines ++ answered.said ∷ []) (served.replies ++ answered.reply ∷ []) next (served.own ++ answered.exchange.added)
+      went next puts answered = along_more first old pass served.lines served.replies stage next served.own answered.said answered.reply served.along answered.exchange
 
       over : (ends : Stage → Type 0) → ends stage → NoneComes source sink network now new output output' old pass Is stage → UpTo IsAllTaken ends Out served.replies served.own
       over ends is comes = none_more served IsAllTaken ends (said_all source (SaysAfter network) start now new served.lines served.said reads comes.0) is comes.2 comes.3
@@ -229,7 +229,7 @@ module _ (laws : PassLaws) (network : Network) where
           let along = went Left (Grows (sink.content output) (sink.content output')) ends.0 in
           record {
             replies = served.replies ++ ends.0.reply ∷ [];
-            own = served.own ++ ends.0.turn.added;
+            own = served.own ++ ends.0.exchange.added;
             session = last_answered served fit Left WasLeft refl ends.0;
             entries = along.entries;
             same = along.same;
@@ -243,7 +243,7 @@ module _ (laws : PassLaws) (network : Network) where
           let along = went Refused (Grows (sink.content output) (sink.content output')) ends.0 in
           record {
             replies = served.replies ++ ends.0.reply ∷ [];
-            own = served.own ++ ends.0.turn.added;
+            own = served.own ++ ends.0.exchange.added;
             session = inl (last_answered served fit Refused WasRefused refl ends.0);
             entries = along.entries;
             same = along.same;
@@ -268,7 +268,7 @@ module _ (laws : PassLaws) (network : Network) where
           let along = went ends.0.0 (GrowsInPart (sink.content output) (sink.content output')) ends.0.1 in
           record {
             replies = served.replies ++ ends.0.1.reply ∷ [];
-            own = served.own ++ ends.0.1.turn.added;
+            own = served.own ++ ends.0.1.exchange.added;
             session = (last_cut served fit ends.0.0 ends.0.1, subst (λ (f : Frame). Rose f (sink.frame output')) held ends.2);
             entries = along.entries;
             same = along.same;

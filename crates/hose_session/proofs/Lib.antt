@@ -1,5 +1,5 @@
 mod Accounting
 mod Completing
 mod Conversing
+mod Exchanging
 mod Telling
-mod Turning

@@ -15,19 +15,19 @@ use Rattle.hose_graph.specs.declared.command.Reply.{Reply}
 use Rattle.hose_law.specs.Transcript.{SessionLine, Stage}
 use Rattle.hose_proto.specs.ReplyText.{line_of, reply_text}
 use Rattle.hose_turn.specs.Known.{Known}
-use Rattle.hose_session.specs.Turns.{IsAnsweredLine, SaysLast, ShownSays, AnswersInSession}
+use Rattle.hose_session.specs.Exchanges.{IsExchange, SaysLast, ShownSays, AnswersInSession}
 use Rattle.hose_session.specs.declared.ending.SessionEnd.{SessionEnd}
 use Rattle.hose_session.specs.declared.ending.SessionEnd.TheVariants.{Write}
 
--- a line that was read and answered makes a turn
-pub takes_turn : {S : Type 0} (source : SourceGhosts S) (lines lines' : Reader S) (network : Network) (old new : Known) (shown : Line) (Is : List ℕ → SessionLine → Type 0) (stage next : Stage) (said : SessionLine) (reply : Reply)
-    (puts : List ℕ → Type 0) → IsNext source lines lines' (Ok (Some shown)) → ShownSays Is shown said → IsAnsweredLine network old new stage said reply next → puts (line_of (reply_text network reply))
+-- a line that was read and answered makes an exchange
+pub read_exchange : {S : Type 0} (source : SourceGhosts S) (lines lines' : Reader S) (network : Network) (old new : Known) (shown : Line) (Is : List ℕ → SessionLine → Type 0) (stage next : Stage) (said : SessionLine) (reply : Reply)
+    (puts : List ℕ → Type 0) → IsNext source lines lines' (Ok (Some shown)) → ShownSays Is shown said → IsExchange network old new stage said reply next → puts (line_of (reply_text network reply))
     → AnswersInSession source lines lines' network old new Is stage puts next
-takes_turn source lines lines' network old new shown Is stage next said reply puts read says turn out = record {
+read_exchange source lines lines' network old new shown Is stage next said reply puts read says exchange out = record {
   said = said;
   reply = reply;
   line = takes_line source lines lines' shown (λ bytes. Is bytes said) read says;
-  turn = turn;
+  exchange = exchange;
   out = out;
 }
 

@@ -10,7 +10,7 @@ ghost use Rattle.hose_core.specs.Holding.{AreHeld};
 ghost use Rattle.hose_proto.specs.ReplyText.{line_of, reply_text};
 ghost use Rattle.hose_shared.specs.Sharing.{IsPassOf};
 ghost use Rattle.hose_session.specs.SessionLines.{IsBye, SaysLater};
-ghost use Rattle.hose_session.specs.Turns.{SaysLast, ShownSays, ServesClientOn};
+ghost use Rattle.hose_session.specs.Exchanges.{SaysLast, ShownSays, ServesClientOn};
 
 use crate::client::Client;
 use crate::ending::SessionEnd;
@@ -22,27 +22,27 @@ use hose_io::{Failed, Sink};
 use hose_paths::RowMaker;
 use hose_pool::{Gate, Point};
 use hose_proto::{ReadFault, put_reply};
-use hose_shared::{Begun, Shared, law_passes};
+use hose_shared::{Begun, Caller, Shared, law_passes};
 use hose_turn::Pass;
 use hose_words::Line;
 use std::alloc::Global;
 use std::sync::Wait;
 
-/// A session, but for its streams and its pass: the shared book, the gate that it passes, and its
-/// number there.
+/// A session, but for its streams, its rows and its pass: what it waits with, where it takes memory,
+/// the shared book, the gate that it passes, and its number there.
 #[derive(Drop)]
-pub struct Session<'a, D: Disk, B: Begun<D>, G: Gate> {
+pub struct Session<'a, W, D: Disk, B: Begun<D>, G: Gate> {
+    pub rt: &'a W,
+    pub alloc: Global,
     pub shared: &'a Shared<D, B>,
     pub gate: &'a G,
     pub number: u64,
 }
 
-impl<'a, D: Disk, B: Begun<D>, G: Gate> Session<'a, D, B, G> {
+impl<'a, W: Wait, D: Disk, B: Begun<D>, G: Gate> Session<'a, W, D, B, G> {
     /// The reply to a line that comes after the greeting and is not `bye`.
-    pub fn answer_line<W: Wait, R: RowMaker>(
+    pub fn answer_line<R: RowMaker>(
         &self,
-        rt: &W,
-        alloc: Global,
         pass: Pass,
         client: &mut Client,
         line: Line<'_>,
@@ -52,7 +52,7 @@ impl<'a, D: Disk, B: Begun<D>, G: Gate> Session<'a, D, B, G> {
         requires quotes { (held : Held)
             × AreHeld self.now.shared.now.network 0 pass.seen held client.old.quotes }
         requires no_bye { (text : Bor (List ℕ)) → line ≡ Line.Text text → ¬ IsBye text.now }
-        ensures turns { (held : Held)
+        ensures exchange { (held : Held)
             → AreHeld self.now.shared.now.network 0 pass.seen held client.old.quotes
             → (said : SessionLine)
             × ShownSays (SaysLater self.now.shared.now.network) line.entry said
@@ -64,18 +64,16 @@ impl<'a, D: Disk, B: Begun<D>, G: Gate> Session<'a, D, B, G> {
         let Line::Text(text) = line else {
             return (Reply::Long, pass);
         };
-        match read_asked(alloc, self.shared.topology(), text) {
-            Ok(command) => self.answer(rt, alloc, pass, client, command, rows),
+        match read_asked(self.alloc, self.shared.topology(), text) {
+            Ok(command) => self.answer(pass, client, command, rows),
             Err(ReadFault::Bad { word }) => (Reply::Bad { word }, pass),
             Err(ReadFault::Memory) => (Reply::Memory, pass),
         }
     }
 
     // The reply to a command.
-    fn answer<W: Wait, R: RowMaker>(
+    fn answer<R: RowMaker>(
         &self,
-        rt: &W,
-        alloc: Global,
         pass: Pass,
         client: &mut Client,
         command: Command,
@@ -85,7 +83,7 @@ impl<'a, D: Disk, B: Begun<D>, G: Gate> Session<'a, D, B, G> {
         requires asks { AsksOf self.now.shared.now.network command }
         requires quotes { (held : Held)
             × AreHeld self.now.shared.now.network 0 pass.seen held client.old.quotes }
-        ensures turns { (held : Held)
+        ensures exchange { (held : Held)
             → AreHeld self.now.shared.now.network 0 pass.seen held client.old.quotes
             → ServesClientOn self.now.shared.now.network pass result.1 client.old client.new held
             (SessionLine.Asks command) result.0 }
@@ -93,6 +91,12 @@ impl<'a, D: Disk, B: Begun<D>, G: Gate> Session<'a, D, B, G> {
     {
         law_quotes();
         let (shared, customer) = (self.shared, client.name);
+        let (rt, alloc) = (self.rt, self.alloc);
+        let caller = Caller {
+            rt,
+            alloc,
+            customer: &customer,
+        };
         match command {
             Command::Admit(hose) => shared.admit(
                 rt,
@@ -104,18 +108,18 @@ impl<'a, D: Disk, B: Begun<D>, G: Gate> Session<'a, D, B, G> {
                 self.gate,
                 self.number,
             ),
-            Command::Quote(hose) => shared.quote(rt, alloc, pass, &mut client.quotes, hose, rows),
-            Command::Take(quote) => {
-                shared.take(rt, alloc, pass, &customer, &mut client.quotes, quote)
-            }
-            Command::Release(id) => shared.release(rt, alloc, pass, &customer, id),
-            Command::Show(id) => shared.show(rt, alloc, pass, &customer, id),
+            Command::Quote(hose) => shared.quote(caller, pass, &mut client.quotes, hose, rows),
+            Command::Take(quote) => shared.take(caller, pass, &mut client.quotes, quote),
+            Command::Release(id) => shared.release(caller, pass, id),
+            Command::Show(id) => shared.show(caller, pass, id),
             Command::Link(link) => shared.link(rt, pass, link),
-            Command::Down(link) => shared.operate(rt, alloc, pass, &customer, link, true),
-            Command::Up(link) => shared.operate(rt, alloc, pass, &customer, link, false),
+            Command::Down(link) => shared.operate(caller, pass, link, true),
+            Command::Up(link) => shared.operate(caller, pass, link, false),
         }
     }
+}
 
+impl<'a, W, D: Disk, B: Begun<D>, G: Gate> Session<'a, W, D, B, G> {
     /// Writes the line of a reply, and passes the gate's point after it.
     pub fn say<O: Sink>(&self, output: &mut O, reply: &Reply) -> Result<(), Failed>
         requires { NamesPlaces self.now.shared.now.network reply.now }

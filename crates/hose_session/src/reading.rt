@@ -7,7 +7,7 @@ ghost use Rattle.hose_words.specs.Words.{words_of};
 ghost use Rattle.hose_graph.specs.Naming.{AsksOf};
 ghost use Rattle.hose_proto.specs.Command.{IsCommand, TakesMemory, command_grammar, verb_word};
 ghost use Rattle.hose_session.specs.SessionLines.{IsBye, IsGreeting, greeting_grammar};
-ghost use Rattle.hose_session.specs.Turns.{IsGreetedBy};
+ghost use Rattle.hose_session.specs.Exchanges.{IsGreetedBy};
 
 use hose_graph::{Command, Name, Reply, Topology};
 use hose_proto::{ReadFault, read_command, read_name};

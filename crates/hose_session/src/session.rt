@@ -9,7 +9,7 @@ ghost use Rattle.hose_words.specs.Reading.{ReadsOn};
 ghost use Rattle.hose_shared.specs.Sharing.{IsPassOf};
 ghost use Rattle.hose_session.specs.Session.{IsGreeted, ServesSession};
 ghost use Rattle.hose_session.specs.SessionLines.{SaysFirst, SaysLater};
-ghost use Rattle.hose_session.specs.Turns.{EndsAt, SessionGoesOn, ServesLines};
+ghost use Rattle.hose_session.specs.Exchanges.{EndsAt, SessionGoesOn, ServesLines};
 
 use crate::answering::Session;
 use crate::client::Client;
@@ -63,23 +63,23 @@ pub fn serve_session<W: Wait, S: Source, O: Sink, D: Disk, B: Begun<D>, R: RowMa
     ensures sink { Stays (O.frame sink.old) (O.frame sink.new) }
 {
     let session = Session {
+        rt,
+        alloc,
         shared,
         gate,
         number: session,
     };
     let mut lines = LineReader::new(source);
-    let ended = session.serve(rt, alloc, &mut lines, sink, pass, rows);
+    let ended = session.serve(&mut lines, sink, pass, rows);
     // What is known of the input again comes from here.
     let _ = lines.into_source();
     ended
 }
 
-impl<'a, D: Disk, B: Begun<D>, G: Gate> Session<'a, D, B, G> {
+impl<'a, W: Wait, D: Disk, B: Begun<D>, G: Gate> Session<'a, W, D, B, G> {
     // Serves the customer of a reader that has taken nothing.
-    fn serve<W: Wait, S: Source, O: Sink, R: RowMaker>(
+    fn serve<S: Source, O: Sink, R: RowMaker>(
         &self,
-        rt: &W,
-        alloc: Global,
         lines: &mut LineReader<S>,
         output: &mut O,
         pass: Pass,
@@ -101,7 +101,7 @@ impl<'a, D: Disk, B: Begun<D>, G: Gate> Session<'a, D, B, G> {
     {
         law_passes(&pass);
         law_quotes();
-        let (greeted, pass) = self.greet(rt, lines, output, pass);
+        let (greeted, pass) = self.greet(lines, output, pass);
         let name = match greeted {
             Ok(name) => name,
             Err(end) => return (end, pass),
@@ -109,15 +109,7 @@ impl<'a, D: Disk, B: Begun<D>, G: Gate> Session<'a, D, B, G> {
         let mut client = Client::new(name);
         let mut pass = pass;
         loop {
-            let (served, later) = self.serve_line(
-                rt,
-                alloc,
-                lines,
-                output,
-                pass,
-                &mut client,
-                rows,
-            );
+            let (served, later) = self.serve_line(lines, output, pass, &mut client, rows);
             pass = later;
             if let Err(end) = served {
                 return (end, pass);
@@ -126,9 +118,8 @@ impl<'a, D: Disk, B: Begun<D>, G: Gate> Session<'a, D, B, G> {
     }
 
     // Answers the first line, and tells the customer's name if it is a greeting.
-    fn greet<W: Wait, S: Source, O: Sink>(
+    fn greet<S: Source, O: Sink>(
         &self,
-        rt: &W,
         lines: &mut LineReader<S>,
         output: &mut O,
         pass: Pass,
@@ -159,7 +150,7 @@ impl<'a, D: Disk, B: Begun<D>, G: Gate> Session<'a, D, B, G> {
                 return (Err(end), pass);
             }
         };
-        let (at, pass) = self.shared.now(rt, pass);
+        let (at, pass) = self.shared.now(self.rt, pass);
         if self.say(output, &Reply::Welcome { at }).is_err() {
             return (Err(SessionEnd::Write), pass);
         }
@@ -167,10 +158,8 @@ impl<'a, D: Disk, B: Begun<D>, G: Gate> Session<'a, D, B, G> {
     }
 
     // Answers the next line, and tells the end of the session if it ends there.
-    fn serve_line<W: Wait, S: Source, O: Sink, R: RowMaker>(
+    fn serve_line<S: Source, O: Sink, R: RowMaker>(
         &self,
-        rt: &W,
-        alloc: Global,
         lines: &mut LineReader<S>,
         output: &mut O,
         pass: Pass,
@@ -211,7 +200,7 @@ impl<'a, D: Disk, B: Begun<D>, G: Gate> Session<'a, D, B, G> {
             let end = self.say_last(output, &Reply::Bye, SessionEnd::Bye);
             return (Err(end), pass);
         }
-        let (reply, pass) = self.answer_line(rt, alloc, pass, client, line, rows);
+        let (reply, pass) = self.answer_line(pass, client, line, rows);
         if self.say(output, &reply).is_err() {
             return (Err(SessionEnd::Write), pass);
         }

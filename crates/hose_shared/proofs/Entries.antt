@@ -1,6 +1,6 @@
 -- Which entry joined, and what an admission's take and the replies without an entry are as steps.
 use Rattle.std.proofs.Common.{◌≡◌, ◌≢◌, ℕ, Bool, true, false, List, ◌++◌, length, take, Option, None, Some, IfSome, IsSome, MatchResult, Result, inl, inr, refl, sym, ap, subst, ◌∙◌, append-nil, arith, ◌≤◌, ◌<◌}
-use Rattle.std.specs.Prelude.{replicate}
+use Rattle.std.specs.Prelude.{IfNone, option_map, replicate}
 use Rattle.std.proofs.lemmas.List.{length-append, length-take-le, take-append-le, take_all}
 use mathlib.Core.List.{IsPrefix}
 use mathlib.Core.Logic.{dite}
@@ -26,24 +26,28 @@ use Rattle.hose_law.specs.ReplyKind.{ReplyKind, kind_of}
 use Rattle.hose_law.specs.ReplyKind.ReplyKind.{ByTheBook, ForDisk, ForMemory, ForNoCommand}
 use Rattle.hose_law.specs.Room.{first_links, room_of, safe_links}
 use Rattle.hose_law.specs.Service.{service_entry}
+use Rattle.hose_book.specs.Commit.{IsMet}
 use Rattle.hose_book.specs.Ledger.{Ledger}
 use Rattle.hose_book.specs.declared.books.Committed.{Committed}
 use Rattle.hose_book.specs.declared.books.Committed.TheVariants.{Done, Disk}
 use Rattle.hose_core.specs.Holding.{AreHeld, IsMadeAt, IsQuoteOf}
 use Rattle.hose_core.specs.Planning.{EntersPlan, HasTold, IsNotPlanned, IsPlannedFor}
 use Rattle.hose_core.specs.Serving.{service_command}
-use Rattle.hose_core.specs.Stepping.{TellsPlan, committed_for, committed_of}
+use Rattle.hose_core.specs.Stepping.{HasStepped, TellsPlan, committed_for, committed_of}
 use Rattle.hose_core.specs.declared.quotes.Quote.{Quote}
 use Rattle.hose_plan.specs.Planning.{allowed_links}
+use Rattle.hose_disk.specs.Disk.{object_frame}
+use Rattle.hose_disk.specs.declared.disk.Disk.{Ghosts}
+use Rattle.hose_store.specs.Commit.{store_books}
+use Rattle.hose_store.specs.Store.{Kept as KeptStore}
 use Rattle.hose_turn.specs.Known.{Known}
 use Rattle.hose_shared.specs.Along.{StepsAlong, StepsHolding, is_stale}
 use Rattle.hose_shared.specs.Sharing.{HasSeenMore}
-use Rattle.hose_shared.specs.Turns.{StepsAt, place_of}
+use Rattle.hose_shared.specs.Turns.{AnswersTurn, StepsAt, joined_of, place_of}
 use Rattle.hose_law.proofs.Fronts.{prefix_same}
 use Rattle.hose_law.proofs.Steps.{step_cases}
-use Rattle.hose_law.proofs.Epochs.{epoch_of}
-use Rattle.hose_shared.proofs.Passes.{along_of}
-use Rattle.hose_shared.proofs.Turned.{joined_of, none_joined}
+use Rattle.hose_shared.proofs.Passes.{along_of, epoch_of}
+use Rattle.hose_shared.proofs.Turned.{answers_turn, none_joined, told_is}
 
 -- what holds of an entry that was committed holds of the one that joined
 joined_is : (P : Entry → Type 0) (entry : Option Entry) (result : Committed) → ((one : Entry) → entry ≡ Some one → result ≡ Done → P one) → IfSome (joined_of entry result) P
@@ -240,6 +244,40 @@ module _ (network : Network) (history : List Entry) (customer : List ℕ) (held 
     own = at.own;
     failed = at.failed;
   }
+
+-- ---- what a turn answered, by the command
+
+module _ {D : Type 0} (disk : Ghosts D) (seen : List Entry) (old was new : KeptStore D) (told : Option Entry) (same : old ≡ was) (network : new.ledger.network ≡ old.ledger.network) (answer : Reply)
+    (met : IsMet (object_frame (disk.frame old.journal.disk)) (committed_of answer) (object_frame (disk.frame new.journal.disk))) (held : Held) (customer : List ℕ) where
+  abbrev Turn : Command → Type 0
+  Turn asked = HasStepped (store_books disk) old new 0 seen customer held asked answer → AnswersTurn disk seen was new told customer held asked answer
+
+  by_entry : (asked : Command) (entry : Entry) → told ≡ Some entry → (stepped : HasStepped (store_books disk) old new 0 seen customer held asked answer)
+      → IfSome (joined_of stepped.entry (committed_of answer)) (λ one. one ≡ entry) → AnswersTurn disk seen was new told customer held asked answer
+  by_entry asked entry is stepped of =
+      answers_turn disk seen old was new told customer held asked answer same stepped network met (inr (told_is (joined_of stepped.entry (committed_of answer)) told entry is of))
+
+  pub release_turn : (id : ℕ) → told ≡ Some (Release customer id) → Turn (command.Release id)
+  release_turn id is stepped = by_entry (command.Release id) (Release customer id) is stepped
+      (release_entry old.ledger.network seen customer held id answer stepped.entry stepped.next stepped.after stepped.step)
+
+  pub order_turn : (down : Bool) (link : ℕ) → told ≡ Some (service_entry down link) → Turn (service_command down link)
+  order_turn down link is stepped = by_entry (service_command down link) (service_entry down link) is stepped
+      (order_entry old.ledger.network seen customer held down link answer stepped.entry stepped.next stepped.after stepped.step)
+
+  pub take_turn : (number : ℕ) (one : HeldQuote) (quote : Quote) → at_number held number ≡ Some one → one.hose ≡ quote.hose → told ≡ Some (Admit customer quote.hose quote.amounts) → TellsPlan quote.amounts quote.cost answer
+      → Turn (command.Take number)
+  take_turn number one quote there hose is tells stepped = by_entry (command.Take number) (Admit customer quote.hose quote.amounts) is stepped
+      (subst (λ (ends : List Endpoint). IfSome (joined_of stepped.entry (committed_of answer)) (λ joined. joined ≡ Admit customer ends quote.amounts)) hose
+      (take_entry old.ledger.network seen customer held number one there quote.amounts quote.cost answer stepped.entry stepped.next stepped.after tells stepped.step))
+
+  -- an admission may have had no entry, and then the store is as it was
+  pub admit_turn : {S : Type 0} (value : S → Entry) (entered : Option S) (hose : List Endpoint) → told ≡ option_map value entered → IfNone entered (new ≡ old) → IfSome entered (λ entry. EntersPlan customer hose answer (value entry))
+      → Turn (command.Admit hose)
+  admit_turn value None hose is none enters stepped =
+      answers_turn disk seen old was new told customer held (command.Admit hose) answer same stepped network met (inl none)
+  admit_turn value (Some entry) hose is none enters stepped = by_entry (command.Admit hose) (value entry) is stepped
+      (admit_entry old.ledger.network seen customer held hose answer (value entry) stepped.entry stepped.next stepped.after enters stepped.step)
 
 -- ---- replies without an entry
 

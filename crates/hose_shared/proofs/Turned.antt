@@ -1,5 +1,5 @@
 -- What a turn makes of a shared store: the store stands for the history with the entry that joined it, and the pass that gave the turn on has seen that.
-use Rattle.std.proofs.Common.{◌≡◌, ℕ, ◌+◌, List, [], ◌∷◌, ◌++◌, length, Option, None, Some, IfSome, refl, sym, ap, subst, ◌∙◌, arith, append-nil}
+use Rattle.std.proofs.Common.{◌≡◌, ◌⊎◌, ◌≤◌, inl, inr, ℕ, ◌+◌, List, [], ◌∷◌, ◌++◌, length, Option, None, Some, IfSome, refl, sym, ap, subst, ◌∙◌, arith, append-nil}
 use Rattle.std.proofs.lemmas.List.{length-append}
 use mathlib.Core.List.{IsPrefix}
 use Rattle.hose_graph.specs.Network.{IsNetwork, Network}
@@ -28,17 +28,11 @@ use Rattle.hose_turn.specs.Faults.{rise}
 use Rattle.hose_turn.specs.Known.{HasOwnPlaces, Known}
 use Rattle.hose_shared.specs.Along.{IsCheapestEntry}
 use Rattle.hose_shared.specs.Keeping.{StandsShared}
-use Rattle.hose_shared.specs.Turns.{StepsAt, faults_in, place_of, with_joined}
+use Rattle.hose_shared.specs.Turns.{AnswersTurn, BeginsTurn, StepsAt, faults_in, joined_of, place_of, with_joined}
 use Rattle.hose_law.proofs.Fronts.{prefix_same}
-use Rattle.hose_law.proofs.Epochs.{epoch_of}
-use Rattle.hose_shared.proofs.Passes.{failed_rise, prefix_joined}
+use Rattle.hose_shared.proofs.Passes.{epoch_of, failed_rise, met_above, prefix_joined}
 
 -- ---- the entry that joined
-
--- the entry that joined the history, by what its commit came to
-abbrev pub joined_of : Option Entry → Committed → Option Entry
-joined_of entry Done = entry
-joined_of entry Disk = None
 
 history_joined : (history : List Entry) (entry : Option Entry) (result : Committed) → history_with history entry result ≡ with_entry history (joined_of entry result)
 history_joined history None Done = refl
@@ -163,36 +157,87 @@ module _ {D : Type 0} (disk : Ghosts D) (Begins : List Entry → KeptStore D →
 
 -- ---- a turn as a whole
 
-module _ {D : Type 0} (disk : Ghosts D) (Begins : List Entry → KeptStore D → Type 0) (top : Network) (is : IsNetwork top) (known : Known) (here : known.origin.network ≡ top) (value old new : KeptStore D) (same : old ≡ value)
-    (stood : StandsShared disk Begins known.origin known.seen value) (customer : List ℕ) (held : Held) (command : Command) (answer : Reply)
-    (stepped : HasStepped (store_books disk) old new 0 known.seen customer held command answer)
-    (law : IfSome stepped.entry (IsDecidedAt old.ledger.network (book_of 0 known.seen)) × (stepped.next ≡ history_with known.seen stepped.entry (committed_of answer)))
-    (network : new.ledger.network ≡ old.ledger.network) where
-  before : StandsShared disk Begins known.origin known.seen old
-  before = subst (StandsShared disk Begins known.origin known.seen) (sym same) stood
+-- an entry is told that joined, if one did
+pub told_is : (joined told : Option Entry) (entry : Entry) → told ≡ Some entry → IfSome joined (λ one. one ≡ entry) → IfSome joined (λ one. told ≡ Some one)
+told_is None told entry is of = tt
+told_is (Some one) told entry is of = is ∙ ap Some (sym of)
 
-  abbrev pub entered : Option Entry
-  entered = joined_of stepped.entry (committed_of answer)
+-- nothing joined where none is told
+none_told : (joined told : Option Entry) → told ≡ None → IfSome joined (λ one. told ≡ Some one) → joined ≡ None
+none_told None told none is = refl
+none_told (Some one) told none is = absurd (cc (is, none))
+
+-- and else it is the one that is told
+one_told : (joined told : Option Entry) (entry : Entry) → told ≡ Some entry → IfSome joined (λ one. told ≡ Some one) → IfSome joined (λ one. one ≡ entry)
+one_told None told entry some is = tt
+one_told (Some one) told entry some is = cc (is, some)
+
+-- A turn's answer by what the store was, which is what the call that answered has begun with.
+pub answers_turn : {D : Type 0} (disk : Ghosts D) (before : List Entry) (old was new : KeptStore D) (told : Option Entry) (customer : List ℕ) (held : Held) (command : Command) (answer : Reply) → old ≡ was
+    → (stepped : HasStepped (store_books disk) old new 0 before customer held command answer) → new.ledger.network ≡ old.ledger.network
+    → IsMet (object_frame (disk.frame old.journal.disk)) (committed_of answer) (object_frame (disk.frame new.journal.disk))
+    → (new ≡ old) ⊎ IfSome (joined_of stepped.entry (committed_of answer)) (λ one. told ≡ Some one) → AnswersTurn disk before was new told customer held command answer
+answers_turn disk before old was new told customer held command answer same stepped network met joined =
+    subst (λ (s : KeptStore _). AnswersTurn disk before s new told customer held command answer) same (record { stepped = stepped; network = network; met = met; joined = joined })
+
+-- and where the store was only read
+pub reads_turn : {D : Type 0} (disk : Ghosts D) (before : List Entry) (read was now : KeptStore D) (told : Option Entry) (customer : List ℕ) (held : Held) (command : Command) (answer : Reply) → read ≡ was → now ≡ was
+    → HasStepped (store_books disk) read read 0 before customer held command answer → committed_of answer ≡ Done → AnswersTurn disk before was now told customer held command answer
+reads_turn disk before read was now told customer held command answer same stays stepped done =
+    subst (λ (s : KeptStore _). AnswersTurn disk before was s told customer held command answer) (sym stays)
+    (subst (λ (s : KeptStore _). AnswersTurn disk before s s told customer held command answer) same (record {
+      stepped = stepped;
+      network = refl;
+      met = subst (λ (r : Committed). IsMet (object_frame (disk.frame read.journal.disk)) r (object_frame (disk.frame read.journal.disk))) (sym done) refl;
+      joined = inl refl;
+    }))
+
+module _ {D : Type 0} (disk : Ghosts D) (Begins : List Entry → KeptStore D → Type 0) (top : Network) (is : IsNetwork top) (known : Known) (floor epoch : ℕ) (old new : KeptStore D) (same : old.ledger.network ≡ top)
+    (begun : BeginsTurn disk Begins known floor epoch old) (told : Option Entry) (customer : List ℕ) (held : Held) (command : Command) (answer : Reply)
+    (turn : AnswersTurn disk known.seen old new told customer held command answer)
+    (law : IfSome turn.stepped.entry (IsDecidedAt old.ledger.network (book_of 0 known.seen)) × (turn.stepped.next ≡ history_with known.seen turn.stepped.entry (committed_of answer))) where
+  abbrev entered : Option Entry
+  entered = joined_of turn.stepped.entry (committed_of answer)
 
   -- the store stands for what was seen, and the entry that joined it
-  pub turn_stands : StandsShared disk Begins known.origin (with_entry known.seen entered) new
-  turn_stands = stands_after disk Begins known.origin known.seen old new customer held command answer before stepped law network
+  turn_stands : StandsShared disk Begins known.origin (with_entry known.seen entered) new
+  turn_stands = stands_after disk Begins known.origin known.seen old new customer held command answer begun.stands turn.stepped law turn.network
 
-  module _ (pass : Known) (floor : ℕ) (floored : floor ≡ faults_in disk value) (met : IsMet (object_frame (disk.frame old.journal.disk)) (committed_of answer) (object_frame (disk.frame new.journal.disk))) where
-    rises_by : committed_of answer ≡ Disk → rise floor (faults_in disk new) ≡ 1
-    rises_by failed = subst (λ (count : ℕ). rise count (faults_in disk new) ≡ 1) (ap (faults_in disk) same ∙ sym floored)
-        (failed_rise (object_frame (disk.frame old.journal.disk)) (object_frame (disk.frame new.journal.disk)) (committed_of answer) met failed)
+  -- which is the one that is told
+  turn_told : IfSome entered (λ one. told ≡ Some one)
+  turn_told = elim turn.joined [
+    | inl stays ↦ subst (λ (joined : Option Entry). IfSome joined (λ one. told ≡ Some one)) (sym (none_where_same disk Begins known.origin known.seen old new customer held command answer begun.stands turn.stepped law turn.network stays)) tt
+    | inr told ↦ told
+  ]
 
-    -- the pass that gave the turn on
-    pub turn_steps : pass ≡ record (with_joined known entered) { faults = (with_joined known entered).faults + rise floor (faults_in disk new) } → HasOwnPlaces pass → StepsAt top customer held command answer known.seen known pass
-    turn_steps left places = steps_at disk Begins known.origin known.seen old new customer held command answer before stepped law network top (before.network ∙ here) is known pass (rise floor (faults_in disk new)) refl left places rises_by
+  -- no entry is told, so none joined
+  pub none_stands : told ≡ None → StandsShared disk Begins known.origin known.seen new
+  none_stands none = subst (λ (joined : Option Entry). StandsShared disk Begins known.origin (with_entry known.seen joined) new) (none_told entered told none turn_told) turn_stands
 
-    -- where the store is as it was
-    pub asked_steps : new ≡ old → pass ≡ record known { faults = known.faults + rise floor (faults_in disk value) } → HasOwnPlaces pass → StepsAt top customer held command answer known.seen known pass
-    asked_steps stays left places =
-        let none = none_where_same disk Begins known.origin known.seen old new customer held command answer before stepped law network stays in
-        let mine = subst (λ (count : ℕ). pass ≡ record known { faults = known.faults + rise floor count }) (ap (faults_in disk) (sym same ∙ sym stays)) left in
-        turn_steps (subst (λ (joined : Option Entry). pass ≡ record (with_joined known joined) { faults = (with_joined known joined).faults + rise floor (faults_in disk new) }) (sym none) mine) places
+  -- or one is told
+  pub one_stands : (entry : Entry) → told ≡ Some entry → (joined : Option Entry) × StandsShared disk Begins known.origin (with_entry known.seen joined) new × IfSome joined (λ one. one ≡ entry)
+  one_stands entry some = (entered, turn_stands, one_told entered told entry some turn_told)
+
+  pub turn_above : floor ≤ faults_in disk new
+  turn_above = omega (arith, met_above (object_frame (disk.frame old.journal.disk)) (object_frame (disk.frame new.journal.disk)) (committed_of answer) turn.met, begun.floor)
+
+  rises_by : committed_of answer ≡ Disk → rise floor (faults_in disk new) ≡ 1
+  rises_by failed = subst (λ (count : ℕ). rise count (faults_in disk new) ≡ 1) (sym begun.floor)
+      (failed_rise (object_frame (disk.frame old.journal.disk)) (object_frame (disk.frame new.journal.disk)) (committed_of answer) turn.met failed)
+
+  -- the pass that gave the turn on
+  turn_steps : (pass : Known) → pass ≡ record (with_joined known entered) { faults = (with_joined known entered).faults + rise floor (faults_in disk new) } → HasOwnPlaces pass → StepsAt top customer held command answer known.seen known pass
+  turn_steps pass left places =
+      steps_at disk Begins known.origin known.seen old new customer held command answer begun.stands turn.stepped law turn.network top same is known pass (rise floor (faults_in disk new)) refl left places rises_by
+
+  pub none_steps : told ≡ None → (pass : Known) → pass ≡ record known { faults = known.faults + rise floor (faults_in disk new) } → HasOwnPlaces pass → StepsAt top customer held command answer known.seen known pass
+  none_steps none pass left places =
+      turn_steps pass (subst (λ (joined : Option Entry). pass ≡ record (with_joined known joined) { faults = (with_joined known joined).faults + rise floor (faults_in disk new) }) (sym (none_told entered told none turn_told)) left) places
+
+  pub one_steps : (entry : Entry) → told ≡ Some entry → (pass : Known)
+      → ((joined : Option Entry) → StandsShared disk Begins known.origin (with_entry known.seen joined) new → IfSome joined (λ one. one ≡ entry) → pass ≡ record (with_joined known joined) { faults = (with_joined known joined).faults + rise floor (faults_in disk new) })
+      → HasOwnPlaces pass → StepsAt top customer held command answer known.seen known pass
+  one_steps entry some pass passed places = turn_steps pass (passed entered turn_stands (one_told entered told entry some turn_told)) places
 
 -- ---- the end of a turn
 

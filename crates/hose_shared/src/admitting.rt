@@ -2,20 +2,22 @@
 ghost use Rattle.std.specs.Prelude.{◌≡◌, MatchResult};
 ghost use Rattle.hose_graph.specs.Naming.{NamesPlaces};
 ghost use Rattle.hose_graph.specs.declared.command.Command.{Command};
+ghost use Rattle.hose_law.specs.History.{book_of};
 ghost use Rattle.hose_law.specs.Plan.{AreNodes};
 ghost use Rattle.hose_law.specs.Quotes.{Held as HeldQuotes};
+ghost use Rattle.hose_core.specs.Holding.{IsMadeAt};
 ghost use Rattle.hose_shared.specs.Along.{IsTried, StepsAlong, is_stale};
 ghost use Rattle.hose_shared.specs.Sharing.{IsPassOf};
 
+use crate::caller::Caller;
 use crate::kept::Begun;
 use crate::shared::Shared;
-use hose_core::{admit_now, claim_take, law_step};
+use hose_core::{Quote, admit_now, claim_take};
 use hose_disk::Disk;
 use hose_graph::{Hose, Name, Reply};
 use hose_paths::RowMaker;
 use hose_pool::{Gate, Point};
-use hose_store::Store;
-use hose_turn::{Pass, Stands};
+use hose_turn::Pass;
 use std::alloc::Global;
 use std::sync::Wait;
 
@@ -47,44 +49,55 @@ impl<D: Disk, B: Begun<D>> Shared<D, B> {
         let mut pass = pass;
         let mut hose = hose;
         for _ in 0..TRIES {
-            let (tried, later) = self.try_to_admit(
-                rt, alloc, pass, customer, hose, rows, gate, session,
-            );
+            let (planned, seen) = self.plan(rt, alloc, pass, hose, rows);
+            let quote = match planned {
+                Ok(quote) => quote,
+                Err(reply) => return (reply, seen),
+            };
+            gate.at(Point::Planned { session });
+            let caller = Caller {
+                rt,
+                alloc,
+                customer,
+            };
+            let (tried, later) = self.take_planned(caller, seen, quote);
             pass = later;
             match tried {
                 Ok(reply) => return (reply, pass),
                 Err(same) => hose = same,
             }
         }
-        self.admit_in_turn(rt, alloc, pass, customer, hose, rows)
+        let caller = Caller {
+            rt,
+            alloc,
+            customer,
+        };
+        self.admit_in_turn(caller, pass, hose, rows)
     }
 
-    // Plans a hose outside of the lock and takes the plan. Where that is stale the hose comes back.
-    fn try_to_admit<W: Wait, R: RowMaker, G: Gate>(
+    // Takes a plan that was made of all that the pass has seen. Where it is stale by now, its hose
+    // comes back.
+    fn take_planned<W: Wait>(
         &self,
-        rt: &W,
-        alloc: Global,
+        caller: Caller<'_, W>,
         pass: Pass,
-        customer: &Name,
-        hose: Hose,
-        rows: &mut R,
-        gate: &G,
-        session: u64,
+        quote: Quote,
     ) -> (Result<Reply, Hose>, Pass)
         requires of { IsPassOf self.now pass }
-        requires nodes { AreNodes self.now.network hose }
-        ensures { IsTried self.now.network customer.now hose pass result.1 result.0 }
+        requires planned { IsMadeAt self.now.network (book_of 0 pass.seen) quote }
+        ensures { IsTried self.now.network caller.entry.customer.now quote.hose pass result.1
+            result.0 }
     {
-        let (planned, pass) = self.plan(rt, alloc, pass, hose, rows);
-        let quote = match planned {
-            Ok(quote) => quote,
-            Err(reply) => return (Ok(reply), pass),
-        };
-        gate.at(Point::Planned { session });
+        pass.law_places();
+        let Caller {
+            rt,
+            alloc,
+            customer,
+        } = caller;
         let Ok(claim) = claim_take(alloc, customer, &quote) else {
             return (Ok(Reply::Memory), pass);
         };
-        let (reply, pass) = self.take_claimed(self.turn.lock(rt, pass), &quote, claim);
+        let (reply, pass) = self.take_claimed(rt, pass, &quote, claim);
         if is_stale(&reply) {
             return (Err(quote.hose), pass);
         }
@@ -94,28 +107,26 @@ impl<D: Disk, B: Begun<D>> Shared<D, B> {
     // Plans a hose and admits it, all under the lock.
     fn admit_in_turn<W: Wait, R: RowMaker>(
         &self,
-        rt: &W,
-        alloc: Global,
+        caller: Caller<'_, W>,
         pass: Pass,
-        customer: &Name,
         hose: Hose,
         rows: &mut R,
     ) -> (Reply, Pass)
         requires of { IsPassOf self.now pass }
         requires nodes { AreNodes self.now.network hose }
-        ensures steps { (held : HeldQuotes) → StepsAlong self.now.network customer.now held
-            (Command.Admit hose) result.0 pass result.1 }
+        ensures steps { (held : HeldQuotes) → StepsAlong self.now.network
+            caller.entry.customer.now held (Command.Admit hose) result.0 pass result.1 }
         ensures names { NamesPlaces self.now.network result.0 }
     {
-        law_step::<Store<D>>();
-        let mut held = self.turn.lock(rt, pass);
-        let epoch = held.value().epoch();
+        let Caller {
+            rt,
+            alloc,
+            customer,
+        } = caller;
+        let (mut held, start) = self.begin_turn(rt, pass);
         let store = &mut held.value_mut().store;
-        let (reply, entered) = admit_now(alloc, store, customer, hose, rows);
-        match entered {
-            None => (reply, self.turn.unlock(held)),
-            Some(entry) => (reply, self.end_turn(held, epoch, entry)),
-        }
+        let (reply, entry) = admit_now(alloc, store, customer, hose, rows);
+        (reply, self.end_turn(held, start, entry))
     }
 }
 

@@ -9,36 +9,32 @@ ghost use Rattle.std.specs.Prelude.{ℕ, List};
 ghost use Rattle.hose_shared.specs.Along.{StepsAlong};
 ghost use Rattle.hose_shared.specs.Sharing.{IsPassOf};
 
+use crate::caller::Caller;
 use crate::kept::Begun;
 use crate::shared::Shared;
-use hose_core::{claim_release, law_step, link_now, release_now, show_now};
+use hose_core::{claim_release, link_now, release_now, show_now};
 use hose_disk::Disk;
-use hose_graph::{Name, Reply};
-use hose_store::Store;
-use hose_turn::{Pass, Stands};
-use std::alloc::Global;
+use hose_graph::Reply;
+use hose_turn::Pass;
 use std::snapshot::Snapshot;
 use std::sync::Wait;
 
 impl<D: Disk, B: Begun<D>> Shared<D, B> {
     /// Tells a customer what the VPN of a number is: `Shown`, `NoVpn` or `Memory`.
-    pub fn show<W: Wait>(
-        &self,
-        rt: &W,
-        alloc: Global,
-        pass: Pass,
-        customer: &Name,
-        id: u64,
-    ) -> (Reply, Pass)
+    pub fn show<W: Wait>(&self, caller: Caller<'_, W>, pass: Pass, id: u64) -> (Reply, Pass)
         requires { IsPassOf self.now pass }
-        ensures steps { (held : HeldQuotes) → StepsAlong self.now.network customer.now held
-            (Command.Show id) result.0 pass result.1 }
+        ensures steps { (held : HeldQuotes) → StepsAlong self.now.network
+            caller.entry.customer.now held (Command.Show id) result.0 pass result.1 }
         ensures names { NamesPlaces self.now.network result.0 }
     {
-        law_step::<Store<D>>();
-        let held = self.turn.lock(rt, pass);
+        let Caller {
+            rt,
+            alloc,
+            customer,
+        } = caller;
+        let (held, start) = self.begin_turn(rt, pass);
         let reply = show_now(alloc, &held.value().store, customer, id);
-        (reply, self.turn.unlock(held))
+        (reply, self.end_turn(held, start, None))
     }
 
     /// Tells what is reserved on a link of the network: `LinkState`.
@@ -49,37 +45,32 @@ impl<D: Disk, B: Begun<D>> Shared<D, B> {
             customer held (Command.Link link) result.0 pass result.1 }
         ensures names { NamesPlaces self.now.network result.0 }
     {
-        law_step::<Store<D>>();
-        let held = self.turn.lock(rt, pass);
+        let (held, start) = self.begin_turn(rt, pass);
         let reply = link_now(&held.value().store, link);
-        (reply, self.turn.unlock(held))
+        (reply, self.end_turn(held, start, None))
     }
 
     /// Gives up a customer's VPN of a number of at most 4,000,000,000: `Released`, `NoVpn`,
     /// `Spent`, `Disk` or `Memory`.
-    pub fn release<W: Wait>(
-        &self,
-        rt: &W,
-        alloc: Global,
-        pass: Pass,
-        customer: &Name,
-        id: u64,
-    ) -> (Reply, Pass)
+    pub fn release<W: Wait>(&self, caller: Caller<'_, W>, pass: Pass, id: u64) -> (Reply, Pass)
         requires of { IsPassOf self.now pass }
         requires id { id ≤ MOST_EPOCH }
-        ensures steps { (held : HeldQuotes) → StepsAlong self.now.network customer.now held
-            (Command.Release id) result.0 pass result.1 }
+        ensures steps { (held : HeldQuotes) → StepsAlong self.now.network
+            caller.entry.customer.now held (Command.Release id) result.0 pass result.1 }
         ensures names { NamesPlaces self.now.network result.0 }
     {
-        law_step::<Store<D>>();
         pass.law_places();
+        let Caller {
+            rt,
+            alloc,
+            customer,
+        } = caller;
         let Ok(claim) = claim_release(alloc, customer, id) else {
             return (Reply::Memory, pass);
         };
         let entry = Snapshot::of(claim.entry());
-        let mut held = self.turn.lock(rt, pass);
-        let epoch = held.value().epoch();
+        let (mut held, start) = self.begin_turn(rt, pass);
         let reply = release_now(&mut held.value_mut().store, claim);
-        (reply, self.end_turn(held, epoch, entry))
+        (reply, self.end_turn(held, start, Some(entry)))
     }
 }

@@ -17,6 +17,7 @@
 
 mod admitting;
 mod asking;
+mod caller;
 mod entering;
 mod kept;
 mod laws;
@@ -26,6 +27,7 @@ mod quoting;
 mod shared;
 mod taking;
 
+pub use caller::Caller;
 pub use kept::{AnyStore, Begun, Kept};
 pub use laws::law_passes;
 pub use shared::Shared;

@@ -6,14 +6,13 @@ ghost use Rattle.hose_core.specs.Serving.{service_command};
 ghost use Rattle.hose_shared.specs.Along.{StepsAlong};
 ghost use Rattle.hose_shared.specs.Sharing.{IsPassOf};
 
+use crate::caller::Caller;
 use crate::kept::Begun;
 use crate::shared::Shared;
-use hose_core::{claim_service, law_step, service_now};
+use hose_core::{claim_service, service_now};
 use hose_disk::Disk;
-use hose_graph::{Name, Reply};
-use hose_store::Store;
-use hose_turn::{Pass, Stands};
-use std::alloc::Global;
+use hose_graph::Reply;
+use hose_turn::Pass;
 use std::snapshot::Snapshot;
 use std::sync::Wait;
 
@@ -23,21 +22,23 @@ impl<D: Disk, B: Begun<D>> Shared<D, B> {
     /// denied. What was planned beside it is planned anew where its grounds are others then.
     pub fn operate<W: Wait>(
         &self,
-        rt: &W,
-        alloc: Global,
+        caller: Caller<'_, W>,
         pass: Pass,
-        customer: &Name,
         link: u32,
         down: bool,
     ) -> (Reply, Pass)
         requires of { IsPassOf self.now pass }
         requires link { IsLinkOf self.now.network link }
-        ensures steps { (held : HeldQuotes) → StepsAlong self.now.network customer.now held
-            (service_command down link) result.0 pass result.1 }
+        ensures steps { (held : HeldQuotes) → StepsAlong self.now.network
+            caller.entry.customer.now held (service_command down link) result.0 pass result.1 }
         ensures names { NamesPlaces self.now.network result.0 }
     {
-        law_step::<Store<D>>();
         pass.law_places();
+        let Caller {
+            rt,
+            alloc,
+            customer,
+        } = caller;
         let is_operator = customer.is_operator();
         if !is_operator {
             let (at, pass) = self.now(rt, pass);
@@ -49,9 +50,8 @@ impl<D: Disk, B: Begun<D>> Shared<D, B> {
             return (Reply::Memory, pass);
         };
         let entry = Snapshot::of(claim.entry());
-        let mut held = self.turn.lock(rt, pass);
-        let epoch = held.value().epoch();
+        let (mut held, start) = self.begin_turn(rt, pass);
         let reply = service_now(&mut held.value_mut().store, claim);
-        (reply, self.end_turn(held, epoch, entry))
+        (reply, self.end_turn(held, start, Some(entry)))
     }
 }

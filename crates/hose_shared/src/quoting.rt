@@ -8,6 +8,7 @@ ghost use Rattle.hose_core.specs.Holding.{AreHeld};
 ghost use Rattle.hose_shared.specs.Along.{StepsHolding};
 ghost use Rattle.hose_shared.specs.Sharing.{IsPassOf};
 
+use crate::caller::Caller;
 use crate::kept::Begun;
 use crate::shared::Shared;
 use hose_core::{Quotes, law_quotes};
@@ -15,7 +16,6 @@ use hose_disk::Disk;
 use hose_graph::{Hose, Reply};
 use hose_paths::RowMaker;
 use hose_turn::Pass;
-use std::alloc::Global;
 use std::sync::Wait;
 
 impl<D: Disk, B: Begun<D>> Shared<D, B> {
@@ -23,8 +23,7 @@ impl<D: Disk, B: Begun<D>> Shared<D, B> {
     /// number: `Quoted`, `TooMany`, `Refused` or `Memory`. The quotes were made along this pass.
     pub fn quote<W: Wait, R: RowMaker>(
         &self,
-        rt: &W,
-        alloc: Global,
+        caller: Caller<'_, W>,
         pass: Pass,
         quotes: &mut Quotes,
         hose: Hose,
@@ -41,6 +40,7 @@ impl<D: Disk, B: Begun<D>> Shared<D, B> {
         ensures names { NamesPlaces self.now.network result.0 }
     {
         law_quotes();
+        let Caller { rt, alloc, .. } = caller;
         let Some(number) = quotes.free() else {
             let (at, pass) = self.now(rt, pass);
             return (Reply::TooMany { at }, pass);

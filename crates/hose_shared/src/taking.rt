@@ -7,20 +7,18 @@ ghost use Rattle.hose_law.specs.Quotes.{Held as HeldQuotes, HeldQuote, at_number
 ghost use Rattle.hose_store.specs.Commit.{store_books};
 ghost use Rattle.hose_core.specs.Claiming.{IsClaimOf};
 ghost use Rattle.hose_core.specs.Holding.{AreHeld, IsQuoteOf};
-ghost use Rattle.hose_turn.specs.Held.{floor_of, holder, value_of};
 ghost use Rattle.hose_shared.specs.Along.{StepsHolding};
-ghost use Rattle.hose_shared.specs.Keeping.{StandsShared};
 ghost use Rattle.hose_shared.specs.Sharing.{IsPassOf};
-ghost use Rattle.hose_shared.specs.Turns.{StepsAt, faults_in};
+ghost use Rattle.hose_shared.specs.Turns.{StepsInTurn};
 
-use crate::kept::{Begun, Kept};
+use crate::caller::Caller;
+use crate::kept::Begun;
 use crate::shared::Shared;
-use hose_core::{Claim, Quote, Quotes, claim_take, law_quotes, law_step, take_now};
+use hose_core::{Claim, Quote, Quotes, claim_take, law_quotes, take_now};
 use hose_disk::Disk;
-use hose_graph::{Name, Reply};
+use hose_graph::Reply;
 use hose_store::Store;
-use hose_turn::{Held, Pass, Stands};
-use std::alloc::Global;
+use hose_turn::Pass;
 use std::snapshot::Snapshot;
 use std::sync::Wait;
 
@@ -29,10 +27,8 @@ impl<D: Disk, B: Begun<D>> Shared<D, B> {
     /// `Stale`, `Spent`, `Full`, `Disk` or `Memory`. The quotes were made along this pass.
     pub fn take<W: Wait>(
         &self,
-        rt: &W,
-        alloc: Global,
+        caller: Caller<'_, W>,
         pass: Pass,
-        customer: &Name,
         quotes: &mut Quotes,
         quote: u64,
     ) -> (Reply, Pass)
@@ -40,8 +36,8 @@ impl<D: Disk, B: Begun<D>> Shared<D, B> {
         requires quotes { (held : HeldQuotes)
             × AreHeld self.now.network 0 pass.seen held quotes.old }
         ensures steps { (held : HeldQuotes) → AreHeld self.now.network 0 pass.seen held quotes.old
-            → StepsHolding self.now.network customer.now held (Command.Take quote) result.0
-            pass result.1 quotes.new }
+            → StepsHolding self.now.network caller.entry.customer.now held (Command.Take quote)
+            result.0 pass result.1 quotes.new }
         // Of a stale quote both numbers are of this history, and other entries came after it.
         ensures stale { (seen now : ℕ) → result.0 ≡ Reply.Stale seen now
             → (seen < now) × (now ≤ length result.1.seen) }
@@ -49,6 +45,11 @@ impl<D: Disk, B: Begun<D>> Shared<D, B> {
     {
         law_quotes();
         pass.law_places();
+        let Caller {
+            rt,
+            alloc,
+            customer,
+        } = caller;
         let Some(held) = quotes.held(quote) else {
             let (at, pass) = self.now(rt, pass);
             return (Reply::NoQuote { quote, at }, pass);
@@ -56,43 +57,36 @@ impl<D: Disk, B: Begun<D>> Shared<D, B> {
         let Ok(claim) = claim_take(alloc, customer, held) else {
             return (Reply::Memory, pass);
         };
-        let answered = self.take_claimed(self.turn.lock(rt, pass), held, claim);
+        let answered = self.take_claimed(rt, pass, held, claim);
         quotes.clear(quote);
         answered
     }
 
-    /// Takes a quote in a turn, which ends then.
-    pub(crate) fn take_claimed(
+    /// Takes a quote in a turn of its own.
+    pub(crate) fn take_claimed<W: Wait>(
         &self,
-        held: Held<Kept<D, B>>,
+        rt: &W,
+        pass: Pass,
         quote: &Quote,
         claim: Claim<Store<D>>,
     ) -> (Reply, Pass)
-        requires turn { (holder held).turn ≡ self.now.turn }
-        requires network { (holder held).origin.network ≡ self.now.network }
-        requires stands { StandsShared D.Disk B.begins (holder held).origin (holder held).seen
-            (value_of held).store }
-        requires floor { floor_of held ≡ faults_in D.Disk (value_of held).store }
+        requires of { IsPassOf self.now pass }
         requires quote { (one : HeldQuote)
-            × IsQuoteOf self.now.network 0 (holder held).seen one quote.now }
+            × IsQuoteOf self.now.network 0 pass.seen one quote.now }
         requires claim { (customer : List ℕ)
             × IsClaimOf (store_books D.Disk) claim customer quote.now }
         ensures steps { (customer : List ℕ) (holds : HeldQuotes) (number : ℕ) (one : HeldQuote)
             → IsClaimOf (store_books D.Disk) claim customer quote.now
             → at_number holds number ≡ Some one
-            → IsQuoteOf self.now.network 0 (holder held).seen one quote.now
-            → StepsAt self.now.network customer holds (Command.Take number) result.0
-            (holder held).seen (holder held) result.1 }
+            → IsQuoteOf self.now.network 0 pass.seen one quote.now
+            → StepsInTurn self.now.network customer holds (Command.Take number) result.0
+            pass result.1 }
         ensures memory { result.0 ≢ Reply.Memory }
         ensures names { NamesPlaces self.now.network result.0 }
     {
-        law_step::<Store<D>>();
-        // What holds of the network is told with it.
-        let _topology = self.topology();
-        let mut held = held;
-        let epoch = held.value().epoch();
         let entry = Snapshot::of(claim.entry());
+        let (mut held, start) = self.begin_turn(rt, pass);
         let reply = take_now(&mut held.value_mut().store, quote, claim);
-        (reply, self.end_turn(held, epoch, entry))
+        (reply, self.end_turn(held, start, Some(entry)))
     }
 }

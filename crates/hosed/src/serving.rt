@@ -13,7 +13,7 @@ ghost use Rattle.hosed.specs.ServingDoor.{IsOpening, ServesByJournal, ServesBySt
 
 use crate::words::Service;
 use hose_book::{Book, Books};
-use hose_crew::{Crew, Start};
+use hose_crew::{Crew, Start, Work};
 use hose_disk::{Cabinet, Disk};
 use hose_graph::Topology;
 use hose_io::{Door, Failed, Sink, write_all};
@@ -175,7 +175,14 @@ fn open_and_serve<
     }
     let Means { rt, alloc, gate } = means;
     let Staff { crew, blank } = staff;
-    let (accepting, pass, door) = crew.serve(rt, alloc, shared, table, pass, door, blank, gate);
+    let work = Work {
+        rt,
+        alloc,
+        shared,
+        table,
+        gate,
+    };
+    let (accepting, pass, door) = crew.serve(work, pass, door, blank);
     (Opened::Ended(accepting), pass, door)
 }
 

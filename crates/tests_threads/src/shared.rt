@@ -11,7 +11,7 @@ use hose_io::MemSource;
 use hose_links::LinkSet;
 use hose_paths::{PlainRows, RowMaker};
 use hose_pool::PlainGate;
-use hose_shared::{AnyStore, Shared};
+use hose_shared::{AnyStore, Caller, Shared};
 use hose_store::Store;
 use hose_topo::read;
 use hose_turn::{ALL_SHARES, Pass};
@@ -110,8 +110,7 @@ fn admit<W: Wait, R: RowMaker>(
 
 /// What a first quote is answered.
 fn quote<W: Wait, R: RowMaker>(
-    rt: &W,
-    alloc: Global,
+    caller: Caller<'_, W>,
     star: &Book,
     pass: Pass,
     hose: Hose,
@@ -122,7 +121,7 @@ fn quote<W: Wait, R: RowMaker>(
 {
     law_quotes();
     let mut quotes = Quotes::new();
-    let (reply, _pass) = star.quote(rt, alloc, pass, &mut quotes, hose, rows);
+    let (reply, _pass) = star.quote(caller, pass, &mut quotes, hose, rows);
     reply
 }
 
@@ -212,7 +211,17 @@ fn ask_slowly<W: Wait>(
     };
     let reply = match asked {
         Asked::Admission => admit(rt, alloc, star, pass, customer, hose, &mut rows),
-        Asked::Quote => quote(rt, alloc, star, pass, hose, &mut rows),
+        Asked::Quote => quote(
+            Caller {
+                rt,
+                alloc,
+                customer,
+            },
+            star,
+            pass,
+            hose,
+            &mut rows,
+        ),
     };
     let is_met = rows.was_answered == Some(true);
     Answered { reply, is_met }

@@ -8,6 +8,7 @@ use crate::shared::{Book, acme, hose, shared, tells};
 use hose_graph::{Endpoint, Hose, Name, Reply};
 use hose_paths::PlainRows;
 use hose_pool::{Gate, PlainGate, Point};
+use hose_shared::Caller;
 use hose_turn::Pass;
 use std::alloc::Global;
 use std::sync::Wait;
@@ -113,7 +114,12 @@ fn widen_lane<W: Wait>(
     requires id { id ≤ MOST_EPOCH }
     ensures { IsPassOf lanes.now result.1 }
 {
-    lanes.release(rt, alloc, pass, customer, id)
+    let caller = Caller {
+        rt,
+        alloc,
+        customer,
+    };
+    lanes.release(caller, pass, id)
 }
 
 /// What the thread was answered that spoilt three plans.

@@ -9,10 +9,10 @@ loop-hand-init g c =
       search rules,
       search rules,
       search rules,
-      none_gathered _ _ c.args.pass c.args.share.parts asked.pass (search rules) asked.share.0 c.law_places.ensures,
+      none_gathered _ _ c.args.left.pass c.args.left.share.parts asked.pass (search rules) asked.share.0 c.law_places.ensures,
       search rules,
       refl,
-      none_returned g.N.Start.start.told (g.L.Door.told c.args.door) c.args.total.total c.args.share.amount c.args.pass asked.share.1 (c.law_accounts.ensures.none c.args.pass (search rules)),
+      none_returned g.N.Start.start.told (g.L.Door.told c.args.left.door) c.args.left.tally.total c.args.left.share.amount c.args.left.pass asked.share.1 (c.law_accounts.ensures.none c.args.left.pass (search rules)),
       refl,
     )
 

@@ -7,8 +7,8 @@ invariant-loop-hand g l =
     (goal.iterator-loop-hand g).can_next l.hand-iterator
     × (goal.iterator-loop-hand g).is_finite l.hand-iterator
     × HaveWorked g.L.Door.came_to g.N.Start.start l.fn.first.value l.hand-iterator.rest.items
-    × IsGathered g.N.Ledger.parts l.fn.first.value l.pass l.share.parts
-    × (l.share.parts + length l.hand-iterator.rest.items ≡ g.N.Ledger.parts)
-    × (l.total.total ≡ l.fn.total.total)
-    × AreBack (g.L.Door.told l.fn.door) (g.L.Door.told l.door) l.share.amount l.pass
-    × (g.L.Door.frame l.door ≡ g.L.Door.frame l.fn.door)
+    × IsGathered g.N.Ledger.parts l.fn.first.value l.gathered.pass l.gathered.share.parts
+    × (l.gathered.share.parts + length l.hand-iterator.rest.items ≡ g.N.Ledger.parts)
+    × (l.gathered.tally.total ≡ l.fn.left.tally.total)
+    × AreBack (g.L.Door.told l.fn.left.door) (g.L.Door.told l.gathered.door) l.gathered.share.amount l.gathered.pass
+    × (g.L.Door.frame l.gathered.door ≡ g.L.Door.frame l.fn.left.door)

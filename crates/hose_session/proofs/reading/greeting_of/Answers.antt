@@ -3,7 +3,7 @@ use Rattle.hose_words.specs.Grammar.{IsFirstNotAllowed}
 use Rattle.hose_words.specs.Words.{words_of}
 use Rattle.hose_law.specs.Transcript.SessionLine.{IsBad}
 use Rattle.hose_session.specs.SessionLines.{greeting_grammar}
-use Rattle.hose_session.proofs.Turning.{text_is}
+use Rattle.hose_session.proofs.Exchanging.{text_is}
 use Rattle.hose_session.proofs.reading.greeting_of.Goals as goal
 
 pub returns-in-Err : goal.returns-in-Err

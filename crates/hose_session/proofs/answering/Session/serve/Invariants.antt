@@ -4,7 +4,7 @@ use Rattle.hose_law.specs.Transcript.Stage.{Serving}
 use Rattle.hose_core.specs.Holding.{AreHeld}
 use Rattle.hose_words.specs.Reading.{ReadsOn}
 use Rattle.hose_shared.specs.Sharing.{IsPassOf}
-use Rattle.hose_session.specs.Turns.{HasServed}
+use Rattle.hose_session.specs.Exchanges.{HasServed}
 use Rattle.hose_session.proofs.answering.Session.serve.Given as goal
 
 abbrev pub invariant-loop-end : goal.invariant-loop-end

@@ -1,31 +1,26 @@
-use Rattle.std.proofs.Common.{◌∙◌, ap, refl, subst, sym}
-use Rattle.hose_graph.specs.Network.{IsNetwork}
+use Rattle.std.proofs.Common.{◌∙◌, ap, [], refl, sym}
 use Rattle.hose_graph.specs.declared.command.Command.TheVariants.{Link}
-use Rattle.hose_book.specs.Commit.{IsMet}
-use Rattle.hose_book.specs.declared.books.Committed.{Committed}
-use Rattle.hose_disk.specs.Disk.{object_frame}
-use Rattle.hose_turn.specs.Held.{floor_of, holder, value_of}
-use Rattle.hose_turn.specs.Known.{Known}
-use Rattle.hose_shared.specs.Sharing.{SharedBook}
-use Rattle.hose_shared.proofs.Passes.{along_of, locked_more}
-use Rattle.hose_shared.proofs.Turned.{asked_steps}
+use Rattle.hose_law.specs.Quotes.{none_held}
+use Rattle.hose_turn.specs.Held.{holder}
+use Rattle.hose_shared.proofs.Passes.{along_of}
+use Rattle.hose_shared.proofs.Turned.{reads_turn}
 use Rattle.hose_shared.proofs.shared.Shared.link.Goals as goal
+
+pub end_turn-requires-clause-answers : goal.end_turn-requires-clause-answers
+end_turn-requires-clause-answers g c =
+    let now = ap (λ (k : _). k.store) (sym c.begin_turn-held.ensures.value) in
+    let same = ap (λ (k : _). k.store) (c.value.ensures ∙ sym c.begin_turn-held.ensures.value) in
+    let book = ap (λ (s : _). s.ledger.book) same ∙ c.begin_turn-held.ensures.begins.stands.book in
+    let told = c.link_now-reply.ensures in
+    let stepped = told.step [] 0 (holder c.begin_turn-held.result.0).seen none_held book in
+    ([], none_held, Link c.args.link, c.link_now-reply.result, reads_turn g.D.Disk _ _ _ _ _ [] none_held (Link c.args.link) _ same now stepped told.met)
 
 pub returns-clause-steps : goal.returns-clause-steps
 returns-clause-steps g c = λ customer held.
-    let top = c.args.self.now.network in
-    let known = holder c.lock-held.result in
-    let value = (value_of c.lock-held.result).store in
-    let store = c.value.result.now.store in
-    let answer = c.link_now-reply.result in
-    let is = subst IsNetwork (ap (λ (s : SharedBook). s.network) c.self.view_is) c.self.invariant in
-    let here = ap (λ (k : Known). k.origin.network) c.lock-held.ensures.kept ∙ c.requires.of.network in
-    let same = ap (λ (k : _). k.store) c.value.ensures in
-    let stood = c.lock-held.ensures.stands in
-    let book = ap (λ (s : _). s.ledger.book) same ∙ stood.book in
-    let stepped = c.link_now-reply.ensures.step customer 0 known.seen held book in
-    let law = c.law_step.ensures store store 0 known.seen customer held (Link c.args.link) answer stepped in
-    let frame = object_frame (g.D.Disk.frame store.journal.disk) in
-    let met = subst (λ (r : Committed). IsMet frame r frame) (sym c.link_now-reply.ensures.met) refl in
-    along_of top customer held (Link c.args.link) answer c.args.pass known c.unlock.result (locked_more c.args.pass known c.lock-held.ensures.kept c.lock-held.ensures.seen c.lock-held.ensures.places)
-    (asked_steps g.D.Disk g.B.Begun.begins top is known here value store store same stood customer held (Link c.args.link) answer stepped law refl c.unlock.result (floor_of c.lock-held.result) c.lock-held.ensures.floor met refl c.unlock.ensures.passed c.unlock.ensures.places)
+    let now = ap (λ (k : _). k.store) (sym c.begin_turn-held.ensures.value) in
+    let same = ap (λ (k : _). k.store) (c.value.ensures ∙ sym c.begin_turn-held.ensures.value) in
+    let book = ap (λ (s : _). s.ledger.book) same ∙ c.begin_turn-held.ensures.begins.stands.book in
+    let told = c.link_now-reply.ensures in
+    let stepped = told.step customer 0 (holder c.begin_turn-held.result.0).seen held book in
+    along_of c.args.self.now.network customer held (Link c.args.link) c.link_now-reply.result c.args.pass (holder c.begin_turn-held.result.0) c.end_turn.result c.begin_turn-held.ensures.more
+    (c.end_turn.ensures customer held (Link c.args.link) c.link_now-reply.result (reads_turn g.D.Disk _ _ _ _ _ customer held (Link c.args.link) _ same now stepped told.met))

@@ -4,17 +4,15 @@ use Rattle.hose_graph.specs.declared.limits.TheConstants.{MOST_QUOTES}
 use Rattle.hose_graph.specs.declared.command.Reply.TheVariants.{Memory, NoQuote}
 use Rattle.hose_law.specs.Quotes.{Held, at_number, with_number}
 use Rattle.hose_core.specs.Holding.{AreHeld}
-use Rattle.hose_turn.specs.Held.{holder}
 use Rattle.hose_shared.proofs.Entries.{no_quote, stale_later, stays_holding, taken_after}
-use Rattle.hose_law.proofs.Epochs.{epoch_of}
-use Rattle.hose_shared.proofs.Passes.{along_of, locked_more, more_same}
-use Rattle.hose_law.proofs.Fronts.{prefix_length}
+use Rattle.hose_shared.proofs.Passes.{along_of, epoch_of, more_same}
+use Rattle.hose_law.proofs.Fronts.{prefix_length, prefix_on}
 use Rattle.hose_shared.proofs.shared.Shared.take.Goals as goal
 
 pub returns-in_default-clause-steps : goal.returns-in_default-clause-steps
 returns-in_default-clause-steps g c = λ held are.
     let network = c.args.self.now.network in
-    let customer = c.args.customer.now in
+    let customer = c.args.caller.customer.now in
     let number = c.args.quote in
     let quotes = c.args.quotes.now in
     let pass = c.args.pass in
@@ -33,16 +31,11 @@ returns-in_default-claim_take-clause-steps g c = λ held are.
     let pass = c.args.pass in
     let there = c.law_quotes.ensures.some network 0 pass.seen held quotes number c.in-Some.held.now are c.in-Some.ensures.some in
     let some : IsSome (at_number held number) = subst IsSome (sym there.2.1) refl in
-    stays_holding network c.args.customer.now held held (Take number) Memory pass pass quotes (more_same pass c.law_places.ensures) refl (some, refl, refl, refl) are
+    stays_holding network c.args.caller.customer.now held held (Take number) Memory pass pass quotes (more_same pass c.law_places.ensures) refl (some, refl, refl, refl) are
 
 pub take_claimed-answered-requires-clause-quote : goal.take_claimed-answered-requires-clause-quote
 take_claimed-answered-requires-clause-quote g c =
-    let network = c.args.self.now.network in
-    let quotes = c.args.quotes.now in
-    let held = c.requires.quotes.0 in
-    let known = holder c.lock.result in
-    let longer = c.law_quotes.ensures.longer network 0 c.args.pass.seen known.seen held quotes c.lock.ensures.seen c.requires.quotes.1 in
-    let there = c.law_quotes.ensures.some network 0 known.seen held quotes c.args.quote c.in-Some.held.now longer c.in-Some.ensures.some in
+    let there = c.law_quotes.ensures.some c.args.self.now.network 0 c.args.pass.seen c.requires.quotes.0 c.args.quotes.now c.args.quote c.in-Some.held.now c.requires.quotes.1 c.in-Some.ensures.some in
     (there.2.0, there.2.2)
 
 pub clear-requires : goal.clear-requires
@@ -55,22 +48,19 @@ clear-requires g c =
 pub returns-clause-steps : goal.returns-clause-steps
 returns-clause-steps g c = λ held are.
     let network = c.args.self.now.network in
-    let customer = c.args.customer.now in
+    let customer = c.args.caller.customer.now in
     let number = c.args.quote in
     let quotes = c.args.quotes.now in
     let pass = c.args.pass in
-    let known = holder c.lock.result in
     let answer = c.take_claimed-answered.result.0 in
     let new = c.take_claimed-answered.result.1 in
-    let longer = c.law_quotes.ensures.longer network 0 pass.seen known.seen held quotes c.lock.ensures.seen are in
-    let there = c.law_quotes.ensures.some network 0 known.seen held quotes number c.in-Some.held.now longer c.in-Some.ensures.some in
-    let at = c.take_claimed-answered.ensures.steps customer held number there.2.0 c.in-Ok.ensures there.2.1 there.2.2 in
-    let more = locked_more pass known c.lock.ensures.kept c.lock.ensures.seen c.lock.ensures.places in
-    let after = taken_after network known.seen customer held number there.2.0 there.2.1 answer at.entry _ at.after c.take_claimed-answered.ensures.memory at.step in
-    let now = c.law_quotes.ensures.longer network 0 known.seen new.seen held quotes at.same.seen longer in
+    let there = c.law_quotes.ensures.some network 0 pass.seen held quotes number c.in-Some.held.now are c.in-Some.ensures.some in
+    let turn = c.take_claimed-answered.ensures.steps customer held number there.2.0 c.in-Ok.ensures there.2.1 there.2.2 in
+    let after = taken_after network turn.known.seen customer held number there.2.0 there.2.1 answer turn.at.entry _ turn.at.after c.take_claimed-answered.ensures.memory turn.at.step in
+    let now = c.law_quotes.ensures.longer network 0 pass.seen new.seen held quotes (prefix_on pass.seen turn.known.seen new.seen turn.more.same.seen turn.at.same.seen) are in
     let cleared = c.law_quotes.ensures.cleared network 0 new.seen held quotes number now there.0 there.1 in
     record {
-      along = along_of network customer held (Take number) answer pass known new more at;
+      along = along_of network customer held (Take number) answer pass turn.known new turn.more turn.at;
       holds = subst (λ (h : Held). AreHeld network 0 new.seen h c.clear.new.self) (sym after)
           (subst (AreHeld network 0 new.seen (with_number held number None)) (sym c.clear.ensures) cleared);
     }
@@ -78,15 +68,13 @@ returns-clause-steps g c = λ held are.
 pub returns-clause-stale : goal.returns-clause-stale
 returns-clause-stale g c = λ seen now is.
     let network = c.args.self.now.network in
-    let customer = c.args.customer.now in
-    let quotes = c.args.quotes.now in
-    let known = holder c.lock.result in
-    let longer = c.law_quotes.ensures.longer network 0 c.args.pass.seen known.seen c.requires.quotes.0 quotes c.lock.ensures.seen c.requires.quotes.1 in
-    let there = c.law_quotes.ensures.some network 0 known.seen c.requires.quotes.0 quotes c.args.quote c.in-Some.held.now longer c.in-Some.ensures.some in
+    let customer = c.args.caller.customer.now in
+    let pass = c.args.pass in
+    let new = c.take_claimed-answered.result.1 in
+    let there = c.law_quotes.ensures.some network 0 pass.seen c.requires.quotes.0 c.args.quotes.now c.args.quote c.in-Some.held.now c.requires.quotes.1 c.in-Some.ensures.some in
     let one = there.2.0 in
-    let answer = c.take_claimed-answered.result.0 in
-    let at = c.take_claimed-answered.ensures.steps customer (Some one ∷ []) 1 one c.in-Ok.ensures refl there.2.2 in
-    let told = stale_later network known.seen customer (Some one ∷ []) 1 one refl there.2.2.there answer seen now at.entry _ at.after is at.step in
-    let all = prefix_length known.seen c.take_claimed-answered.result.1.seen at.same.seen in
-    let last : now ≤ length c.take_claimed-answered.result.1.seen = omega (arith, told.1, all) in
+    let turn = c.take_claimed-answered.ensures.steps customer (Some one ∷ []) 1 one c.in-Ok.ensures refl there.2.2 in
+    let within : one.place ≤ length turn.known.seen = omega (arith, there.2.2.there, prefix_length pass.seen turn.known.seen turn.more.same.seen) in
+    let told = stale_later network turn.known.seen customer (Some one ∷ []) 1 one refl within c.take_claimed-answered.result.0 seen now turn.at.entry _ turn.at.after is turn.at.step in
+    let last : now ≤ length new.seen = omega (arith, told.1, prefix_length turn.known.seen new.seen turn.at.same.seen) in
     (told.0, last)

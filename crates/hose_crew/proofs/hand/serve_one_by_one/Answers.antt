@@ -1,7 +1,7 @@
 use Rattle.std.proofs.Common.{◌∷◌, [], rules}
 use Rattle.std.proofs.lemmas.List.{map-append}
 use Rattle.hose_crew.proofs.Working.{works_more}
-use Rattle.hose_crew.proofs.hand.serve_all.Goals as goal
+use Rattle.hose_crew.proofs.hand.serve_one_by_one.Goals as goal
 
 pub loop-one-preserved : goal.loop-one-preserved
 loop-one-preserved g c =

@@ -1,6 +1,6 @@
 use Rattle.std.proofs.Common.{◌≡◌, ◌≤◌, ◌-◌, length, map, vec_capacity}
 use Rattle.hose_crew.specs.Hands.{Works}
-use Rattle.hose_crew.proofs.hand.serve_all.Given as goal
+use Rattle.hose_crew.proofs.hand.serve_one_by_one.Given as goal
 
 abbrev pub invariant-loop-one : goal.invariant-loop-one
 invariant-loop-one g l =

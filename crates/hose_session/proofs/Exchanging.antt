@@ -1,6 +1,7 @@
--- Lines that are answered along a pass.
+-- Exchanges along a pass.
 use Rattle.std.proofs.Common.{◌≡◌, inl, inr, ℕ, ◌+◌, ◌<◌, ◌≤◌, List, [], length, take, Option, refl, sym, ap, subst, arith, append-nil, Bor, ◌∙◌}
 use Rattle.std.proofs.lemmas.List.Elements.{All-nil}
+use mathlib.Core.List.{IsPrefix}
 use Rattle.hose_words.specs.Lines.{Shows}
 use Rattle.hose_words.specs.declared.lines.TheConstants.{LINE_LIMIT}
 use Rattle.hose_words.specs.declared.lines.Line.{Line}
@@ -27,7 +28,7 @@ use Rattle.hose_core.specs.declared.quotes.Quote.{Quote}
 use Rattle.hose_shared.specs.Along.{HasEntryAt, StepsAlong, StepsHolding}
 use Rattle.hose_shared.specs.Sharing.{HasSeenMore, IsSamePass}
 use Rattle.hose_turn.specs.Known.{Known}
-use Rattle.hose_session.specs.Turns.{IsAnsweredLine, ServesClientOn}
+use Rattle.hose_session.specs.Exchanges.{IsExchange, ServesClientOn}
 use Rattle.hose_session.specs.declared.client.Client.{Client}
 
 -- what is known of a line that is shown holds of its bytes
@@ -51,9 +52,9 @@ module _ (network : Network) (old new : Known) (customer : List ℕ) (held : Hel
     | inr goes ↦ omega (arith, goes.0, goes.2)
   ]
 
-  -- a command that is answered along a pass makes a turn
-  pub along_turn : IsAnsweredLine network old new (Serving customer held) (Asks command) answer (Serving customer along.left)
-  along_turn = record {
+  -- a command that is answered along a pass makes an exchange
+  pub along_exchange : IsExchange network old new (Serving customer held) (Asks command) answer (Serving customer along.left)
+  along_exchange = record {
     added = along.added;
     step = λ from seen. (along.next, within, (along.place, along.left, omega (arith, seen, along.later), along.step, refl));
     entries = along.entries;
@@ -65,31 +66,32 @@ module _ (network : Network) (old new : Known) (customer : List ℕ) (held : Hel
   kept : ¬ ChangesHeld command → along.left ≡ held
   kept others = step_keeps network 0 (take along.place new.seen) customer held command answer along.step.step.0 along.step.next along.left others along.step.step.1
 
--- a command that leaves the quotes as they are
-pub turn_keeping : (network : Network) (old new : Known) (client : Client) (held : Held) (command one : Command) (answer : Reply) → command ≡ one → ¬ ChangesHeld one → StepsAlong network client.name held one answer old new
-    → AreHeld network 0 new.seen held client.quotes → ServesClientOn network old new client client held (Asks command) answer
-turn_keeping network old new client held command one answer is others along held_then = subst (λ (c : Command). ServesClientOn network old new client client held (Asks c) answer) (sym is) (record {
+-- a command that leaves the quotes as they are, which are held at a longer history too
+pub keeping_exchange : (network : Network) (old new : Known) (client : Client) (held : Held) (command one : Command) (answer : Reply) → command ≡ one → ¬ ChangesHeld one → StepsAlong network client.name held one answer old new
+    → (IsPrefix old.seen new.seen → AreHeld network 0 old.seen held client.quotes → AreHeld network 0 new.seen held client.quotes) → AreHeld network 0 old.seen held client.quotes
+    → ServesClientOn network old new client client held (Asks command) answer
+keeping_exchange network old new client held command one answer is others along longer are = subst (λ (c : Command). ServesClientOn network old new client client held (Asks c) answer) (sym is) (record {
   left = along.left;
-  turn = along_turn network old new client.name held one answer along;
-  holds = subst (λ (h : Held). AreHeld network 0 new.seen h client.quotes) (sym (kept network old new client.name held one answer along others)) held_then;
+  exchange = along_exchange network old new client.name held one answer along;
+  holds = subst (λ (h : Held). AreHeld network 0 new.seen h client.quotes) (sym (kept network old new client.name held one answer along others)) (longer along.same.seen are);
   name = refl;
 })
 
 -- a command that may change them
-pub turn_holding : (network : Network) (old new : Known) (client : Client) (quotes : List (Option Quote)) (held : Held) (command one : Command) (answer : Reply) → command ≡ one → StepsHolding network client.name held one answer old new quotes
+pub holding_exchange : (network : Network) (old new : Known) (client : Client) (quotes : List (Option Quote)) (held : Held) (command one : Command) (answer : Reply) → command ≡ one → StepsHolding network client.name held one answer old new quotes
     → ServesClientOn network old new client (record client { quotes = quotes }) held (Asks command) answer
-turn_holding network old new client quotes held command one answer is steps = subst (λ (c : Command). ServesClientOn network old new client (record client { quotes = quotes }) held (Asks c) answer) (sym is) (record {
+holding_exchange network old new client quotes held command one answer is steps = subst (λ (c : Command). ServesClientOn network old new client (record client { quotes = quotes }) held (Asks c) answer) (sym is) (record {
   left = steps.along.left;
-  turn = along_turn network old new client.name held one answer steps.along;
+  exchange = along_exchange network old new client.name held one answer steps.along;
   holds = steps.holds;
   name = refl;
 })
 
 -- a line that has no place in the history
 module _ (network : Network) (pass : Known) (same : IsSamePass pass pass) where
-  pub plain_turn : (stage next : Stage) (said : SessionLine) (reply : Reply) → IsPlainReply said reply
-      → ((from : ℕ) → IsSessionStep network 0 pass.seen stage said reply next from from []) → IsAnsweredLine network pass pass stage said reply next
-  plain_turn stage next said reply plain step = record {
+  pub plain_exchange : (stage next : Stage) (said : SessionLine) (reply : Reply) → IsPlainReply said reply
+      → ((from : ℕ) → IsSessionStep network 0 pass.seen stage said reply next from from []) → IsExchange network pass pass stage said reply next
+  plain_exchange stage next said reply plain step = record {
     added = [];
     step = λ from seen. (from, seen, step from);
     entries = All-nil (HasEntryAt network pass.seen);
@@ -107,36 +109,36 @@ module _ (network : Network) (pass : Known) (same : IsSamePass pass pass) where
       no_disk Unread plain = ap one_if_disk plain
 
   module _ (client : Client) (held : Held) (are : AreHeld network 0 pass.seen held client.quotes) where
-    abbrev Turns : SessionLine → Reply → Type 0
-    Turns = ServesClientOn network pass pass client client held
+    abbrev ServesOn : SessionLine → Reply → Type 0
+    ServesOn = ServesClientOn network pass pass client client held
 
-    here : (said : SessionLine) (reply : Reply) → IsPlainReply said reply → ((from : ℕ) → IsSessionStep network 0 pass.seen (Serving client.name held) said reply (Serving client.name held) from from []) → Turns said reply
-    here said reply plain step = record { left = held; turn = plain_turn (Serving client.name held) (Serving client.name held) said reply plain step; holds = are; name = refl }
+    here : (said : SessionLine) (reply : Reply) → IsPlainReply said reply → ((from : ℕ) → IsSessionStep network 0 pass.seen (Serving client.name held) said reply (Serving client.name held) from from []) → ServesOn said reply
+    here said reply plain step = record { left = held; exchange = plain_exchange (Serving client.name held) (Serving client.name held) said reply plain step; holds = are; name = refl }
 
-    pub bad_turn : (word : ℕ) (reply : Reply) → reply ≡ Bad word → Turns (IsBad word) reply
-    bad_turn word reply is = here (IsBad word) reply is (λ from. (is, refl, refl, refl))
+    pub bad_exchange : (word : ℕ) (reply : Reply) → reply ≡ Bad word → ServesOn (IsBad word) reply
+    bad_exchange word reply is = here (IsBad word) reply is (λ from. (is, refl, refl, refl))
 
-    pub long_turn : Turns IsLong Long
-    long_turn = here IsLong Long refl (λ from. (refl, refl, refl, refl))
+    pub long_exchange : ServesOn IsLong Long
+    long_exchange = here IsLong Long refl (λ from. (refl, refl, refl, refl))
 
-    pub memory_turn : Turns Unread Memory
-    memory_turn = here Unread Memory refl (λ from. (refl, refl, refl, refl))
+    pub memory_exchange : ServesOn Unread Memory
+    memory_exchange = here Unread Memory refl (λ from. (refl, refl, refl, refl))
 
-  pub bye_turn : (customer : List ℕ) (held : Held) → IsAnsweredLine network pass pass (Serving customer held) Leaves Bye Left
-  bye_turn customer held = plain_turn (Serving customer held) Left Leaves Bye refl (λ from. (refl, refl, refl, refl))
+  pub bye_exchange : (customer : List ℕ) (held : Held) → IsExchange network pass pass (Serving customer held) Leaves Bye Left
+  bye_exchange customer held = plain_exchange (Serving customer held) Left Leaves Bye refl (λ from. (refl, refl, refl, refl))
 
   -- a first line that is no greeting
-  pub refused_turn : (said : SessionLine) (reply : Reply) → IsPlainReply said reply → IsAnsweredLine network pass pass Waiting said reply StageRefused
-  refused_turn (Greets name) reply plain = absurd plain
-  refused_turn (Asks command) reply plain = absurd plain
-  refused_turn Leaves reply plain = plain_turn Waiting StageRefused Leaves reply plain (λ from. (plain, refl, refl, refl))
-  refused_turn (IsBad word) reply plain = plain_turn Waiting StageRefused (IsBad word) reply plain (λ from. (plain, refl, refl, refl))
-  refused_turn IsLong reply plain = plain_turn Waiting StageRefused IsLong reply plain (λ from. (plain, refl, refl, refl))
-  refused_turn Unread reply plain = plain_turn Waiting StageRefused Unread reply plain (λ from. (plain, refl, refl, refl))
+  pub refused_exchange : (said : SessionLine) (reply : Reply) → IsPlainReply said reply → IsExchange network pass pass Waiting said reply StageRefused
+  refused_exchange (Greets name) reply plain = absurd plain
+  refused_exchange (Asks command) reply plain = absurd plain
+  refused_exchange Leaves reply plain = plain_exchange Waiting StageRefused Leaves reply plain (λ from. (plain, refl, refl, refl))
+  refused_exchange (IsBad word) reply plain = plain_exchange Waiting StageRefused (IsBad word) reply plain (λ from. (plain, refl, refl, refl))
+  refused_exchange IsLong reply plain = plain_exchange Waiting StageRefused IsLong reply plain (λ from. (plain, refl, refl, refl))
+  refused_exchange Unread reply plain = plain_exchange Waiting StageRefused Unread reply plain (λ from. (plain, refl, refl, refl))
 
 -- a greeting is answered at the end of what the pass has seen then
-pub greeted_turn : (network : Network) (old new : Known) (customer : List ℕ) (at : ℕ) → at ≡ length new.seen → HasSeenMore old new → IsAnsweredLine network old new Waiting (Greets customer) (Welcome at) (Serving customer none_held)
-greeted_turn network old new customer at is more = record {
+pub greeted_exchange : (network : Network) (old new : Known) (customer : List ℕ) (at : ℕ) → at ≡ length new.seen → HasSeenMore old new → IsExchange network old new Waiting (Greets customer) (Welcome at) (Serving customer none_held)
+greeted_exchange network old new customer at is more = record {
   added = [];
   step = λ from seen. (length new.seen, omega arith, (omega (arith, seen, prefix_length old.seen new.seen more.same.seen), omega arith, ap Welcome (omega (arith, is)), refl, refl));
   entries = All-nil (HasEntryAt network new.seen);

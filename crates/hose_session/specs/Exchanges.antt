@@ -1,4 +1,4 @@
--- One line of a session after another.
+-- Exchanges: a line of a session and its reply, one after another.
 use Rattle.std.specs.Prelude.{◌≡◌, ◌⊎◌, ℕ, ◌+◌, ◌≤◌, All, List, ◌++◌, length, Option, None, Result, Ok, Err}
 use Rattle.hose_io.specs.Frame.{Rose}
 use Rattle.hose_io.specs.Stream.{Grows}
@@ -29,9 +29,9 @@ use Rattle.hose_session.specs.declared.client.Client.{Client}
 use Rattle.hose_session.specs.declared.ending.SessionEnd.{SessionEnd}
 use Rattle.hose_session.specs.declared.ending.SessionEnd.TheVariants as session_end
 
--- A line was answered while a pass went on: from each place that it had seen, at one that it has
--- seen then.
-pub record IsAnsweredLine (network : Network) (old new : Known) (stage : Stage) (said : SessionLine)
+-- An exchange: a line was answered while a pass went on, from each place that it had seen, at one
+-- that it has seen then.
+pub record IsExchange (network : Network) (old new : Known) (stage : Stage) (said : SessionLine)
     (reply : Reply) (next : Stage) : Type 0 where
   pub added : List ℕ
   pub step : (from : ℕ) → from ≤ length old.seen → (after : ℕ) × (after ≤ length new.seen)
@@ -45,7 +45,7 @@ pub record IsAnsweredLine (network : Network) (old new : Known) (stage : Stage) 
 pub record ServesClientOn (network : Network) (old new : Known) (client client' : Client)
     (held : Held) (said : SessionLine) (reply : Reply) : Type 0 where
   pub left : Held
-  pub turn : IsAnsweredLine network old new (Serving client.name held) said reply
+  pub exchange : IsExchange network old new (Serving client.name held) said reply
       (Serving client.name left)
   pub holds : AreHeld network 0 new.seen left client'.quotes
   pub name : client'.name ≡ client.name
@@ -80,7 +80,7 @@ pub record AnswersInSession {S : Type 0} (source : SourceGhosts S) (lines lines'
   pub said : SessionLine
   pub reply : Reply
   pub line : TakesLine source lines lines' (λ bytes. Is bytes said)
-  pub turn : IsAnsweredLine network old new stage said reply next
+  pub exchange : IsExchange network old new stage said reply next
   pub out : puts (line_of (reply_text network reply))
 
 module _ {S O : Type 0} (source : SourceGhosts S) (sink : SinkGhosts O) (network : Network)
