@@ -28,8 +28,8 @@ use hose_words::Line;
 use std::alloc::Global;
 use std::sync::Wait;
 
-/// A session, but for its streams, its rows and its pass: what it waits with, where it takes memory,
-/// the shared book, the gate that it passes, and its number there.
+/// A session, but for its streams, its rows and its pass: what it waits with, where it takes
+/// memory, the shared book, the gate that it passes, and its number there.
 #[derive(Drop)]
 pub struct Session<'a, W, D: Disk, B: Begun<D>, G: Gate> {
     pub rt: &'a W,

@@ -8,7 +8,6 @@ use native.Mathlib.Decide.{dec_le}
 use Rattle.hose_graph.specs.Amounts.{ReservedLink}
 use Rattle.hose_graph.specs.Hose.{Endpoint}
 use Rattle.hose_graph.specs.Name.{operator}
-use Rattle.hose_graph.specs.Naming.{NamesPlaces}
 use Rattle.hose_graph.specs.Network.{Network}
 use Rattle.hose_graph.specs.declared.command.Command.{Command}
 use Rattle.hose_graph.specs.declared.command.Command.TheVariants as command

@@ -56,8 +56,8 @@ pub record StepsAt (network : Network) (customer : List ℕ) (held : Held) (comm
   pub own : new.own ≡ old.own ++ place_of before joined
   pub failed : committed_of answer ≡ Disk → old.faults < new.faults
 
--- A command was answered in a turn of a pass, which had seen maybe more by then: by a step after all
--- of that.
+-- A command was answered in a turn of a pass, which had seen maybe more by then: by a step after
+-- all of that.
 pub record StepsInTurn (network : Network) (customer : List ℕ) (held : Held) (command : Command)
     (answer : Reply) (old new : Known) : Type 0 where
   pub known : Known

@@ -1,6 +1,16 @@
+use Rattle.std.proofs.Common.{◌∙◌, ap, sym}
+use Rattle.hose_law.specs.Book.{Book}
+use Rattle.hose_law.specs.History.{book_of}
+use Rattle.hose_book.specs.Ledger.{Ledger}
 use Rattle.hose_turn.specs.Held.{holder}
+use Rattle.hose_turn.specs.Known.{Known}
 use Rattle.hose_shared.proofs.Passes.{locked_more, unlocked_more}
 use Rattle.hose_shared.proofs.shared.Shared.look.Goals as goal
+
+pub returns-clause-epoch : goal.returns-clause-epoch
+returns-clause-epoch g c =
+    c.epoch-epoch.ensures.value ∙ ap (λ (l : Ledger). l.book.epoch) (c.book-book.ensures ∙ ap (λ (k : _). k.store.ledger) c.value.ensures) ∙ ap (λ (b : Book). b.epoch) c.lock-held.ensures.stands.book
+    ∙ ap (λ (k : Known). (book_of 0 k.seen).epoch) (sym c.unlock.ensures.passed)
 
 pub returns-clause-more : goal.returns-clause-more
 returns-clause-more g c =

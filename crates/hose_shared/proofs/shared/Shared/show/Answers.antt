@@ -1,4 +1,4 @@
-use Rattle.std.proofs.Common.{◌∙◌, ap, refl, sym}
+use Rattle.std.proofs.Common.{◌∙◌, ap, sym}
 use Rattle.hose_graph.specs.declared.command.Command.TheVariants.{Show}
 use Rattle.hose_law.specs.Quotes.{none_held}
 use Rattle.hose_turn.specs.Held.{holder}
