@@ -192,9 +192,14 @@ reads_turn disk before read was now told customer held command answer same stays
       joined = inl refl;
     }))
 
-module _ {D : Type 0} (disk : Ghosts D) (Begins : List Entry → KeptStore D → Type 0) (top : Network) (is : IsNetwork top) (known : Known) (floor epoch : ℕ) (old new : KeptStore D) (same : old.ledger.network ≡ top)
-    (begun : BeginsTurn disk Begins known floor epoch old) (told : Option Entry) (customer : List ℕ) (held : Held) (command : Command) (answer : Reply)
-    (turn : AnswersTurn disk known.seen old new told customer held command answer)
+-- a turn loses no fault that was met
+pub turn_above : {D : Type 0} {disk : Ghosts D} {Begins : List Entry → KeptStore D → Type 0} {known : Known} {floor epoch : ℕ} {before : List Entry} {old new : KeptStore D} {told : Option Entry} {customer : List ℕ} {held : Held} {command : Command} {answer : Reply}
+    → BeginsTurn disk Begins known floor epoch old → AnswersTurn disk before old new told customer held command answer → floor ≤ faults_in disk new
+turn_above {disk = disk} {old = old} {new = new} {answer = answer} begun turn =
+    omega (arith, met_above (object_frame (disk.frame old.journal.disk)) (object_frame (disk.frame new.journal.disk)) (committed_of answer) turn.met, begun.floor)
+
+module _ {D : Type 0} {disk : Ghosts D} {Begins : List Entry → KeptStore D → Type 0} {known : Known} {floor epoch : ℕ} {old new : KeptStore D} {told : Option Entry} {customer : List ℕ} {held : Held} {command : Command} {answer : Reply}
+    (begun : BeginsTurn disk Begins known floor epoch old) (turn : AnswersTurn disk known.seen old new told customer held command answer)
     (law : IfSome turn.stepped.entry (IsDecidedAt old.ledger.network (book_of 0 known.seen)) × (turn.stepped.next ≡ history_with known.seen turn.stepped.entry (committed_of answer))) where
   abbrev entered : Option Entry
   entered = joined_of turn.stepped.entry (committed_of answer)
@@ -218,26 +223,24 @@ module _ {D : Type 0} (disk : Ghosts D) (Begins : List Entry → KeptStore D →
   pub one_stands : (entry : Entry) → told ≡ Some entry → (joined : Option Entry) × StandsShared disk Begins known.origin (with_entry known.seen joined) new × IfSome joined (λ one. one ≡ entry)
   one_stands entry some = (entered, turn_stands, one_told entered told entry some turn_told)
 
-  pub turn_above : floor ≤ faults_in disk new
-  turn_above = omega (arith, met_above (object_frame (disk.frame old.journal.disk)) (object_frame (disk.frame new.journal.disk)) (committed_of answer) turn.met, begun.floor)
-
   rises_by : committed_of answer ≡ Disk → rise floor (faults_in disk new) ≡ 1
   rises_by failed = subst (λ (count : ℕ). rise count (faults_in disk new) ≡ 1) (sym begun.floor)
       (failed_rise (object_frame (disk.frame old.journal.disk)) (object_frame (disk.frame new.journal.disk)) (committed_of answer) turn.met failed)
 
-  -- the pass that gave the turn on
-  turn_steps : (pass : Known) → pass ≡ record (with_joined known entered) { faults = (with_joined known entered).faults + rise floor (faults_in disk new) } → HasOwnPlaces pass → StepsAt top customer held command answer known.seen known pass
-  turn_steps pass left places =
-      steps_at disk Begins known.origin known.seen old new customer held command answer begun.stands turn.stepped law turn.network top same is known pass (rise floor (faults_in disk new)) refl left places rises_by
+  module _ (top : Network) (is : IsNetwork top) (same : old.ledger.network ≡ top) (pass : Known) (places : HasOwnPlaces pass) where
+    -- the pass that gave the turn on
+    turn_steps : pass ≡ record (with_joined known entered) { faults = (with_joined known entered).faults + rise floor (faults_in disk new) } → StepsAt top customer held command answer known.seen known pass
+    turn_steps left =
+        steps_at disk Begins known.origin known.seen old new customer held command answer begun.stands turn.stepped law turn.network top same is known pass (rise floor (faults_in disk new)) refl left places rises_by
 
-  pub none_steps : told ≡ None → (pass : Known) → pass ≡ record known { faults = known.faults + rise floor (faults_in disk new) } → HasOwnPlaces pass → StepsAt top customer held command answer known.seen known pass
-  none_steps none pass left places =
-      turn_steps pass (subst (λ (joined : Option Entry). pass ≡ record (with_joined known joined) { faults = (with_joined known joined).faults + rise floor (faults_in disk new) }) (sym (none_told entered told none turn_told)) left) places
+    pub none_steps : told ≡ None → pass ≡ record known { faults = known.faults + rise floor (faults_in disk new) } → StepsAt top customer held command answer known.seen known pass
+    none_steps none left =
+        turn_steps (subst (λ (joined : Option Entry). pass ≡ record (with_joined known joined) { faults = (with_joined known joined).faults + rise floor (faults_in disk new) }) (sym (none_told entered told none turn_told)) left)
 
-  pub one_steps : (entry : Entry) → told ≡ Some entry → (pass : Known)
-      → ((joined : Option Entry) → StandsShared disk Begins known.origin (with_entry known.seen joined) new → IfSome joined (λ one. one ≡ entry) → pass ≡ record (with_joined known joined) { faults = (with_joined known joined).faults + rise floor (faults_in disk new) })
-      → HasOwnPlaces pass → StepsAt top customer held command answer known.seen known pass
-  one_steps entry some pass passed places = turn_steps pass (passed entered turn_stands (one_told entered told entry some turn_told)) places
+    pub one_steps : (entry : Entry) → told ≡ Some entry
+        → ((joined : Option Entry) → StandsShared disk Begins known.origin (with_entry known.seen joined) new → IfSome joined (λ one. one ≡ entry) → pass ≡ record (with_joined known joined) { faults = (with_joined known joined).faults + rise floor (faults_in disk new) })
+        → StepsAt top customer held command answer known.seen known pass
+    one_steps entry some passed = turn_steps (passed entered turn_stands (one_told entered told entry some turn_told))
 
 -- ---- the end of a turn
 
