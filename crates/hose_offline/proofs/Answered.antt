@@ -1,17 +1,16 @@
 -- What a follower's answers make of the history of its store.
-use Rattle.std.proofs.Common.{◌≡◌, ◌≢◌, ◌∙◌, ◌⊎◌, inl, inr, ℕ, ◌+◌, ◌<◌, ◌≤◌, List, [], ◌∷◌, ◌++◌, Option, None, Some, length, length-append, append_assoc, append-nil, refl, sym, ap, subst, arith}
+use Rattle.std.proofs.Common.{◌≡◌, ◌∙◌, inl, inr, ℕ, ◌+◌, List, [], ◌∷◌, ◌++◌, Option, None, Some, length, length-append, append_assoc, append-nil, refl, sym, ap, subst, arith}
 use mathlib.Core.List.{IsPrefix}
 use Rattle.hose_graph.specs.Network.{Network}
 use Rattle.hose_graph.specs.declared.entry.Entry.{Entry}
 use Rattle.hose_law.specs.Book.{Book}
-use Rattle.hose_law.specs.History.{IsSoundAt, book_after, book_of, next_book, opening_book}
-use Rattle.hose_law.proofs.Epochs.{epoch_is}
+use Rattle.hose_law.specs.History.{IsSoundAt, book_of}
 use Rattle.hose_book.specs.GoingOn.{GoesOn, entry_more, none_yet as nothing_yet}
 use Rattle.hose_book.specs.Ledger.{Ledger}
 use Rattle.hose_book.specs.declared.books.Committed.TheVariants as committed
-use Rattle.hose_codec.specs.Spelling.{IsSpelling}
 use Rattle.hose_disk.specs.declared.disk.Disk.{Ghosts}
 use Rattle.hose_journal.specs.Chain.{chain}
+use Rattle.hose_store.proofs.Histories.{epoch_of}
 use Rattle.hose_store.specs.Commit.{IsLeft, store_books}
 use Rattle.hose_store.specs.Recovery.{digest_of}
 use Rattle.hose_store.specs.Store.{HasHistory, Kept}
@@ -40,7 +39,7 @@ module _ {D : Type 0} (disk : Ghosts D) (first : Kept D) (since : List Entry) wh
 
   module _ (packets : List Packet) (answers : List Offered) (middle : Kept D) (on : Leads packets answers middle) where
     epoch : middle.ledger.book.epoch ≡ length on.history
-    epoch = epoch_is middle.ledger.book on.history on.has.book
+    epoch = ap (λ (b : Book). b.epoch) on.has.book ∙ epoch_of on.history
 
     value : (given : List ℕ) → given ≡ chain (digest_of middle.ledger.network) on.history → given ≡ chain (digest_of first.ledger.network) on.history
     value given is = subst (λ (n : Network). given ≡ chain (digest_of n) on.history) on.same_network is

@@ -15,16 +15,17 @@ use Rattle.hose_audit.specs.Audit.{audit_text}
 use Rattle.hose_disk.specs.declared.cabinet.Cabinet.{Ghosts as CabinetGhosts}
 use Rattle.hose_disk.specs.declared.disk.Disk.{Ghosts as DiskGhosts}
 use Rattle.hose_store.specs.Recovery.{IsHistoryOf}
-use Rattle.hose_offline.specs.AuditOutcome.{AuditOutcome, EndsNamed, EndsRefused, EndsTold, JournalIs, NamedOutcome, NoneFailed, closing_fault}
+use Rattle.hose_offline.specs.AuditOutcome.{AuditOutcome, EndsNamed, EndsRefused, EndsTold, JournalIs, NamedOutcome, NoneFailed}
 use Rattle.hose_offline.specs.Auditing.{IsNotAudited, ReadsNamed}
 use Rattle.hose_offline.specs.CabinetText.{whole_text}
 use Rattle.hose_offline.specs.Ending.{IsOut}
 use Rattle.hose_offline.specs.Fault.{last_line, status_of}
 use Rattle.hose_offline.specs.OnDisk.{CabinetFailed}
 use Rattle.hose_offline.specs.Run.{IsRefusedText, IsServable}
+use Rattle.hose_offline.specs.ServingOnDisk.{first_of}
 use Rattle.hose_offline.specs.TopologyTold.{limit_of, notation_of}
 use Rattle.hose_offline.specs.declared.fault.Fault.{Fault}
-use Rattle.hose_offline.specs.declared.fault.Fault.TheVariants.{Words, Topology, Read, Write, Other, Damaged, Cabinet, Memory, TooLong, Door, Packet}
+use Rattle.hose_offline.specs.declared.fault.Fault.TheVariants.{Words, Topology, Other, Damaged, Cabinet, Memory, TooLong}
 use Rattle.hose_offline.proofs.Outcomes.{clash, no_network_read, no_text, not_long, not_refused, of_read}
 
 -- ---- what is out
@@ -42,26 +43,17 @@ told_status sink output output' status (Ok done) text (inr part) other no_0 no_4
 told_status sink output output' status (Err why) text ends other no_0 no_4 no_fault is = no_fault why refl (sym ends.0 ∙ is)
 
 -- closing alone fails as the cabinet does
-closing_alone : (closing : Result ⊤ Failed) (why : Fault) → closing_fault closing ≡ Err why → why ≡ Cabinet
+closing_alone : (closing : Result ⊤ Failed) (why : Fault) → first_of (Ok tt) closing ≡ Err why → why ≡ Cabinet
 closing_alone (Ok done) why is = cc is
 closing_alone (Err failed) why is = cc is
 
-told_not : {O : Type 0} (sink : SinkGhosts O) (output output' : O) (status : ℕ) (closing : Result ⊤ Failed) (text : List ℕ) (other : ℕ) → EndsTold sink output output' status (closing_fault closing) text → other ≢ 0 → other ≢ 4 → other ≢ 6 → status ≡ other → ⊥
+told_not : {O : Type 0} (sink : SinkGhosts O) (output output' : O) (status : ℕ) (closing : Result ⊤ Failed) (text : List ℕ) (other : ℕ) → EndsTold sink output output' status (first_of (Ok tt) closing) text → other ≢ 0 → other ≢ 4 → other ≢ 6 → status ≡ other → ⊥
 told_not sink output output' status closing text other ends no_0 no_4 no_6 is =
-    told_status sink output output' status (closing_fault closing) text ends other no_0 no_4 (λ why fault same. no_6 (sym same ∙ ap status_of (closing_alone closing why fault))) is
+    told_status sink output output' status (first_of (Ok tt) closing) text ends other no_0 no_4 (λ why fault same. no_6 (sym same ∙ ap status_of (closing_alone closing why fault))) is
 
 too_long_8 : (why : Fault) → status_of why ≡ 8 → why ≡ TooLong
-too_long_8 (Words word) is = absurd (omega (arith, is))
-too_long_8 (Topology refusal) is = absurd (omega (arith, is))
-too_long_8 Read is = absurd (omega (arith, is))
-too_long_8 Write is = absurd (omega (arith, is))
-too_long_8 (Other old given) is = absurd (omega (arith, is))
-too_long_8 (Damaged at) is = absurd (omega (arith, is))
-too_long_8 Cabinet is = absurd (omega (arith, is))
-too_long_8 Memory is = absurd (omega (arith, is))
 too_long_8 TooLong is = refl
-too_long_8 Door is = absurd (omega (arith, is))
-too_long_8 (Packet byte) is = absurd (omega (arith, is))
+too_long_8 another is = absurd (omega (arith, is))
 
 module _ (prices : Network → Network → Type 0) {O C E : Type 0} (sink : SinkGhosts O) (cabinet : CabinetGhosts C E) (disk : DiskGhosts E) (topology journal : List ℕ) (output output' : O) (place place' : C) where
   abbrev Outcome : ℕ → Type 0
@@ -77,7 +69,7 @@ module _ (prices : Network → Network → Type 0) {O C E : Type 0} (sink : Sink
   Refused left status = EndsRefused prices sink cabinet disk topology journal output output' place place' left status
 
   -- ---- the book was read, and is told
-  pub is_told : (read : Ledger × Result ⊤ Failed) (status : ℕ) → ReadsNamed prices cabinet disk topology journal place place' (Ok read) → EndsTold sink output output' status (closing_fault read.1) (audit_text read.0.network read.0.book) → Outcome status
+  pub is_told : (read : Ledger × Result ⊤ Failed) (status : ℕ) → ReadsNamed prices cabinet disk topology journal place place' (Ok read) → EndsTold sink output output' status (first_of (Ok tt) read.1) (audit_text read.0.network read.0.book) → Outcome status
   is_told read status reads ends = record {
     left = reads.left;
     takes = (
@@ -93,8 +85,8 @@ module _ (prices : Network → Network → Type 0) {O C E : Type 0} (sink : Sink
         reads.book.is.history,
         read.1,
         reads.book.is.audited,
-        subst (λ (n : Network). EndsTold sink output output' status (closing_fault read.1) (audit_text n (book_of 0 reads.book.is.history))) reads.book.is.is.is_network
-            (subst (λ (b : Book). EndsTold sink output output' status (closing_fault read.1) (audit_text read.0.network b)) reads.book.is.is.is_book ends),
+        subst (λ (n : Network). EndsTold sink output output' status (first_of (Ok tt) read.1) (audit_text n (book_of 0 reads.book.is.history))) reads.book.is.is.is_network
+            (subst (λ (b : Book). EndsTold sink output output' status (first_of (Ok tt) read.1) (audit_text read.0.network b)) reads.book.is.is.is_book ends),
       );
     });
     refused = λ refused. absurd (no_network_read (notation_of topology) prices _ _ reads.book.network refused reads.book.text);
@@ -108,7 +100,7 @@ module _ (prices : Network → Network → Type 0) {O C E : Type 0} (sink : Sink
       not_here : (other : ℕ) → other ≢ 0 → other ≢ 4 → other ≢ 6 → status ≡ other → ⊥
       not_here other = told_not sink output output' status read.1 (audit_text read.0.network read.0.book) other ends
 
-      at : (closing : Result ⊤ Failed) → (IsErr closing → CabinetFailed cabinet place place') → Failing ⊤ → EndsTold sink output output' status (closing_fault closing) (audit_text read.0.network read.0.book) → (status ≡ 0) ⊎ (status ≡ 7)
+      at : (closing : Result ⊤ Failed) → (IsErr closing → CabinetFailed cabinet place place') → Failing ⊤ → EndsTold sink output output' status (first_of (Ok tt) closing) (audit_text read.0.network read.0.book) → (status ≡ 0) ⊎ (status ≡ 7)
       at (Ok done) rose held (inl whole) = inl whole.0
       at (Ok done) rose held (inr part) = absurd (held.writing part.1)
       at (Err failed) rose held one = absurd (held.keeping_it (rose refl))
@@ -146,13 +138,7 @@ module _ (prices : Network → Network → Type 0) {O C E : Type 0} (sink : Sink
       refused_by Memory refused (inl ((inr read, held), disks)) = absurd (no_text (notation_of topology) _ _ refused read)
       refused_by Cabinet refused (inl text) = inr (inr (inl (refl, text.0)))
       refused_by TooLong refused (inl text) = inr (inr (inr (refl, text.0.0)))
-      refused_by (Words word) refused (inl text) = absurd text.0
-      refused_by Read refused (inl text) = absurd text.0
-      refused_by Write refused (inl text) = absurd text.0
-      refused_by (Other kept given) refused (inl text) = absurd text.0
-      refused_by (Damaged at) refused (inl text) = absurd text.0
-      refused_by Door refused (inl text) = absurd text.0
-      refused_by (Packet byte) refused (inl text) = absurd text.0
+      refused_by another refused (inl text) = absurd text.0
 
       complete_by : (one : Fault) → IsServable (notation_of topology) (whole_text cabinet place topology) → Is (λ network bytes. (history : List Entry) × IsHistoryOf network history bytes) → Failing OthersHeld
           → IsNotAudited prices cabinet disk topology journal place place' reads.left one → (one ≡ TooLong → limit_of (notation_of topology) < length reads.taken) → (status_of one ≡ 0) ⊎ (status_of one ≡ 7)
@@ -160,26 +146,14 @@ module _ (prices : Network → Network → Type 0) {O C E : Type 0} (sink : Sink
       complete_by Memory servable told held (inl text) long = inr refl
       complete_by Cabinet servable told held (inl text) long = absurd (held.keeping_it text.0)
       complete_by TooLong servable told held (inl text) long = absurd (not_long (notation_of topology) _ _ reads.taken reads.gives servable (long refl))
-      complete_by (Words word) servable told held (inl text) long = absurd text.0
-      complete_by Read servable told held (inl text) long = absurd text.0
-      complete_by Write servable told held (inl text) long = absurd text.0
-      complete_by (Other kept given) servable told held (inl text) long = absurd text.0
-      complete_by (Damaged at) servable told held (inl text) long = absurd text.0
-      complete_by Door servable told held (inl text) long = absurd text.0
-      complete_by (Packet byte) servable told held (inl text) long = absurd text.0
       complete_by Memory servable told held (inr served) long = inr refl
       complete_by Cabinet servable told held (inr served) long = absurd (held.keeping_it served.is.1)
       complete_by (Other kept given) servable told held (inr served) long = absurd (clash cabinet disk place place' journal _ _ (λ image none history. none history.0 history.1) served.is.1.none
           (of_read (notation_of topology) prices _ _ reads.taken served.network _ reads.gives served.text told))
       complete_by (Damaged at) servable told held (inr served) long = absurd (clash cabinet disk place place' journal _ _ (λ image none history. none history.0 history.1) served.is.none
           (of_read (notation_of topology) prices _ _ reads.taken served.network _ reads.gives served.text told))
-      complete_by TooLong servable told held (inr served) long = absurd served.is
-      complete_by (Words word) servable told held (inr served) long = absurd served.is
-      complete_by (Topology refusal) servable told held (inr served) long = absurd served.is
-      complete_by Read servable told held (inr served) long = absurd served.is
-      complete_by Write servable told held (inr served) long = absurd served.is
-      complete_by Door servable told held (inr served) long = absurd served.is
-      complete_by (Packet byte) servable told held (inr served) long = absurd served.is
+      complete_by another servable told held (inl text) long = absurd text.0
+      complete_by another servable told held (inr served) long = absurd served.is
 
       journal_by : (one : Fault) → IsServable (notation_of topology) (whole_text cabinet place topology) → Failing OthersHeld
           → IsNotAudited prices cabinet disk topology journal place place' reads.left one → (one ≡ TooLong → limit_of (notation_of topology) < length reads.taken) → (status_of one ≡ 5) ⊎ (status_of one ≡ 7)
@@ -187,24 +161,14 @@ module _ (prices : Network → Network → Type 0) {O C E : Type 0} (sink : Sink
       journal_by Memory servable held (inl text) long = inr refl
       journal_by Cabinet servable held (inl text) long = absurd (held.keeping_it text.0)
       journal_by TooLong servable held (inl text) long = absurd (not_long (notation_of topology) _ _ reads.taken reads.gives servable (long refl))
-      journal_by (Words word) servable held (inl text) long = absurd text.0
-      journal_by Read servable held (inl text) long = absurd text.0
-      journal_by Write servable held (inl text) long = absurd text.0
-      journal_by Door servable held (inl text) long = absurd text.0
-      journal_by (Packet byte) servable held (inl text) long = absurd text.0
       journal_by (Other kept given) servable held (inl text) long = inl refl
       journal_by (Damaged at) servable held (inl text) long = inl refl
       journal_by Memory servable held (inr served) long = inr refl
       journal_by Cabinet servable held (inr served) long = absurd (held.keeping_it served.is.1)
       journal_by (Other kept given) servable held (inr served) long = inl refl
       journal_by (Damaged at) servable held (inr served) long = inl refl
-      journal_by TooLong servable held (inr served) long = absurd served.is
-      journal_by (Words word) servable held (inr served) long = absurd served.is
-      journal_by (Topology refusal) servable held (inr served) long = absurd served.is
-      journal_by Read servable held (inr served) long = absurd served.is
-      journal_by Write servable held (inr served) long = absurd served.is
-      journal_by Door servable held (inr served) long = absurd served.is
-      journal_by (Packet byte) servable held (inr served) long = absurd served.is
+      journal_by another servable held (inl text) long = absurd text.0
+      journal_by another servable held (inr served) long = absurd served.is
 
   -- the words are not what is wrong
   pub named_not_1 : (Tells : ℕ → Network → Type 0) (Untouched OthersHeld : Type 0) (status : ℕ) → ((network : Network) → Tells status network → status ≡ 1 → ⊥) → NamedOutcome prices sink cabinet disk topology journal output output' place place' Tells Untouched OthersHeld status
@@ -214,16 +178,7 @@ module _ (prices : Network → Network → Type 0) {O C E : Type 0} (sink : Sink
       by : (why : Fault) → IsNotAudited prices cabinet disk topology journal place place' outcome.left why → status_of why ≡ 1 → ⊥
       by (Words word) (inl text) one = text.0
       by (Words word) (inr served) one = served.is
-      by (Topology refusal) not one = omega (arith, one)
-      by Read not one = omega (arith, one)
-      by Write not one = omega (arith, one)
-      by (Other old given) not one = omega (arith, one)
-      by (Damaged at_byte) not one = omega (arith, one)
-      by Cabinet not one = omega (arith, one)
-      by Memory not one = omega (arith, one)
-      by TooLong not one = omega (arith, one)
-      by Door not one = omega (arith, one)
-      by (Packet byte) not one = omega (arith, one)
+      by another not one = omega (arith, one)
 
       at : EndsNamed prices sink cabinet disk topology journal output output' place place' (Tells status) Untouched outcome.left status → ⊥
       at (inl told) = never told.network told.is is

@@ -2,7 +2,7 @@
 use Rattle.std.proofs.Common.{◌≡◌, ◌≢◌, ◌∙◌, length, ◌⊎◌, ◌↔◌, inl, inr, ℕ, ◌+◌, ◌<◌, ◌≤◌, List, [], Bool, Option, None, Some, IfSome, IsSome, IsTrue, Result, Ok, Err, refl, sym, ap, subst, arith, append-nil}
 use Rattle.std.specs.Prelude.{⊤}
 use Rattle.hose_io.specs.Calls.{HasGone}
-use Rattle.hose_io.specs.Frame.{Frame, Met, Rose, Stays}
+use Rattle.hose_io.specs.Frame.{Frame, Met, Rose}
 use Rattle.hose_io.specs.Stream.{Stream, Gives}
 use Rattle.hose_io.specs.declared.Failed.{Failed}
 use Rattle.hose_io.specs.declared.source.Source.{Ghosts as SourceGhosts}
@@ -32,7 +32,7 @@ use Rattle.hose_topo.specs.declared.fault.TopoFault.{TopoFault}
 use Rattle.hose_topo.specs.declared.fault.TopoFault.TheVariants as topo
 use Rattle.hose_offline.specs.Auditing.{HasAudited, HasReadBook, IsBookOf, IsLongAt, IsStarvedAt, IsTextFault, TextComesTo, ReadsBook, ReadsNamed, ReadsText, ReadsTopology}
 use Rattle.hose_offline.specs.CabinetText.{HasAsked, OnlyTextsRead, TextState, stream_at, text_source, text_stream, whole_text}
-use Rattle.hose_offline.specs.Fault.{of_text}
+use Rattle.hose_offline.specs.Fault.{of_topology}
 use Rattle.hose_offline.specs.OnDisk.{CabinetFailed, CabinetWorked, HadContent, IsRefusedOnDisk, IsUnopened}
 use Rattle.hose_offline.specs.JsonRead.{IsJsonOf}
 use Rattle.hose_offline.specs.Run.{HasText, TellsNoNetwork}
@@ -42,6 +42,8 @@ use Rattle.hose_offline.specs.declared.notation.Notation.{Notation}
 use Rattle.hose_offline.specs.declared.notation.Notation.TheVariants as notation
 use Rattle.hose_offline.specs.declared.notation.Refusal.TheVariants.{Word}
 use Rattle.hose_words.proofs.OnReading.{WhereTold-map}
+use Rattle.hose_offline.proofs.Journals.{alone}
+use Rattle.hose_offline.proofs.Taken.{text_failed, text_then}
 use Rattle.hose_offline.proofs.Texts.{HasAsked-next, HasAsked-none}
 use Rattle.hose_offline.specs.ServingOnDisk.{IsNotServed}
 use Rattle.hose_offline.specs.declared.fault.Fault.{Fault}
@@ -57,9 +59,7 @@ module _ {E : Type 0} (disk : DiskGhosts E) (network : Network) (old left : E) (
   amid = closes.any_moment opened.history None opened.has
 
   stands : (image : List ℕ) → IsAmid store.ledger.network opened.history None None image → IsHistoryOf network opened.history image
-  stands image (inl is_history) = subst (λ (n : Network). IsHistoryOf n opened.history image) opened.network is_history
-  stands image (inr (inl none)) = absurd none
-  stands image (inr (inr none)) = absurd none
+  stands image is = subst (λ (n : Network). IsHistoryOf n opened.history image) opened.network (alone store.ledger.network opened.history image is)
 
   -- a store was opened and closed
   pub read_on : HasReadBook disk old left network ledger closing
@@ -146,12 +146,12 @@ module _ {C E : Type 0} (cabinet : CabinetGhosts C E) (old new : C) (name : List
     pub read_err : (why : TopoFault) → ((line word : ℕ) → why ≡ topo.At line word → TellsNoNetwork notation.Lines (Word line word) (source.content start) (source.content last))
         → ((met : LineFault) → why ≡ fault_of met → WhereTold (source.content start) (source.content last) (StopsInTopology met))
         → (why ≡ topo.Read → Rose (source.frame start) (source.frame last)) → ((why ≡ topo.Read → ⊥) → source.frame last ≡ source.frame start)
-        → (why ≡ topo.Memory → last ≡ start) → ((why ≡ topo.TooLong) ↔ (INPUT_LIMIT < length bytes)) → ReadsText cabinet old new notation.Lines own_costs name (Err (of_text why))
-    read_err why wrong stopped rose unfailed memory long = read_as notation.Lines (Err (of_text why)) bytes gives limit
-        ((λ is. long.0 (too_long_text why (cc is))), λ more. ap (λ (w : TopoFault). Err (of_text w)) (long.1 more))
+        → (why ≡ topo.Memory → last ≡ start) → ((why ≡ topo.TooLong) ↔ (INPUT_LIMIT < length bytes)) → ReadsText cabinet old new notation.Lines own_costs name (Err (of_topology fault.Cabinet why))
+    read_err why wrong stopped rose unfailed memory long = read_as notation.Lines (Err (of_topology fault.Cabinet why)) bytes gives limit
+        ((λ is. long.0 (too_long_text why (cc is))), λ more. ap (λ (w : TopoFault). Err (of_topology fault.Cabinet w)) (long.1 more))
         (at why wrong stopped rose unfailed memory)
       where
-        too_long_text : (met : TopoFault) → of_text met ≡ fault.TooLong → met ≡ topo.TooLong
+        too_long_text : (met : TopoFault) → of_topology fault.Cabinet met ≡ fault.TooLong → met ≡ topo.TooLong
         too_long_text (topo.At l word) same = absurd (cc same)
         too_long_text topo.Read same = absurd (cc same)
         too_long_text topo.TooLong same = refl
@@ -160,7 +160,7 @@ module _ {C E : Type 0} (cabinet : CabinetGhosts C E) (old new : C) (name : List
         at : (met : TopoFault) → ((line word : ℕ) → met ≡ topo.At line word → TellsNoNetwork notation.Lines (Word line word) (source.content start) (source.content last))
             → ((f : LineFault) → met ≡ fault_of f → WhereTold (source.content start) (source.content last) (StopsInTopology f))
             → (met ≡ topo.Read → Rose (source.frame start) (source.frame last)) → ((met ≡ topo.Read → ⊥) → source.frame last ≡ source.frame start)
-            → (met ≡ topo.Memory → last ≡ start) → IsTextFault cabinet old new notation.Lines (whole_text cabinet old name) (source.content last) (of_text met)
+            → (met ≡ topo.Memory → last ≡ start) → IsTextFault cabinet old new notation.Lines (whole_text cabinet old name) (source.content last) (of_topology fault.Cabinet met)
         at (topo.At l word) wrong stopped rose unfailed memory = (moved (TellsNoNetwork notation.Lines (Word l word)) (wrong l word refl), held (unfailed (λ is. absurd (cc is))))
         at topo.Read wrong stopped rose unfailed memory = failed (rose refl)
         at topo.TooLong wrong stopped rose unfailed memory = (moved (λ a b. WhereTold a b (StopsInTopology line.TooLong)) (stopped line.TooLong refl), held (unfailed (λ is. absurd (cc is))))
@@ -183,13 +183,7 @@ module _ {C E : Type 0} (cabinet : CabinetGhosts C E) (old new : C) (name : List
       at (Err fault.Cabinet) is rose same = failed (rose refl)
       at (Err fault.Memory) is rose same = (inl tt, held (same (λ e. absurd (cc e))))
       at (Err fault.TooLong) is rose same = (tt, held (same (λ e. absurd (cc e))))
-      at (Err (fault.Words word)) is rose same = absurd is
-      at (Err fault.Read) is rose same = absurd is
-      at (Err fault.Write) is rose same = absurd is
-      at (Err fault.Door) is rose same = absurd is
-      at (Err (fault.Packet byte)) is rose same = absurd is
-      at (Err (fault.Other kept digest)) is rose same = absurd is
-      at (Err (fault.Damaged at_byte)) is rose same = absurd is
+      at (Err another) is rose same = absurd is
 
 -- ---- the text is asked for once before
 
@@ -240,13 +234,7 @@ module _ {C E : Type 0} (cabinet : CabinetGhosts C E) (old mid : C) (name : List
     text_too written left (Err fault.TooLong) is = (subst (λ (t : Option Stream). IsLongAt written t left) same_text is.0, held_too is.1)
     text_too written left (Err fault.Cabinet) is = failed_too is
     text_too written left (Err fault.Memory) is = (subst (λ (t : Option Stream). IsStarvedAt written t left ⊎ HasText written t left) same_text is.0, held_too is.1)
-    text_too written left (Err (fault.Words word)) is = absurd is
-    text_too written left (Err fault.Read) is = absurd is
-    text_too written left (Err fault.Write) is = absurd is
-    text_too written left (Err fault.Door) is = absurd is
-    text_too written left (Err (fault.Packet byte)) is = absurd is
-    text_too written left (Err (fault.Other kept digest)) is = absurd is
-    text_too written left (Err (fault.Damaged at)) is = absurd is
+    text_too written left (Err another) is = absurd is
 
     pub read_then : (written : Notation) (done : Result Network Fault) → (IsTrue (cabinet.frame old).tells → cabinet.text old name ≡ None → ⊥) → ReadsText cabinet mid new written own_costs name done → ReadsText cabinet old new written own_costs name done
     read_then written done there reads = record {
@@ -277,60 +265,26 @@ module _ {C E : Type 0} (cabinet : CabinetGhosts C E) (old new : C) (name : List
       (λ bytes _ is. (told, subst (λ (n : Network). Tells written bytes n) (sym is.2) is.1, priced))
 
   pub read_priced : (told network : Network) → prices told network → IsNetwork network → ReadsTopology cabinet old new own_costs name (Ok told) → ReadsTopology cabinet old new prices name (Ok network)
-  read_priced told network priced is reads = record {
-    taken = reads.taken;
-    left = reads.left;
-    gives = reads.gives;
-    limit = reads.limit;
-    too_long = ((λ long. absurd (cc long)), λ more. absurd (cc (reads.too_long.1 more)));
-    text = (is, reads.text.1, told_priced (notation_of name) _ reads.left told network priced reads.text.2);
-    only_texts = reads.only_texts;
-    absent = reads.absent;
-    not_there = λ tells none. absurd (cc (reads.not_there tells none));
-  }
+  read_priced told network priced is reads =
+      text_then cabinet old new name _ _ (notation_of name) told (Ok network) reads (λ long. cc long) (is, reads.text.1, told_priced (notation_of name) _ reads.left told network priced reads.text.2)
 
   pub read_starved : (told : Network) → ReadsTopology cabinet old new own_costs name (Ok told) → ReadsTopology cabinet old new prices name (Err fault.Memory)
-  read_starved told reads = record {
-    taken = reads.taken;
-    left = reads.left;
-    gives = reads.gives;
-    limit = reads.limit;
-    too_long = ((λ long. absurd (cc long)), λ more. absurd (cc (reads.too_long.1 more)));
-    text = (inr (WhereTold-map _ reads.left _ _ reads.text.2 (λ bytes _ is. (is.0, is.1))), reads.text.1);
-    only_texts = reads.only_texts;
-    absent = reads.absent;
-    not_there = λ tells none. absurd (cc (reads.not_there tells none));
-  }
+  read_starved told reads =
+      text_then cabinet old new name _ _ (notation_of name) told (Err fault.Memory) reads (λ long. cc long) (inr (WhereTold-map _ reads.left _ _ reads.text.2 (λ bytes _ is. (is.0, is.1))), reads.text.1)
 
   pub read_none : (why : Fault) → ReadsTopology cabinet old new own_costs name (Err why) → ReadsTopology cabinet old new prices name (Err why)
-  read_none why reads = record {
-    taken = reads.taken;
-    left = reads.left;
-    gives = reads.gives;
-    limit = reads.limit;
-    too_long = ((λ long. reads.too_long.0 (cc long)), λ more. cc (reads.too_long.1 more));
-    text = reads.text;
-    only_texts = reads.only_texts;
-    absent = reads.absent;
-    not_there = λ tells none. cc (reads.not_there tells none);
-  }
+  read_none why reads = text_failed cabinet old new name _ _ (notation_of name) why reads reads.text
 
 -- ---- both
 
 -- no store that is not opened is too long a text
 never_long : {C E : Type 0} (cabinet : CabinetGhosts C E) (disk : DiskGhosts E) (name : List ℕ) (old new : C) (network : Network) (done : Result (Ledger × Result ⊤ Failed) Fault) → ReadsBook cabinet disk name old new network done → done ≡ Err fault.TooLong → ⊥
 never_long cabinet disk name old new network (Ok read) reads long = cc long
-never_long cabinet disk name old new network (Err fault.TooLong) reads long = reads
 never_long cabinet disk name old new network (Err fault.Cabinet) reads long = cc long
 never_long cabinet disk name old new network (Err fault.Memory) reads long = cc long
-never_long cabinet disk name old new network (Err (fault.Words word)) reads long = reads
-never_long cabinet disk name old new network (Err (fault.Topology refusal)) reads long = reads
-never_long cabinet disk name old new network (Err fault.Read) reads long = reads
-never_long cabinet disk name old new network (Err fault.Write) reads long = reads
-never_long cabinet disk name old new network (Err fault.Door) reads long = reads
-never_long cabinet disk name old new network (Err (fault.Packet byte)) reads long = reads
 never_long cabinet disk name old new network (Err (fault.Other kept digest)) reads long = cc long
 never_long cabinet disk name old new network (Err (fault.Damaged at)) reads long = cc long
+never_long cabinet disk name old new network (Err another) reads long = reads
 
 module _ {C E : Type 0} (cabinet : CabinetGhosts C E) (disk : DiskGhosts E) (old mid new : C) (only : OnlyTextsRead cabinet old mid) where
   pub has_before : (name : List ℕ) (P : E → Type 0) → Has (cabinet.frame mid).tells (cabinet.held mid name) P → Has (cabinet.frame old).tells (cabinet.held old name) P
@@ -367,13 +321,7 @@ module _ {C E : Type 0} (cabinet : CabinetGhosts C E) (disk : DiskGhosts E) (old
     not_served_before (fault.Other kept given) not = (not.0, refused_before network name (other kept) not.1)
     not_served_before (fault.Damaged at) not = refused_before network name (damaged at) not
     not_served_before fault.Memory not = unopened_before network name not
-    not_served_before (fault.Words word) not = absurd not
-    not_served_before (fault.Topology refusal) not = absurd not
-    not_served_before fault.Read not = absurd not
-    not_served_before fault.Write not = absurd not
-    not_served_before fault.TooLong not = absurd not
-    not_served_before fault.Door not = absurd not
-    not_served_before (fault.Packet byte) not = absurd not
+    not_served_before another not = absurd not
 
 module _ (prices : Network → Network → Type 0) {C E : Type 0} (cabinet : CabinetGhosts C E) (disk : DiskGhosts E) (topology journal : List ℕ) (old : C) where
   -- no topology was read

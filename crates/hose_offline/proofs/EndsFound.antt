@@ -11,7 +11,7 @@ use Rattle.hose_proto.specs.Places.{end_word}
 use Rattle.hose_proto.specs.Reading.{IsEndOf}
 use Rattle.hose_proto.proofs.EndWords.{name_of_end, names_its_node}
 use Rattle.hose_proto.proofs.Hoses.{hose_made, makes_hose}
-use Rattle.hose_offline.specs.EndsFound.{AreEndsInOrder}
+use Rattle.hose_offline.specs.ProveOutcome.{AreEndsInOrder}
 
 module _ (network : Network) (is : IsNetwork network) (words : List (List ℕ)) (ends : List (ℕ × ℕ)) (spelled : AreEndsInOrder network words ends) where
   counted : length words ≡ length ends

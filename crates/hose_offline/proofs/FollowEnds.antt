@@ -1,5 +1,5 @@
 -- What following a journal stands for, from what was read, what was followed and what was told.
-use Rattle.std.proofs.Common.{◌≡◌, ◌≢◌, ◌∙◌, ◌⊎◌, inl, inr, ℕ, ◌+◌, ◌<◌, ◌≤◌, List, [], ◌++◌, length, length-append, append_assoc, append-nil, Option, Some, None, Result, Ok, Err, refl, sym, ap, subst, arith, All}
+use Rattle.std.proofs.Common.{◌≡◌, ◌≢◌, ◌∙◌, ◌⊎◌, inl, inr, ℕ, ◌+◌, ◌<◌, List, [], ◌++◌, length, length-append, append_assoc, append-nil, Option, Some, None, Result, Ok, Err, refl, sym, ap, subst, arith, All}
 use Rattle.std.specs.Prelude.{⊤}
 use Rattle.hose_io.specs.Frame.{Frame, Met, Rose, Stays}
 use Rattle.hose_io.specs.Stream.{Gives, IsAtEnd, Stream}
@@ -9,11 +9,9 @@ use Rattle.hose_io.specs.declared.sink.Sink.{Ghosts as SinkGhosts}
 use Rattle.hose_io.proofs.Frames.{Rose-before}
 use Rattle.hose_io.proofs.Streams.{Gives-nil}
 use Rattle.hose_graph.specs.Network.{Network}
-use Rattle.hose_graph.specs.declared.entry.Entry.{Entry}
 use Rattle.hose_disk.specs.Cabinet.{object_of}
 use Rattle.hose_disk.specs.declared.cabinet.Cabinet.{Ghosts as CabinetGhosts}
 use Rattle.hose_disk.specs.declared.disk.Disk.{Ghosts as DiskGhosts}
-use Rattle.hose_store.specs.Recovery.{IsHistoryOf}
 use Rattle.hose_follow.specs.Packet.{BeginsNoPacket, IsPacket, IsPartOfPacket, Packet, packets_bytes}
 use Rattle.hose_follow.specs.declared.following.FollowEnd.{FollowEnd}
 use Rattle.hose_follow.specs.declared.following.FollowEnd.TheVariants as end
@@ -23,7 +21,7 @@ use Rattle.hose_offline.specs.Auditing.{IsNotAudited, ReadsNamed, ReadsTopology}
 use Rattle.hose_offline.specs.Ending.{IsLastLine, IsOut, status_of_done}
 use Rattle.hose_offline.specs.Fault.{last_line, status_of}
 use Rattle.hose_offline.specs.FollowOutcome.{FollowOutcome, IsFollowed, IsOfNoPackets, IsOfPackets, NoCallFailed}
-use Rattle.hose_offline.specs.Following.{FollowsInCabinet, HasFollowed, following_fault}
+use Rattle.hose_offline.specs.Following.{FollowsInCabinet, HasFollowed, following_done}
 use Rattle.hose_offline.specs.ServingOnDisk.{IsNotServed, first_of}
 use Rattle.hose_offline.specs.TopologyTold.{limit_of, notation_of}
 use Rattle.hose_offline.specs.declared.fault.Fault.{Fault}
@@ -66,48 +64,23 @@ none_left None new packets rest gives told are none at_end = told
 
 never_0 : (why : Fault) → status_of why ≡ 0 → ⊥
 never_0 (fault.Words word) is = omega (arith, is)
-never_0 (fault.Topology refusal) is = omega (arith, is)
-never_0 fault.Read is = omega (arith, is)
-never_0 fault.Write is = omega (arith, is)
-never_0 (fault.Other old given) is = omega (arith, is)
-never_0 (fault.Damaged at) is = omega (arith, is)
-never_0 fault.Cabinet is = omega (arith, is)
-never_0 fault.Memory is = omega (arith, is)
-never_0 fault.TooLong is = omega (arith, is)
-never_0 fault.Door is = omega (arith, is)
-never_0 (fault.Packet byte) is = omega (arith, is)
+never_0 another is = omega (arith, is)
 
 -- that the input was too long is told as its fault, whatever closing came to
-long_end : (ended : FollowEnd) (closing : Result ⊤ Failed) → first_of (following_fault ended) closing ≡ Err fault.TooLong → ended ≡ end.TooLong
+long_end : (ended : FollowEnd) (closing : Result ⊤ Failed) → first_of (following_done ended) closing ≡ Err fault.TooLong → ended ≡ end.TooLong
 long_end end.TooLong closing is = refl
-long_end end.End (Ok done) is = cc is
-long_end end.End (Err failed) is = cc is
-long_end (end.Packet at) (Ok done) is = cc is
-long_end (end.Packet at) (Err failed) is = cc is
-long_end end.Read (Ok done) is = cc is
-long_end end.Read (Err failed) is = cc is
-long_end end.Write (Ok done) is = cc is
-long_end end.Write (Err failed) is = cc is
-long_end end.Memory (Ok done) is = cc is
-long_end end.Memory (Err failed) is = cc is
+long_end another (Ok done) is = cc is
+long_end another (Err failed) is = cc is
 
-long_status : (closing : Result ⊤ Failed) → status_of_done (first_of (following_fault end.TooLong) closing) ≡ 8
+long_status : (closing : Result ⊤ Failed) → status_of_done (first_of (following_done end.TooLong) closing) ≡ 8
 long_status (Ok done) = refl
 long_status (Err failed) = refl
 
-followed_not_1 : (ended : FollowEnd) (closing : Result ⊤ Failed) → status_of_done (first_of (following_fault ended) closing) ≡ 1 → ⊥
+followed_not_1 : (ended : FollowEnd) (closing : Result ⊤ Failed) → status_of_done (first_of (following_done ended) closing) ≡ 1 → ⊥
 followed_not_1 end.End (Ok done) is = omega (arith, is)
 followed_not_1 end.End (Err failed) is = omega (arith, is)
-followed_not_1 (end.Packet at) (Ok done) is = omega (arith, is)
-followed_not_1 (end.Packet at) (Err failed) is = omega (arith, is)
-followed_not_1 end.Read (Ok done) is = omega (arith, is)
-followed_not_1 end.Read (Err failed) is = omega (arith, is)
-followed_not_1 end.Write (Ok done) is = omega (arith, is)
-followed_not_1 end.Write (Err failed) is = omega (arith, is)
-followed_not_1 end.TooLong (Ok done) is = omega (arith, is)
-followed_not_1 end.TooLong (Err failed) is = omega (arith, is)
-followed_not_1 end.Memory (Ok done) is = omega (arith, is)
-followed_not_1 end.Memory (Err failed) is = omega (arith, is)
+followed_not_1 another (Ok done) is = omega (arith, is)
+followed_not_1 another (Err failed) is = omega (arith, is)
 
 module _ (prices : Network → Network → Type 0) {I O C E : Type 0} (source : SourceGhosts I) (sink : SinkGhosts O) (cabinet : CabinetGhosts C E) (disk : DiskGhosts E) (topology journal : List ℕ) (input input' : I) (output output' : O) (place place' : C) where
   abbrev Outcome : ℕ → Type 0
@@ -165,7 +138,7 @@ module _ (prices : Network → Network → Type 0) {I O C E : Type 0} (source : 
     EndsWell ended = ((status ≡ 0) × (ended ≡ end.End))
         ⊎ (((status ≡ 11) × ((at : ℕ) × (ended ≡ end.Packet at))) ⊎ (status ≡ 7))
 
-    ends_well : (ended : FollowEnd) (closing : Result ⊤ Failed) → Followed ended closing → status ≡ status_of_done (first_of (following_fault ended) closing) → Held → (IsOfPackets (source.content input) ⊎ IsOfNoPackets (source.content input)) → EndsWell ended
+    ends_well : (ended : FollowEnd) (closing : Result ⊤ Failed) → Followed ended closing → status ≡ status_of_done (first_of (following_done ended) closing) → Held → (IsOfPackets (source.content input) ⊎ IsOfNoPackets (source.content input)) → EndsWell ended
     ends_well end.End (Ok done) has is held told = inl (is, refl)
     ends_well end.End (Err failed) has is held told = absurd (held.keeping_it (has.met.failed refl))
     ends_well (end.Packet at) (Ok done) has is held told = inr (inl (is, (at, refl)))
@@ -178,21 +151,13 @@ module _ (prices : Network → Network → Type 0) {I O C E : Type 0} (source : 
 
     completes : (ended : FollowEnd) (closing : Result ⊤ Failed) → Followed ended closing → IsOfPackets (source.content input) → EndsWell ended → (status ≡ 0) ⊎ (status ≡ 7)
     completes ended closing has told (inl (zero, at_end)) = inl zero
-    completes end.End closing has told (inr (inl (eleven, (at, is)))) = cc is
     completes (end.Packet byte) closing has told (inr (inl (eleven, (at, is)))) = absurd (all_packets _ _ has.follows.packets has.follows.rest has.follows.gives told has.follows.are has.follows.ends.1)
-    completes end.Read closing has told (inr (inl (eleven, (at, is)))) = cc is
-    completes end.Write closing has told (inr (inl (eleven, (at, is)))) = cc is
-    completes end.TooLong closing has told (inr (inl (eleven, (at, is)))) = cc is
-    completes end.Memory closing has told (inr (inl (eleven, (at, is)))) = cc is
+    completes another closing has told (inr (inl (eleven, (at, is)))) = cc is
     completes ended closing has told (inr (inr seven)) = inr seven
 
     cuts : (ended : FollowEnd) (closing : Result ⊤ Failed) → Followed ended closing → IsOfNoPackets (source.content input) → EndsWell ended → (status ≡ 11) ⊎ (status ≡ 7)
     cuts end.End closing has told (inl (zero, at_end)) = absurd (none_left _ _ has.follows.packets has.follows.rest has.follows.gives told has.follows.are has.follows.ends.0 has.follows.ends.1)
-    cuts (end.Packet byte) closing has told (inl (zero, at_end)) = cc at_end
-    cuts end.Read closing has told (inl (zero, at_end)) = cc at_end
-    cuts end.Write closing has told (inl (zero, at_end)) = cc at_end
-    cuts end.TooLong closing has told (inl (zero, at_end)) = cc at_end
-    cuts end.Memory closing has told (inl (zero, at_end)) = cc at_end
+    cuts another closing has told (inl (zero, at_end)) = cc at_end
     cuts ended closing has told (inr (inl (eleven, (at, is)))) = inl eleven
     cuts ended closing has told (inr (inr seven)) = inr seven
 
@@ -208,8 +173,8 @@ module _ (prices : Network → Network → Type 0) {I O C E : Type 0} (source : 
       left = has_before cabinet disk place read place' reads.only_texts journal _ has.left;
     }
 
-    followed : (ended : FollowEnd) (closing : Result ⊤ Failed) → HasFollowed source sink cabinet disk journal input input' output mid place place' network ended closing → status ≡ status_of_done (first_of (following_fault ended) closing)
-        → IsLastLine sink mid output' (first_of (following_fault ended) closing) → Outcome status
+    followed : (ended : FollowEnd) (closing : Result ⊤ Failed) → HasFollowed source sink cabinet disk journal input input' output mid place place' network ended closing → status ≡ status_of_done (first_of (following_done ended) closing)
+        → IsLastLine sink mid output' (first_of (following_done ended) closing) → Outcome status
     followed ended closing has is out = record {
       text = reads.taken;
       left = reads.left;
@@ -218,7 +183,7 @@ module _ (prices : Network → Network → Type 0) {I O C E : Type 0} (source : 
       taken = packets_bytes has.follows.packets ++ has.follows.rest;
       gives = has.follows.gives;
       limit = has.follows.limit;
-      too_long = ((λ at_8. inr (has.follows.too_long.0 (long_end ended closing (too_long_at_8 (first_of (following_fault ended) closing) (sym is ∙ at_8))))), back);
+      too_long = ((λ at_8. inr (has.follows.too_long.0 (long_end ended closing (too_long_at_8 (first_of (following_done ended) closing) (sym is ∙ at_8))))), back);
       ends = inl (record { network = network; text = reads.text.2; is = record { mid = mid; ended = ended; closing = closing; followed = has; last_line = out; is_status = is } });
       refused = λ refused. absurd (no_network_read (notation_of topology) prices _ _ network refused reads.text.2);
       not_there = λ told none. absurd (cc (reads.not_there told none));
@@ -232,7 +197,7 @@ module _ (prices : Network → Network → Type 0) {I O C E : Type 0} (source : 
         back : (limit_of (notation_of topology) < length reads.taken) ⊎ (INPUT_LIMIT < length (packets_bytes has.follows.packets ++ has.follows.rest)) → status ≡ 8
         back (inl long) = absurd (cc (reads.too_long.1 long))
         back (inr long) =
-            is ∙ (ap (λ (e : FollowEnd). status_of_done (first_of (following_fault e) closing)) (has.follows.too_long.1 long) ∙ long_status closing)
+            is ∙ (ap (λ (e : FollowEnd). status_of_done (first_of (following_done e) closing)) (has.follows.too_long.1 long) ∙ long_status closing)
 
     pub is_followed : (done : Result ⊤ Fault) → FollowsInCabinet source sink cabinet disk journal input input' output mid read place' network done → status ≡ status_of_done done → IsLastLine sink mid output' done → Outcome status
     is_followed done (inl (not, untouched, same)) is out = at done not is out
@@ -250,16 +215,7 @@ module _ (prices : Network → Network → Type 0) {I O C E : Type 0} (source : 
       by : (why : Fault) → IsNotAudited prices cabinet disk topology journal place place' outcome.left why → status_of why ≡ 1 → ⊥
       by (fault.Words word) (inl text) one = text.0
       by (fault.Words word) (inr served) one = served.is
-      by (fault.Topology refusal) not one = omega (arith, one)
-      by fault.Read not one = omega (arith, one)
-      by fault.Write not one = omega (arith, one)
-      by (fault.Other old given) not one = omega (arith, one)
-      by (fault.Damaged at_byte) not one = omega (arith, one)
-      by fault.Cabinet not one = omega (arith, one)
-      by fault.Memory not one = omega (arith, one)
-      by fault.TooLong not one = omega (arith, one)
-      by fault.Door not one = omega (arith, one)
-      by (fault.Packet byte) not one = omega (arith, one)
+      by another not one = omega (arith, one)
 
       at : EndsNamed prices sink cabinet disk topology journal output output' place place' (Tells status) (input' ≡ input) outcome.left status → ⊥
       at (inl told) = followed_not_1 told.is.ended told.is.closing (sym told.is.is_status ∙ is)

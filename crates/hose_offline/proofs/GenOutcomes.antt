@@ -10,7 +10,7 @@ use Rattle.hose_offline.specs.Ending.{IsLastLine, IsOut, status_of_done}
 use Rattle.hose_offline.specs.Fault.{last_line}
 use Rattle.hose_offline.specs.GenOutcome.{GenLeaves, GenOutcome, IsSummaryCut}
 use Rattle.hose_offline.specs.declared.fault.Fault.{Fault}
-use Rattle.hose_offline.specs.declared.fault.Fault.TheVariants.{Words, Topology, Read, Write, Other, Damaged, Cabinet, Memory, TooLong, Door, Packet}
+use Rattle.hose_offline.specs.declared.fault.Fault.TheVariants.{Write, Memory}
 
 -- a part that is out, and nothing after it
 part_then_none : (old mid new : Option (List ℕ)) (text : List ℕ) → GrowsInPart old mid text → Grows mid new [] → GrowsInPart old new text
@@ -35,17 +35,9 @@ module _ (seed nodes links hoses : ℕ) {O : Type 0} (sink : SinkGhosts O) (outp
   pub gen_outcome : (done : Result ⊤ Fault) → GenLeaves seed nodes links hoses sink output left done → IsLastLine sink left output' done
       → GenOutcome seed nodes links hoses sink output output' (status_of_done done)
   gen_outcome (Ok _) leaves last = inl (refl, subst (λ (o : O). GenLeaves seed nodes links hoses sink output o {T = ⊤} (Ok tt)) (sym last) leaves)
-  gen_outcome (Err (Words word)) leaves last = absurd leaves
-  gen_outcome (Err (Topology refusal)) leaves last = absurd leaves
-  gen_outcome (Err Read) leaves last = absurd leaves
   gen_outcome (Err Write) leaves last = inr (inl (refl, cut_off leaves last))
-  gen_outcome (Err (Other kept given)) leaves last = absurd leaves
-  gen_outcome (Err (Damaged at)) leaves last = absurd leaves
-  gen_outcome (Err Cabinet) leaves last = absurd leaves
   gen_outcome (Err Memory) leaves last = inr (inr (refl, subst (λ (o : O). IsOut sink o output' (last_line Memory)) leaves last))
-  gen_outcome (Err TooLong) leaves last = absurd leaves
-  gen_outcome (Err Door) leaves last = absurd leaves
-  gen_outcome (Err (Packet byte)) leaves last = absurd leaves
+  gen_outcome (Err another) leaves last = absurd leaves
 
 -- the status tells no wrong word
 pub gen_not_1 : (seed nodes links hoses : ℕ) {O : Type 0} (sink : SinkGhosts O) (output output' : O) (status : ℕ) → GenOutcome seed nodes links hoses sink output output' status → status ≢ 1

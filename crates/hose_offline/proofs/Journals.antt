@@ -17,11 +17,12 @@ use Rattle.hose_disk.specs.declared.cabinet.Cabinet.{Ghosts as CabinetGhosts}
 use Rattle.hose_disk.specs.declared.disk.Disk.{Ghosts as DiskGhosts}
 use Rattle.hose_journal.specs.Image.{Meaning, listed, damaged, other}
 use Rattle.hose_journal.specs.Moments.{LeavesOnly}
+use Rattle.hose_journal.proofs.Runs.{joined, weaker}
 use Rattle.hose_store.specs.Beginning.{HasLeft, StandsFor}
 use Rattle.hose_store.specs.Commit.{Closes, store_books}
 use Rattle.hose_store.specs.Opening.{IsAtOpening, IsOpenedOn, IsRefusedStore}
 use Rattle.hose_store.specs.Recovery.{IsHistoryOf, IsRecoveredAs}
-use Rattle.hose_store.specs.Store.{Kept}
+use Rattle.hose_store.specs.Store.{IsAmid, Kept}
 use Rattle.hose_store.specs.declared.fault.StoreFault.{StoreFault}
 use Rattle.hose_store.specs.declared.fault.StoreFault.TheVariants as store
 use Rattle.hose_offline.specs.Auditing.{AuditsBook, HasReadBook, IsLeftWith, ReadsBook, ReadsBookOnDisk}
@@ -30,10 +31,31 @@ use Rattle.hose_offline.specs.OnDisk.{opening_of}
 use Rattle.hose_offline.specs.Serving.{Serves, TellsDisks}
 use Rattle.hose_offline.specs.ServingOnDisk.{HasServedInCabinet, HasServedOnDisk, IsNotOpened, ServesInCabinet, ServesOnDisk, first_of}
 use Rattle.hose_offline.specs.declared.fault.Fault.{Fault}
-use Rattle.hose_offline.specs.declared.fault.Fault.TheVariants.{TooLong}
+use Rattle.hose_offline.specs.declared.fault.Fault.TheVariants.{Memory, TooLong}
 use Rattle.hose_offline.proofs.PutBack.{IsPutBack, TakenFrom, at_opening, counts, held_as, left_as, left_in, not_served}
 
 -- ---- on a disk
+
+-- with no entry in doubt and none that is written, an image stands for the history alone
+pub alone : (network : Network) (history : List Entry) (image : List ℕ) → IsAmid network history None None image → IsHistoryOf network history image
+alone network history image (inl is) = is
+alone network history image (inr (inl none)) = absurd none
+alone network history image (inr (inr none)) = absurd none
+
+-- A store was opened, and closed before anything was asked of it: at each moment an image is one of
+-- before, or stands for what the disk stood for.
+pub closed_unused : {E : Type 0} (disk : DiskGhosts E) (network : Network) (old left : E) (store : Kept E) (closing : Result ⊤ Failed) → IsOpenedOn disk old network store
+    → LeavesOnly disk old store.journal.disk (IsAtOpening disk old network) → Closes disk store left closing → IsNotOpened disk old left network (Err Memory)
+closed_unused disk network old left store closing opened run closes =
+    let history = opened.history in
+    let after = closes.any_moment history None opened.has in
+    record {
+      why = tt;
+      images =
+          joined disk old store.journal.disk left (IsAtOpening disk old network) run
+          (weaker disk store.journal.disk left (IsAmid store.ledger.network history None None) (IsAtOpening disk old network)
+          (λ image amid. inr (history, opened.read, subst (λ (n : Network). IsHistoryOf n history image) opened.network (alone store.ledger.network history image amid))) after);
+    }
 
 -- closing does not change whether the input was too long
 pub first_long : (served : Result ⊤ Fault) (closing : Result ⊤ Failed) → (first_of served closing ≡ Err TooLong) ↔ (served ≡ Err TooLong)

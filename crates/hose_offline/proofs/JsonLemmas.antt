@@ -27,27 +27,13 @@ pub piece_takes : (old new : Option Stream) (why : Fault) → IsPieceFault old n
 piece_takes old new fault.TooLong is = (is.0, is.1, is.3, ((λ same. is.2), λ more. refl))
 piece_takes old new fault.Cabinet is = (is.0, is.1, omega (arith, is.2), ((λ same. absurd (cc same)), λ more. absurd (omega (arith, more, is.2))))
 piece_takes old new fault.Memory is = (is.0, is.1, omega (arith, is.2), ((λ same. absurd (cc same)), λ more. absurd (omega (arith, more, is.2))))
-piece_takes old new (fault.Words word) is = absurd is
-piece_takes old new (fault.Topology refusal) is = absurd is
-piece_takes old new fault.Read is = absurd is
-piece_takes old new fault.Write is = absurd is
-piece_takes old new fault.Door is = absurd is
-piece_takes old new (fault.Packet byte) is = absurd is
-piece_takes old new (fault.Other kept given) is = absurd is
-piece_takes old new (fault.Damaged at) is = absurd is
+piece_takes old new another is = absurd is
 
 pub piece_json : (old new : Option Stream) (why : Fault) → IsPieceFault old new why → IsJsonOf old new (Err why)
 piece_json old new fault.TooLong is = tt
 piece_json old new fault.Cabinet is = tt
 piece_json old new fault.Memory is = tt
-piece_json old new (fault.Words word) is = absurd is
-piece_json old new (fault.Topology refusal) is = absurd is
-piece_json old new fault.Read is = absurd is
-piece_json old new fault.Write is = absurd is
-piece_json old new fault.Door is = absurd is
-piece_json old new (fault.Packet byte) is = absurd is
-piece_json old new (fault.Other kept given) is = absurd is
-piece_json old new (fault.Damaged at) is = absurd is
+piece_json old new another is = absurd is
 
 module _ (old new : Option Stream) (bytes : List ℕ) (gives : Gives old new bytes) (end : IsAtEnd new) (short : length bytes ≤ JSON_LIMIT) where
   -- all that was to come is the bytes that were taken
@@ -74,16 +60,8 @@ module _ (old new : Option Stream) (bytes : List ℕ) (gives : Gives old new byt
 -- a fault of JSON is no long text, and no failed source
 pub json_not_long : (why : JsonFault) → of_json why ≢ fault.TooLong
 json_not_long json.Json same = cc same
-json_not_long json.Nodes same = cc same
-json_not_long (json.Node index) same = cc same
-json_not_long json.Links same = cc same
-json_not_long (json.Link index) same = cc same
-json_not_long json.Memory same = cc same
+json_not_long another same = cc same
 
 pub json_not_failed : (why : JsonFault) → of_json why ≢ fault.Cabinet
 json_not_failed json.Json same = cc same
-json_not_failed json.Nodes same = cc same
-json_not_failed (json.Node index) same = cc same
-json_not_failed json.Links same = cc same
-json_not_failed (json.Link index) same = cc same
-json_not_failed json.Memory same = cc same
+json_not_failed another same = cc same

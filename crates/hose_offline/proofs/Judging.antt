@@ -1,6 +1,6 @@
 -- A certificate: the text of a topology in a cabinet, and what an input has.
 use Rattle.std.specs.Prelude.{IfOk, OnOk}
-use Rattle.std.proofs.Common.{◌≡◌, ◌↔◌, ◌⊎◌, inl, inr, ℕ, ◌<◌, List, [], ◌++◌, length, length-append, Option, None, Some, Result, Ok, Err, refl, ap, subst, arith}
+use Rattle.std.proofs.Common.{◌≡◌, ◌↔◌, inl, inr, ℕ, List, [], ◌++◌, length, length-append, Option, None, Some, Result, Ok, Err, refl, ap, subst, arith}
 use Rattle.std.proofs.lemmas.List.{nil_from_length}
 use Rattle.hose_words.specs.Lines.{Reader}
 use Rattle.hose_words.specs.Reading.{WhereTold}
@@ -12,16 +12,13 @@ use Rattle.hose_cert.specs.Verdict.{IsVerdict}
 use Rattle.hose_cert.specs.declared.fault.CertFault.{CertFault}
 use Rattle.hose_cert.specs.declared.fault.CertFault.TheVariants as certificate
 use Rattle.hose_io.specs.declared.source.Source.{Ghosts as SourceGhosts}
-use Rattle.hose_io.proofs.Streams.{Gives-nil}
-use Rattle.hose_words.specs.declared.lines.TheConstants.{INPUT_LIMIT}
 use Rattle.hose_graph.specs.Network.{Network}
 use Rattle.hose_cert.specs.declared.Verdict.{Verdict}
 use Rattle.hose_disk.specs.declared.cabinet.Cabinet.{Ghosts as CabinetGhosts}
 use Rattle.hose_offline.specs.Auditing.{ReadsTopology}
 use Rattle.hose_offline.specs.CheckOutcome.{IsVerdictOf, JudgesInput, JudgesNamed, JudgedAs}
-use Rattle.hose_offline.specs.TopologyTold.{limit_of, notation_of}
 use Rattle.hose_offline.specs.declared.fault.Fault.{Fault}
-use Rattle.hose_offline.specs.declared.fault.Fault.TheVariants.{TooLong}
+use Rattle.hose_offline.proofs.Taken.{both_failed, both_then}
 
 -- ---- a reader that has taken nothing
 
@@ -50,53 +47,16 @@ long_told (Err certificate.Memory) told = ((λ is. absurd (cc is)), λ long. abs
 
 -- ---- a topology and an input
 
--- that a text or an input was too long is told
-abbrev IsTooLong : Result Verdict Fault → Type 0
-IsTooLong result = result ≡ Err TooLong
-
 module _ (prices : Network → Network → Type 0) {I C E : Type 0} (source : SourceGhosts I) (cabinet : CabinetGhosts C E) (topology : List ℕ) (input : I) (old new : C) where
   -- no topology was read, and so nothing of the input
   pub judged_none : (why : Fault) → ReadsTopology cabinet old new prices topology (Err why) → JudgesNamed prices source cabinet topology input input old new (Err why)
-  judged_none why reads = record {
-    left = reads.left;
-    text = reads.taken;
-    gives_text = reads.gives;
-    text_limit = reads.limit;
-    taken = [];
-    gives = Gives-nil (source.content input);
-    limit = omega arith;
-    too_long = ((λ is. inl (reads.too_long.0 (cc is))), λ long. back long);
-    verdict = inl (reads.text, refl);
-    only_texts = reads.only_texts;
-    not_there = λ told none. cc (reads.not_there told none);
-    absent = reads.absent;
-  }
-    where
-      back : (limit_of (notation_of topology) < length reads.taken) ⊎ (INPUT_LIMIT < 0) → IsTooLong (Err why)
-      back (inl long) = cc (reads.too_long.1 long)
-      back (inr long) = absurd (omega (arith, long))
+  judged_none why reads = both_failed cabinet old new topology _ _ source input why reads (inl (reads.text, refl))
 
   -- one was read, and then the input was judged, or not
   pub judged_then : (input' : I) (network : Network) (result : Result Verdict Fault) → ReadsTopology cabinet old new prices topology (Ok network) → JudgesInput source input input' network result → JudgesNamed prices source cabinet topology input input' old new result
-  judged_then input' network result reads judges = record {
-    left = reads.left;
-    text = reads.taken;
-    gives_text = reads.gives;
-    text_limit = reads.limit;
-    taken = judges.taken;
-    gives = judges.gives;
-    limit = judges.limit;
-    too_long = ((λ is. inr (judges.too_long.0 is)), λ long. back long);
-    verdict = at result judges.judged;
-    only_texts = reads.only_texts;
-    not_there = λ told none. absurd (cc (reads.not_there told none));
-    absent = reads.absent;
-  }
+  judged_then input' network result reads judges =
+      both_then cabinet old new topology _ _ source input input' network result reads judges.taken judges.gives judges.limit judges.too_long (at result judges.judged)
     where
-      back : (limit_of (notation_of topology) < length reads.taken) ⊎ (INPUT_LIMIT < length judges.taken) → IsTooLong result
-      back (inl long) = absurd (cc (reads.too_long.1 long))
-      back (inr long) = judges.too_long.1 long
-
       at : (one : Result Verdict Fault) → JudgedAs source input input' network one → IsVerdictOf prices source cabinet topology input input' old new reads.left one
       at (Ok verdict) is = (record { network = network; text = reads.text.2; is = is }, reads.text.1)
       at (Err why) is = inr (record { network = network; text = reads.text.2; is = is }, reads.text.1)

@@ -1,8 +1,7 @@
 -- What a run leaves, by what answering its lines comes to.
-use Rattle.std.proofs.Common.{◌≡◌, ◌∙◌, ℕ, List, [], ◌∷◌, ◌++◌, drop, MutBor, Option, Some, None, Result, Ok, Err, inl, inr, refl, sym, ap, subst}
+use Rattle.std.proofs.Common.{◌≡◌, ◌∙◌, ℕ, List, [], ◌++◌, MutBor, Option, Some, None, Result, Ok, Err, inl, inr, refl, sym, ap, subst}
 use Rattle.std.specs.Prelude.{⊤}
-use Rattle.std.specs.Borrow.{GName}
-use Rattle.hose_io.specs.Frame.{Frame, Rose}
+use Rattle.hose_io.specs.Frame.{Rose}
 use Rattle.hose_io.specs.Stream.{Stream}
 use Rattle.hose_io.specs.declared.Failed.{Failed}
 use Rattle.hose_io.specs.declared.source.Source.{Ghosts}
@@ -27,6 +26,7 @@ use Rattle.hose_words.proofs.OnReading.{WhereTold-map}
 use Rattle.hose_offline.specs.ServingOnDisk.{HasServedInCabinet, IsNotServed, ServesInCabinet, first_of}
 use Rattle.hose_offline.specs.declared.fault.Fault.{Fault}
 use Rattle.hose_offline.specs.declared.fault.Fault.TheVariants as fault
+use Rattle.hose_offline.proofs.Borrowed.{IsBehind, content_behind, held_behind, rose_behind}
 use Rattle.hose_offline.proofs.OneRun.{OneText}
 use Rattle.hose_offline.proofs.Running.{never_told, ran, text_read}
 
@@ -85,17 +85,11 @@ module _ (prices : Network → Network → Type 0) {S O C E : Type 0} (source : 
 
     not_served : (done : Result ⊤ Fault) → last ≡ middle → output' ≡ output → IsNotServed cabinet disk name place place' network done → Leaves (Some name) place' done
     not_served (Ok tt) stays same why = absurd why
-    not_served (Err (fault.Words word)) stays same why = absurd why
-    not_served (Err (fault.Topology refusal)) stays same why = absurd why
-    not_served (Err fault.Read) stays same why = absurd why
-    not_served (Err fault.Write) stays same why = absurd why
-    not_served (Err fault.TooLong) stays same why = absurd why
-    not_served (Err fault.Door) stays same why = absurd why
-    not_served (Err (fault.Packet byte)) stays same why = absurd why
     not_served (Err (fault.Other kept given)) stays same why = (has_read _ stays why, input_held stays, same)
     not_served (Err (fault.Damaged at)) stays same why = (has_read _ stays why, input_held stays, same)
     not_served (Err fault.Cabinet) stays same why = (inl (has_read _ stays why.0, input_held stays, same), why.1)
     not_served (Err fault.Memory) stays same why = (inr (inr (has_read _ stays why)), input_held stays, same)
+    not_served (Err another) stays same why = absurd why
 
     pub leaves_in_cabinet : (done : Result ⊤ Fault) → ReadsOn source middle last → ServesInCabinet source sink cabinet disk name middle last output output' place place' network done → Leaves (Some name) place' done
     leaves_in_cabinet done more (inl (why, stays, same)) = not_served done stays same why
@@ -103,21 +97,16 @@ module _ (prices : Network → Network → Type 0) {S O C E : Type 0} (source : 
 
 -- ---- an input behind a borrow
 
-pub frame_behind : (frame other : Frame) (name one : GName) → record frame { loan = name ∷ frame.loan } ≡ record other { loan = one ∷ other.loan } → frame ≡ other
-frame_behind frame other name one same = ap (λ (f : Frame). record { faults = f.faults; number = f.number; loan = drop 1 f.loan }) same
-
 module _ (prices : Network → Network → Type 0) {T O C E : Type 0} (other : Ghosts T) (source : Ghosts (MutBor T)) (sink : SinkGhosts O) (cabinet : CabinetGhosts C E) (disk : DiskGhosts E) (journal : Option (List ℕ)) (input input' : MutBor T) (behind : T) (output output' : O) (place place' : C)
-    (content : (b : MutBor T) → source.content b ≡ other.content b.now) (frame : (b : MutBor T) → source.frame b ≡ record (other.frame b.now) { loan = b.ghost_name ∷ (other.frame b.now).loan })
-    (back : input'.now ≡ behind) where
+    (is : IsBehind other source input' behind) where
   moved : (P : Option Stream → Option Stream → Type 0) → P (source.content input) (source.content input') → P (other.content input.now) (other.content behind)
-  moved P is = subst (λ (now : Option Stream). P (other.content input.now) now) (content input' ∙ ap other.content back) (subst (λ (was : Option Stream). P was (source.content input')) (content input) is)
+  moved P holds = content_behind other source input input' behind is P holds
 
   held : source.frame input' ≡ source.frame input → other.frame behind ≡ other.frame input.now
-  held same = ap other.frame (sym back) ∙ frame_behind (other.frame input'.now) (other.frame input.now) input'.ghost_name input.ghost_name (sym (frame input') ∙ (same ∙ frame input))
+  held same = held_behind other source input input' behind is same
 
   rose : Rose (source.frame input) (source.frame input') → Rose (other.frame input.now) (other.frame behind)
-  rose more = subst (λ (b : T). Rose (other.frame input.now) (other.frame b)) back
-      (record { rose = (subst (λ (f : Frame). Rose f (record (other.frame input'.now) { loan = input'.ghost_name ∷ (other.frame input'.now).loan })) (frame input) (subst (λ (f : Frame). Rose (source.frame input) f) (frame input') more)).rose })
+  rose more = rose_behind other source input input' behind is more
 
   moved_read : (Is : Network → Type 0) → HasNetwork Lines prices (source.content input) (source.content input') Is → HasNetwork Lines prices (other.content input.now) (other.content behind) Is
   moved_read Is read = moved (λ was now. HasNetwork Lines prices was now Is) read
@@ -127,7 +116,7 @@ module _ (prices : Network → Network → Type 0) {T O C E : Type 0} (other : G
   moved_broken why (inr run) = inr (run.0, moved (λ was now. IsRunUpTo prices (keeping_of cabinet disk place place' journal run.0) why was now (sink.content output) (sink.content output')) run.1, run.2)
 
   moved_starved : IsStarved prices source sink cabinet disk journal input input' output output' place place' → IsStarved prices other sink cabinet disk journal input.now behind output output' place place'
-  moved_starved (inl none) = inl (sym back ∙ ap (λ (b : MutBor T). b.now) none.0, none.1, none.2)
+  moved_starved (inl none) = inl (sym is.back ∙ ap (λ (b : MutBor T). b.now) none.0, none.1, none.2)
   moved_starved (inr (inl text)) = inr (inl (moved (HasText Lines) text.0, text.1))
   moved_starved (inr (inr read)) = inr (inr (moved_read _ read))
 
@@ -137,7 +126,6 @@ module _ (prices : Network → Network → Type 0) {T O C E : Type 0} (other : G
 
   left_behind : (done : Result ⊤ Fault) → RunLeaves prices source sink cabinet disk journal input input' output output' place place' done → RunLeaves prices other sink cabinet disk journal input.now behind output output' place place' done
   left_behind (Ok done) leaves = (moved_run (Ok tt) leaves.0, held leaves.1, leaves.2)
-  left_behind (Err (fault.Words word)) leaves = absurd leaves
   left_behind (Err (fault.Topology refusal)) leaves = (moved (λ was now. TellsNoNetwork Lines refusal was now) leaves.0, held leaves.1, leaves.2, leaves.3)
   left_behind (Err fault.Read) leaves = (moved_broken line.Read leaves.0, rose leaves.1)
   left_behind (Err fault.Write) leaves =
@@ -148,8 +136,7 @@ module _ (prices : Network → Network → Type 0) {T O C E : Type 0} (other : G
   left_behind (Err fault.Cabinet) (inr run, failed) = (inr (run.0, run.1, moved_run (Err run.1) run.2, held run.3, run.4), failed)
   left_behind (Err fault.Memory) leaves = (moved_starved leaves.0, held leaves.1, leaves.2)
   left_behind (Err fault.TooLong) leaves = (moved_broken line.TooLong leaves.0, held leaves.1)
-  left_behind (Err fault.Door) leaves = absurd leaves
-  left_behind (Err (fault.Packet byte)) leaves = absurd leaves
+  left_behind (Err another) leaves = absurd leaves
 
   -- what is left of the borrow is left of what is behind it
   pub leaves_behind : (before : T) → input.now ≡ before → (done : Result ⊤ Fault) → RunLeaves prices source sink cabinet disk journal input input' output output' place place' done → RunLeaves prices other sink cabinet disk journal before behind output output' place place' done

@@ -1,7 +1,9 @@
 mod Answered
 pub mod Audited
 pub mod Audits
+mod Borrowed
 mod EndsFound
+pub mod Exchanges
 mod FollowEnds
 mod Followed
 mod GenOutcomes
@@ -20,7 +22,5 @@ pub mod PutBack
 pub mod Running
 mod Sheets
 mod ShipEnds
-mod Tallies
+mod Taken
 pub mod Texts
-pub mod Turns
-mod Unused

@@ -3,6 +3,7 @@ use Rattle.std.proofs.Common.{◌≡◌, ◌∙◌, ℕ, ◌+◌, ◌^◌, ◌<�
 use Rattle.std.specs.List.{All}
 use Rattle.std.proofs.lemmas.List.{length_push, map-append}
 use Rattle.std.proofs.lemmas.List.Elements.{All-nil, All-push, All-tail}
+use Rattle.std.proofs.lemmas.List.Sums.{sum_by_push}
 use Rattle.hose_io.proofs.Frames.{Stays-none}
 use Rattle.hose_graph.specs.declared.entry.Entry.{Entry}
 use Rattle.hose_graph.specs.declared.command.Reply.{Reply}
@@ -23,11 +24,15 @@ use Rattle.hose_gen.specs.Generated.{Order, generated_network, generated_script}
 use Rattle.hose_offline.specs.GenOutcome.{IsSummary}
 use Rattle.hose_offline.specs.Generating.{HaveBeenAnswered, IsScriptOf, IsTallyOf, asked}
 use Rattle.hose_offline.specs.Serving.{AnswersLine, plain_books}
-use Rattle.hose_offline.specs.Tally.{IsOfUpTo, tally_line, tally_of, with_reply}
+use Rattle.hose_offline.specs.Tally.{IsOfUpTo, admitted_cost, one_if_admitted, one_if_refused, one_if_released, tally_line, tally_of, with_reply}
 use Rattle.hose_offline.specs.declared.tally.Tally.{Tally}
 use Rattle.hose_offline.proofs.Running.{never_told}
-use Rattle.hose_offline.proofs.Tallies.{tally_push}
-use Rattle.hose_offline.proofs.Turns.{Answered, answered_more}
+use Rattle.hose_offline.proofs.Exchanges.{Answered, answered_more}
+
+-- one reply more
+tally_push : (replies : List Reply) (reply : Reply) (epoch : ℕ) → with_reply (tally_of replies epoch) reply ≡ tally_of (replies ++ reply ∷ []) epoch
+tally_push replies reply epoch =
+    rw (sum_by_push one_if_admitted replies reply, sum_by_push one_if_refused replies reply, sum_by_push one_if_released replies reply, sum_by_push admitted_cost replies reply) refl
 
 module _ {K R : Type 0} (books : BooksGhosts K R) (first : State K) where
   -- none was answered yet

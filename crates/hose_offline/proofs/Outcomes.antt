@@ -1,5 +1,5 @@
 -- What the top call makes of a run.
-use Rattle.std.proofs.Common.{◌≡◌, ◌⊎◌, ◌∙◌, ℕ, ◌<◌, ◌≤◌, List, ◌∷◌, [], ◌++◌, Option, None, Some, IfSome, IsSome, MatchOption, Result, Ok, Err, inl, inr, refl, sym, ap, subst, arith, length, length-append}
+use Rattle.std.proofs.Common.{◌≡◌, ◌⊎◌, ℕ, ◌<◌, ◌≤◌, List, ◌∷◌, [], ◌++◌, Option, None, Some, IfSome, IsSome, MatchOption, Result, Ok, Err, inl, inr, refl, ap, subst, arith, length, length-append}
 use Rattle.std.specs.Prelude.{⊤}
 use Rattle.hose_io.specs.Frame.{Stays}
 use Rattle.hose_io.specs.Stream.{Stream, Gives}
@@ -31,7 +31,7 @@ use Rattle.hose_offline.specs.declared.fault.Fault.{Fault}
 use Rattle.hose_offline.specs.declared.notation.Notation.{Notation}
 use Rattle.hose_offline.specs.declared.notation.Notation.TheVariants.{Lines}
 use Rattle.hose_offline.specs.declared.notation.Refusal.{Refusal}
-use Rattle.hose_offline.specs.declared.fault.Fault.TheVariants.{Words, Topology, Read, Write, Other, Damaged, Cabinet, Memory, TooLong, Door, Packet}
+use Rattle.hose_offline.specs.declared.fault.Fault.TheVariants.{Words, Topology, Read, Write, Other, Damaged, Cabinet, Memory, TooLong}
 
 -- a text that was put is out, or a part of it
 pub out_from_put : {O T : Type 0} (sink : SinkGhosts O) (was now : O) (text : List ℕ) (result : Result T Failed) → IsPut sink was now text result → IsOut sink was now text
@@ -41,17 +41,8 @@ out_from_put sink was now text (Err failed) put = inr (put.met.failed refl, put.
 -- the status of an input that is too long
 pub too_long_at_8 : {T : Type 0} (done : Result T Fault) → status_of_done done ≡ 8 → done ≡ Err TooLong
 too_long_at_8 (Ok _) is = absurd (omega (arith, is))
-too_long_at_8 (Err (Words word)) is = absurd (omega (arith, is))
-too_long_at_8 (Err (Topology refusal)) is = absurd (omega (arith, is))
-too_long_at_8 (Err Read) is = absurd (omega (arith, is))
-too_long_at_8 (Err Write) is = absurd (omega (arith, is))
-too_long_at_8 (Err (Other old given)) is = absurd (omega (arith, is))
-too_long_at_8 (Err (Damaged at)) is = absurd (omega (arith, is))
-too_long_at_8 (Err Cabinet) is = absurd (omega (arith, is))
-too_long_at_8 (Err Memory) is = absurd (omega (arith, is))
 too_long_at_8 (Err TooLong) is = refl
-too_long_at_8 (Err Door) is = absurd (omega (arith, is))
-too_long_at_8 (Err (Packet byte)) is = absurd (omega (arith, is))
+too_long_at_8 (Err another) is = absurd (omega (arith, is))
 
 -- ---- a command is not refused for its words
 
@@ -59,16 +50,7 @@ pub run_not_1 : {I O C E : Type 0} (prices : Network → Network → Type 0) (so
     (done : Result ⊤ Fault) → RunLeaves prices source sink cabinet disk journal input input' output left place place' done → status_of_done done ≡ 1 → ⊥
 run_not_1 prices source sink cabinet disk journal input input' output left place place' (Ok _) leaves is = omega (arith, is)
 run_not_1 prices source sink cabinet disk journal input input' output left place place' (Err (Words word)) leaves is = leaves
-run_not_1 prices source sink cabinet disk journal input input' output left place place' (Err (Topology refusal)) leaves is = omega (arith, is)
-run_not_1 prices source sink cabinet disk journal input input' output left place place' (Err Read) leaves is = omega (arith, is)
-run_not_1 prices source sink cabinet disk journal input input' output left place place' (Err Write) leaves is = omega (arith, is)
-run_not_1 prices source sink cabinet disk journal input input' output left place place' (Err (Other old given)) leaves is = omega (arith, is)
-run_not_1 prices source sink cabinet disk journal input input' output left place place' (Err (Damaged at)) leaves is = omega (arith, is)
-run_not_1 prices source sink cabinet disk journal input input' output left place place' (Err Cabinet) leaves is = omega (arith, is)
-run_not_1 prices source sink cabinet disk journal input input' output left place place' (Err Memory) leaves is = omega (arith, is)
-run_not_1 prices source sink cabinet disk journal input input' output left place place' (Err TooLong) leaves is = omega (arith, is)
-run_not_1 prices source sink cabinet disk journal input input' output left place place' (Err Door) leaves is = leaves
-run_not_1 prices source sink cabinet disk journal input input' output left place place' (Err (Packet byte)) leaves is = leaves
+run_not_1 prices source sink cabinet disk journal input input' output left place place' (Err another) leaves is = omega (arith, is)
 
 -- ---- an input that can be served
 
@@ -120,14 +102,11 @@ of_run prices keeping (Some old) None bytes network lines replies stops Is gives
 of_run prices keeping None new bytes network lines replies stops Is gives run all = absurd all
 
 module _ {C E : Type 0} (cabinet : CabinetGhosts C E) (disk : DiskGhosts E) (old new : C) where
-  some_is : (A : Type 0) (a b : A) → Some a ≡ Some b → a ≡ b
-  some_is A a b same = cc same
-
   -- what a journal was read as, and what it was told to be
   pub clash : (name : List ℕ) (P Q : List ℕ → Type 0) → ((bytes : List ℕ) → P bytes → Q bytes → ⊥) → HadContent cabinet disk old new name P → JournalIsTold cabinet disk old new (Some name) Q → ⊥
   clash name P Q apart held told =
       let found = held told.0 in
-      let same : found.0 ≡ told.1 = some_is E found.0 told.1 (sym found.1 ∙ told.2) in
+      let same : found.0 ≡ told.1 = cc (found.1, told.2) in
       let is = subst (λ (disk_was : E). IfSome (disk.content disk_was) P) same found.2 in
       let bytes = subst (λ (content : Option (List ℕ)). IfSome content P) told.4 is in
       apart told.3 bytes told.5
@@ -147,7 +126,6 @@ module _ (prices : Network → Network → Type 0) {I O C E : Type 0} (source : 
   pub refused_ends : (done : Result ⊤ Fault) → Leaves done → IsRefusedText Lines (source.content input) (source.content input')
       → EndsInputRefused prices source sink cabinet disk journal input input' output output' place place' (status_of_done done)
   refused_ends (Ok _) leaves refused = absurd (no_run prices _ _ _ leaves.0.network leaves.0.lines leaves.0.replies IsAllTaken refused leaves.0.run)
-  refused_ends (Err (Words word)) leaves refused = absurd leaves
   refused_ends (Err (Topology refusal)) leaves refused = inl refl
   refused_ends (Err Memory) (inl none, held, same) refused = inr (inl (refl, none.0))
   refused_ends (Err Memory) (inr (inl text), held, same) refused = absurd (no_text Lines _ _ refused text.0)
@@ -159,8 +137,7 @@ module _ (prices : Network → Network → Type 0) {I O C E : Type 0} (source : 
   refused_ends (Err Cabinet) (inr run, rose) refused = absurd (no_run prices _ _ _ run.2.network run.2.lines run.2.replies IsAllTaken refused run.2.run)
   refused_ends (Err Read) leaves refused = inr (inr (inl (refl, stops_refused line.Read refused leaves.0)))
   refused_ends (Err TooLong) leaves refused = inr (inr (inr (refl, stops_refused line.TooLong refused leaves.0)))
-  refused_ends (Err Door) leaves refused = absurd leaves
-  refused_ends (Err (Packet byte)) leaves refused = absurd leaves
+  refused_ends (Err another) leaves refused = absurd leaves
 
   module _ (stays : Stays (sink.frame left) (sink.frame output')) (bytes : List ℕ) (gives : Gives (source.content input) (source.content input') bytes)
       (servable : IsServable Lines (source.content input)) (held : NothingFailed prices source sink cabinet disk journal input input' output output' place place') where
@@ -180,7 +157,6 @@ module _ (prices : Network → Network → Type 0) {I O C E : Type 0} (source : 
     pub completes : (done : Result ⊤ Fault) → Leaves done → (done ≡ Err TooLong → INPUT_LIMIT < length bytes) → Told (λ network image. (history : List Entry) × IsHistoryOf network history image)
         → (status_of_done done ≡ 0) ⊎ (status_of_done done ≡ 7)
     completes (Ok _) leaves long told = inl refl
-    completes (Err (Words word)) leaves long told = absurd leaves
     completes (Err (Topology refusal)) leaves long told = absurd (not_refused Lines refusal _ _ bytes gives servable leaves.0)
     completes (Err Read) leaves long told = absurd (held.reading leaves.1)
     completes (Err Write) leaves long told = absurd (held.writing (Rose-before _ _ _ leaves.2 stays))
@@ -189,8 +165,7 @@ module _ (prices : Network → Network → Type 0) {I O C E : Type 0} (source : 
     completes (Err Cabinet) leaves long told = absurd (held.keeping_it leaves.1)
     completes (Err Memory) leaves long told = inr refl
     completes (Err TooLong) leaves long told = absurd (not_long Lines _ _ bytes gives servable (long refl))
-    completes (Err Door) leaves long told = absurd leaves
-    completes (Err (Packet byte)) leaves long told = absurd leaves
+    completes (Err another) leaves long told = absurd leaves
 
     -- no run is over a journal that stands for no history
     no_such_run : (closing : Result ⊤ Failed) → IsSome journal → IsRun prices (keeping_of cabinet disk place place' journal closing) (source.content input) (source.content input') (sink.content output) (sink.content left)
@@ -204,7 +179,6 @@ module _ (prices : Network → Network → Type 0) {I O C E : Type 0} (source : 
     pub refuses : (done : Result ⊤ Fault) → Leaves done → (done ≡ Err TooLong → INPUT_LIMIT < length bytes) → IsSome journal → Told (λ network image. (history : List Entry) → ¬ IsHistoryOf network history image)
         → (status_of_done done ≡ 5) ⊎ (status_of_done done ≡ 7)
     refuses (Ok _) leaves long some told = absurd (no_such_run (Ok tt) some leaves.0 told)
-    refuses (Err (Words word)) leaves long some told = absurd leaves
     refuses (Err (Topology refusal)) leaves long some told = absurd (not_refused Lines refusal _ _ bytes gives servable leaves.0)
     refuses (Err Read) leaves long some told = absurd (held.reading leaves.1)
     refuses (Err Write) leaves long some told = absurd (held.writing (Rose-before _ _ _ leaves.2 stays))
@@ -213,5 +187,4 @@ module _ (prices : Network → Network → Type 0) {I O C E : Type 0} (source : 
     refuses (Err Cabinet) leaves long some told = absurd (held.keeping_it leaves.1)
     refuses (Err Memory) leaves long some told = inr refl
     refuses (Err TooLong) leaves long some told = absurd (not_long Lines _ _ bytes gives servable (long refl))
-    refuses (Err Door) leaves long some told = absurd leaves
-    refuses (Err (Packet byte)) leaves long some told = absurd leaves
+    refuses (Err another) leaves long some told = absurd leaves

@@ -6,65 +6,31 @@ use Rattle.hose_graph.specs.Network.{Network}
 use Rattle.hose_disk.specs.declared.cabinet.Cabinet.{Ghosts as CabinetGhosts}
 use Rattle.hose_offline.specs.Auditing.{ReadsTopology}
 use Rattle.hose_offline.specs.ProveOutcome.{IsNoHose, ProvesNamed, ProvesWords}
+use Rattle.hose_offline.specs.TopologyTold.{notation_of}
 use Rattle.hose_offline.specs.declared.fault.Fault.{Fault}
 use Rattle.hose_offline.specs.declared.fault.Fault.TheVariants as fault
+use Rattle.hose_offline.proofs.Taken.{text_failed, text_then}
 
 module _ (words : List (List ℕ)) (first : ℕ) (network : Network) {O : Type 0} (sink : SinkGhosts O) (output output' : O) where
   no_hose_long : (why : Fault) → IsNoHose words first network why → why ≡ fault.TooLong → ⊥
   no_hose_long (fault.Words word) none is = cc is
   no_hose_long fault.Memory none is = cc is
-  no_hose_long (fault.Topology refusal) none is = none
-  no_hose_long fault.Read none is = none
-  no_hose_long fault.Write none is = none
-  no_hose_long (fault.Other kept given) none is = none
-  no_hose_long (fault.Damaged at) none is = none
-  no_hose_long fault.Cabinet none is = none
-  no_hose_long fault.TooLong none is = none
-  no_hose_long fault.Door none is = none
-  no_hose_long (fault.Packet byte) none is = none
+  no_hose_long another none is = none
 
   -- on a network nothing is told to be too long
   never_long : (result : Result ⊤ Fault) → ProvesWords words first network sink output output' result → result ≡ Err fault.TooLong → ⊥
   never_long (Ok value) proves is = cc is
   never_long (Err fault.TooLong) (inl (hose, are, puts)) is = puts
-  never_long (Err (fault.Words word)) (inl (hose, are, puts)) is = cc is
-  never_long (Err fault.Memory) (inl (hose, are, puts)) is = cc is
-  never_long (Err (fault.Topology refusal)) (inl (hose, are, puts)) is = cc is
-  never_long (Err fault.Read) (inl (hose, are, puts)) is = cc is
-  never_long (Err fault.Write) (inl (hose, are, puts)) is = cc is
-  never_long (Err (fault.Other kept given)) (inl (hose, are, puts)) is = cc is
-  never_long (Err (fault.Damaged at)) (inl (hose, are, puts)) is = cc is
-  never_long (Err fault.Cabinet) (inl (hose, are, puts)) is = cc is
-  never_long (Err fault.Door) (inl (hose, are, puts)) is = cc is
-  never_long (Err (fault.Packet byte)) (inl (hose, are, puts)) is = cc is
   never_long (Err why) (inr (other, same, none, held)) is = no_hose_long other none (cc (same, is))
+  never_long (Err another) (inl (hose, are, puts)) is = cc is
 
 module _ (prices : Network → Network → Type 0) (words : List (List ℕ)) (first : ℕ) {O C E : Type 0} (sink : SinkGhosts O) (cabinet : CabinetGhosts C E) (topology : List ℕ) (output : O) (old new : C) where
   -- no topology was read
   pub proved_none : (why : Fault) → ReadsTopology cabinet old new prices topology (Err why) → ProvesNamed prices words first sink cabinet topology output output old new (Err why)
-  proved_none why reads = record {
-    left = reads.left;
-    taken = reads.taken;
-    gives = reads.gives;
-    limit = reads.limit;
-    too_long = ((λ is. reads.too_long.0 (cc is)), λ long. cc (reads.too_long.1 long));
-    leaves = inr (refl, (why, refl, reads.text));
-    only_texts = reads.only_texts;
-    not_there = λ told none. cc (reads.not_there told none);
-    absent = reads.absent;
-  }
+  proved_none why reads = text_failed cabinet old new topology _ _ (notation_of topology) why reads (inr (refl, (why, refl, reads.text)))
 
   -- one was read, and then the words were taken as endpoints of its network
   pub proved_then : (output' : O) (network : Network) (result : Result ⊤ Fault) → ReadsTopology cabinet old new prices topology (Ok network) → ProvesWords words first network sink output output' result
       → ProvesNamed prices words first sink cabinet topology output output' old new result
-  proved_then output' network result reads proves = record {
-    left = reads.left;
-    taken = reads.taken;
-    gives = reads.gives;
-    limit = reads.limit;
-    too_long = ((λ is. absurd (never_long words first network sink output output' result proves is)), λ long. absurd (cc (reads.too_long.1 long)));
-    leaves = inl (record { network = network; text = reads.text.2; is = proves }, reads.text.1);
-    only_texts = reads.only_texts;
-    not_there = λ told none. absurd (cc (reads.not_there told none));
-    absent = reads.absent;
-  }
+  proved_then output' network result reads proves = text_then cabinet old new topology _ _ (notation_of topology) network result reads (never_long words first network sink output output' result proves)
+      (inl (record { network = network; text = reads.text.2; is = proves }, reads.text.1))

@@ -22,14 +22,12 @@ use Rattle.hose_offline.specs.ServingOnDisk.{IsNotOpened, IsNotServed, Refuses}
 use Rattle.hose_offline.specs.declared.fault.Fault.{Fault}
 use Rattle.hose_offline.specs.declared.fault.Fault.TheVariants as fault
 
-some_is : (A : Type 0) (a b : A) → Some a ≡ Some b → a ≡ b
-some_is A a b same = cc same
-
 has_both : {A : Type 0} (tells : Bool) (found : Option A) (P Q : A → Type 0) → Has tells found P → Has tells found Q → Has tells found (λ value. P value × Q value)
 has_both {A} tells found P Q p q = λ told.
     let one = p told in
     let two = q told in
-    (one.0, one.1, (one.2, subst Q (some_is A two.0 one.0 (sym two.1 ∙ one.1)) two.2))
+    let same : two.0 ≡ one.0 = cc (two.1, one.1) in
+    (one.0, one.1, (one.2, subst Q same two.2))
 
 has_weaker : {A : Type 0} (tells : Bool) (found : Option A) (P Q : A → Type 0) → ((value : A) → P value → Q value) → Has tells found P → Has tells found Q
 has_weaker tells found P Q weaker p = λ told.
@@ -139,17 +137,11 @@ module _ {C E : Type 0} (cabinet : CabinetGhosts C E) (disk : DiskGhosts E) (nam
   -- no store was opened
   pub not_served : (done : Result ⊤ Fault) → IsNotOpened disk opened left network done → IsNotServed cabinet disk name old new network done
   not_served (Ok done) not = absurd not.why
-  not_served (Err (fault.Words word)) not = absurd not.why
-  not_served (Err (fault.Topology refusal)) not = absurd not.why
-  not_served (Err fault.Read) not = absurd not.why
-  not_served (Err fault.Write) not = absurd not.why
-  not_served (Err fault.TooLong) not = absurd not.why
-  not_served (Err fault.Door) not = absurd not.why
-  not_served (Err (fault.Packet byte)) not = absurd not.why
   not_served (Err (fault.Other old_one given)) not = (not.why.0, refuses (other old_one) (unopened not.images) not.why.1)
   not_served (Err (fault.Damaged at)) not = refuses (damaged at) (unopened not.images) not.why
   not_served (Err fault.Cabinet) not = (unopened not.images, risen not.why)
   not_served (Err fault.Memory) not = unopened not.images
+  not_served (Err another) not = absurd not.why
 
   -- what was so of the disk when it was opened was so when the cabinet held it
   had_before : (Kind : EntryKind) (since history : List Entry) (closing : Result ⊤ Failed) (was : E) → TakenFrom was → HasLeft disk Kind (disk.may_leave opened) (opening_of disk network since opened) history left closing

@@ -1,4 +1,4 @@
--- A run as a whole, from its topology and the turns behind it.
+-- A run as a whole, from its topology and the exchanges behind it.
 use Rattle.std.proofs.Common.{◌≡◌, ◌≢◌, ◌∙◌, ℕ, List, [], ◌∷◌, ◌++◌, length, Option, Some, None, Result, Ok, Err, inl, inr, refl, ap, subst, arith}
 use Rattle.std.specs.Prelude.{⊤}
 use Rattle.std.proofs.lemmas.List.Elements.{All-cons, All-nil}
@@ -158,7 +158,7 @@ pub leaves_topology : {S O C E : Type 0} (T : Type 0) (prices : Network → Netw
     → ((line word : ℕ) → topology ≡ At line word → TellsNoNetwork Lines (Word line word) (source.content start.source) (source.content last.source))
     → ((fault : LineFault) → topology ≡ fault_of fault → WhereTold (source.content start.source) (source.content last.source) (StopsInTopology fault))
     → (topology ≡ Read → Rose (source.frame start.source) (source.frame last.source)) → ((topology ≡ Read → ⊥) → source.frame last.source ≡ source.frame start.source)
-    → (topology ≡ TopoMemory → last ≡ start) → RunLeaves prices source sink cabinet disk journal start.source last.source output output place place {T = T} (Err (of_topology topology))
+    → (topology ≡ TopoMemory → last ≡ start) → RunLeaves prices source sink cabinet disk journal start.source last.source output output place place {T = T} (Err (of_topology fault.Read topology))
 leaves_topology T prices source sink cabinet disk journal start last output place (At line word) wrong stopped read unfailed memory = (wrong line word refl, unfailed (λ is. absurd (cc is)), refl, refl)
 leaves_topology T prices source sink cabinet disk journal start last output place Read wrong stopped read unfailed memory = (inl (stopped line.Read refl, refl, refl), read refl)
 leaves_topology T prices source sink cabinet disk journal start last output place TooLong wrong stopped read unfailed memory = (inl (stopped line.TooLong refl, refl, refl), unfailed (λ is. absurd (cc is)))
@@ -224,17 +224,10 @@ module _ (prices : Network → Network → Type 0) {S O : Type 0} (source : Ghos
         (run_of prices keeping (source.content start.source) (source.content last.source) network served.0.lines served.0.replies (sink.content output) (sink.content output') is
         (has_run prices source books keeping start middle last told network priced since first now begun keeps is IsAllTaken _ empty text reads (whatever_before (IsAllTaken [])) served.0) (one_input served.3) served.0.out)
         (held_over (λ read. absurd (cc (served.1, read)))) served.2
-    ran P to_end at_read at_too_long at_write (Err (fault.Words word)) served = absurd served
-    ran P to_end at_read at_too_long at_write (Err (fault.Topology refusal)) served = absurd served
-    ran P to_end at_read at_too_long at_write (Err fault.Memory) served = absurd served
-    ran P to_end at_read at_too_long at_write (Err (fault.Other kept given)) served = absurd served
-    ran P to_end at_read at_too_long at_write (Err (fault.Damaged at)) served = absurd served
-    ran P to_end at_read at_too_long at_write (Err fault.Cabinet) served = absurd served
-    ran P to_end at_read at_too_long at_write (Err fault.Door) served = absurd served
-    ran P to_end at_read at_too_long at_write (Err (fault.Packet byte)) served = absurd served
     ran P to_end at_read at_too_long at_write (Err fault.Read) served = at_read (run_until line.Read served.0) served.0.held (rw held_before at served.1)
     ran P to_end at_read at_too_long at_write (Err fault.TooLong) served = at_too_long (run_until line.TooLong served) served.held (held_over (λ read. absurd (cc (served.kept, read))))
     ran P to_end at_read at_too_long at_write (Err fault.Write) served = at_write
         (cut_of prices keeping (source.content start.source) (source.content last.source) network served.0.lines served.0.replies (sink.content output) (sink.content output')
         (has_run prices source books keeping start middle last told network priced since first now begun keeps is IsLeftOver _ empty text reads (whatever_before (IsLeftOver [])) served.0) served.0.out)
         (held_over (λ read. absurd (cc (served.1, read)))) served.2
+    ran P to_end at_read at_too_long at_write (Err another) served = absurd served

@@ -1,8 +1,7 @@
 -- Lines of a sheet, one after another.
-use Rattle.std.proofs.Common.{◌≡◌, ◌∙◌, ℕ, ◌≤◌, List, [], ◌∷◌, ◌++◌, Option, None, Some, Result, Ok, Err, false, refl, sym, ap, subst, arith, length, drop, get_or, map, take, ◌-◌}
+use Rattle.std.proofs.Common.{◌≡◌, ◌∙◌, ℕ, ◌≤◌, List, [], ◌∷◌, ◌++◌, None, Some, Result, Ok, Err, false, refl, sym, ap, subst, arith, length, drop, get_or, map, take, ◌-◌}
 use Rattle.std.proofs.lemmas.List.{take_rest}
-use Rattle.hose_io.specs.Frame.{Frame, Rose}
-use Rattle.hose_io.specs.Stream.{Grows, Stream}
+use Rattle.hose_io.specs.Stream.{Grows}
 use Rattle.hose_io.specs.Writing.{GrowsInPart}
 use Rattle.hose_io.proofs.Streams.{Grows-nil, Grows-append}
 use Rattle.hose_io.specs.declared.sink.Sink.{Ghosts as SinkGhosts}
@@ -25,7 +24,7 @@ use Rattle.hose_price.specs.declared.priced.Price.{Price}
 use Rattle.hose_proto.specs.ReplyText.{line_of}
 use Rattle.hose_offline.specs.Fault.{of_line}
 use Rattle.std.specs.Borrow.{MutBor}
-use Rattle.hose_offline.proofs.Leaving.{frame_behind}
+use Rattle.hose_offline.proofs.Borrowed.{IsBehind, content_behind, held_behind, rose_behind}
 use Rattle.hose_offline.specs.PriceOutcome.{AnswersInput, HasAnswered}
 use Rattle.hose_offline.specs.Pricing.{AllOut, AnswersNext, HasPriced, LastCut, PricesAll, PricesLine, PricesUntil, PricesUpTo, TakesAnswer}
 use Rattle.hose_offline.specs.SheetLine.{AnswersSheet, IsPricing, PricesHose, answer_text, answers_text, price_words, prices_words, sheet_form}
@@ -136,17 +135,10 @@ module _ (sheet : Sheet) (names : List (List ℕ)) {S O : Type 0} (source : Ghos
 
       -- a fault ends it
       pub prices_fault : (T : Type 0) (why : Fault) → PricesLine sheet names source sink now new middle last (Err why) → PricesAll sheet names source sink {T = T} start new first last (Err why)
-      prices_fault T (fault.Words word) line = absurd line
-      prices_fault T (fault.Topology refusal) line = absurd line
-      prices_fault T fault.Memory line = absurd line
-      prices_fault T (fault.Other old given) line = absurd line
-      prices_fault T (fault.Damaged at) line = absurd line
-      prices_fault T fault.Cabinet line = absurd line
-      prices_fault T fault.Door line = absurd line
-      prices_fault T (fault.Packet byte) line = absurd line
       prices_fault T fault.Read line = (until line_fault.Read line.0 line.2, rw source_held at line.1)
       prices_fault T fault.TooLong line = until line_fault.TooLong line.0 line.1
       prices_fault T fault.Write line = (priced_cut line.0, line.1, rw held at line.2)
+      prices_fault T another line = absurd line
 
       -- no line is left
       pub prices_all : (T : Type 0) (value : T) → PricesLine sheet names source sink now new middle last (Ok false) → PricesAll sheet names source sink start new first last (Ok value)
@@ -173,33 +165,14 @@ module _ (sheet : Sheet) (names : List (List ℕ)) {S O : Type 0} (source : Ghos
     pub answers_input : (T : Type 0) (result : Result T Fault) → PricesAll sheet names source sink start now first last result
         → AnswersInput sheet names (source.content start.source) (source.content now.source) (source.frame start.source) (source.frame now.source) sink first last result
     answers_input T (Ok value) all = (answered_from IsAllTaken (AllOut names sink first last) all.0, reads.unfailed (λ read. absurd (cc (all.1, read))), all.2)
-    answers_input T (Err (fault.Words word)) all = absurd all
-    answers_input T (Err (fault.Topology refusal)) all = absurd all
-    answers_input T (Err fault.Memory) all = absurd all
-    answers_input T (Err (fault.Other old given)) all = absurd all
-    answers_input T (Err (fault.Damaged at)) all = absurd all
-    answers_input T (Err fault.Cabinet) all = absurd all
-    answers_input T (Err fault.Door) all = absurd all
-    answers_input T (Err (fault.Packet byte)) all = absurd all
     answers_input T (Err fault.Read) all = (answered_from (StopsAfterLines line_fault.Read) (AllOut names sink first last) all.0.prices, all.1, all.0.held)
     answers_input T (Err fault.TooLong) all = (answered_from (StopsAfterLines line_fault.TooLong) (AllOut names sink first last) all.prices, reads.unfailed (λ read. absurd (cc (all.kept, read))), all.held)
     answers_input T (Err fault.Write) all = (answered_from IsLeftOver (LastCut names sink first last) all.0, reads.unfailed (λ read. absurd (cc (all.1, read))), all.2)
+    answers_input T (Err another) all = absurd all
 
 -- ---- an input behind a borrow
 
-module _ (sheet : Sheet) (names : List (List ℕ)) {T O : Type 0} (other : Ghosts T) (source : Ghosts (MutBor T)) (sink : SinkGhosts O) (input input' : MutBor T) (behind : T) (output output' : O)
-    (content : (b : MutBor T) → source.content b ≡ other.content b.now) (frame : (b : MutBor T) → source.frame b ≡ record (other.frame b.now) { loan = b.ghost_name ∷ (other.frame b.now).loan })
-    (back : input'.now ≡ behind) where
-  moved : (P : Option Stream → Option Stream → Type 0) → P (source.content input) (source.content input') → P (other.content input.now) (other.content behind)
-  moved P is = subst (λ (now : Option Stream). P (other.content input.now) now) (content input' ∙ ap other.content back) (subst (λ (was : Option Stream). P was (source.content input')) (content input) is)
-
-  held : source.frame input' ≡ source.frame input → other.frame behind ≡ other.frame input.now
-  held same = ap other.frame (sym back) ∙ frame_behind (other.frame input'.now) (other.frame input.now) input'.ghost_name input.ghost_name (sym (frame input') ∙ (same ∙ frame input))
-
-  rose : Rose (source.frame input) (source.frame input') → Rose (other.frame input.now) (other.frame behind)
-  rose more = subst (λ (b : T). Rose (other.frame input.now) (other.frame b)) back
-      (record { rose = (subst (λ (f : Frame). Rose f (record (other.frame input'.now) { loan = input'.ghost_name ∷ (other.frame input'.now).loan })) (frame input) (subst (λ (f : Frame). Rose (source.frame input) f) (frame input') more)).rose })
-
+module _ (sheet : Sheet) (names : List (List ℕ)) {T O : Type 0} (other : Ghosts T) (source : Ghosts (MutBor T)) (sink : SinkGhosts O) (input input' : MutBor T) (behind : T) (output output' : O) (is : IsBehind other source input' behind) where
   abbrev There : (List ℕ → List ℕ → List ℕ → Type 0) → (List SheetAnswer → Type 0) → Type 0
   There stops puts = HasAnswered sheet names (source.content input) (source.content input') (source.frame input) (source.frame input') sink output output' stops puts
 
@@ -209,30 +182,23 @@ module _ (sheet : Sheet) (names : List (List ℕ)) {T O : Type 0} (other : Ghost
   moved_answers : (stops : List ℕ → List ℕ → List ℕ → Type 0) (puts : List SheetAnswer → Type 0) → There stops puts → Here stops puts
   moved_answers stops puts has = record {
     answers = has.answers;
-    text = moved (λ was now. WhereTold was now (λ text left. (rest : List ℕ) × SayLines (AnswersNext sheet) text has.answers rest × stops text rest left)) has.text;
+    text = content_behind other source input input' behind is (λ was now. WhereTold was now (λ text left. (rest : List ℕ) × SayLines (AnswersNext sheet) text has.answers rest × stops text rest left)) has.text;
     out = has.out;
   }
 
   answers_there : (T' : Type 0) (result : Result T' Fault) → AnswersInput sheet names (source.content input) (source.content input') (source.frame input) (source.frame input') sink output output' result
       → AnswersInput sheet names (other.content input.now) (other.content behind) (other.frame input.now) (other.frame behind) sink output output' result
-  answers_there T' (Ok value) is = (moved_answers IsAllTaken (AllOut names sink output output') is.0, held is.1, is.2)
-  answers_there T' (Err (fault.Words word)) is = absurd is
-  answers_there T' (Err (fault.Topology refusal)) is = absurd is
-  answers_there T' (Err fault.Memory) is = absurd is
-  answers_there T' (Err (fault.Other kept given)) is = absurd is
-  answers_there T' (Err (fault.Damaged at)) is = absurd is
-  answers_there T' (Err fault.Cabinet) is = absurd is
-  answers_there T' (Err fault.Door) is = absurd is
-  answers_there T' (Err (fault.Packet byte)) is = absurd is
-  answers_there T' (Err fault.Read) is = (moved_answers (StopsAfterLines line_fault.Read) (AllOut names sink output output') is.0, rose is.1, is.2)
-  answers_there T' (Err fault.TooLong) is = (moved_answers (StopsAfterLines line_fault.TooLong) (AllOut names sink output output') is.0, held is.1, is.2)
-  answers_there T' (Err fault.Write) is = (moved_answers IsLeftOver (LastCut names sink output output') is.0, held is.1, is.2)
+  answers_there T' (Ok value) all = (moved_answers IsAllTaken (AllOut names sink output output') all.0, held_behind other source input input' behind is all.1, all.2)
+  answers_there T' (Err fault.Read) all = (moved_answers (StopsAfterLines line_fault.Read) (AllOut names sink output output') all.0, rose_behind other source input input' behind is all.1, all.2)
+  answers_there T' (Err fault.TooLong) all = (moved_answers (StopsAfterLines line_fault.TooLong) (AllOut names sink output output') all.0, held_behind other source input input' behind is all.1, all.2)
+  answers_there T' (Err fault.Write) all = (moved_answers IsLeftOver (LastCut names sink output output') all.0, held_behind other source input input' behind is all.1, all.2)
+  answers_there T' (Err why) all = absurd all
 
   -- what is left of the borrow is left of what is behind it
   pub answers_behind : (before : T) → input.now ≡ before → (T' : Type 0) (result : Result T' Fault) → AnswersInput sheet names (source.content input) (source.content input') (source.frame input) (source.frame input') sink output output' result
       → AnswersInput sheet names (other.content before) (other.content behind) (other.frame before) (other.frame behind) sink output output' result
-  answers_behind before begun T' result is =
-      subst (λ (was : T). AnswersInput sheet names (other.content was) (other.content behind) (other.frame was) (other.frame behind) sink output output' result) begun (answers_there T' result is)
+  answers_behind before begun T' result all =
+      subst (λ (was : T). AnswersInput sheet names (other.content was) (other.content behind) (other.frame was) (other.frame behind) sink output output' result) begun (answers_there T' result all)
 
 -- ---- how prices are written
 

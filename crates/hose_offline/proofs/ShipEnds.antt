@@ -1,7 +1,8 @@
 -- What shipping a journal stands for, from what was read, what was shipped and what was told.
-use Rattle.std.proofs.Common.{◌≡◌, ◌≢◌, ◌∙◌, ◌⊎◌, inl, inr, ℕ, zero, suc, ◌+◌, ◌-◌, ◌<◌, List, [], ◌∷◌, drop, Option, None, Some, IfSome, Result, Ok, Err, refl, sym, ap, subst, arith}
+use Rattle.std.proofs.Common.{◌≡◌, ◌∙◌, ◌⊎◌, inl, inr, ℕ, ◌-◌, List, [], Option, None, Some, IfSome, Result, Ok, Err, refl, sym, ap, subst, arith}
 use Rattle.std.specs.Prelude.{⊤}
-use Rattle.hose_io.specs.Frame.{Frame, Rose, Stays}
+use Rattle.std.proofs.Math.Seq.{drop-nil}
+use Rattle.hose_io.specs.Frame.{Stays}
 use Rattle.hose_io.specs.Stream.{Grows}
 use Rattle.hose_io.specs.declared.sink.Sink.{Ghosts as SinkGhosts}
 use Rattle.hose_io.proofs.Frames.{Rose-before}
@@ -41,12 +42,8 @@ use Rattle.hose_offline.proofs.PutBack.{IsPutBack, held_as, not_served}
 
 -- ---- in a cabinet
 
-drop_none : {X : Type 0} (n : ℕ) → drop {A = X} n [] ≡ []
-drop_none zero = refl
-drop_none (suc n) = refl
-
 none_out : (network : Network) (from : ℕ) (out : Option (List ℕ)) → Grows out out (packets_bytes (packets_from network from []))
-none_out network from out = subst (λ (packets : List Packet). Grows out out (packets_bytes packets)) (sym (drop_none (from - 1))) (Grows-nil out)
+none_out network from out = subst (λ (packets : List Packet). Grows out out (packets_bytes packets)) (sym (drop-nil (from - 1))) (Grows-nil out)
 
 -- what holds whatever is read holds, or this does
 outside : (A : Type 0) (P : List ℕ → Type 0) (content : Option (List ℕ)) → IfSome content (λ bytes. A ⊎ P bytes) → A ⊎ IfSome content P
@@ -110,22 +107,10 @@ module _ (prices : Network → Network → Type 0) {O C E : Type 0} (sink : Sink
   never_1_or_8 : (network : Network) (mid : O) (done : Result ⊤ Fault) → ShipsInCabinet sink cabinet disk journal from output mid place place' network done → (status_of_done done ≡ 1) ⊎ (status_of_done done ≡ 8) → ⊥
   never_1_or_8 network mid (Ok value) ships (inl is) = omega (arith, is)
   never_1_or_8 network mid (Ok value) ships (inr is) = omega (arith, is)
-  never_1_or_8 network mid (Err fault.Write) ships (inl is) = omega (arith, is)
-  never_1_or_8 network mid (Err fault.Write) ships (inr is) = omega (arith, is)
-  never_1_or_8 network mid (Err (fault.Other kept given)) ships (inl is) = omega (arith, is)
-  never_1_or_8 network mid (Err (fault.Other kept given)) ships (inr is) = omega (arith, is)
-  never_1_or_8 network mid (Err (fault.Damaged at)) ships (inl is) = omega (arith, is)
-  never_1_or_8 network mid (Err (fault.Damaged at)) ships (inr is) = omega (arith, is)
-  never_1_or_8 network mid (Err fault.Cabinet) ships (inl is) = omega (arith, is)
-  never_1_or_8 network mid (Err fault.Cabinet) ships (inr is) = omega (arith, is)
-  never_1_or_8 network mid (Err fault.Memory) ships (inl is) = omega (arith, is)
-  never_1_or_8 network mid (Err fault.Memory) ships (inr is) = omega (arith, is)
   never_1_or_8 network mid (Err (fault.Words word)) ships is = ships.0
-  never_1_or_8 network mid (Err (fault.Topology refusal)) ships is = ships.0
-  never_1_or_8 network mid (Err fault.Read) ships is = ships.0
   never_1_or_8 network mid (Err fault.TooLong) ships is = ships.0
-  never_1_or_8 network mid (Err fault.Door) ships is = ships.0
-  never_1_or_8 network mid (Err (fault.Packet byte)) ships is = ships.0
+  never_1_or_8 network mid (Err another) ships (inl is) = omega (arith, is)
+  never_1_or_8 network mid (Err another) ships (inr is) = omega (arith, is)
 
   module _ (mid : O) (read : C) (network : Network) (reads : ReadsTopology cabinet place read prices topology (Ok network)) (same_absent : (cabinet.frame place').absent ≡ (cabinet.frame read).absent) (stays : Stays (sink.frame mid) (sink.frame output')) where
     part_before : (Puts : List ℕ → Type 0) → ShipsPart sink cabinet disk journal from output mid read place' network Puts → ShipsPart sink cabinet disk journal from output mid place place' network Puts
@@ -151,12 +136,7 @@ module _ (prices : Network → Network → Type 0) {O C E : Type 0} (sink : Sink
     before (Err (fault.Damaged at)) ships = (not_before (fault.Damaged at) ships.0, part_before _ ships.1, ships.2)
     before (Err fault.Cabinet) ships = (not_before fault.Cabinet ships.0, part_before _ ships.1, ships.2)
     before (Err fault.Memory) ships = (not_before fault.Memory ships.0, part_before _ ships.1, ships.2)
-    before (Err (fault.Words word)) ships = absurd ships.0
-    before (Err (fault.Topology refusal)) ships = absurd ships.0
-    before (Err fault.Read) ships = absurd ships.0
-    before (Err fault.TooLong) ships = absurd ships.0
-    before (Err fault.Door) ships = absurd ships.0
-    before (Err (fault.Packet byte)) ships = absurd ships.0
+    before (Err another) ships = absurd ships.0
 
     completes : (status : ℕ) (done : Result ⊤ Fault) → status ≡ status_of_done done → ShipsInCabinet sink cabinet disk journal from output mid place place' network done → Is (λ network bytes. (history : List Entry) × IsHistoryOf network history bytes) → Failing
         → (status ≡ 0) ⊎ (status ≡ 7)
@@ -168,12 +148,7 @@ module _ (prices : Network → Network → Type 0) {O C E : Type 0} (sink : Sink
         (of_read (notation_of topology) prices _ _ reads.taken network _ reads.gives reads.text.2 told))
     completes status (Err fault.Cabinet) is ships told held = absurd (held.keeping_it ships.0.1)
     completes status (Err fault.Memory) is ships told held = inr is
-    completes status (Err (fault.Words word)) is ships told held = absurd ships.0
-    completes status (Err (fault.Topology refusal)) is ships told held = absurd ships.0
-    completes status (Err fault.Read) is ships told held = absurd ships.0
-    completes status (Err fault.TooLong) is ships told held = absurd ships.0
-    completes status (Err fault.Door) is ships told held = absurd ships.0
-    completes status (Err (fault.Packet byte)) is ships told held = absurd ships.0
+    completes status (Err another) is ships told held = absurd ships.0
 
     refuses : (status : ℕ) (done : Result ⊤ Fault) → status ≡ status_of_done done → ShipsInCabinet sink cabinet disk journal from output mid place place' network done → Is (λ network bytes. (history : List Entry) → ¬ IsHistoryOf network history bytes) → Failing
         → (status ≡ 5) ⊎ (status ≡ 7)
@@ -184,12 +159,7 @@ module _ (prices : Network → Network → Type 0) {O C E : Type 0} (sink : Sink
     refuses status (Err (fault.Damaged at)) is ships told held = inl is
     refuses status (Err fault.Cabinet) is ships told held = absurd (held.keeping_it ships.0.1)
     refuses status (Err fault.Memory) is ships told held = inr is
-    refuses status (Err (fault.Words word)) is ships told held = absurd ships.0
-    refuses status (Err (fault.Topology refusal)) is ships told held = absurd ships.0
-    refuses status (Err fault.Read) is ships told held = absurd ships.0
-    refuses status (Err fault.TooLong) is ships told held = absurd ships.0
-    refuses status (Err fault.Door) is ships told held = absurd ships.0
-    refuses status (Err (fault.Packet byte)) is ships told held = absurd ships.0
+    refuses status (Err another) is ships told held = absurd ships.0
 
     pub is_shipped : (done : Result ⊤ Fault) (status : ℕ) → ShipsInCabinet sink cabinet disk journal from output mid read place' network done → IsUnopened cabinet disk read place' network journal → status ≡ status_of_done done → IsLastLine sink mid output' done → Outcome status
     is_shipped done status after unopened is out = record {

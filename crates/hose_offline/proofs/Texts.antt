@@ -10,9 +10,6 @@ use Rattle.hose_io.specs.declared.Failed.{Failed}
 use Rattle.hose_io.proofs.Frames.{Stays-none, Stays-next}
 use Rattle.hose_offline.specs.CabinetText.{HasAsked, OnlyTextsRead, TextState, stream_at, text_stream}
 
-some_is : {A : Type 0} (a b : A) → Some a ≡ Some b → a ≡ b
-some_is a b same = cc same
-
 -- nothing is left of what can be read
 pub at_limit : (from : ℕ) (tells : Bool) (found : Option (List ℕ)) → INPUT_LIMIT + 1 ≤ from → IsAtEnd (stream_at from tells found)
 at_limit from true (Some bytes) long = drop_all from (take (INPUT_LIMIT + 1) bytes) (omega (arith, long, length-take (INPUT_LIMIT + 1) bytes))
@@ -23,7 +20,7 @@ at_limit from false found long = tt
 pub at_end : (from count : ℕ) (got : List ℕ) (tells : Bool) (found : Option (List ℕ)) → Has tells found (λ bytes. IsTextAt from count bytes got) → count ≡ 0 → IsAtEnd (stream_at from tells found)
 at_end from count got true (Some bytes) read none =
     let is = read refl in
-    let same : is.0 ≡ bytes = some_is is.0 bytes (sym is.1) in
+    let same : is.0 ≡ bytes = cc is.1 in
     drop_all from (take (INPUT_LIMIT + 1) bytes) (omega (arith, (subst (λ (b : List ℕ). IsTextAt from count b got) same is.2).none_only_at_end none, length-take (INPUT_LIMIT + 1) bytes))
 at_end from count got true None read none = tt
 at_end from count got false found read none = tt
@@ -47,7 +44,7 @@ pub gives_text : (from count : ℕ) (got : List ℕ) (tells : Bool) (found : Opt
 gives_text from count got true (Some bytes) read fits =
     let front = take (INPUT_LIMIT + 1) bytes in
     let is = read refl in
-    let same : is.0 ≡ bytes = some_is is.0 bytes (sym is.1) in
+    let same : is.0 ≡ bytes = cc is.1 in
     let here : take count got ≡ take count (drop from front) = (subst (λ (b : List ℕ). IsTextAt from count b got) same is.2).bytes_there ∙ sym (front_of from count bytes fits) in
     record {
       taken = take-add from count front ∙ ap (λ (t : List ℕ). take from front ++ t) (sym here);

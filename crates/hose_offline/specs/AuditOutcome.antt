@@ -14,19 +14,14 @@ use Rattle.hose_disk.specs.declared.disk.Disk.{Ghosts as DiskGhosts}
 use Rattle.hose_store.specs.Recovery.{IsHistoryOf}
 use Rattle.hose_offline.specs.Auditing.{HasAudited, IsLongAt, IsNotAudited, IsStarvedAt}
 use Rattle.hose_offline.specs.CabinetText.{whole_text}
-use Rattle.hose_offline.specs.Ending.{IsOut, TakesWithinLimit}
+use Rattle.hose_offline.specs.Ending.{IsOut, OutputWorked, TakesWithinLimit}
 use Rattle.hose_offline.specs.Fault.{last_line, status_of}
 use Rattle.hose_offline.specs.OnDisk.{CabinetFailed, JournalIsTold}
 use Rattle.hose_offline.specs.Run.{HasNetwork, IsFor, IsRefusedText, IsServable}
+use Rattle.hose_offline.specs.ServingOnDisk.{first_of}
 use Rattle.hose_offline.specs.TopologyTold.{notation_of}
 use Rattle.hose_offline.specs.declared.fault.Fault.{Fault}
 use Rattle.hose_offline.specs.declared.notation.Notation.{Notation}
-use Rattle.hose_offline.specs.declared.fault.Fault.TheVariants.{Cabinet}
-
--- what closing a journal came to, as a fault of the program
-abbrev pub closing_fault : Result ⊤ Failed → Result ⊤ Fault
-closing_fault (Ok _) = Ok tt
-closing_fault (Err _) = Err Cabinet
 
 -- How the text of a book ends, by what was met before. Where all was well, the text is out, or the
 -- output failed and a part of it is. Else the last line of the fault follows the text, or the
@@ -34,7 +29,7 @@ closing_fault (Err _) = Err Cabinet
 abbrev pub EndsTold : {O T : Type 0} → SinkGhosts O → O → O → ℕ → Result T Fault → List ℕ → Type 0
 EndsTold sink output output' status (Ok _) text =
     ((status ≡ 0) × Grows (sink.content output) (sink.content output') text
-    × (sink.frame output' ≡ sink.frame output))
+    × OutputWorked sink output output')
     ⊎ ((status ≡ 4) × Rose (sink.frame output) (sink.frame output')
     × GrowsInPart (sink.content output) (sink.content output') text)
 EndsTold sink output output' status (Err why) text =
@@ -56,7 +51,7 @@ module _ (prices : Network → Network → Type 0) {O C E : Type 0} (sink : Sink
   abbrev pub IsAudited : ℕ → Network → Type 0
   IsAudited status network = (history : List Entry) × (closing : Result ⊤ Failed)
       × HasAudited cabinet disk journal place place' network history closing
-      × EndsTold sink output output' status (closing_fault closing)
+      × EndsTold sink output output' status (first_of (Ok tt) closing)
       (audit_text network (book_of 0 history))
 
   -- The topology and the journal that were named were read, and this is told of the network; or

@@ -3,8 +3,10 @@ use Rattle.std.specs.Prelude.{◌≡◌, ◌⊎◌, ◌↔◌, ℕ, ◌+◌, ◌
 use Rattle.hose_io.specs.Frame.{Met}
 use Rattle.hose_io.specs.Stream.{Stream, Gives}
 use Rattle.hose_io.specs.declared.Failed.{Failed}
+use Rattle.hose_io.specs.declared.source.Source.{Ghosts as SourceGhosts}
 use Rattle.hose_words.specs.Reading.{WhereTold}
 use Rattle.hose_words.specs.declared.lines.LineFault.TheVariants as line
+use Rattle.hose_words.specs.declared.lines.TheConstants.{INPUT_LIMIT}
 use Rattle.hose_graph.specs.Network.{IsNetwork, Network}
 use Rattle.hose_graph.specs.declared.entry.Entry.{Entry}
 use Rattle.hose_law.specs.History.{IsSound}
@@ -60,21 +62,50 @@ module _ {C E : Type 0} (cabinet : CabinetGhosts C E) (old new : C) where
       × WhereTold text left (λ bytes _. TellsPriced written prices bytes network)
   TextComesTo written prices text left (Err why) = IsTextFault written text left why
 
-  -- The topology of a text of the cabinet was read. These bytes of it were taken, and this is left.
-  -- A text that is not there is a failure; one that is there does not count as absent.
-  pub record ReadsText (written : Notation) (prices : Network → Network → Type 0) (name : List ℕ)
-      (result : Result Network Fault) : Type 0 where
+  -- A text of the cabinet was read. These bytes of it were taken, and this is left, with what
+  -- `ComesTo` says of that. Nothing but texts was asked for. A text that is not there is a failure;
+  -- one that is there does not count as absent.
+  pub record TakesText (written : Notation) (name : List ℕ) {T : Type 0}
+      (ComesTo : Option Stream → Result T Fault → Type 0) (result : Result T Fault) : Type 0 where
     pub taken : List ℕ
     pub left : Option Stream
     pub gives : Gives (whole_text cabinet old name) left taken
     pub limit : length taken ≤ limit_of written + 1
+    -- more than the limit was taken exactly where that is told
     pub too_long : (result ≡ Err fault.TooLong) ↔ (limit_of written < length taken)
-    pub text : TextComesTo written prices (whole_text cabinet old name) left result
+    pub text : ComesTo left result
     pub only_texts : OnlyTextsRead cabinet old new
     pub absent : IsTrue (cabinet.frame old).tells → IsSome (cabinet.text old name)
         → (cabinet.frame new).absent ≡ (cabinet.frame old).absent
     pub not_there : IsTrue (cabinet.frame old).tells → cabinet.text old name ≡ None
         → result ≡ Err fault.Cabinet
+
+  -- So was the text of a topology, and an input behind it, of which nothing is taken without one.
+  pub record TakesBoth {I : Type 0} (source : SourceGhosts I) (topology : List ℕ) (input input' : I)
+      {T : Type 0} (ComesTo : Option Stream → Result T Fault → Type 0) (result : Result T Fault) :
+      Type 0 where
+    pub left : Option Stream
+    pub text : List ℕ
+    pub gives_text : Gives (whole_text cabinet old topology) left text
+    pub text_limit : length text ≤ limit_of (notation_of topology) + 1
+    pub taken : List ℕ
+    pub gives : Gives (source.content input) (source.content input') taken
+    pub limit : length taken ≤ INPUT_LIMIT + 1
+    -- more than a limit was taken of one of the two exactly where that is told
+    pub too_long : (result ≡ Err fault.TooLong)
+        ↔ ((limit_of (notation_of topology) < length text) ⊎ (INPUT_LIMIT < length taken))
+    pub comes : ComesTo left result
+    pub only_texts : OnlyTextsRead cabinet old new
+    pub absent : IsTrue (cabinet.frame old).tells → IsSome (cabinet.text old topology)
+        → (cabinet.frame new).absent ≡ (cabinet.frame old).absent
+    pub not_there : IsTrue (cabinet.frame old).tells → cabinet.text old topology ≡ None
+        → result ≡ Err fault.Cabinet
+
+  -- the topology of a text was read, or none
+  abbrev pub ReadsText : Notation → (Network → Network → Type 0) → List ℕ → Result Network Fault
+      → Type 0
+  ReadsText written prices name =
+      TakesText written name (TextComesTo written prices (whole_text cabinet old name))
 
   -- the topology was read of a text that is written as its name says
   abbrev pub ReadsTopology : (Network → Network → Type 0) → List ℕ → Result Network Fault → Type 0

@@ -1,5 +1,5 @@
 -- What stands after `check`, by what ended it.
-use Rattle.std.specs.Prelude.{◌≡◌, ◌⊎◌, ◌↔◌, ℕ, ◌+◌, ◌<◌, ◌≤◌, List, [], ◌++◌, codes, decimal, length, Option, None, IsSome, IsTrue, Result, Ok, Err}
+use Rattle.std.specs.Prelude.{◌≡◌, ◌⊎◌, ◌↔◌, ℕ, ◌+◌, ◌<◌, ◌≤◌, List, [], ◌++◌, codes, decimal, length, Option, Result, Ok, Err}
 use Rattle.hose_io.specs.Frame.{Rose}
 use Rattle.hose_io.specs.Stream.{Gives, Grows, Stream}
 use Rattle.hose_io.specs.Writing.{GrowsInPart}
@@ -13,15 +13,15 @@ use Rattle.hose_cert.specs.declared.Verdict.{Verdict}
 use Rattle.hose_cert.specs.declared.Verdict.TheVariants.{Yes, No}
 use Rattle.hose_disk.specs.declared.cabinet.Cabinet.{Ghosts as CabinetGhosts}
 use Rattle.hose_proto.specs.ReplyText.{line_of}
-use Rattle.hose_offline.specs.Auditing.{IsTextFault}
-use Rattle.hose_offline.specs.CabinetText.{OnlyTextsRead, whole_text}
-use Rattle.hose_offline.specs.Ending.{IsOut}
+use Rattle.hose_offline.specs.Auditing.{IsTextFault, TakesBoth}
+use Rattle.hose_offline.specs.CabinetText.{whole_text}
+use Rattle.hose_offline.specs.Ending.{IsOut, OutputWorked}
 use Rattle.hose_offline.specs.Fault.{last_line, status_of}
 use Rattle.hose_offline.specs.OnDisk.{CabinetWorked}
 use Rattle.hose_offline.specs.Run.{HasNetwork}
-use Rattle.hose_offline.specs.TopologyTold.{limit_of, notation_of}
+use Rattle.hose_offline.specs.TopologyTold.{notation_of}
 use Rattle.hose_offline.specs.declared.fault.Fault.{Fault}
-use Rattle.hose_offline.specs.declared.fault.Fault.TheVariants.{Cabinet, Read, Memory, TooLong}
+use Rattle.hose_offline.specs.declared.fault.Fault.TheVariants.{Read, Memory, TooLong}
 
 -- ---- what is written
 
@@ -37,7 +37,7 @@ no_line rule = line_of (codes "no " ++ decimal rule)
 abbrev pub EndsVerdict : {O : Type 0} → SinkGhosts O → O → O → ℕ → Verdict → Type 0
 EndsVerdict sink output output' status (Yes hose without amounts cost) =
     ((status ≡ 0) × Grows (sink.content output) (sink.content output') (yes_line cost)
-    × (sink.frame output' ≡ sink.frame output))
+    × OutputWorked sink output output')
     ⊎ ((status ≡ 4) × Rose (sink.frame output) (sink.frame output')
     × GrowsInPart (sink.content output) (sink.content output') (yes_line cost))
 EndsVerdict sink output output' status (No rule) =
@@ -95,24 +95,8 @@ module _ (prices : Network → Network → Type 0) {I C E : Type 0} (source : So
       × CabinetWorked cabinet place place')
 
   -- what was taken of the text and of the input, and what came of it
-  pub record JudgesNamed (result : Result Verdict Fault) : Type 0 where
-    pub left : Option Stream
-    pub text : List ℕ
-    pub gives_text : Gives (whole_text cabinet place topology) left text
-    pub text_limit : length text ≤ limit_of (notation_of topology) + 1
-    pub taken : List ℕ
-    pub gives : Gives (source.content input) (source.content input') taken
-    pub limit : length taken ≤ INPUT_LIMIT + 1
-    -- more than a limit was taken of one of the two exactly where that is told
-    pub too_long : (result ≡ Err TooLong)
-        ↔ ((limit_of (notation_of topology) < length text) ⊎ (INPUT_LIMIT < length taken))
-    pub verdict : IsVerdictOf left result
-    pub only_texts : OnlyTextsRead cabinet place place'
-    -- a text that is not there is a failure of the cabinet, and one that is there is not absent
-    pub not_there : IsTrue (cabinet.frame place).tells → cabinet.text place topology ≡ None
-        → result ≡ Err Cabinet
-    pub absent : IsTrue (cabinet.frame place).tells → IsSome (cabinet.text place topology)
-        → (cabinet.frame place').absent ≡ (cabinet.frame place).absent
+  abbrev pub JudgesNamed : Result Verdict Fault → Type 0
+  JudgesNamed = TakesBoth cabinet place place' source topology input input' IsVerdictOf
 
 -- What judging came to, and how that is told: the verdict, or the last line of the fault.
 abbrev pub EndsChecked : {O : Type 0} → SinkGhosts O → O → O → ℕ → Result Verdict Fault → Type 0

@@ -14,10 +14,14 @@ abbrev pub status_of_done : {T : Type 0} → Result T Fault → ℕ
 status_of_done (Ok _) = 0
 status_of_done (Err fault) = status_of fault
 
+-- the output did not fail
+abbrev pub OutputWorked : {O : Type 0} → Ghosts O → O → O → Type 0
+OutputWorked sink was now = sink.frame now ≡ sink.frame was
+
 -- A text is all that was put out, and whole; or the sink failed, and a part of it is out.
 abbrev pub IsOut : {O : Type 0} → Ghosts O → O → O → List ℕ → Type 0
 IsOut sink was now text =
-    (Grows (sink.content was) (sink.content now) text × (sink.frame now ≡ sink.frame was))
+    (Grows (sink.content was) (sink.content now) text × OutputWorked sink was now)
     ⊎ (Rose (sink.frame was) (sink.frame now)
     × GrowsInPart (sink.content was) (sink.content now) text)
 

@@ -64,19 +64,12 @@ abbrev pub of_line : LineFault → Fault
 of_line line.Read = Read
 of_line line.TooLong = TooLong
 
--- what a fault of reading a topology is for a run
-abbrev pub of_topology : TopoFault → Fault
-of_topology (topology.At line word) = Topology (Word line word)
-of_topology topology.Read = Read
-of_topology topology.TooLong = TooLong
-of_topology topology.Memory = Memory
-
--- what a fault of reading a topology is for a run, where it was read of a text of the cabinet
-abbrev pub of_text : TopoFault → Fault
-of_text (topology.At line word) = Topology (Word line word)
-of_text topology.Read = Cabinet
-of_text topology.TooLong = TooLong
-of_text topology.Memory = Memory
+-- what a fault of reading a topology is, where a source that fails is told so
+abbrev pub of_topology : Fault → TopoFault → Fault
+of_topology failed (topology.At line word) = Topology (Word line word)
+of_topology failed topology.Read = failed
+of_topology failed topology.TooLong = TooLong
+of_topology failed topology.Memory = Memory
 
 -- what a fault of reading one in JSON is
 abbrev pub of_json : JsonFault → Fault

@@ -16,7 +16,7 @@ use Rattle.hose_follow.specs.declared.following.TheConstants.{INPUT_LIMIT}
 use Rattle.hose_offline.specs.AuditOutcome.{EndsNamed, EndsRefused, JournalIs, NoneFailed}
 use Rattle.hose_offline.specs.CabinetText.{whole_text}
 use Rattle.hose_offline.specs.Ending.{IsLastLine, status_of_done}
-use Rattle.hose_offline.specs.Following.{HasFollowed, following_fault}
+use Rattle.hose_offline.specs.Following.{HasFollowed, following_done}
 use Rattle.hose_offline.specs.Run.{IsRefusedText, IsServable}
 use Rattle.hose_offline.specs.ServingOnDisk.{first_of}
 use Rattle.hose_offline.specs.TopologyTold.{limit_of, notation_of}
@@ -43,8 +43,8 @@ module _ (prices : Network → Network → Type 0) {I O C E : Type 0} (source : 
     pub closing : Result ⊤ Failed
     pub followed : HasFollowed source sink cabinet disk journal input input' output mid
         place place' network ended closing
-    pub last_line : IsLastLine sink mid output' (first_of (following_fault ended) closing)
-    pub is_status : status ≡ status_of_done (first_of (following_fault ended) closing)
+    pub last_line : IsLastLine sink mid output' (first_of (following_done ended) closing)
+    pub is_status : status ≡ status_of_done (first_of (following_done ended) closing)
 
   -- no call failed
   abbrev pub NoCallFailed : Type 0

@@ -106,13 +106,13 @@ module _ {I O : Type 0} (source : SourceGhosts I) (sink : SinkGhosts O) (input i
     pub memory : ended ≡ end.Memory → history ≡ since
 
 -- what ended following, as a fault of the program
-abbrev pub following_fault : FollowEnd → Result ⊤ Fault
-following_fault end.End = Ok tt
-following_fault (end.Packet at) = Err (fault.Packet at)
-following_fault end.Read = Err fault.Read
-following_fault end.Write = Err fault.Write
-following_fault end.TooLong = Err fault.TooLong
-following_fault end.Memory = Err fault.Memory
+abbrev pub following_done : FollowEnd → Result ⊤ Fault
+following_done end.End = Ok tt
+following_done (end.Packet at) = Err (fault.Packet at)
+following_done end.Read = Err fault.Read
+following_done end.Write = Err fault.Write
+following_done end.TooLong = Err fault.TooLong
+following_done end.Memory = Err fault.Memory
 
 -- ---- on a disk
 
@@ -137,7 +137,7 @@ FollowsOnDisk source sink disk input input' output output' network old left resu
     (IsNotOpened disk old left network result × (input' ≡ input) × (output' ≡ output))
     ⊎ ((ended : FollowEnd) × (closing : Result ⊤ Failed)
     × HasFollowedOnDisk source sink disk input input' output output' network old left ended closing
-    × (result ≡ first_of (following_fault ended) closing))
+    × (result ≡ first_of (following_done ended) closing))
 
 -- ---- in a cabinet
 
@@ -168,4 +168,4 @@ FollowsInCabinet source sink cabinet disk name input input' output output' old n
     × (output' ≡ output))
     ⊎ ((ended : FollowEnd) × (closing : Result ⊤ Failed)
     × HasFollowed source sink cabinet disk name input input' output output' old new network
-    ended closing × (result ≡ first_of (following_fault ended) closing))
+    ended closing × (result ≡ first_of (following_done ended) closing))

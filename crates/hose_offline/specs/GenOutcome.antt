@@ -8,7 +8,7 @@ use Rattle.hose_graph.specs.declared.entry.Entry.{Entry}
 use Rattle.hose_graph.specs.declared.command.Reply.{Reply}
 use Rattle.hose_law.specs.History.{book_of}
 use Rattle.hose_gen.specs.Generated.{generated_network, generated_script}
-use Rattle.hose_offline.specs.Ending.{IsOut}
+use Rattle.hose_offline.specs.Ending.{IsOut, OutputWorked}
 use Rattle.hose_offline.specs.Fault.{last_line}
 use Rattle.hose_offline.specs.Generating.{IsScriptOf}
 use Rattle.hose_offline.specs.Tally.{tally_line, tally_of}
@@ -34,7 +34,7 @@ module _ (seed nodes links hoses : ℕ) {O : Type 0} (sink : SinkGhosts O) (outp
   abbrev pub IsSummaryOut : Type 0
   IsSummaryOut = (line : List ℕ) × IsSummary seed nodes links hoses line
       × Grows (sink.content output) (sink.content output') line
-      × (sink.frame output' ≡ sink.frame output)
+      × OutputWorked sink output output'
 
   -- the output failed, and a part of the summary is out
   abbrev pub IsSummaryCut : Type 0

@@ -3,7 +3,6 @@ pub mod Auditing
 pub mod CabinetText
 pub mod CheckOutcome
 pub mod Ending
-pub mod EndsFound
 pub mod Fault
 pub mod FollowOutcome
 pub mod Following

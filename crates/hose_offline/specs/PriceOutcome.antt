@@ -1,5 +1,5 @@
 -- What stands after `price`, by what ended it.
-use Rattle.std.specs.Prelude.{◌≡◌, ◌⊎◌, ◌↔◌, ℕ, ◌+◌, ◌<◌, ◌≤◌, List, length, Option, None, IsSome, IsTrue, Result, Ok, Err, slice_index_or, ⊤}
+use Rattle.std.specs.Prelude.{◌≡◌, ◌⊎◌, ◌↔◌, ℕ, ◌+◌, ◌<◌, ◌≤◌, List, length, Option, Result, Ok, Err, slice_index_or, ⊤}
 use Rattle.hose_io.specs.Frame.{Frame, Rose}
 use Rattle.hose_io.specs.Stream.{Gives, Stream}
 use Rattle.hose_io.specs.declared.source.Source.{Ghosts as SourceGhosts}
@@ -13,15 +13,15 @@ use Rattle.hose_graph.specs.Network.{Network}
 use Rattle.hose_disk.specs.declared.cabinet.Cabinet.{Ghosts as CabinetGhosts}
 use Rattle.hose_price.specs.Sheet.{IsColumnBy, Sheet}
 use Rattle.hose_price.specs.declared.sheet.Column.{Column}
-use Rattle.hose_offline.specs.Auditing.{IsTextFault}
-use Rattle.hose_offline.specs.CabinetText.{OnlyTextsRead, whole_text}
-use Rattle.hose_offline.specs.Ending.{IsLastLine, status_of_done}
+use Rattle.hose_offline.specs.Auditing.{IsTextFault, TakesBoth}
+use Rattle.hose_offline.specs.CabinetText.{whole_text}
+use Rattle.hose_offline.specs.Ending.{IsLastLine, OutputWorked, status_of_done}
 use Rattle.hose_offline.specs.OnDisk.{CabinetWorked}
 use Rattle.hose_offline.specs.Pricing.{AllOut, AnswersNext, LastCut}
 use Rattle.hose_offline.specs.Run.{HasNetwork}
-use Rattle.hose_offline.specs.TopologyTold.{limit_of, notation_of, own_costs}
+use Rattle.hose_offline.specs.TopologyTold.{notation_of, own_costs}
 use Rattle.hose_offline.specs.declared.fault.Fault.{Fault}
-use Rattle.hose_offline.specs.declared.fault.Fault.TheVariants.{Cabinet, Read, Write, Memory, TooLong}
+use Rattle.hose_offline.specs.declared.fault.Fault.TheVariants.{Read, Write, Memory, TooLong}
 use Rattle.hose_offline.specs.declared.sheet_answer.SheetAnswer.{SheetAnswer}
 
 -- ---- the input
@@ -38,18 +38,15 @@ module _ (sheet : Sheet) (names : List (List ℕ)) (told told' : Option Stream)
         × SayLines (AnswersNext sheet) text answers rest × stops text rest left)
     pub out : puts answers
 
-  abbrev pub OutputWorked : Type 0
-  OutputWorked = sink.frame output' ≡ sink.frame output
-
   -- What answering the lines of the input leaves: it was read to its end, and has its answers; or
   -- it stopped after whole lines, which have theirs; or the output failed in an answer.
   abbrev pub AnswersInput : {T : Type 0} → Result T Fault → Type 0
   AnswersInput (Ok _) = HasAnswered IsAllTaken (AllOut names sink output output')
-      × (frame' ≡ frame) × OutputWorked
+      × (frame' ≡ frame) × OutputWorked sink output output'
   AnswersInput (Err Read) = HasAnswered (StopsAfterLines line.Read)
-      (AllOut names sink output output') × Rose frame frame' × OutputWorked
+      (AllOut names sink output output') × Rose frame frame' × OutputWorked sink output output'
   AnswersInput (Err TooLong) = HasAnswered (StopsAfterLines line.TooLong)
-      (AllOut names sink output output') × (frame' ≡ frame) × OutputWorked
+      (AllOut names sink output output') × (frame' ≡ frame) × OutputWorked sink output output'
   AnswersInput (Err Write) = HasAnswered IsLeftOver (LastCut names sink output output')
       × (frame' ≡ frame) × Rose (sink.frame output) (sink.frame output')
   AnswersInput (Err _) = ⊥
@@ -99,24 +96,8 @@ module _ (makes : Network → Sheet → Type 0) (names : List (List ℕ)) {I O :
 
     -- whether a topology that was named was read and what was answered, and what was taken of the
     -- text and of the input
-    pub record PricesNamed (result : Result ⊤ Fault) : Type 0 where
-      pub left : Option Stream
-      pub text : List ℕ
-      pub gives_text : Gives (whole_text cabinet place topology) left text
-      pub text_limit : length text ≤ limit_of (notation_of topology) + 1
-      pub taken : List ℕ
-      pub gives : Gives (source.content input) (source.content input') taken
-      pub limit : length taken ≤ INPUT_LIMIT + 1
-      -- more than a limit was taken of one of the two exactly where that is told
-      pub too_long : (result ≡ Err TooLong)
-          ↔ ((limit_of (notation_of topology) < length text) ⊎ (INPUT_LIMIT < length taken))
-      pub leaves : PriceLeaves left result
-      pub only_texts : OnlyTextsRead cabinet place place'
-      -- a text that is not there is a failure of the cabinet, and one that is there is not absent
-      pub not_there : IsTrue (cabinet.frame place).tells → cabinet.text place topology ≡ None
-          → result ≡ Err Cabinet
-      pub absent : IsTrue (cabinet.frame place).tells → IsSome (cabinet.text place topology)
-          → (cabinet.frame place').absent ≡ (cabinet.frame place).absent
+    abbrev pub PricesNamed : Result ⊤ Fault → Type 0
+    PricesNamed = TakesBoth cabinet place place' source topology input input' PriceLeaves
 
 -- A topology was read and the lines of the input answered, or not. That left the output as `left`
 -- is, and then the last line was put, which tells the fault, if there is one.

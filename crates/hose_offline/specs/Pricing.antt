@@ -12,6 +12,7 @@ use Rattle.hose_words.specs.declared.lines.LineFault.{LineFault}
 use Rattle.hose_words.specs.declared.lines.LineFault.TheVariants as line_fault
 use Rattle.hose_price.specs.Sheet.{Sheet}
 use Rattle.hose_proto.specs.ReplyText.{line_of}
+use Rattle.hose_offline.specs.Ending.{OutputWorked}
 use Rattle.hose_offline.specs.SheetLine.{AnswersSheet, answer_text, answers_text}
 use Rattle.hose_offline.specs.declared.fault.Fault.{Fault}
 use Rattle.hose_offline.specs.declared.fault.Fault.TheVariants as fault
@@ -49,7 +50,7 @@ module _ (sheet : Sheet) (names : List (List ℕ)) {S O : Type 0} (source : Ghos
   abbrev pub PricesLine : Reader S → Reader S → O → O → Result Bool Fault → Type 0
   PricesLine old new output output' (Ok true) =
       TakesAnswer old new (Grows (sink.content output) (sink.content output'))
-      × (new.fault ≡ None) × (sink.frame output' ≡ sink.frame output)
+      × (new.fault ≡ None) × OutputWorked sink output output'
   PricesLine old new output output' (Ok false) =
       IsOver source old new × (new.fault ≡ None) × (output' ≡ output)
   PricesLine old new output output' (Err fault.Read) =
@@ -85,14 +86,14 @@ module _ (sheet : Sheet) (names : List (List ℕ)) {S O : Type 0} (source : Ghos
     pub prices : PricesUpTo start now (StopsAfterLines fault) (AllOut names sink output output')
     pub before_end : IsFalse start.ended
     pub kept : now.fault ≡ Some fault
-    pub held : sink.frame output' ≡ sink.frame output
+    pub held : OutputWorked sink output output'
 
   -- What answering all lines comes to: each has its answer, and no more is to come; or reading met
   -- a fault, or the output failed in an answer.
   abbrev pub PricesAll : {T : Type 0} → Reader S → Reader S → O → O → Result T Fault → Type 0
   PricesAll start now output output' (Ok _) =
       PricesUpTo start now IsAllTaken (AllOut names sink output output')
-      × (now.fault ≡ None) × (sink.frame output' ≡ sink.frame output)
+      × (now.fault ≡ None) × OutputWorked sink output output'
   PricesAll start now output output' (Err fault.Read) =
       PricesUntil start now output output' line_fault.Read
       × Rose (source.frame start.source) (source.frame now.source)

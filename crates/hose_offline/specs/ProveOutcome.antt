@@ -1,7 +1,7 @@
 -- What stands after `prove`, by what ended it.
-use Rattle.std.specs.Prelude.{◌≡◌, ◌⊎◌, ◌↔◌, ℕ, ◌+◌, ◌<◌, ◌≤◌, List, codes, length, Option, None, IsSome, IsTrue, Result, Ok, Err, ⊤}
+use Rattle.std.specs.Prelude.{◌≡◌, ◌⊎◌, ℕ, ◌+◌, List, All, codes, map, Option, Result, Ok, Err, ⊤}
 use Rattle.hose_io.specs.Frame.{Rose}
-use Rattle.hose_io.specs.Stream.{Gives, Grows, Stream}
+use Rattle.hose_io.specs.Stream.{Grows, Stream}
 use Rattle.hose_io.specs.Writing.{GrowsInPart}
 use Rattle.hose_io.specs.declared.sink.Sink.{Ghosts as SinkGhosts}
 use Rattle.hose_graph.specs.Hose.{Endpoint}
@@ -10,15 +10,17 @@ use Rattle.hose_cert.specs.Written.{GrowsByLines, GrowsByPart, GrowsByWhole, Has
 use Rattle.hose_disk.specs.declared.cabinet.Cabinet.{Ghosts as CabinetGhosts}
 use Rattle.hose_proto.specs.Command.{AreEndsOf}
 use Rattle.hose_proto.specs.EndWords.{IsFirstUnknown}
+use Rattle.hose_proto.specs.Places.{end_word}
+use Rattle.hose_proto.specs.Reading.{IsEndOf}
 use Rattle.hose_proto.specs.ReplyText.{line_of}
-use Rattle.hose_offline.specs.Auditing.{IsTextFault}
-use Rattle.hose_offline.specs.CabinetText.{OnlyTextsRead, whole_text}
-use Rattle.hose_offline.specs.Ending.{IsLastLine, status_of_done}
+use Rattle.hose_offline.specs.Auditing.{IsTextFault, TakesText}
+use Rattle.hose_offline.specs.CabinetText.{whole_text}
+use Rattle.hose_offline.specs.Ending.{IsLastLine, OutputWorked, status_of_done}
 use Rattle.hose_offline.specs.OnDisk.{CabinetWorked}
 use Rattle.hose_offline.specs.Run.{HasNetwork}
-use Rattle.hose_offline.specs.TopologyTold.{limit_of, notation_of}
+use Rattle.hose_offline.specs.TopologyTold.{notation_of}
 use Rattle.hose_offline.specs.declared.fault.Fault.{Fault}
-use Rattle.hose_offline.specs.declared.fault.Fault.TheVariants.{Cabinet, Memory, TooLong, Words, Write}
+use Rattle.hose_offline.specs.declared.fault.Fault.TheVariants.{Memory, Words, Write}
 
 -- ---- the output
 
@@ -32,7 +34,7 @@ module _ {O : Type 0} (sink : SinkGhosts O) (output output' : O) (network : Netw
   IsProved hose =
       (GrowsByWhole network hose (sink.content output) (sink.content output')
       ⊎ (HasNoPlan network hose × Grows (sink.content output) (sink.content output') none_line))
-      × (sink.frame output' ≡ sink.frame output)
+      × OutputWorked sink output output'
 
   -- the output failed, and a part of one of the two is out
   abbrev pub IsProofCut : List Endpoint → Type 0
@@ -46,7 +48,7 @@ module _ {O : Type 0} (sink : SinkGhosts O) (output output' : O) (network : Netw
   abbrev pub IsProofStarved : List Endpoint → Type 0
   IsProofStarved hose = ((output' ≡ output)
       ⊎ GrowsByLines network hose (sink.content output) (sink.content output'))
-      × (sink.frame output' ≡ sink.frame output)
+      × OutputWorked sink output output'
 
   -- what writing the certificate of a hose comes to
   abbrev pub PutsProof : {T : Type 0} → List Endpoint → Result T Fault → Type 0
@@ -56,6 +58,12 @@ module _ {O : Type 0} (sink : SinkGhosts O) (output output' : O) (network : Netw
   PutsProof hose (Err _) = ⊥
 
 -- ---- the endpoints
+
+-- the words are those of these endpoints, one after the other
+pub record AreEndsInOrder (network : Network) (words : List (List ℕ)) (ends : List Endpoint) :
+    Type 0 where
+  pub spelled : words ≡ map (end_word network) ends
+  pub are : All (IsEndOf network) ends
 
 -- These are the endpoints' words, of which the first is the program's word of this number.
 module _ (words : List (List ℕ)) (first : ℕ) (network : Network) where
@@ -93,20 +101,8 @@ module _ (prices : Network → Network → Type 0) (words : List (List ℕ)) (fi
       (whole_text cabinet place topology) left why))
 
   -- whether a topology that was named was read and what was written, and what was taken of the text
-  pub record ProvesNamed (result : Result ⊤ Fault) : Type 0 where
-    pub left : Option Stream
-    pub taken : List ℕ
-    pub gives : Gives (whole_text cabinet place topology) left taken
-    pub limit : length taken ≤ limit_of (notation_of topology) + 1
-    -- more than the limit was taken exactly where that is told
-    pub too_long : (result ≡ Err TooLong) ↔ (limit_of (notation_of topology) < length taken)
-    pub leaves : ProveLeaves left result
-    pub only_texts : OnlyTextsRead cabinet place place'
-    -- a text that is not there is a failure of the cabinet, and one that is there is not absent
-    pub not_there : IsTrue (cabinet.frame place).tells → cabinet.text place topology ≡ None
-        → result ≡ Err Cabinet
-    pub absent : IsTrue (cabinet.frame place).tells → IsSome (cabinet.text place topology)
-        → (cabinet.frame place').absent ≡ (cabinet.frame place).absent
+  abbrev pub ProvesNamed : Result ⊤ Fault → Type 0
+  ProvesNamed = TakesText cabinet place place' (notation_of topology) topology ProveLeaves
 
 -- A topology was read and the certificate written, or not. That left the output as `left` is, and
 -- then the last line was put, which tells the fault, if there is one.

@@ -14,7 +14,7 @@ use Rattle.hose_disk.specs.declared.disk.Disk.{Ghosts as DiskGhosts}
 use Rattle.hose_journal.specs.Image.{damaged, other}
 use Rattle.hose_store.specs.Recovery.{IsHistoryOf, digest_of}
 use Rattle.hose_topo.specs.Reading.{StopsInTopology}
-use Rattle.hose_offline.specs.Ending.{IsLastLine, TakesWithinLimit, status_of_done}
+use Rattle.hose_offline.specs.Ending.{IsLastLine, OutputWorked, TakesWithinLimit, status_of_done}
 use Rattle.hose_offline.specs.OnDisk.{CabinetFailed, IsRefusedOnDisk, JournalIsTold, IsUnopened, keeping_of}
 use Rattle.hose_offline.specs.Run.{HasNetwork, HasText, IsCutOff, IsFor, IsRefusedText, IsRun, IsRunUpTo, IsServable, Keeping, TellsNoNetwork}
 use Rattle.hose_offline.specs.declared.fault.Fault.{Fault}
@@ -25,12 +25,9 @@ module _ (prices : Network → Network → Type 0) {I O C E : Type 0} (source : 
     (sink : SinkGhosts O) (cabinet : CabinetGhosts C E) (disk : DiskGhosts E)
     (journal : Option (List ℕ))
     (input input' : I) (output output' : O) (place place' : C) where
-  -- the input did not fail, and the output did not
+  -- the input did not fail
   abbrev pub InputWorked : Type 0
   InputWorked = source.frame input' ≡ source.frame input
-
-  abbrev pub OutputWorked : Type 0
-  OutputWorked = sink.frame output' ≡ sink.frame output
 
   -- where the book was, once closing the journal came to this
   abbrev pub keeping : Result ⊤ Failed → Keeping
@@ -47,7 +44,7 @@ module _ (prices : Network → Network → Type 0) {I O C E : Type 0} (source : 
   IsInterrupted fault = (InputStops fault × (output' ≡ output) × (place' ≡ place))
       ⊎ ((closing : Result ⊤ Failed)
       × IsRunUpTo prices (keeping closing) fault (source.content input) (source.content input')
-      (sink.content output) (sink.content output') × OutputWorked)
+      (sink.content output) (sink.content output') × OutputWorked sink output output')
 
   -- the text of a network was read, for which this holds
   abbrev pub TextRead : (Network → Type 0) → Type 0
@@ -67,7 +64,7 @@ module _ (prices : Network → Network → Type 0) {I O C E : Type 0} (source : 
   -- What a run leaves, before the last line that tells its fault.
   abbrev pub RunLeaves : {T : Type 0} → Result T Fault → Type 0
   RunLeaves (Ok _) = IsRun prices (keeping (Ok tt)) (source.content input) (source.content input')
-      (sink.content output) (sink.content output') × InputWorked × OutputWorked
+      (sink.content output) (sink.content output') × InputWorked × OutputWorked sink output output'
   RunLeaves (Err (Words _)) = ⊥
   RunLeaves (Err (Topology refusal)) =
       TellsNoNetwork Lines refusal (source.content input) (source.content input')
@@ -88,7 +85,8 @@ module _ (prices : Network → Network → Type 0) {I O C E : Type 0} (source : 
       × InputWorked × (output' ≡ output))
       ⊎ (IsSome journal × (failed : Failed)
       × IsRun prices (keeping (Err failed)) (source.content input) (source.content input')
-      (sink.content output) (sink.content output') × InputWorked × OutputWorked))
+      (sink.content output) (sink.content output') × InputWorked
+      × OutputWorked sink output output'))
       × CabinetFailed cabinet place place'
   RunLeaves (Err Memory) = IsStarved × InputWorked × (output' ≡ output)
   RunLeaves (Err TooLong) = IsInterrupted line.TooLong × InputWorked

@@ -23,6 +23,7 @@ use Rattle.hose_law.specs.History.{IsDecided, IsDecidedAt}
 use Rattle.hose_law.specs.Quotes.{Holdings, nothing_held}
 use Rattle.hose_law.specs.Script.{ReadLine, IsFixedReply, IsScript, disks_in}
 use Rattle.hose_law.specs.Script.ReadLine.{Asks, IsBad, IsLong, Unread}
+use Rattle.hose_offline.specs.Ending.{OutputWorked}
 use Rattle.hose_offline.specs.ScriptLine.{IsAsking, WantsMemory, script_grammar}
 use Rattle.hose_proto.specs.Replies.{CutsLast, texts_of}
 use Rattle.hose_proto.specs.ReplyText.{line_of, reply_text}
@@ -107,8 +108,8 @@ pub record AreAnswered {K R : Type 0} (books : BooksGhosts K R) (network : Netwo
   pub stays : Stays (books.frame first) (books.frame last)
   pub disks : TellsDisks (books.frame first).faults replies (books.frame last).faults
 
--- A turn: the first line that was to come was read and answered, and it says one thing. `puts` says
--- how much is out of the line of its reply.
+-- An exchange: the first line that was to come was read and answered, and it says one thing. `puts`
+-- says how much is out of the line of its reply.
 pub record AnswersNextLine {S : Type 0} (source : Ghosts S) (old new : Reader S) (network : Network)
     (Answers : ReadLine → Reply → Type 0) (puts : List ℕ → Type 0) : Type 0 where
   pub said : ReadLine
@@ -125,7 +126,7 @@ abbrev pub ServesLine : {S O K R : Type 0} → Ghosts S → SinkGhosts O → Boo
 ServesLine source sink books old new output output' core core' (Ok true) =
     AnswersNextLine source old new (books.ledger core.books).network (AnswersLine books core core')
     (Grows (sink.content output) (sink.content output'))
-    × (new.fault ≡ None) × (sink.frame output' ≡ sink.frame output)
+    × (new.fault ≡ None) × OutputWorked sink output output'
 ServesLine source sink books old new output output' core core' (Ok false) =
     IsOver source old new × (new.fault ≡ None) × (output' ≡ output) × (core' ≡ core)
 ServesLine source sink books old new output output' core core' (Err fault.Read) =
@@ -140,8 +141,8 @@ ServesLine source sink books old new output output' core core' (Err fault.Write)
     × (new.fault ≡ None) × Rose (sink.frame output) (sink.frame output')
 ServesLine source sink books old new output output' core core' (Err _) = ⊥
 
--- Turns from a history on: lines that were to come were read and answered, each by a reply that is
--- out, and each says one thing.
+-- Exchanges from a history on: lines that were to come were read and answered, each by a reply that
+-- is out, and each says one thing.
 pub record HasAnsweredLines {S K R : Type 0} (source : Ghosts S) (books : BooksGhosts K R)
     (start now : Reader S) (since : List Entry) (first core : State K)
     (before after : Option (List ℕ)) : Type 0 where
@@ -179,7 +180,7 @@ pub record ServesUntil {S O K R : Type 0} (source : Ghosts S) (sink : SinkGhosts
       (λ replies. Grows (sink.content output) (sink.content output') (texts_of network replies))
   pub before_end : IsFalse start.ended
   pub kept : now.fault ≡ Some fault
-  pub held : sink.frame output' ≡ sink.frame output
+  pub held : OutputWorked sink output output'
 
 -- What answering all lines comes to: each has its reply and says one thing, and no more is to come;
 -- or reading met a fault, or the output failed in a reply.
@@ -188,7 +189,7 @@ abbrev pub Serves : {S O K R T : Type 0} → Ghosts S → SinkGhosts O → Books
 Serves source sink books start now output output' network since first last (Ok _) =
     ServesUpTo source books start now network since first last IsAllTaken
     (λ replies. Grows (sink.content output) (sink.content output') (texts_of network replies))
-    × (now.fault ≡ None) × (sink.frame output' ≡ sink.frame output)
+    × (now.fault ≡ None) × OutputWorked sink output output'
     × WhereTold (source.content start.source) (source.content now.source) (λ was _.
     SayOneThingEach network (start.pending ++ was) [])
 Serves source sink books start now output output' network since first last (Err fault.Read) =

@@ -14,7 +14,7 @@ use Rattle.hose_store.specs.Recovery.{IsHistoryOf, digest_of}
 use Rattle.hose_follow.specs.Packet.{packets_bytes, packets_from}
 use Rattle.hose_follow.specs.declared.shipping.ShipFault.{ShipFault}
 use Rattle.hose_offline.specs.AuditOutcome.{NamedOutcome}
-use Rattle.hose_offline.specs.Ending.{IsLastLine, status_of_done}
+use Rattle.hose_offline.specs.Ending.{IsLastLine, OutputWorked, status_of_done}
 use Rattle.hose_offline.specs.Fault.{of_shipping}
 use Rattle.hose_offline.specs.OnDisk.{HadContent, IsUnopened}
 use Rattle.hose_offline.specs.ServingOnDisk.{IsNotServed}
@@ -36,7 +36,7 @@ module _ {O C E : Type 0} (sink : SinkGhosts O) (cabinet : CabinetGhosts C E)
     pub held : HadContent cabinet disk place place' journal (IsHistoryOf network history)
     pub out : Grows (sink.content output) (sink.content output')
         (packets_bytes (packets_from network from history))
-    pub writing : sink.frame output' ≡ sink.frame output
+    pub writing : OutputWorked sink output output'
     pub keeping : (cabinet.frame place').returned ≡ 0
 
   -- The packets, from an epoch on, of entries with which the journal begins, as it was read at its
@@ -59,7 +59,7 @@ module _ {O C E : Type 0} (sink : SinkGhosts O) (cabinet : CabinetGhosts C E)
   ShipsInCabinet network (Err why) =
       IsNotServed cabinet disk journal place place' network (Err why)
       × ShipsPart network (Grows (sink.content output) (sink.content output'))
-      × (sink.frame output' ≡ sink.frame output)
+      × OutputWorked sink output output'
 
 module _ (prices : Network → Network → Type 0) {O C E : Type 0} (sink : SinkGhosts O)
     (cabinet : CabinetGhosts C E) (disk : DiskGhosts E) (topology journal : List ℕ) (from : ℕ)

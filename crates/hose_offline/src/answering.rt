@@ -184,7 +184,7 @@ fn answer_line<S: Source, O: Sink, K: Books + Drop, R: RowMaker>(
         return Ok(false);
     };
     let reply = reply_to(alloc, core, line, rows);
-    put_reply(output, core.books().book().topology(), &reply)?;
+    put_reply(output, topology_of(core), &reply)?;
     Ok(true)
 }
 
@@ -207,7 +207,7 @@ fn reply_to<K: Books + Drop, R: RowMaker>(
     let Line::Text(text) = line else {
         return Reply::Long;
     };
-    match read_line(alloc, core.books().book().topology(), text) {
+    match read_line(alloc, topology_of(core), text) {
         Ok(asked) => {
             let customer = asked.0;
             core.step(alloc, &customer, asked.1, rows)
@@ -215,4 +215,11 @@ fn reply_to<K: Books + Drop, R: RowMaker>(
         Err(ReadFault::Bad { word }) => Reply::Bad { word },
         Err(ReadFault::Memory) => Reply::Memory,
     }
+}
+
+// The network of a core's book.
+fn topology_of<K: Books + Drop>(core: &Core<K>) -> &Topology
+    ensures { result.now ≡ (K.ledger core.now.books).network }
+{
+    core.books().book().topology()
 }

@@ -3,12 +3,13 @@ ghost use Rattle.std.specs.Prelude.{◌≡◌, ◌≢◌, IsSome, IsTrue, None};
 ghost use Rattle.hose_io.specs.Frame.{Stays};
 ghost use Rattle.hose_audit.specs.Audit.{audit_text};
 ghost use Rattle.hose_disk.specs.Cabinet.{object_of};
-ghost use Rattle.hose_offline.specs.AuditOutcome.{AuditOutcome, EndsTold, closing_fault};
+ghost use Rattle.hose_offline.specs.AuditOutcome.{AuditOutcome, EndsTold};
 ghost use Rattle.hose_offline.specs.TopologyTold.{own_costs};
 ghost use Rattle.hose_offline.specs.Auditing.{ReadsBook, ReadsBookOnDisk, ReadsNamed, ReadsText, ReadsTopology};
 
 use crate::cabinet_text::CabinetText;
 use crate::fault::{Fault, end};
+use crate::journal::first_fault;
 use crate::json_text::read_whole_json;
 use crate::notation::Notation;
 use hose_book::Book;
@@ -21,26 +22,33 @@ use hose_topo::read;
 use hose_words::LineReader;
 use std::alloc::Global;
 
+/// The names, in a cabinet, of a text with a topology and of the journal of its network.
+#[derive(Clone, Copy)]
+pub struct Names<'a> {
+    pub topology: &'a str,
+    pub journal: &'a str,
+}
+
 /// Reads the topology of a text and the book of a journal, closes the journal, writes what the book
 /// holds, and gives the exit status. The book is told where closing failed too.
 pub fn audit<P: Prices, O: Sink, C: Cabinet>(
     alloc: Global,
     costs: &P,
-    topology: &str,
-    journal: &str,
+    names: Names<'_>,
     output: &mut O,
     cabinet: &mut C,
 ) -> u8
     requires { (C.frame cabinet.old).out ≡ None }
-    ensures outcome { AuditOutcome (P.prices costs.now) O.Sink C.Cabinet C.Disk.Disk topology.now
-        journal.now output.old output.new cabinet.old cabinet.new result }
+    ensures outcome { AuditOutcome (P.prices costs.now) O.Sink C.Cabinet C.Disk.Disk
+        names.entry.topology.now names.entry.journal.now output.old output.new
+        cabinet.old cabinet.new result }
     ensures not_words { result ≢ 1 }
     ensures back { (C.frame cabinet.new).out ≡ None }
     ensures output { Stays (O.frame output.old) (O.frame output.new) }
     ensures cabinet { Stays (object_of (C.frame cabinet.old)) (object_of (C.frame cabinet.new)) }
 {
-    match read_named(alloc, costs, topology, journal, cabinet) {
-        Ok(read) => tell(&read.0, as_fault(read.1), output),
+    match read_named(alloc, costs, names, cabinet) {
+        Ok(read) => tell(&read.0, first_fault(Ok(()), read.1), output),
         Err(why) => end(Err(why), output),
     }
 }
@@ -66,32 +74,21 @@ pub fn tell<O: Sink>(book: &Book, done: Result<(), Fault>, output: &mut O) -> u8
     }
 }
 
-// What closing a journal came to, as a fault of the program.
-fn as_fault(closing: Result<(), Failed>) -> Result<(), Fault>
-    ensures { result ≡ closing_fault closing }
-{
-    match closing {
-        Ok(()) => Ok(()),
-        Err(_) => Err(Fault::Cabinet),
-    }
-}
-
 // The book of a journal of the network that a text tells, and what closing the journal came to.
 fn read_named<P: Prices, C: Cabinet>(
     alloc: Global,
     costs: &P,
-    topology: &str,
-    journal: &str,
+    names: Names<'_>,
     cabinet: &mut C,
 ) -> Result<(Book, Result<(), Failed>), Fault>
     requires { (C.frame cabinet.old).out ≡ None }
-    ensures reads { ReadsNamed (P.prices costs.now) C.Cabinet C.Disk.Disk topology.now journal.now
-        cabinet.old cabinet.new result }
+    ensures reads { ReadsNamed (P.prices costs.now) C.Cabinet C.Disk.Disk
+        names.entry.topology.now names.entry.journal.now cabinet.old cabinet.new result }
     ensures back { (C.frame cabinet.new).out ≡ None }
     ensures cabinet { Stays (object_of (C.frame cabinet.old)) (object_of (C.frame cabinet.new)) }
 {
-    let topology = read_topology(alloc, costs, topology, cabinet)?;
-    read_book(alloc, journal, topology, cabinet)
+    let topology = read_topology(alloc, costs, names.topology, cabinet)?;
+    read_book(alloc, names.journal, topology, cabinet)
 }
 
 /// The network that the text of a name tells, with these costs. It is written in JSON where its
@@ -144,7 +141,7 @@ fn read_text<C: Cabinet>(alloc: Global, name: &str, cabinet: &mut C) -> Result<T
     let _ = lines.into_source().into_cabinet();
     match topology {
         Ok(topology) => Ok(topology),
-        Err(fault) => Err(Fault::of_text(fault)),
+        Err(fault) => Err(Fault::of_topology(fault, Fault::Cabinet)),
     }
 }
 

@@ -5,9 +5,9 @@ ghost use Rattle.hose_io.specs.Frame.{Stays};
 ghost use Rattle.hose_io.specs.Gather.{IsAdded};
 ghost use Rattle.hose_io.specs.Writing.{IsPut};
 ghost use Rattle.hose_proto.specs.ReplyText.{line_of};
-ghost use Rattle.hose_offline.specs.declared.fault.Fault.TheVariants.{Memory, Write};
+ghost use Rattle.hose_offline.specs.declared.fault.Fault.TheVariants.{Memory, Read, Write};
 ghost use Rattle.hose_offline.specs.Ending.{IsLastLine, status_of_done};
-ghost use Rattle.hose_offline.specs.Fault.{status_of, last_line, of_certificate, of_json, of_line, of_proof, of_shipping, of_store, of_text, of_topology, refusal_words};
+ghost use Rattle.hose_offline.specs.Fault.{status_of, last_line, of_certificate, of_json, of_line, of_proof, of_shipping, of_store, of_topology, refusal_words};
 
 use crate::notation::Refusal;
 use hose_cert::{CertFault, ProveFault};
@@ -48,13 +48,13 @@ pub enum Fault {
 }
 
 impl Fault {
-    /// What a fault of reading a topology is, where it is read of a text of the cabinet.
-    pub fn of_text(fault: TopoFault) -> Fault
-        ensures { result ≡ of_text fault }
+    /// What a fault of reading a topology is, where a source that fails is told so.
+    pub fn of_topology(fault: TopoFault, failed: Fault) -> Fault
+        ensures { result ≡ of_topology failed fault }
     {
         match fault {
             TopoFault::At { line, word } => Fault::Topology(Refusal::Word { line, word }),
-            TopoFault::Read => Fault::Cabinet,
+            TopoFault::Read => failed,
             TopoFault::TooLong => Fault::TooLong,
             TopoFault::Memory => Fault::Memory,
         }
@@ -135,15 +135,10 @@ impl From<LineFault> for Fault {
 }
 
 impl From<TopoFault> for Fault {
-    ghost from_gives = { λ topology fault. fault ≡ of_topology topology };
+    ghost from_gives = { λ topology fault. fault ≡ of_topology Read topology };
 
     fn from(fault: TopoFault) -> Fault {
-        match fault {
-            TopoFault::At { line, word } => Fault::Topology(Refusal::Word { line, word }),
-            TopoFault::Read => Fault::Read,
-            TopoFault::TooLong => Fault::TooLong,
-            TopoFault::Memory => Fault::Memory,
-        }
+        Fault::of_topology(fault, Fault::Read)
     }
 }
 

@@ -3,9 +3,9 @@ ghost use Rattle.std.specs.Prelude.{◌≡◌, ◌≢◌, None};
 ghost use Rattle.hose_io.specs.Frame.{Stays};
 ghost use Rattle.hose_disk.specs.Cabinet.{object_of};
 ghost use Rattle.hose_offline.specs.FollowOutcome.{FollowOutcome};
-ghost use Rattle.hose_offline.specs.Following.{FollowsInCabinet, FollowsOnDisk, following_fault};
+ghost use Rattle.hose_offline.specs.Following.{FollowsInCabinet, FollowsOnDisk, following_done};
 
-use crate::auditing::read_topology;
+use crate::auditing::{Names, read_topology};
 use crate::fault::{Fault, end};
 use crate::journal::first_fault;
 use hose_disk::{Cabinet, Disk};
@@ -21,15 +21,14 @@ use std::alloc::Global;
 pub fn follow<P: Prices, I: Source, O: Sink, C: Cabinet>(
     alloc: Global,
     costs: &P,
-    topology: &str,
-    journal: &str,
+    names: Names<'_>,
     input: &mut I,
     output: &mut O,
     cabinet: &mut C,
 ) -> u8
     requires { (C.frame cabinet.old).out ≡ None }
     ensures outcome { FollowOutcome (P.prices costs.now) I.Source O.Sink C.Cabinet C.Disk.Disk
-        topology.now journal.now input.old input.new output.old output.new
+        names.entry.topology.now names.entry.journal.now input.old input.new output.old output.new
         cabinet.old cabinet.new result }
     ensures not_words { result ≢ 1 }
     ensures back { (C.frame cabinet.new).out ≡ None }
@@ -37,9 +36,9 @@ pub fn follow<P: Prices, I: Source, O: Sink, C: Cabinet>(
     ensures output { Stays (O.frame output.old) (O.frame output.new) }
     ensures cabinet { Stays (object_of (C.frame cabinet.old)) (object_of (C.frame cabinet.new)) }
 {
-    match read_topology(alloc, costs, topology, cabinet) {
+    match read_topology(alloc, costs, names.topology, cabinet) {
         Ok(top) => {
-            let done = follow_in_cabinet(alloc, journal, top, input, output, cabinet);
+            let done = follow_in_cabinet(alloc, names.journal, top, input, output, cabinet);
             end(done, output)
         }
         Err(why) => end(Err(why), output),
@@ -96,12 +95,12 @@ fn follow_on_disk<I: Source, O: Sink, D: Disk>(
     law_closed::<D, Sound>();
     let ended = hose_follow::follow(alloc, input, output, &mut store);
     let closed = store.close();
-    (first_fault(as_fault(ended), closed.0), closed.1)
+    (first_fault(done_of_end(ended), closed.0), closed.1)
 }
 
 // What ended following, as a fault of the program.
-fn as_fault(ended: FollowEnd) -> Result<(), Fault>
-    ensures { result ≡ following_fault ended }
+fn done_of_end(ended: FollowEnd) -> Result<(), Fault>
+    ensures { result ≡ following_done ended }
 {
     match ended {
         FollowEnd::End => Ok(()),

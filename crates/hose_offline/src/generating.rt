@@ -1,5 +1,5 @@
 // A generated network and its script, answered in memory and summed up.
-ghost use Rattle.std.specs.Prelude.{◌≡◌, ◌≢◌, ◌↔◌, ◌+◌, ◌≤◌, [], IfErr, IfOk, IsTrue};
+ghost use Rattle.std.specs.Prelude.{◌≡◌, ◌≢◌, ◌↔◌, ◌+◌, ◌<◌, ◌≤◌, ◌^◌, ℕ, [], IfErr, IfOk, IsTrue, OnOk};
 ghost use Rattle.std.specs.List.{All};
 ghost use Rattle.hose_io.specs.Frame.{Stays};
 ghost use Rattle.hose_graph.specs.Naming.{AsksOf};
@@ -13,6 +13,7 @@ ghost use Rattle.hose_gen.specs.declared.orders.TheConstants.{LEAST_NODES, MOST_
 ghost use Rattle.hose_offline.specs.GenOutcome.{GenLeaves, GenOutcome};
 ghost use Rattle.hose_offline.specs.Generating.{HaveBeenAnswered, IsTallyOf};
 ghost use Rattle.hose_offline.specs.Serving.{AnswersLine};
+ghost use Rattle.hose_offline.specs.Tally.{IsOfUpTo, with_reply};
 
 use crate::fault::{Fault, end};
 use crate::tally::Tally;
@@ -102,10 +103,7 @@ fn answer_orders<K: Books + Drop, R: RowMaker>(
     let mut tally = Tally::new();
     for order in orders {
         let reply = answer_order(alloc, core, order, rows);
-        if is_for_memory(&reply) {
-            return Err(Fault::Memory);
-        }
-        tally.count(&reply);
+        count_reply(&mut tally, reply)?;
     }
     Ok(tally)
 }
@@ -123,6 +121,22 @@ fn answer_order<K: Books + Drop, R: RowMaker>(
 {
     let customer = order.0;
     core.step(alloc, &customer, order.1, rows)
+}
+
+// Counts a reply that is not for want of memory.
+fn count_reply(tally: &mut Tally, reply: Reply) -> Result<(), Fault>
+    requires { (replies : ℕ) × (replies < 2 ^ 63) × IsOfUpTo replies tally.old }
+    ensures some { OnOk result (¬ IsForMemory reply) }
+    ensures counted { OnOk result (tally.new ≡ with_reply tally.old reply) }
+    ensures up_to { OnOk result ((replies : ℕ) → IsOfUpTo replies tally.old
+        → IsOfUpTo (replies + 1) tally.new) }
+    ensures memory { IfErr result (λ why. why ≡ Fault.Memory) }
+{
+    if is_for_memory(&reply) {
+        return Err(Fault::Memory);
+    }
+    tally.count(&reply);
+    Ok(())
 }
 
 // Whether the reply is for want of memory.

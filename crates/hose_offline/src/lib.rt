@@ -7,13 +7,14 @@
 //!
 //! ```
 //! let status = run(alloc, &OwnCosts, Some("orders.journal"), input, output, cabinet);
-//! let status = audit(alloc, &tariff, "star.json", "orders.journal", output, cabinet);
+//! let names = Names { topology: "star.txt", journal: "orders.journal" };
+//! let status = audit(alloc, &tariff, names, output, cabinet);
 //! let status = run_generated(alloc, 7, 200, 600, 300, output);
-//! let status = prove(alloc, &OwnCosts, "star.txt", &ends, 3, output, cabinet);
+//! let status = prove(alloc, &OwnCosts, "star.txt", ends, output, cabinet);
 //! let status = check(alloc, &OwnCosts, "star.txt", input, output, cabinet);
 //! let status = price(alloc, &tariffs, "star.txt", input, output, cabinet);
-//! let status = ship(alloc, &OwnCosts, "star.txt", "orders.journal", 1, output, cabinet);
-//! let status = follow(alloc, &OwnCosts, "star.txt", "copy.journal", input, output, cabinet);
+//! let status = ship(alloc, &OwnCosts, names, 1, output, cabinet);
+//! let status = follow(alloc, &OwnCosts, names, input, output, cabinet);
 //! ```
 #![tactic(auto)]
 
@@ -35,7 +36,7 @@ mod shipping;
 mod tally;
 
 pub use answering::run;
-pub use auditing::{audit, read_topology, tell};
+pub use auditing::{Names, audit, read_topology, tell};
 pub use checking::check;
 pub use fault::{Fault, end};
 pub use following::follow;
@@ -43,5 +44,5 @@ pub use generating::run_generated;
 pub use json_text::JSON_LIMIT;
 pub use notation::{Notation, Refusal};
 pub use pricing::price;
-pub use proving::prove;
+pub use proving::{EndWords, prove};
 pub use shipping::ship;

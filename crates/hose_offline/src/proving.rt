@@ -7,8 +7,7 @@ ghost use Rattle.hose_law.specs.Plan.{AreNodes};
 ghost use Rattle.hose_disk.specs.Cabinet.{object_of};
 ghost use Rattle.hose_proto.specs.Command.{AreEndsOf};
 ghost use Rattle.hose_proto.specs.EndWords.{AreEndWords};
-ghost use Rattle.hose_offline.specs.EndsFound.{AreEndsInOrder};
-ghost use Rattle.hose_offline.specs.ProveOutcome.{IsNoHose, ProveOutcome, ProvesNamed, ProvesWords, PutsProof};
+ghost use Rattle.hose_offline.specs.ProveOutcome.{AreEndsInOrder, IsNoHose, ProveOutcome, ProvesNamed, ProvesWords, PutsProof};
 
 use crate::auditing::read_topology;
 use crate::fault::{Fault, end};
@@ -21,27 +20,34 @@ use hose_proto::endpoint;
 use hose_tariff::Prices;
 use std::alloc::Global;
 
+/// The words of a hose's endpoints, the first of which is the program's word of this number.
+#[derive(Clone, Copy)]
+pub struct EndWords<'a> {
+    pub words: &'a [String],
+    pub first: u64,
+}
+
 /// Reads the topology of a text, writes the certificate of a hose's plan over all its links, or
-/// that there is no plan, and gives the exit status. The network has these costs. The words are the
-/// hose's endpoints, and the first of them is the program's word of this number.
+/// that there is no plan, and gives the exit status. The network has these costs, and the words are
+/// the hose's endpoints.
 pub fn prove<P: Prices, O: Sink, C: Cabinet>(
     alloc: Global,
     costs: &P,
     topology: &str,
-    ends: &[String],
-    first: u64,
+    ends: EndWords<'_>,
     output: &mut O,
     cabinet: &mut C,
 ) -> u8
-    requires ends { AreEndWords (map string_bytes ends.now) }
-    requires first { first ≤ 2 ^ 63 }
-    ensures outcome { ProveOutcome (P.prices costs.now) (map string_bytes ends.now) first
-        O.Sink C.Cabinet topology.now output.old output.new cabinet.old cabinet.new result }
+    requires ends { AreEndWords (map string_bytes ends.words.now) }
+    requires first { ends.first ≤ 2 ^ 63 }
+    ensures outcome { ProveOutcome (P.prices costs.now) (map string_bytes ends.entry.words.now)
+        ends.entry.first O.Sink C.Cabinet topology.now output.old output.new
+        cabinet.old cabinet.new result }
     ensures out { (C.frame cabinet.new).out ≡ (C.frame cabinet.old).out }
     ensures output { Stays (O.frame output.old) (O.frame output.new) }
     ensures cabinet { Stays (object_of (C.frame cabinet.old)) (object_of (C.frame cabinet.new)) }
 {
-    let done = prove_named(alloc, costs, topology, ends, first, output, cabinet);
+    let done = prove_named(alloc, costs, topology, ends, output, cabinet);
     end(done, output)
 }
 
@@ -50,36 +56,35 @@ fn prove_named<P: Prices, O: Sink, C: Cabinet>(
     alloc: Global,
     costs: &P,
     topology: &str,
-    ends: &[String],
-    first: u64,
+    ends: EndWords<'_>,
     output: &mut O,
     cabinet: &mut C,
 ) -> Result<(), Fault>
-    requires ends { AreEndWords (map string_bytes ends.now) }
-    requires first { first ≤ 2 ^ 63 }
-    ensures proves { ProvesNamed (P.prices costs.now) (map string_bytes ends.now) first
-        O.Sink C.Cabinet topology.now output.old output.new cabinet.old cabinet.new result }
+    requires ends { AreEndWords (map string_bytes ends.words.now) }
+    requires first { ends.first ≤ 2 ^ 63 }
+    ensures proves { ProvesNamed (P.prices costs.now) (map string_bytes ends.entry.words.now)
+        ends.entry.first O.Sink C.Cabinet topology.now output.old output.new
+        cabinet.old cabinet.new result }
     ensures output { Stays (O.frame output.old) (O.frame output.new) }
 {
     let top = read_topology(alloc, costs, topology, cabinet)?;
-    prove_words(alloc, &top, ends, first, output)
+    prove_words(alloc, &top, ends, output)
 }
 
 // Proves the hose of the words on a network that was read.
 fn prove_words<O: Sink>(
     alloc: Global,
     top: &Topology,
-    ends: &[String],
-    first: u64,
+    ends: EndWords<'_>,
     output: &mut O,
 ) -> Result<(), Fault>
-    requires ends { AreEndWords (map string_bytes ends.now) }
-    requires first { first ≤ 2 ^ 63 }
-    ensures proves { ProvesWords (map string_bytes ends.now) first top.now O.Sink
-        output.old output.new result }
+    requires ends { AreEndWords (map string_bytes ends.words.now) }
+    requires first { ends.first ≤ 2 ^ 63 }
+    ensures proves { ProvesWords (map string_bytes ends.entry.words.now) ends.entry.first top.now
+        O.Sink output.old output.new result }
     ensures output { Stays (O.frame output.old) (O.frame output.new) }
 {
-    let hose = hose_of(alloc, top, ends, first)?;
+    let hose = hose_of(alloc, top, ends)?;
     put_proof(alloc, top, &hose, output)
 }
 
@@ -101,16 +106,17 @@ fn put_proof<O: Sink>(
 }
 
 // The hose of endpoints that have the form of some.
-fn hose_of(alloc: Global, top: &Topology, ends: &[String], first: u64) -> Result<Hose, Fault>
-    requires ends { AreEndWords (map string_bytes ends.now) }
-    requires first { first ≤ 2 ^ 63 }
-    ensures hose { IfOk result (AreEndsOf top.now (map string_bytes ends.now)) }
+fn hose_of(alloc: Global, top: &Topology, ends: EndWords<'_>) -> Result<Hose, Fault>
+    requires ends { AreEndWords (map string_bytes ends.words.now) }
+    requires first { ends.first ≤ 2 ^ 63 }
+    ensures hose { IfOk result (AreEndsOf top.now (map string_bytes ends.entry.words.now)) }
     ensures nodes { IfOk result (AreNodes top.now) }
-    ensures none { IfErr result (IsNoHose (map string_bytes ends.now) first top.now) }
+    ensures none { IfErr result
+        (IsNoHose (map string_bytes ends.entry.words.now) ends.entry.first top.now) }
 {
     // The call tells the proof what holds of each network: that no two nodes have one name.
     let _nodes = top.nodes();
-    let found = ends_of(alloc, top, ends, first)?;
+    let found = ends_of(alloc, top, ends.words, ends.first)?;
     let hose = Hose::from_ends(alloc, &found)?;
     Ok(hose)
 }

@@ -5,7 +5,7 @@ ghost use Rattle.hose_disk.specs.Cabinet.{object_of};
 ghost use Rattle.hose_offline.specs.OnDisk.{IsUnopened};
 ghost use Rattle.hose_offline.specs.ShipOutcome.{ShipOutcome, ShipsInCabinet, shipping_done};
 
-use crate::auditing::read_topology;
+use crate::auditing::{Names, read_topology};
 use crate::fault::{Fault, end};
 use hose_disk::Cabinet;
 use hose_follow::ShipFault;
@@ -21,23 +21,23 @@ use std::alloc::Global;
 pub fn ship<P: Prices, O: Sink, C: Cabinet>(
     alloc: Global,
     costs: &P,
-    topology: &str,
-    journal: &str,
+    names: Names<'_>,
     from: u64,
     output: &mut O,
     cabinet: &mut C,
 ) -> u8
     requires { (C.frame cabinet.old).out ≡ None }
-    ensures outcome { ShipOutcome (P.prices costs.now) O.Sink C.Cabinet C.Disk.Disk topology.now
-        journal.now from output.old output.new cabinet.old cabinet.new result }
+    ensures outcome { ShipOutcome (P.prices costs.now) O.Sink C.Cabinet C.Disk.Disk
+        names.entry.topology.now names.entry.journal.now from output.old output.new
+        cabinet.old cabinet.new result }
     ensures not_words { result ≢ 1 }
     ensures back { (C.frame cabinet.new).out ≡ None }
     ensures output { Stays (O.frame output.old) (O.frame output.new) }
     ensures cabinet { Stays (object_of (C.frame cabinet.old)) (object_of (C.frame cabinet.new)) }
 {
-    match read_topology(alloc, costs, topology, cabinet) {
+    match read_topology(alloc, costs, names.topology, cabinet) {
         Ok(top) => {
-            let done = ship_in_cabinet(alloc, journal, &top, from, output, cabinet);
+            let done = ship_in_cabinet(alloc, names.journal, &top, from, output, cabinet);
             end(done, output)
         }
         Err(why) => end(Err(why), output),

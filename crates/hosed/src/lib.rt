@@ -42,7 +42,9 @@ mod words;
 use chosen::costs_of;
 use hose_disk::Cabinet;
 use hose_io::{Door, Sink, Source};
-use hose_offline::{Fault, audit, check, end, follow, price, prove, run, run_generated, ship};
+use hose_offline::{
+    EndWords, Fault, Names, audit, check, end, follow, price, prove, run, run_generated, ship,
+};
 use hose_pool::Gate;
 use hose_tariff::{Prices, Tariff};
 use serving::{Means, serve};
@@ -153,14 +155,19 @@ pub fn offline<I: Source, O: Sink, C: Cabinet>(
         }
         Ok(Request::Audit(of)) => {
             let by = costs_of(tariffs, of.tariff);
-            audit(alloc, &by, of.topology, of.journal, output, cabinet)
+            let names = Names {
+                topology: of.topology,
+                journal: of.journal,
+            };
+            audit(alloc, &by, names, output, cabinet)
         }
         Ok(Request::Generate(of)) => {
             run_generated(alloc, of.seed, of.nodes, of.links, of.hoses, output)
         }
         Ok(Request::Prove { of, ends, first }) => {
             let by = costs_of(tariffs, of.tariff);
-            prove(alloc, &by, of.topology, ends, first, output, cabinet)
+            let ends = EndWords { words: ends, first };
+            prove(alloc, &by, of.topology, ends, output, cabinet)
         }
         Ok(Request::Check(of)) => {
             let by = costs_of(tariffs, of.tariff);
@@ -171,11 +178,19 @@ pub fn offline<I: Source, O: Sink, C: Cabinet>(
         }
         Ok(Request::Ship { of, from }) => {
             let by = costs_of(tariffs, of.tariff);
-            ship(alloc, &by, of.topology, of.journal, from, output, cabinet)
+            let names = Names {
+                topology: of.topology,
+                journal: of.journal,
+            };
+            ship(alloc, &by, names, from, output, cabinet)
         }
         Ok(Request::Follow(of)) => {
             let by = costs_of(tariffs, of.tariff);
-            follow(alloc, &by, of.topology, of.journal, input, output, cabinet)
+            let names = Names {
+                topology: of.topology,
+                journal: of.journal,
+            };
+            follow(alloc, &by, names, input, output, cabinet)
         }
         Err(wrong) => end(Err(Fault::Words(wrong)), output),
     }

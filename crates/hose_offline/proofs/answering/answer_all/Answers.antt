@@ -3,7 +3,7 @@ use Rattle.std.proofs.Common.{◌≡◌, Ok, Err, refl, ◌∙◌, ap, subst}
 use Rattle.std.proofs.lemmas.Result.{err_from_is_err_and}
 use Rattle.hose_words.proofs.OnReading.{ReadsOn-start, ReadsOn-then}
 use Rattle.hose_offline.specs.Serving.{ServesLine}
-use Rattle.hose_offline.proofs.Turns.{nothing_served, serves_all, serves_fault, served_more}
+use Rattle.hose_offline.proofs.Exchanges.{nothing_served, serves_all, serves_fault, served_more}
 use Rattle.hose_offline.proofs.answering.answer_all.Goals as goal
 
 pub loop-init : goal.loop-init

@@ -3,11 +3,10 @@ use Rattle.std.proofs.lemmas.Result.{err_from_is_err_and}
 use Rattle.hose_io.specs.Stream.{Grows}
 use Rattle.hose_io.specs.Writing.{GrowsInPart}
 use Rattle.hose_words.specs.Lines.{IsNext}
-use Rattle.hose_book.specs.Ledger.{Ledger}
 use Rattle.hose_offline.specs.declared.fault.Fault.TheVariants.{Write}
 use Rattle.hose_offline.specs.Fault.{of_line}
 use Rattle.hose_offline.specs.Serving.{AnswersLine}
-use Rattle.hose_offline.proofs.Turns.{serves_read, turn_of}
+use Rattle.hose_offline.proofs.Exchanges.{exchange_of, serves_read}
 use Rattle.hose_offline.proofs.answering.answer_line.Goals as goal
 
 pub returns-in_err-line-clause-serves : goal.returns-in_err-line-clause-serves
@@ -26,9 +25,9 @@ returns-in_err-put_reply-clause-serves g c =
     let put = c.in_err-put_reply.ensures.put in
     let told = err_from_is_err_and c.from_residual-in_err-put_reply.result c.from_residual-in_err-put_reply.ensures.1 in
     let is : c.from_residual-in_err-put_reply.result ≡ Err Write = told.1 ∙ ap Err told.2 in
-    let top = c.topology.ensures.value ∙ ap (λ (l : Ledger). l.network) c.book.ensures ∙ ap (λ k. (g.K.Books.ledger k).network) c.books.ensures ∙ c.reply_to-reply.ensures.network in
+    let top = c.topology_of.ensures ∙ c.reply_to-reply.ensures.network in
     rw is (
-      turn_of g.S.Source c.args.lines.now new (g.K.Books.ledger c.args.core.now.books).network c.topology.result.now c.in-Some.line c.reply_to-reply.result
+      exchange_of g.S.Source c.args.lines.now new (g.K.Books.ledger c.args.core.now.books).network c.topology_of.result.now c.in-Some.line c.reply_to-reply.result
           (AnswersLine g.K.Books c.args.core.now c.reply_to-reply.new.core) (GrowsInPart (g.O.Sink.content c.args.output.now) (g.O.Sink.content c.put_reply.new.sink)) next
           c.reply_to-reply.ensures.answers c.reply_to-reply.ensures.alone top put.err,
       next.fault.1,
@@ -40,8 +39,8 @@ returns-clause-serves g c =
     let new = c.next.follows.lender-at-none in
     let next = subst (IsNext g.S.Source c.args.lines.now new) (c.in_ok-line.was ∙ ap Ok c.in-Some.is) c.next.follows.holds-at-none in
     let put = c.in_ok-put_reply.ensures.put in
-    let top = c.topology.ensures.value ∙ ap (λ (l : Ledger). l.network) c.book.ensures ∙ ap (λ k. (g.K.Books.ledger k).network) c.books.ensures ∙ c.reply_to-reply.ensures.network in (
-      turn_of g.S.Source c.args.lines.now new (g.K.Books.ledger c.args.core.now.books).network c.topology.result.now c.in-Some.line c.reply_to-reply.result
+    let top = c.topology_of.ensures ∙ c.reply_to-reply.ensures.network in (
+      exchange_of g.S.Source c.args.lines.now new (g.K.Books.ledger c.args.core.now.books).network c.topology_of.result.now c.in-Some.line c.reply_to-reply.result
           (AnswersLine g.K.Books c.args.core.now c.reply_to-reply.new.core) (Grows (g.O.Sink.content c.args.output.now) (g.O.Sink.content c.put_reply.new.sink)) next
           c.reply_to-reply.ensures.answers c.reply_to-reply.ensures.alone top put.ok,
       next.fault.1,

@@ -3,6 +3,7 @@ use Rattle.std.proofs.Common.{◌≡◌, ◌∙◌, ℕ, List, Option, Err, sym,
 use Rattle.std.proofs.lemmas.Result.{err_from_is_err_and}
 use Rattle.hose_words.proofs.OnReading.{ReadsOn-then}
 use Rattle.hose_offline.specs.Fault.{of_topology}
+use Rattle.hose_offline.specs.declared.fault.Fault.TheVariants.{Read}
 use Rattle.std.specs.Prelude.{option_map}
 use Rattle.hose_offline.specs.RunOutcome.{RunLeaves}
 use Rattle.hose_topo.specs.Reading.{KeepsFault}
@@ -19,7 +20,7 @@ returns-in_err-told-clause-leaves g c =
     let start = c.args.lines.now in
     let last = c.read.new.lines in
     let told = err_from_is_err_and c.from_residual.result c.from_residual.ensures.1 in
-    let is : c.from_residual.result ≡ Err (of_topology topology) = told.1 ∙ ap Err told.2 in
+    let is : c.from_residual.result ≡ Err (of_topology Read topology) = told.1 ∙ ap Err told.2 in
     rw is (leaves_topology ⊤ (g.P.Prices.prices c.args.costs.now) g.S.Source g.O.Sink g.C.Cabinet g.C.Disk.Disk (option_map (λ name. name.now) c.args.journal) start last c.args.output.now c.args.cabinet.now topology
     (λ line word wrong. wrong_told g.S.Source start last line word c.requires.pending (read.wrong line word (at ∙ ap Err wrong)) (read.no_text line word (at ∙ ap Err wrong)))
     (λ fault stopped. stopped_told g.S.Source start last fault c.requires.pending (read.front c.requires.fault fault (at ∙ ap Err stopped)))

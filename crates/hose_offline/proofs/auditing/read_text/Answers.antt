@@ -52,7 +52,7 @@ returns-in-Err g c =
     let why = c.in-Err.fault in
     let at = c.in-Err.is in
     record {
-      reads = subst (λ (f : Fault). ReadsText g.C.Cabinet c.args.cabinet.now c.cabinet-1.given.0 Lines own_costs c.args.name.now (Err f)) (sym c.of_text.ensures)
+      reads = subst (λ (f : Fault). ReadsText g.C.Cabinet c.args.cabinet.now c.cabinet-1.given.0 Lines own_costs c.args.name.now (Err f)) (sym c.of_topology.ensures)
           (read_err g.C.Cabinet c.args.cabinet.now _ c.args.name.now first.source last.source
           (ap (λ (t : TextState g.row.C.Denot). t.cabinet.now) source ∙ c.new.ensures.value)
           (ap (λ (t : TextState g.row.C.Denot). t.name) source ∙ c.new.ensures.name) (ap (λ (t : TextState g.row.C.Denot). t.from) source ∙ c.new.ensures.from)

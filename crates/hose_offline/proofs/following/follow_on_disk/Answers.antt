@@ -29,4 +29,4 @@ returns-clause-follows g c =
     c.in-Ok.ensures.keeps.stays.never_falls c.close-closed.ensures.closes c.close-closed.ensures.call stood
     (λ history kept stands goes. c.law_run.ensures begins old opened.history history store kept stands goes)
     (λ history kept stands closes. c.law_closed.ensures begins old left history kept closing stands closes) in
-    inr (ended, closing, has, rw c.as_fault.ensures at c.first_fault.ensures)
+    inr (ended, closing, has, rw c.done_of_end.ensures at c.first_fault.ensures)

@@ -5,8 +5,7 @@ use Rattle.hose_store.specs.Store.{Kept}
 use Rattle.hose_offline.specs.ServingOnDisk.{ServesOnDisk}
 use Rattle.hose_offline.specs.declared.fault.Fault.{Fault}
 use Rattle.hose_offline.specs.OnDisk.{opening_of}
-use Rattle.hose_offline.proofs.Journals.{first_long, not_opened, served_on}
-use Rattle.hose_offline.proofs.Unused.{closed_unused}
+use Rattle.hose_offline.proofs.Journals.{closed_unused, first_long, not_opened, served_on}
 use Rattle.hose_offline.proofs.journal.answer_on_disk.Goals as goal
 
 pub returns-in-Err-clause-serves : goal.returns-in-Err-clause-serves

@@ -1,4 +1,4 @@
-use Rattle.std.proofs.Common.{inl, refl}
+use Rattle.std.proofs.Common.{refl}
 use Rattle.hose_offline.proofs.PutBack.{unopened}
 use Rattle.hose_offline.proofs.ShipEnds.{none_shipped, ships_in}
 use Rattle.hose_offline.proofs.shipping.ship_in_cabinet.Goals as goal

@@ -1,4 +1,4 @@
--- Turns, one after another.
+-- Exchanges, each a line and its reply, one after another.
 use Rattle.std.proofs.Common.{◌≡◌, ◌⊎◌, inl, inr, ⊎_elim, ℕ, ◌+◌, ◌-◌, ◌^◌, ◌≤◌, List, [], ◌∷◌, ◌++◌, Option, None, Some, Ok, Err, false, refl, sym, ◌∙◌, ap, subst, arith, length, take, append-nil}
 use Rattle.std.specs.Prelude.{IfSome}
 use mathlib.Core.List.{IsPrefix}
@@ -60,11 +60,11 @@ says_shown network line.Long bytes (IsBad word) shows says = absurd says
 says_shown network line.Long bytes IsLong shows says = shows
 says_shown network line.Long bytes Unread shows says = absurd says
 
--- a line that was read, and answered, makes a turn
-pub turn_of : {S : Type 0} (source : Ghosts S) (old new : Reader S) (network other : Network) (shown : Line) (reply : Reply) (Answers : ReadLine → Reply → Type 0) (puts : List ℕ → Type 0)
+-- a line that was read, and answered, makes an exchange
+pub exchange_of : {S : Type 0} (source : Ghosts S) (old new : Reader S) (network other : Network) (shown : Line) (reply : Reply) (Answers : ReadLine → Reply → Type 0) (puts : List ℕ → Type 0)
     → IsNext source old new (Ok (Some shown)) → (said : ReadLine) × SaysRead network shown said × Answers said reply
     → ((bytes : List ℕ) → Shows shown bytes → SaysOneThing network bytes) → other ≡ network → puts (line_of (reply_text other reply)) → AnswersNextLine source old new network Answers puts
-turn_of source old new network other shown reply Answers puts next answers alone same out = record {
+exchange_of source old new network other shown reply Answers puts next answers alone same out = record {
   said = answers.0;
   reply = reply;
   line = takes_line source old new shown (λ bytes. Says network bytes answers.0 × SaysOneThing network bytes) next (λ bytes shows. (says_shown network shown bytes answers.0 shows answers.1, alone bytes shows));
@@ -79,7 +79,7 @@ pub serves_read : {S O K R : Type 0} (source : Ghosts S) (sink : SinkGhosts O) (
 serves_read source sink books old new output core line_fault.Read none next = (met_fault source old new line_fault.Read none next, rose_now source old new none (next.read refl), refl, refl)
 serves_read source sink books old new output core line_fault.TooLong none next = (met_fault source old new line_fault.TooLong none next, refl, refl)
 
--- ---- histories that turns lead to
+-- ---- histories that exchanges lead to
 
 -- one reply tells no more failures than the count rose by
 abbrev TellsOne : Frame → Reply → Frame → Type 0
@@ -224,63 +224,63 @@ module _ {S K R : Type 0} (source : Ghosts S) (books : BooksGhosts K R) (start n
   abbrev Served : Type 0
   Served = HasAnsweredLines source books start now since begun core first middle
 
-  abbrev Turn : (List ℕ → Type 0) → Type 0
-  Turn puts = AnswersNextLine source now new (books.ledger core.books).network (AnswersLine books core next) puts
+  abbrev Exchange : (List ℕ → Type 0) → Type 0
+  Exchange puts = AnswersNextLine source now new (books.ledger core.books).network (AnswersLine books core next) puts
 
-  -- a turn of the network that there is now is one of the first network
-  here : (puts : List ℕ → Type 0) → Served → Turn puts → AnswersNextLine source now new top (AnswersLine books core next) puts
-  here puts served turn = subst (λ (n : Network). AnswersNextLine source now new n (AnswersLine books core next) puts) served.network turn
+  -- an exchange of the network that there is now is one of the first network
+  here : (puts : List ℕ → Type 0) → Served → Exchange puts → AnswersNextLine source now new top (AnswersLine books core next) puts
+  here puts served exchange = subst (λ (n : Network). AnswersNextLine source now new n (AnswersLine books core next) puts) served.network exchange
 
-  -- the line of a turn stands after those that were said
-  said_after : (puts : List ℕ → Type 0) (served : Served) → ReadsOn source start now → (turn : AnswersNextLine source now new top (AnswersLine books core next) puts)
-      → WhereTold (source.content start.source) (source.content new.source) (λ was left. SayLines (SaysNext top) (start.pending ++ was) (served.lines ++ turn.said ∷ []) (new.pending ++ left))
-  said_after puts served reads turn = said_more source (SaysNext top) start now new served.lines served.said reads turn.said (λ bytes. Says top bytes turn.said × SaysOneThing top bytes) turn.line (λ bytes is. is.0)
+  -- the line of an exchange stands after those that were said
+  said_after : (puts : List ℕ → Type 0) (served : Served) → ReadsOn source start now → (exchange : AnswersNextLine source now new top (AnswersLine books core next) puts)
+      → WhereTold (source.content start.source) (source.content new.source) (λ was left. SayLines (SaysNext top) (start.pending ++ was) (served.lines ++ exchange.said ∷ []) (new.pending ++ left))
+  said_after puts served reads exchange = said_more source (SaysNext top) start now new served.lines served.said reads exchange.said (λ bytes. Says top bytes exchange.said × SaysOneThing top bytes) exchange.line (λ bytes is. is.0)
 
-  goes_on : (served : Served) → (puts : List ℕ → Type 0) (turn : AnswersNextLine source now new top (AnswersLine books core next) puts) → Answered books since begun next (served.lines ++ turn.said ∷ []) (served.replies ++ turn.reply ∷ [])
-  goes_on served puts turn = answered_more books since begun core next served.lines served.replies (record { answered = served.answered; fits = served.fits; network = served.network }) turn.said turn.reply turn.answers
+  goes_on : (served : Served) → (puts : List ℕ → Type 0) (exchange : AnswersNextLine source now new top (AnswersLine books core next) puts) → Answered books since begun next (served.lines ++ exchange.said ∷ []) (served.replies ++ exchange.reply ∷ [])
+  goes_on served puts exchange = answered_more books since begun core next served.lines served.replies (record { answered = served.answered; fits = served.fits; network = served.network }) exchange.said exchange.reply exchange.answers
 
-  -- a turn more is served
-  pub served_more : Served → ReadsOn source start now → Turn (Grows middle last) → HasAnsweredLines source books start new since begun next first last
+  -- an exchange more is served
+  pub served_more : Served → ReadsOn source start now → Exchange (Grows middle last) → HasAnsweredLines source books start new since begun next first last
   served_more served reads taken =
-      let turn = here (Grows middle last) served taken in
-      let more = goes_on served (Grows middle last) turn in record {
-        lines = served.lines ++ turn.said ∷ [];
-        replies = served.replies ++ turn.reply ∷ [];
-        said = said_after (Grows middle last) served reads turn;
-        alone = WhereTold-then (source.content start.source) (source.content now.source) (source.content new.source) reads.takes.0 _ _ _ reads.takes.1 served.alone turn.line
+      let exchange = here (Grows middle last) served taken in
+      let more = goes_on served (Grows middle last) exchange in record {
+        lines = served.lines ++ exchange.said ∷ [];
+        replies = served.replies ++ exchange.reply ∷ [];
+        said = said_after (Grows middle last) served reads exchange;
+        alone = WhereTold-then (source.content start.source) (source.content now.source) (source.content new.source) reads.takes.0 _ _ _ reads.takes.1 served.alone exchange.line
             (λ a b c before here. subst (SayOneThingEach top (start.pending ++ a)) (sym here.2) (line_more before here.0 here.1.1));
         answered = more.answered;
         fits = more.fits;
         network = more.network;
-        out = subst (Grows first last) (sym (flat_map-last (λ reply. line_of (reply_text top reply)) served.replies turn.reply))
-            (Grows-append first middle last (texts_of top served.replies) (line_of (reply_text top turn.reply)) served.out turn.out);
+        out = subst (Grows first last) (sym (flat_map-last (λ reply. line_of (reply_text top reply)) served.replies exchange.reply))
+            (Grows-append first middle last (texts_of top served.replies) (line_of (reply_text top exchange.reply)) served.out exchange.out);
       }
 
   abbrev UpTo : (List ℕ → List ℕ → List ℕ → Type 0) → (List Reply → Type 0) → Type 0
   UpTo stops puts = ServesUpTo source books start new top since begun.books next.books stops puts
 
-  -- a turn more is taken, and its reply is cut off
-  pub served_cut : Served → ReadsOn source start now → Turn (GrowsInPart middle last) → UpTo IsLeftOver (CutsLast top first last)
+  -- an exchange more is taken, and its reply is cut off
+  pub served_cut : Served → ReadsOn source start now → Exchange (GrowsInPart middle last) → UpTo IsLeftOver (CutsLast top first last)
   served_cut served reads taken =
-      let turn = here (GrowsInPart middle last) served taken in
-      let more = goes_on served (GrowsInPart middle last) turn in record {
-        lines = served.lines ++ turn.said ∷ [];
-        replies = served.replies ++ turn.reply ∷ [];
-        said = said_enough source (SaysNext top) start new _ (said_after (GrowsInPart middle last) served reads turn);
+      let exchange = here (GrowsInPart middle last) served taken in
+      let more = goes_on served (GrowsInPart middle last) exchange in record {
+        lines = served.lines ++ exchange.said ∷ [];
+        replies = served.replies ++ exchange.reply ∷ [];
+        said = said_enough source (SaysNext top) start new _ (said_after (GrowsInPart middle last) served reads exchange);
         answered = more.answered;
         out = (
           served.replies,
-          turn.reply,
+          exchange.reply,
           refl,
           (
-            turn.out.0,
-            turn.out.1,
-            Grows-append first middle last (texts_of top served.replies) (take turn.out.0 (line_of (reply_text top turn.reply))) served.out turn.out.2,
+            exchange.out.0,
+            exchange.out.1,
+            Grows-append first middle last (texts_of top served.replies) (take exchange.out.0 (line_of (reply_text top exchange.reply))) served.out exchange.out.2,
           ),
         );
       }
 
-  -- no turn more is taken
+  -- no exchange more is taken
   served_up_to : (stops : List ℕ → List ℕ → List ℕ → Type 0) (served : Served) → SaysUpTo source start new (SaysNext top) served.lines stops → last ≡ middle → next ≡ core → UpTo stops (λ replies. Grows first last (texts_of top replies))
   served_up_to stops served said same stays = record {
     lines = served.lines;
@@ -321,18 +321,11 @@ module _ {S O K R : Type 0} (source : Ghosts S) (sink : SinkGhosts O) (books : B
 
   -- a fault ends it
   pub serves_fault : (T : Type 0) (fault : Fault) → ServesLine source sink books now new middle last core next (Err fault) → Serves {T = T} source sink books start new first last whole since begun.books next.books (Err fault)
-  serves_fault T (fault.Words word) line = absurd line
-  serves_fault T (fault.Topology refusal) line = absurd line
-  serves_fault T fault.Memory line = absurd line
-  serves_fault T (fault.Other old given) line = absurd line
-  serves_fault T (fault.Damaged at) line = absurd line
-  serves_fault T fault.Cabinet line = absurd line
-  serves_fault T fault.Door line = absurd line
-  serves_fault T (fault.Packet byte) line = absurd line
   serves_fault T fault.Read line = (until line_fault.Read line.0 line.2 line.3, rw source_held at line.1)
   serves_fault T fault.TooLong line = until line_fault.TooLong line.0 line.1 line.2
   serves_fault T fault.Write line =
       (served_cut source books start now new since begun core next (sink.content first) (sink.content middle) (sink.content last) served reads line.0, line.1, rw held at line.2)
+  serves_fault T another line = absurd line
 
   -- no line is left
   pub serves_all : (T : Type 0) (value : T) → ServesLine source sink books now new middle last core next (Ok false) → Serves source sink books start new first last whole since begun.books next.books (Ok value)
