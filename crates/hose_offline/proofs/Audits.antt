@@ -36,14 +36,13 @@ use Rattle.hose_offline.specs.Fault.{of_topology}
 use Rattle.hose_offline.specs.OnDisk.{CabinetFailed, CabinetWorked, HadContent, IsRefusedOnDisk, IsUnopened}
 use Rattle.hose_offline.specs.JsonRead.{IsJsonOf}
 use Rattle.hose_offline.specs.Run.{HasText, TellsNoNetwork}
-use Rattle.hose_offline.specs.TopologyTold.{Tells, TellsPriced, limit_of, notation_of, own_costs}
+use Rattle.hose_offline.specs.TopologyTold.{TellsPriced, limit_of, own_costs}
 use Rattle.hose_offline.specs.declared.json_text.TheConstants.{JSON_LIMIT}
 use Rattle.hose_offline.specs.declared.notation.Notation.{Notation}
 use Rattle.hose_offline.specs.declared.notation.Notation.TheVariants as notation
 use Rattle.hose_offline.specs.declared.notation.Refusal.TheVariants.{Word}
 use Rattle.hose_words.proofs.OnReading.{WhereTold-map}
 use Rattle.hose_offline.proofs.Journals.{alone}
-use Rattle.hose_offline.proofs.Taken.{text_failed, text_then}
 use Rattle.hose_offline.proofs.Texts.{HasAsked-next, HasAsked-none}
 use Rattle.hose_offline.specs.ServingOnDisk.{IsNotServed}
 use Rattle.hose_offline.specs.declared.fault.Fault.{Fault}
@@ -255,25 +254,6 @@ module _ {C E : Type 0} (cabinet : CabinetGhosts C E) (old mid : C) (name : List
       absent = λ told some. reads.absent (subst IsTrue (sym call.tells) told) (subst (λ (t : List ℕ → Option (List ℕ)). IsSome (t name)) (sym texts) some) ∙ absent_kept told some;
       not_there = λ told none. absurd (there told none);
     }
-
--- ---- with other costs
-
-module _ {C E : Type 0} (cabinet : CabinetGhosts C E) (old new : C) (name : List ℕ) (prices : Network → Network → Type 0) where
-  told_priced : (written : Notation) (text left : Option Stream) (told network : Network) → prices told network → WhereTold text left (λ bytes _. TellsPriced written own_costs bytes told)
-      → WhereTold text left (λ bytes _. TellsPriced written prices bytes network)
-  told_priced written text left told network priced tells = WhereTold-map text left _ _ tells
-      (λ bytes _ is. (told, subst (λ (n : Network). Tells written bytes n) (sym is.2) is.1, priced))
-
-  pub read_priced : (told network : Network) → prices told network → IsNetwork network → ReadsTopology cabinet old new own_costs name (Ok told) → ReadsTopology cabinet old new prices name (Ok network)
-  read_priced told network priced is reads =
-      text_then cabinet old new name _ _ (notation_of name) told (Ok network) reads (λ long. cc long) (is, reads.text.1, told_priced (notation_of name) _ reads.left told network priced reads.text.2)
-
-  pub read_starved : (told : Network) → ReadsTopology cabinet old new own_costs name (Ok told) → ReadsTopology cabinet old new prices name (Err fault.Memory)
-  read_starved told reads =
-      text_then cabinet old new name _ _ (notation_of name) told (Err fault.Memory) reads (λ long. cc long) (inr (WhereTold-map _ reads.left _ _ reads.text.2 (λ bytes _ is. (is.0, is.1))), reads.text.1)
-
-  pub read_none : (why : Fault) → ReadsTopology cabinet old new own_costs name (Err why) → ReadsTopology cabinet old new prices name (Err why)
-  read_none why reads = text_failed cabinet old new name _ _ (notation_of name) why reads reads.text
 
 -- ---- both
 

@@ -151,12 +151,6 @@ module _ {K R : Type 0} (books : BooksGhosts K R) (first : State K) (orders : Li
       let long : length orders ≡ length was.done + length rest = ap length was.whole ∙ length-append was.done rest in
       (length was.done, omega (arith, long, small), was.counted)
 
-  -- all were answered
-  pub up_to_end : (now : State K) (rest : List Order) (tally : Tally) → rest ≡ [] → AnsweredUpTo books first now orders rest tally → FitsHistory books first 0 [] nothing_held → HaveBeenAnswered books first now orders tally
-  up_to_end now rest tally none was fits =
-      let whole : orders ≡ was.done = was.whole ∙ ap (λ (r : List Order). was.done ++ r) none ∙ append-nil was.done in
-      subst (λ (os : List Order). HaveBeenAnswered books first now os tally) (sym whole) (was.answered fits)
-
 -- where a network and a script are the generated ones, their tally makes the summary
 pub summary_made : (seed nodes links hoses : ℕ) (top : Network) (script : List Order) (tally : Tally) → top ≡ generated_network seed nodes links → script ≡ generated_script seed nodes links hoses → IsNetwork top
     → IsTallyOf top script tally → IsSummary seed nodes links hoses (tally_line seed hoses tally)

@@ -3,7 +3,6 @@ use Rattle.std.proofs.Common.{◌≡◌, ◌⊎◌, ℕ, ◌<◌, ◌≤◌, Lis
 use Rattle.std.specs.Prelude.{⊤}
 use Rattle.hose_io.specs.Frame.{Stays}
 use Rattle.hose_io.specs.Stream.{Stream, Gives}
-use Rattle.hose_io.specs.Writing.{IsPut}
 use Rattle.hose_io.specs.declared.Failed.{Failed}
 use Rattle.hose_io.specs.declared.source.Source.{Ghosts as SourceGhosts}
 use Rattle.hose_io.specs.declared.sink.Sink.{Ghosts as SinkGhosts}
@@ -21,7 +20,7 @@ use Rattle.hose_disk.specs.declared.disk.Disk.{Ghosts as DiskGhosts}
 use Rattle.hose_journal.specs.Image.{Meaning, damaged, other}
 use Rattle.hose_store.specs.Recovery.{IsHistoryOf, digest_of}
 use Rattle.hose_law.specs.Script.{ReadLine}
-use Rattle.hose_offline.specs.Ending.{IsOut, status_of_done}
+use Rattle.hose_offline.specs.Ending.{status_of_done}
 use Rattle.hose_offline.specs.OnDisk.{HadContent, IsRefusedOnDisk, JournalIsTold, keeping_of}
 use Rattle.hose_offline.specs.Run.{HasNetwork, HasRun, HasText, IsFor, IsRefusedText, IsRun, IsServable, Keeping, TellsNoNetwork}
 use Rattle.hose_offline.specs.RunOutcome.{EndsInputRefused, InputStops, IsInterrupted, AnyJournalIs, NothingFailed, RunLeaves}
@@ -32,11 +31,6 @@ use Rattle.hose_offline.specs.declared.notation.Notation.{Notation}
 use Rattle.hose_offline.specs.declared.notation.Notation.TheVariants.{Lines}
 use Rattle.hose_offline.specs.declared.notation.Refusal.{Refusal}
 use Rattle.hose_offline.specs.declared.fault.Fault.TheVariants.{Words, Topology, Read, Write, Other, Damaged, Cabinet, Memory, TooLong}
-
--- a text that was put is out, or a part of it
-pub out_from_put : {O T : Type 0} (sink : SinkGhosts O) (was now : O) (text : List ℕ) (result : Result T Failed) → IsPut sink was now text result → IsOut sink was now text
-out_from_put sink was now text (Ok value) put = inl (put.ok, put.met.ok)
-out_from_put sink was now text (Err failed) put = inr (put.met.failed refl, put.err)
 
 -- the status of an input that is too long
 pub too_long_at_8 : {T : Type 0} (done : Result T Fault) → status_of_done done ≡ 8 → done ≡ Err TooLong

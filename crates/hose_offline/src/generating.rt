@@ -12,7 +12,7 @@ ghost use Rattle.hose_gen.specs.Generated.{generated_network, generated_script};
 ghost use Rattle.hose_gen.specs.declared.orders.TheConstants.{LEAST_NODES, MOST_HOSES};
 ghost use Rattle.hose_offline.specs.GenOutcome.{GenLeaves, GenOutcome};
 ghost use Rattle.hose_offline.specs.Generating.{HaveBeenAnswered, IsTallyOf};
-ghost use Rattle.hose_offline.specs.Serving.{AnswersLine};
+ghost use Rattle.hose_offline.specs.Serving.{AnswersLine, plain_books};
 ghost use Rattle.hose_offline.specs.Tally.{IsOfUpTo, with_reply};
 
 use crate::fault::{Fault, end};
@@ -83,7 +83,22 @@ fn tally_in_memory(alloc: Global, made: Generated) -> Result<Tally, Fault>
     let book = Book::new(alloc, top)?;
     let table = RowTable::of_all(alloc, book.topology())?;
     let mut core = Core::new(alloc, Plain { book });
-    let mut tally = answer_orders(alloc, &mut core, script, &mut TableRows::new(&table))?;
+    tally_orders(alloc, &mut core, script, &mut TableRows::new(&table))
+}
+
+// The tally of orders that a book in memory answers, which has no entry yet.
+fn tally_orders<R: RowMaker>(
+    alloc: Global,
+    core: &mut Core<Plain>,
+    orders: Vec<(Name, Command)>,
+    rows: &mut R,
+) -> Result<Tally, Fault>
+    requires asks { All (λ order. AsksOf core.old.books.book.network order.1) orders.items }
+    requires fits { FitsHistory plain_books core.old 0 [] nothing_held }
+    ensures tally { IfOk result (IsTallyOf core.old.books.book.network orders.items) }
+    ensures memory { IfErr result (λ why. why ≡ Fault.Memory) }
+{
+    let mut tally = answer_orders(alloc, core, orders, rows)?;
     tally.epoch = core.books().book().epoch();
     Ok(tally)
 }

@@ -10,5 +10,5 @@ returns-in_err-topology-clause-json g c =
     let value = c.deref.ensures.value in
     let told = err_from_is_err_and c.from_residual-in_err-topology.result c.from_residual-in_err-topology.ensures.1 in
     let is : c.from_residual-in_err-topology.result ≡ Err (of_json why) = told.1 ∙ ap Err told.2 in
-    rw is (whole_refused (g.S.Source.content c.args.source.now) (g.S.Source.content c.take_all.new.source) c.in_ok-bytes.bytes.items c.in_ok-bytes.ensures.bytes c.in_ok-bytes.ensures.whole c.in_ok-bytes.ensures.short why
+    rw is (whole_refused (g.S.Source.content c.args.source.now) (g.S.Source.content c.take_all.new.source) c.in_ok-bytes.bytes.items c.in_ok-bytes.ensures.bytes c.in_ok-bytes.ensures.whole why
     (rw value at c.in_err-topology.ensures.refused) (rw value at c.in_err-topology.ensures.accepts))

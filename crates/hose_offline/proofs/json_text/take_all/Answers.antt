@@ -1,10 +1,11 @@
-use Rattle.std.proofs.Common.{rules, ◌≡◌, ◌∙◌, ◌+◌, ◌≤◌, ◌++◌, Err, take, drop, length, ap, arith, length-append, length-take}
+use Rattle.std.proofs.Common.{rules, ◌≡◌, ◌∙◌, ◌+◌, ◌≤◌, ◌++◌, Err, take, drop, length, ap, arith, length-append}
 use Rattle.std.proofs.lemmas.List.{take-append-le}
 use Rattle.std.proofs.lemmas.Result.{err_from_is_err_and}
 use Rattle.hose_io.specs.Calls.{call_more, none_yet}
 use Rattle.hose_io.proofs.Streams.{Gives-append}
 use Rattle.hose_offline.specs.declared.fault.Fault.TheVariants as fault
 use Rattle.hose_offline.specs.declared.json_text.TheConstants.{JSON_LIMIT}
+use Rattle.hose_offline.proofs.JsonLemmas.{piece_more}
 use Rattle.hose_offline.proofs.json_text.take_all.Goals as goal
 
 pub loop-count-init : goal.loop-count-init
@@ -33,33 +34,17 @@ returns-in_err-extend_from_slice-clause-gone g c = call_more c.loop-count.invari
 
 pub returns-then-len-count-clause-fault : goal.returns-then-len-count-clause-fault
 returns-then-len-count-clause-fault g c =
-    let content = g.S.Source.content in
     let bytes = c.loop-count.bytes.items in
-    let more = take c.in-Ok.count c.take.new.into in
-    let long : length (bytes ++ more) ≡ length bytes + length more = length-append bytes more in
-    let room : c.in-Ok.count ≤ length c.take.new.into = search rules in
-    let given : length more ≡ c.in-Ok.count = omega (arith, length-take c.in-Ok.count c.take.new.into, room) in
+    let more = piece_more _ _ _ bytes c.take.new.into c.in-Ok.count c.loop-count.invariant.gives c.in-Ok.ensures.taken (search rules) in
     let held : c.len-in-loop-count.result ≡ length bytes = search rules in
-    let most : c.in-Ok.count + length bytes ≤ JSON_LIMIT + 1 = search rules in (
-      bytes ++ more,
-      Gives-append (content c.args.source.now) (content c.loop-count.source) (content c.take.new.self) bytes more c.loop-count.invariant.gives c.in-Ok.ensures.taken,
-      omega (arith, long, given, held, c.if-len-count.true),
-      omega (arith, long, given, most, c.loop-count.invariant.short),
-    )
+    let most : c.in-Ok.count + length bytes ≤ JSON_LIMIT + 1 = search rules in
+    (bytes ++ take c.in-Ok.count c.take.new.into, more.0, omega (arith, more.1, held, c.if-len-count.true), omega (arith, more.1, most, c.loop-count.invariant.short))
 
 pub returns-in_err-extend_from_slice-clause-fault : goal.returns-in_err-extend_from_slice-clause-fault
 returns-in_err-extend_from_slice-clause-fault g c =
-    let content = g.S.Source.content in
     let bytes = c.loop-count.bytes.items in
-    let more = take c.in-Ok.count c.take.new.into in
-    let long : length (bytes ++ more) ≡ length bytes + length more = length-append bytes more in
-    let room : c.in-Ok.count ≤ length c.take.new.into = search rules in
-    let given : length more ≡ c.in-Ok.count = omega (arith, length-take c.in-Ok.count c.take.new.into, room) in
+    let more = piece_more _ _ _ bytes c.take.new.into c.in-Ok.count c.loop-count.invariant.gives c.in-Ok.ensures.taken (search rules) in
     let held : c.len-in-loop-count.result ≡ length bytes = search rules in
     let told = err_from_is_err_and c.from_residual.result c.from_residual.ensures.1 in
     let is : c.from_residual.result ≡ Err fault.Memory = told.1 ∙ ap Err told.2 in
-    rw is (
-      bytes ++ more,
-      Gives-append (content c.args.source.now) (content c.loop-count.source) (content c.take.new.self) bytes more c.loop-count.invariant.gives c.in-Ok.ensures.taken,
-      omega (arith, long, given, held, c.if-len-count.false),
-    )
+    rw is (bytes ++ take c.in-Ok.count c.take.new.into, more.0, omega (arith, more.1, held, c.if-len-count.false))
