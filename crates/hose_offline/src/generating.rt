@@ -1,17 +1,15 @@
 // A generated network and its script, answered in memory and summed up.
-ghost use Rattle.std.specs.Prelude.{◌≡◌, ◌≢◌, ◌↔◌, ◌+◌, ◌<◌, ◌≤◌, ◌^◌, ℕ, [], IfErr, IfOk, IsTrue, OnOk};
+ghost use Rattle.std.specs.Prelude.{◌≡◌, ◌≢◌, ◌↔◌, ◌+◌, ◌<◌, ◌^◌, ℕ, [], IfErr, IfOk, IsTrue, OnOk};
 ghost use Rattle.std.specs.List.{All};
 ghost use Rattle.hose_io.specs.Frame.{Stays};
 ghost use Rattle.hose_graph.specs.Naming.{AsksOf};
-ghost use Rattle.hose_graph.specs.declared.limits.TheConstants.{MOST_LINKS, MOST_NODES};
 ghost use Rattle.hose_law.specs.Quotes.{nothing_held};
 ghost use Rattle.hose_law.specs.Script.{IsForMemory};
 ghost use Rattle.hose_law.specs.Script.ReadLine.{Asks};
 ghost use Rattle.hose_core.specs.Stepping.{FitsHistory};
 ghost use Rattle.hose_gen.specs.Generated.{generated_network, generated_script};
-ghost use Rattle.hose_gen.specs.declared.orders.TheConstants.{LEAST_NODES, MOST_HOSES};
 ghost use Rattle.hose_offline.specs.GenOutcome.{GenLeaves, GenOutcome};
-ghost use Rattle.hose_offline.specs.Generating.{HaveBeenAnswered, IsTallyOf};
+ghost use Rattle.hose_offline.specs.Generating.{AreSizes, HaveBeenAnswered, IsTallyOf};
 ghost use Rattle.hose_offline.specs.Serving.{AnswersLine, plain_books};
 ghost use Rattle.hose_offline.specs.Tally.{IsOfUpTo, with_reply};
 
@@ -35,11 +33,7 @@ pub fn run_generated<O: Sink>(
     hoses: u32,
     output: &mut O,
 ) -> u8
-    requires enough_nodes { LEAST_NODES ≤ nodes }
-    requires few_nodes { nodes ≤ MOST_NODES }
-    requires enough_links { nodes ≤ links + 1 }
-    requires few_links { links ≤ MOST_LINKS }
-    requires few_hoses { hoses ≤ MOST_HOSES }
+    requires { AreSizes nodes links hoses }
     ensures outcome { GenOutcome seed nodes links hoses O.Sink output.old output.new result }
     ensures not_words { result ≢ 1 }
     ensures output { Stays (O.frame output.old) (O.frame output.new) }
@@ -57,11 +51,7 @@ fn sum_up<O: Sink>(
     hoses: u32,
     output: &mut O,
 ) -> Result<(), Fault>
-    requires enough_nodes { LEAST_NODES ≤ nodes }
-    requires few_nodes { nodes ≤ MOST_NODES }
-    requires enough_links { nodes ≤ links + 1 }
-    requires few_links { links ≤ MOST_LINKS }
-    requires few_hoses { hoses ≤ MOST_HOSES }
+    requires { AreSizes nodes links hoses }
     ensures leaves { GenLeaves seed nodes links hoses O.Sink output.old output.new result }
     ensures output { Stays (O.frame output.old) (O.frame output.new) }
 {

@@ -22,30 +22,16 @@ returns-in-Ok-Generate-clause-outcome g c =
     let are = subst (AreWordsOf (map (λ tariff. tariff.name) c.args.tariffs.now) (map string_bytes c.args.words.now)) c.in-Ok-Generate.field-0-is c.in-Ok-Generate.ensures in
     right_words _ _ _ _ _ _ generate _ are c.run_generated.ensures.not_words (refl, refl, c.run_generated.ensures.outcome)
 
-pub run_generated-requires-clause-enough_nodes : goal.run_generated-requires-clause-enough_nodes
-run_generated-requires-clause-enough_nodes g c =
+pub run_generated-requires : goal.run_generated-requires
+run_generated-requires g c =
     let are = subst (AreWordsOf (map (λ tariff. tariff.name) c.args.tariffs.now) (map string_bytes c.args.words.now)) c.in-Ok-Generate.field-0-is c.in-Ok-Generate.ensures in
-    are.may.nodes_within.0
-
-pub run_generated-requires-clause-few_nodes : goal.run_generated-requires-clause-few_nodes
-run_generated-requires-clause-few_nodes g c =
-    let are = subst (AreWordsOf (map (λ tariff. tariff.name) c.args.tariffs.now) (map string_bytes c.args.words.now)) c.in-Ok-Generate.field-0-is c.in-Ok-Generate.ensures in
-    are.may.nodes_within.1
-
-pub run_generated-requires-clause-enough_links : goal.run_generated-requires-clause-enough_links
-run_generated-requires-clause-enough_links g c =
-    let are = subst (AreWordsOf (map (λ tariff. tariff.name) c.args.tariffs.now) (map string_bytes c.args.words.now)) c.in-Ok-Generate.field-0-is c.in-Ok-Generate.ensures in
-    omega (arith, are.may.links_within.0)
-
-pub run_generated-requires-clause-few_links : goal.run_generated-requires-clause-few_links
-run_generated-requires-clause-few_links g c =
-    let are = subst (AreWordsOf (map (λ tariff. tariff.name) c.args.tariffs.now) (map string_bytes c.args.words.now)) c.in-Ok-Generate.field-0-is c.in-Ok-Generate.ensures in
-    are.may.links_within.1
-
-pub run_generated-requires-clause-few_hoses : goal.run_generated-requires-clause-few_hoses
-run_generated-requires-clause-few_hoses g c =
-    let are = subst (AreWordsOf (map (λ tariff. tariff.name) c.args.tariffs.now) (map string_bytes c.args.words.now)) c.in-Ok-Generate.field-0-is c.in-Ok-Generate.ensures in
-    are.may.hoses_within.1
+    record {
+      enough_nodes = are.may.nodes_within.0;
+      few_nodes = are.may.nodes_within.1;
+      enough_links = omega (arith, are.may.links_within.0);
+      few_links = are.may.links_within.1;
+      few_hoses = are.may.hoses_within.1;
+    }
 
 pub returns-in-Ok-Prove-clause-outcome : goal.returns-in-Ok-Prove-clause-outcome
 returns-in-Ok-Prove-clause-outcome g c =

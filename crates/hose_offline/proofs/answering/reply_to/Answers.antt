@@ -24,7 +24,7 @@ returns-in-Err-Bad-clause-answers g c =
     let word = c.in-Err-Bad.word in
     let wrong : IsFirstNotAllowed (script_grammar network) _ (words_of c.in-Text.text.now) word =
     subst (λ (n : Network). IsFirstNotAllowed (script_grammar n) _ (words_of c.in-Text.text.now) word) c.topology_of.ensures (c.read_line.ensures.bad word (c.in-Err-Bad.is ∙ ap Err c.in-Err-Bad.field-0-is)) in
-    (IsBad word, subst (λ (l : Line). SaysRead network l (IsBad word)) (sym c.in-Text.is) wrong, (search rules, refl))
+    (IsBad word, subst (λ (l : Line). SaysRead network l (IsBad word)) (sym c.in-Text.is) wrong, (search rules, refl {a = c.args.core.now}))
 
 pub returns-in-Ok-clause-alone : goal.returns-in-Ok-clause-alone
 returns-in-Ok-clause-alone g c =
