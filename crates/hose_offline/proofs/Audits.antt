@@ -1,5 +1,5 @@
 -- An audit: the text of a topology in a cabinet, and the book of a journal on its disk.
-use Rattle.std.proofs.Common.{◌≡◌, ◌≢◌, ◌∙◌, length, ◌⊎◌, ◌↔◌, inl, inr, ℕ, ◌+◌, ◌<◌, ◌≤◌, List, [], Bool, Option, None, Some, IfSome, IsSome, IsTrue, Result, Ok, Err, refl, sym, ap, subst, arith, append-nil}
+use Rattle.std.proofs.Common.{◌≡◌, ◌≢◌, ◌∙◌, length, ◌⊎◌, ◌↔◌, inl, inr, ℕ, ◌+◌, ◌<◌, ◌≤◌, List, [], Bool, Option, None, Some, IfSome, IsSome, IsTrue, Result, Ok, Err, refl, sym, ap, subst, arith, append-nil, ◌++◌, false}
 use Rattle.std.specs.Prelude.{⊤}
 use Rattle.hose_io.specs.Calls.{HasGone}
 use Rattle.hose_io.specs.Frame.{Frame, Met, Rose}
@@ -8,7 +8,8 @@ use Rattle.hose_io.specs.declared.Failed.{Failed}
 use Rattle.hose_io.specs.declared.source.Source.{Ghosts as SourceGhosts}
 use Rattle.hose_io.proofs.Calling.{HasGone-keeps}
 use Rattle.hose_io.proofs.Frames.{Stays-next}
-use Rattle.hose_words.specs.Reading.{WhereTold}
+use Rattle.hose_words.specs.Lines.{Reader}
+use Rattle.hose_words.specs.Reading.{ReadsOn, WhereTold}
 use Rattle.hose_words.specs.declared.lines.TheConstants.{INPUT_LIMIT}
 use Rattle.hose_words.specs.declared.lines.LineFault.{LineFault}
 use Rattle.hose_words.specs.declared.lines.LineFault.TheVariants as line
@@ -26,12 +27,12 @@ use Rattle.hose_store.specs.Commit.{Closes}
 use Rattle.hose_store.specs.Opening.{IsAtOpening, IsOpenedOn}
 use Rattle.hose_store.specs.Recovery.{IsHistoryOf}
 use Rattle.hose_store.specs.Store.{IsAmid, Kept}
-use Rattle.hose_topo.specs.Reading.{StopsInTopology, fault_of}
-use Rattle.hose_topo.specs.TopologyText.{IsTopologyText}
+use Rattle.hose_topo.specs.Reading.{KeepsFault, StopsInTopology, fault_of}
+use Rattle.hose_topo.specs.TopologyText.{IsTopologyText, IsWrongAt}
 use Rattle.hose_topo.specs.declared.fault.TopoFault.{TopoFault}
 use Rattle.hose_topo.specs.declared.fault.TopoFault.TheVariants as topo
 use Rattle.hose_offline.specs.Auditing.{HasAudited, HasReadBook, IsBookOf, IsLongAt, IsStarvedAt, IsTextFault, TextComesTo, ReadsBook, ReadsNamed, ReadsText, ReadsTopology}
-use Rattle.hose_offline.specs.CabinetText.{HasAsked, OnlyTextsRead, TextState, stream_at, text_source, text_stream, whole_text}
+use Rattle.hose_offline.specs.CabinetText.{HasAsked, OnlyTextsRead, TextState, reading_frame, stream_at, text_at, text_source, text_stream, whole_text}
 use Rattle.hose_offline.specs.Fault.{of_topology}
 use Rattle.hose_offline.specs.OnDisk.{CabinetFailed, CabinetWorked, HadContent, IsRefusedOnDisk, IsUnopened}
 use Rattle.hose_offline.specs.JsonRead.{IsJsonOf}
@@ -42,6 +43,8 @@ use Rattle.hose_offline.specs.declared.notation.Notation.{Notation}
 use Rattle.hose_offline.specs.declared.notation.Notation.TheVariants as notation
 use Rattle.hose_offline.specs.declared.notation.Refusal.TheVariants.{Word}
 use Rattle.hose_words.proofs.OnReading.{WhereTold-map}
+use Rattle.hose_words.proofs.Saying.{rose_now}
+use Rattle.hose_offline.proofs.Running.{not_read, stopped_told, text_told, wrong_told}
 use Rattle.hose_offline.proofs.Journals.{alone}
 use Rattle.hose_offline.proofs.Texts.{HasAsked-next, HasAsked-none}
 use Rattle.hose_offline.specs.ServingOnDisk.{IsNotServed}
@@ -183,6 +186,57 @@ module _ {C E : Type 0} (cabinet : CabinetGhosts C E) (old new : C) (name : List
       at (Err fault.Memory) is rose same = (inl tt, held (same (λ e. absurd (cc e))))
       at (Err fault.TooLong) is rose same = (tt, held (same (λ e. absurd (cc e))))
       at (Err another) is rose same = absurd is
+
+-- ---- a text in lines, by a reader that was made of it
+
+module _ {C E : Type 0} (cabinet : CabinetGhosts C E) (old new : C) (name : List ℕ) (text : TextState C) (first last : Reader (TextState C)) (made : first ≡ record { source = text; pending = []; taken = 0; fault = None; ended = false })
+    (value : text.cabinet.now ≡ old) (named : text.name ≡ name) (from : text.from ≡ 0) (behind : last.source.cabinet.now ≡ new) (there : IsTrue (cabinet.frame old).tells → IsSome (cabinet.text old name))
+    (reads : ReadsOn (text_source cabinet) first last) (within : first.taken ≤ INPUT_LIMIT + 1 → last.taken ≤ INPUT_LIMIT + 1) where
+  abbrev told : (List ℕ → List ℕ → Type 0) → Type 0
+  told P = WhereTold (text_at cabinet first.source) (text_at cabinet last.source) P
+
+  begun : first.source ≡ text
+  begun = ap (λ (r : Reader (TextState C)). r.source) made
+
+  pending : first.pending ≡ []
+  pending = ap (λ (r : Reader (TextState C)). r.pending) made
+
+  no_fault : first.fault ≡ None
+  no_fault = ap (λ (r : Reader (TextState C)). r.fault) made
+
+  few : first.taken ≤ INPUT_LIMIT
+  few = omega (arith, ap (λ (r : Reader (TextState C)). r.taken) made)
+
+  count : last.taken ≡ length reads.takes.0
+  count = omega (arith, reads.takes.2, ap (λ (r : Reader (TextState C)). r.taken) made)
+
+  short : length reads.takes.0 ≤ INPUT_LIMIT + 1
+  short = omega (arith, within (omega (arith, few)), count)
+
+  pub lines_ok : (network : Network) → IsNetwork network → last.fault ≢ Some line.Read → (first.taken ≤ INPUT_LIMIT → INPUT_LIMIT < last.taken → ⊥) → told (λ input left. IsTopologyText (first.pending ++ input) network (last.pending ++ left))
+      → ReadsText cabinet old new notation.Lines own_costs name (Ok network)
+  lines_ok network is unfailed whole tells =
+      read_ok cabinet old new name first.source last.source (ap (λ (t : TextState C). t.cabinet.now) begun ∙ value) (ap (λ (t : TextState C). t.name) begun ∙ named) (ap (λ (t : TextState C). t.from) begun ∙ from) behind reads.gone there
+      reads.takes.0 reads.takes.1 short network is
+      ((λ same. absurd (cc same)), λ more. absurd (whole few (omega (arith, more, count))))
+      (reads.unfailed unfailed) (text_told (text_source cabinet) first last network pending tells)
+
+  pub lines_err : (result : Result Network TopoFault) (why : TopoFault) → result ≡ Err why
+      → ((line word : ℕ) → result ≡ Err (topo.At line word) → told (λ before after. IsWrongAt (first.pending ++ before) line word (last.pending ++ after)))
+      → ((line word : ℕ) → result ≡ Err (topo.At line word) → told (λ before _. (network : Network) (rest : List ℕ) → IsTopologyText (first.pending ++ before) network rest → ⊥))
+      → (first.fault ≡ None → (met : LineFault) → result ≡ Err (fault_of met) → told (λ before after. StopsInTopology met (first.pending ++ before) after))
+      → (result ≡ Err topo.Read → (first.fault ≡ Some line.Read) ⊎ Rose (reading_frame cabinet first.source) (reading_frame cabinet last.source))
+      → (first.taken ≤ INPUT_LIMIT → ((result ≡ Err topo.TooLong) ↔ (INPUT_LIMIT < last.taken))) → (result ≡ Err topo.Memory → last ≡ first) → KeepsFault first.fault last.fault result
+      → ReadsText cabinet old new notation.Lines own_costs name (Err (of_topology fault.Cabinet why))
+  lines_err result why at wrong no_text front failed too_long starved kept =
+      read_err cabinet old new name first.source last.source (ap (λ (t : TextState C). t.cabinet.now) begun ∙ value) (ap (λ (t : TextState C). t.name) begun ∙ named) (ap (λ (t : TextState C). t.from) begun ∙ from) behind reads.gone there
+      reads.takes.0 reads.takes.1 short why
+      (λ l word is. wrong_told (text_source cabinet) first last l word pending (wrong l word (at ∙ ap Err is)) (no_text l word (at ∙ ap Err is)))
+      (λ met stopped. stopped_told (text_source cabinet) first last met pending (front no_fault met (at ∙ ap Err stopped)))
+      (λ is. rose_now (text_source cabinet) first last no_fault (failed (at ∙ ap Err is)))
+      (λ other. reads.unfailed (not_read why first.fault last.fault no_fault (subst (KeepsFault first.fault last.fault) at kept) other))
+      (λ none. ap (λ (r : Reader (TextState C)). r.source) (starved (at ∙ ap Err none)))
+      ((λ is. let more = (too_long few).0 (at ∙ ap Err is) in omega (arith, more, count)), λ more. cc ((too_long few).1 (omega (arith, more, count)), at))
 
 -- ---- the text is asked for once before
 

@@ -1,5 +1,5 @@
 -- Endpoints that are found at the nodes of a network by their words.
-use Rattle.std.proofs.Common.{◌≡◌, ◌∙◌, ℕ, ◌+◌, ◌<◌, List, [], ◌∷◌, ◌++◌, length, get_or, take, sym, ap, arith}
+use Rattle.std.proofs.Common.{◌≡◌, ◌∙◌, ℕ, ◌+◌, ◌<◌, List, [], ◌∷◌, ◌++◌, length, get_or, take, sym, ap, arith, map, subst}
 use Rattle.std.specs.List.Sorted.{IsPermutation}
 use Rattle.std.proofs.lemmas.List.{get_or-map, get_or-take, length-map, map-append, take_more}
 use Rattle.std.proofs.lemmas.List.Elements.{All-push}
@@ -43,6 +43,11 @@ module _ (network : Network) (is : IsNetwork network) (words : List (List ℕ)) 
     same_ends = moved;
     is_hose = hose_made network ends hose (ends_are_new are) moved is_hose;
   }
+
+-- the word of an item that stands at a place is that of the place
+pub word_at : {A : Type 0} (word_of : A → List ℕ) (items : List A) (one : A) (at n : ℕ) (word : List ℕ) → one ≡ get_or items at one → at ≡ n → n < length items → word ≡ word_of one → get_or (map word_of items) n [] ≡ word
+word_at {A} word_of items one at n word is same below told =
+    get_or-map word_of items n one [] below ∙ ap word_of (sym (subst (λ (k : ℕ). one ≡ get_or items k one) same is)) ∙ sym told
 
 -- a word of an endpoint's form whose name is a node's spells an endpoint of the network
 pub spells_known : (network : Network) (word : List ℕ) → IsNetwork network → IsEndWord word → ((end : ℕ × ℕ) → word ≡ end_word network end → IsEndOf network end → ⊥) → NamesNode network word → ⊥

@@ -1,4 +1,4 @@
-use Rattle.std.proofs.Common.{◌≡◌, Ok, Err, refl, ◌∙◌, ap, subst}
+use Rattle.std.proofs.Common.{◌≡◌, Ok, Err, refl, ◌∙◌, ap, subst, true}
 use Rattle.std.proofs.lemmas.Result.{err_from_is_err_and}
 use Rattle.hose_io.specs.Stream.{Grows}
 use Rattle.hose_io.specs.Writing.{GrowsInPart}
@@ -31,7 +31,7 @@ returns-in_err-put_reply-clause-serves g c =
           (AnswersLine g.K.Books c.args.core.now c.reply_to-reply.new.core) (GrowsInPart (g.O.Sink.content c.args.output.now) (g.O.Sink.content c.put_reply.new.sink)) next
           c.reply_to-reply.ensures.answers c.reply_to-reply.ensures.alone top put.err,
       next.fault.1,
-      put.met.failed refl,
+      put.met.failed (refl {a = true}),
     )
 
 pub returns-clause-serves : goal.returns-clause-serves

@@ -1,4 +1,4 @@
-use Rattle.std.proofs.Common.{inr, refl}
+use Rattle.std.proofs.Common.{inr, refl, true}
 use Rattle.hose_audit.specs.Audit.{audit_text}
 use Rattle.hose_io.proofs.Streams.{GrowsInPart-append}
 use Rattle.hose_offline.specs.Fault.{last_line}
@@ -15,4 +15,4 @@ pub returns-in-Err-told-2-clause-ends : goal.returns-in-Err-told-2-clause-ends
 returns-in-Err-told-2-clause-ends g c =
     let put = c.in-Err-told-2.ensures in
     let text = audit_text c.args.book.now.network c.args.book.now.book in
-    rw c.in-Err.is (c.status-in-Err-told-2.ensures, inr (put.met.failed refl, GrowsInPart-append _ _ text (last_line c.in-Err.why) put.err))
+    rw c.in-Err.is (c.status-in-Err-told-2.ensures, inr (put.met.failed (refl {a = true}), GrowsInPart-append _ _ text (last_line c.in-Err.why) put.err))

@@ -1,4 +1,4 @@
-use Rattle.std.proofs.Common.{◌≡◌, ◌∙◌, Err, refl, ap}
+use Rattle.std.proofs.Common.{◌≡◌, ◌∙◌, Err, refl, ap, true}
 use Rattle.std.proofs.lemmas.Result.{err_from_is_err_and}
 use Rattle.hose_offline.specs.Tally.{tally_line}
 use Rattle.hose_offline.specs.declared.fault.Fault.TheVariants.{Write}
@@ -13,7 +13,7 @@ returns-in_err-put-clause-leaves g c =
     let put = c.in_err-put.ensures in
     let told = err_from_is_err_and c.from_residual-in_err-put.result c.from_residual-in_err-put.ensures.1 in
     let is : c.from_residual-in_err-put.result ≡ Err Write = told.1 ∙ ap Err told.2 in
-    rw is (tally_line c.args.seed c.args.hoses tally, summary, put.err, put.met.failed refl)
+    rw is (tally_line c.args.seed c.args.hoses tally, summary, put.err, put.met.failed (refl {a = true}))
 
 pub returns-clause-leaves : goal.returns-clause-leaves
 returns-clause-leaves g c =

@@ -1,4 +1,4 @@
-use Rattle.std.proofs.Common.{◌≡◌, ◌∙◌, Ok, Err, refl, ap, map, subst}
+use Rattle.std.proofs.Common.{◌≡◌, ◌∙◌, Ok, Err, refl, ap, map, subst, true}
 use Rattle.std.proofs.lemmas.Result.{err_from_is_err_and}
 use Rattle.hose_io.specs.Stream.{Grows}
 use Rattle.hose_io.specs.Writing.{GrowsInPart}
@@ -28,7 +28,7 @@ returns-in_err-put_answer-clause-prices g c =
       answered_line c.args.sheet.now (map (λ tariff. tariff.name) c.args.tariffs.now) g.S.Source g.O.Sink c.args.lines.now new c.in-Some.line c.answer_to-answer.result (GrowsInPart (g.O.Sink.content c.args.output.now) (g.O.Sink.content c.put_answer.new.output)) next
           c.answer_to-answer.ensures put.err,
       next.fault.1,
-      put.met.failed refl,
+      put.met.failed (refl {a = true}),
     )
 
 pub returns-clause-prices : goal.returns-clause-prices
