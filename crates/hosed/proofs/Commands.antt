@@ -15,10 +15,10 @@ use Rattle.hose_words.proofs.Forms.{AreApart, Misses-stronger, after_place, fron
 use Rattle.hose_words.proofs.Passing.{Passes, pass_branch, pass_finish, pass_list, pass_maybe, pass_nothing, pass_place}
 use Rattle.hose_proto.specs.EndWords.{end_words_form}
 use Rattle.hose_proto.proofs.EndWords.{end_words_closed}
-use Rattle.hosed.specs.ProgramWords.{ArePriceable, AreWords, AsksFor, CheckTask, GenerateTask, IsCheckTask, IsChosen, IsFileName, IsFirstNamed, IsFirstWrong, IsGenerateTask, IsJournalTask, IsNodeCount, IsAvailable, IsProveTask, IsRunTask, IsServeTask, IsShipTask, IsStart, IsTariffName, JournalTask, MayDo, PriceTask, ProveTask, RunTask, ServeTask, ShipTask, Start, Task, Verb, at_word, chosen_of, first_end, from_form, name_words, named_form, server_form, sizes_form, start_word, tariff_option, tariff_words, task_words, program_form, program_word, with_tariff, words_form}
+use Rattle.hosed.specs.ProgramWords.{ArePriceable, AreWords, AsksFor, CheckTask, GenerateTask, IsAvailable, IsChosen, IsFileName, IsFirstNamed, IsFirstWrong, IsGenerateTask, IsNodeCount, IsOfJournal, IsOfTopology, IsProveTask, IsRunTask, IsServeTask, IsShipTask, IsStart, IsTariffName, JournalTask, MayDo, ProveTask, RunTask, ServeTask, ShipTask, Start, Task, Verb, at_word, chosen_of, first_end, from_form, name_words, named_form, server_form, sizes_form, start_word, tariff_option, tariff_words, task_words, topology_form, program_form, program_word, with_tariff, words_form}
 use Rattle.hosed.specs.ProgramWords.Start.{named, option}
 use Rattle.hosed.specs.ProgramWords.Verb.{audit, check, follow, generate, price, prove, run, serve, ship}
-use Rattle.hosed.specs.Reading.{Chooses, IsOfJournal, IsOfTopology, NamesJournal, NamesTopology}
+use Rattle.hosed.specs.Reading.{AreJournalWords, Chooses, NamesJournal, NamesNoJournal, NamesNoTariff, NamesNoTopology, NamesTopology}
 
 -- ---- words of a slice
 
@@ -49,6 +49,10 @@ none_left words at some few = empty (drop (at - 1) words) (omega (arith, length-
     empty [] none = refl
     empty (word ∷ left) none = absurd (omega (arith, none))
 
+-- where a word came one was left
+pub took_left : {old new : Position} {word : List ℕ} → Took old new word → old.left ≡ [] → ⊥
+took_left took none = absurd (cc (sym none ∙ took.cut))
+
 -- and where there are as many one is left
 pub some_left : (words : List (List ℕ)) (at : ℕ) → 1 ≤ at → at ≤ length words → (at_word at words).left ≡ [] → ⊥
 some_left words at some enough none = omega (arith, length-drop (at - 1) words, ap length none, some, enough)
@@ -73,14 +77,7 @@ verb_of word = choice_of program_word (run ∷ audit ∷ generate ∷ prove ∷ 
 
 verb_back : (verb : Verb) → verb_of (program_word verb) ≡ verb
 verb_back run = refl
-verb_back audit = refl
-verb_back generate = refl
-verb_back prove = refl
-verb_back check = refl
-verb_back price = refl
-verb_back ship = refl
-verb_back follow = refl
-verb_back serve = refl
+verb_back verb = refl
 
 verb_apart : (one other : Verb) → program_word one ≡ program_word other → one ≡ other
 verb_apart one other same = sym (verb_back one) ∙ (ap verb_of same ∙ verb_back other)
@@ -117,6 +114,14 @@ verb_there verb (word ∷ words) asks = record { cut = ap (λ (first : List ℕ)
 -- what is wrong of the words after it is so of all
 pub verb_wrong : (names : List (List ℕ)) (verb : Verb) (words : List (List ℕ)) (number : ℕ) → IsAvailable names verb → AsksFor verb words → IsWrong (program_form names verb) (at_word 2 words) number → IsFirstWrong names words number
 verb_wrong names verb words number offered asks wrong = wrong_at_start words refl (wrong_chosen verb offered (verbs_apart names) (verb_there verb words asks) wrong)
+
+-- what is wrong of the words of a generation after its seed, and after the number of nodes
+pub after_seed : (names words : List (List ℕ)) (seed number : ℕ) → AsksFor generate words → Took (at_word 2 words) (at_word 3 words) (decimal seed) → Fits64 seed → IsWrong (branch IsNodeCount decimal sizes_form) (at_word 3 words) number
+    → IsFirstWrong names words number
+after_seed names words seed number asks took fits wrong = verb_wrong names generate words number tt asks (wrong_later took (seed, refl, fits) wrong)
+
+pub after_nodes : (nodes : ℕ) {old new : Position} {number : ℕ} → Took old new (decimal nodes) → IsNodeCount nodes → IsWrong (sizes_form nodes) new number → IsWrong (branch IsNodeCount decimal sizes_form) old number
+after_nodes nodes took is wrong = wrong_chosen nodes is counts_apart took wrong
 
 -- the first word is that of no command that there is
 pub no_verb : (names words : List (List ℕ)) → ((verb : Verb) → IsAvailable names verb → AsksFor verb words → ⊥) → IsFirstWrong names words 1
@@ -185,13 +190,12 @@ is_named : (names : List (List ℕ)) (which : ℕ) → IsFirstNamed names which 
 is_named names which is = record { place = which; within = is.within; is = refl }
 
 -- no tariff is of the name that follows the option
-pub no_tariff : (names : List (List ℕ)) (form after : Form) (words : List (List ℕ)) (number : ℕ) → Took (at_word 2 words) (at_word 3 words) tariff_option → Misses (IsTariffName names) (at_word 3 words) number
-    → IsWrong (with_tariff names form after) (at_word 2 words) number
-no_tariff names form after words number took misses = option_wrong names form after words number took (wrong_place misses)
+no_tariff : (names : List (List ℕ)) (form after : Form) (words : List (List ℕ)) (number : ℕ) → NamesNoTariff names words number → IsWrong (with_tariff names form after) (at_word 2 words) number
+no_tariff names form after words number none = option_wrong names form after words number none.option (wrong_place none.misses)
 
 -- what is wrong of the words after a tariff, if one was chosen, where the name of a file has to follow
-pub chosen_wrong : (names : List (List ℕ)) (after : Form) (words : List (List ℕ)) (tariff : Option ℕ) (at number : ℕ) → Chooses names words tariff at → IsWrong (named_form after) (at_word at words) number
-    → IsWrong (with_tariff names (named_form after) after) (at_word 2 words) number
+chosen_wrong : (names : List (List ℕ)) (after : Form) (words : List (List ℕ)) (tariff : Option ℕ) (at number : ℕ) → Chooses names words tariff at → IsWrong (named_form after) (at_word at words) number
+    → IsWrong (topology_form names after) (at_word 2 words) number
 chosen_wrong names after words None at number chosen wrong = file_wrong names (named_form after) after (at_word 2 words) number chosen.none (subst (λ n. IsWrong (named_form after) (at_word n words) number) chosen.at_once wrong)
 chosen_wrong names after words (Some which) at number chosen wrong = option_wrong names (named_form after) after words number chosen.option
     (wrong_later chosen.name (is_named names which chosen.is) (subst (λ n. IsWrong (named_form after) (at_word n words) number) chosen.later wrong))
@@ -201,13 +205,13 @@ pub run_wrong : (names words : List (List ℕ)) (tariff : Option ℕ) (at number
     → IsWrong (program_form names run) (at_word 2 words) number
 run_wrong names words None at number chosen some wrong = wrong_maybe (subst (λ n. (at_word n words).left ≡ [] → ⊥) chosen.at_once some)
     (file_wrong names (maybe (named_form finish)) finish (at_word 2 words) number chosen.none (subst (λ n. IsWrong (named_form finish) (at_word n words) number) chosen.at_once wrong))
-run_wrong names words (Some which) at number chosen some wrong = wrong_maybe (λ none. absurd (cc (sym none ∙ chosen.option.cut)))
+run_wrong names words (Some which) at number chosen some wrong = wrong_maybe (took_left chosen.option)
     (option_wrong names (maybe (named_form finish)) finish words number chosen.option (wrong_later chosen.name (is_named names which chosen.is)
     (wrong_maybe (subst (λ n. (at_word n words).left ≡ [] → ⊥) chosen.later some) (subst (λ n. IsWrong (named_form finish) (at_word n words) number) chosen.later wrong))))
 
 -- no tariff is of the name that follows the option of a run
-pub run_no_tariff : (names words : List (List ℕ)) (number : ℕ) → Took (at_word 2 words) (at_word 3 words) tariff_option → Misses (IsTariffName names) (at_word 3 words) number → IsWrong (program_form names run) (at_word 2 words) number
-run_no_tariff names words number took misses = wrong_maybe (λ none. absurd (cc (sym none ∙ took.cut))) (no_tariff names (maybe (named_form finish)) finish words number took misses)
+pub run_no_tariff : (names words : List (List ℕ)) (number : ℕ) → NamesNoTariff names words number → IsWrong (program_form names run) (at_word 2 words) number
+run_no_tariff names words number none = wrong_maybe (took_left none.option) (no_tariff names (maybe (named_form finish)) finish words number none)
 
 -- ---- all words of a command
 
@@ -224,13 +228,13 @@ is_chosen names words (Some which) at chosen = chosen.is
 -- ---- names of a topology and of a journal
 
 -- what is wrong of the words after a topology
-pub topology_then : (names words : List (List ℕ)) (task : CheckTask) (at number : ℕ) (form : Form) → NamesTopology names words task at → IsWrong form (at_word at words) number → IsWrong (with_tariff names (named_form form) form) (at_word 2 words) number
+pub topology_then : (names words : List (List ℕ)) (task : CheckTask) (at number : ℕ) (form : Form) → NamesTopology names words task at → IsWrong form (at_word at words) number → IsWrong (topology_form names form) (at_word 2 words) number
 topology_then names words task at number form naming wrong =
     chosen_wrong names form words task.tariff naming.from number naming.chosen (wrong_later naming.took naming.is (subst (λ n. IsWrong form (at_word n words) number) naming.next wrong))
 
 -- and of those after a journal
 pub journal_then : (names words : List (List ℕ)) (task : JournalTask) (at number : ℕ) (form : Form) → NamesJournal names words task at → IsWrong form (at_word at words) number
-    → IsWrong (with_tariff names (named_form (named_form form)) (named_form form)) (at_word 2 words) number
+    → IsWrong (topology_form names (named_form form)) (at_word 2 words) number
 journal_then names words task at number form naming wrong =
     topology_then names words _ naming.from number (named_form form) naming.topology (wrong_later naming.took naming.is (subst (λ n. IsWrong form (at_word n words) number) naming.next wrong))
 
@@ -245,61 +249,26 @@ pub journal_words : (names words : List (List ℕ)) (verb : Verb) (task : Journa
 journal_words names words verb task at asks naming =
     topology_words names words verb _ naming.from asks naming.topology ∙ ap (λ left. program_word verb ∷ tariff_words names task.tariff ++ task.topology ∷ left) (naming.took.cut ∙ ap (λ n. task.journal ∷ (at_word n words).left) (sym naming.next))
 
--- the parts of such words
-pub journal_may : (names words : List (List ℕ)) (task : JournalTask) (at : ℕ) → NamesJournal names words task at → IsJournalTask names task
-journal_may names words task at naming = record { is_tariff = is_chosen names words task.tariff naming.topology.from naming.topology.chosen; is_topology = naming.topology.is; is_journal = naming.is }
+-- where no topology is named the words are wrong, whatever is to follow
+pub no_topology : (names words : List (List ℕ)) (number : ℕ) (form : Form) → NamesNoTopology names words number → IsWrong (topology_form names form) (at_word 2 words) number
+no_topology names words number form (inl none) = no_tariff names (named_form form) form words number none
+no_topology names words number form (inr (tariff, from, chosen, misses)) = chosen_wrong names form words tariff from number chosen (wrong_place misses)
 
--- the words are those of a command whose last word is the name of a journal
-pub ends_at_journal : (names words : List (List ℕ)) (task : JournalTask) (at : ℕ) → NamesJournal names words task at → (at_word at words).left ≡ [] → (verb : Verb) → AsksFor verb words → words ≡ program_word verb ∷ tariff_words names task.tariff ++ task.topology ∷ task.journal ∷ []
-ends_at_journal names words task at naming none verb asks = journal_words names words verb task at asks naming ∙ ap (λ left. program_word verb ∷ tariff_words names task.tariff ++ task.topology ∷ task.journal ∷ left) none
+-- and where no journal is
+pub no_journal : (names words : List (List ℕ)) (number : ℕ) (form : Form) → NamesNoJournal names words number → IsWrong (topology_form names (named_form form)) (at_word 2 words) number
+no_journal names words number form (inl none) = no_topology names words number (named_form form) none
+no_journal names words number form (inr (task, from, naming, misses)) = topology_then names words task from number (named_form form) naming (wrong_place misses)
 
--- the form of the words after that of a journal
-abbrev pub after_journal : Verb → Form
-after_journal ship = from_form
-after_journal serve = server_form
-after_journal _ = finish
+-- the parts of words that name a journal
+pub journal_may : (names words : List (List ℕ)) (task : JournalTask) (at : ℕ) → NamesJournal names words task at → IsOfJournal names task.tariff task.topology task.journal
+journal_may names words task at naming = record { of = record { is_tariff = is_chosen names words task.tariff naming.topology.from naming.topology.chosen; is_topology = naming.topology.is }; is_journal = naming.is }
 
--- the form of those after that of a topology
-abbrev pub after_topology : Verb → Form
-after_topology check = finish
-after_topology prove = end_words_form
-after_topology verb = named_form (after_journal verb)
-
--- what is wrong of the words after that of a command which names a topology is so of all
-pub of_topology : (names words : List (List ℕ)) (number : ℕ) (verb : Verb) → IsOfTopology verb → AsksFor verb words → IsWrong (with_tariff names (named_form (after_topology verb)) (after_topology verb)) (at_word 2 words) number → IsFirstWrong names words number
-of_topology names words number run of asks wrong = absurd of
-of_topology names words number audit of asks wrong = verb_wrong names audit words number tt asks wrong
-of_topology names words number generate of asks wrong = absurd of
-of_topology names words number prove of asks wrong = verb_wrong names prove words number tt asks wrong
-of_topology names words number check of asks wrong = verb_wrong names check words number tt asks wrong
-of_topology names words number price of asks wrong = absurd of
-of_topology names words number ship of asks wrong = verb_wrong names ship words number tt asks wrong
-of_topology names words number follow of asks wrong = verb_wrong names follow words number tt asks wrong
-of_topology names words number serve of asks wrong = verb_wrong names serve words number tt asks wrong
-
--- a command that names a journal names a topology, and then the journal
-pub of_journal : (names words : List (List ℕ)) (number : ℕ) (verb : Verb) → IsOfJournal verb → AsksFor verb words → IsWrong (with_tariff names (named_form (named_form (after_journal verb))) (named_form (after_journal verb))) (at_word 2 words) number
-    → IsFirstWrong names words number
-of_journal names words number run of asks wrong = absurd of
-of_journal names words number audit of asks wrong = of_topology names words number audit of asks wrong
-of_journal names words number generate of asks wrong = absurd of
-of_journal names words number prove of asks wrong = absurd of
-of_journal names words number check of asks wrong = absurd of
-of_journal names words number price of asks wrong = absurd of
-of_journal names words number ship of asks wrong = of_topology names words number ship of asks wrong
-of_journal names words number follow of asks wrong = of_topology names words number follow of asks wrong
-of_journal names words number serve of asks wrong = of_topology names words number serve of asks wrong
-
-pub journal_is_of_topology : (verb : Verb) → IsOfJournal verb → IsOfTopology verb
-journal_is_of_topology run of = of
-journal_is_of_topology audit of = of
-journal_is_of_topology generate of = of
-journal_is_of_topology prove of = absurd of
-journal_is_of_topology check of = absurd of
-journal_is_of_topology price of = of
-journal_is_of_topology ship of = of
-journal_is_of_topology follow of = of
-journal_is_of_topology serve of = of
+-- the name of a journal is the last of the words
+pub ends_at_journal : (names words : List (List ℕ)) (task : JournalTask) (at : ℕ) → NamesJournal names words task at → (at_word at words).left ≡ [] → AreJournalWords names words task
+ends_at_journal names words task at naming none = record {
+  are = λ verb asks. journal_words names words verb task at asks naming ∙ ap (λ left. program_word verb ∷ tariff_words names task.tariff ++ task.topology ∷ task.journal ∷ left) none;
+  may = journal_may names words task at naming;
+}
 
 -- ---- right words
 
@@ -310,9 +279,14 @@ passes_with names None form after file words is named_file whole rest = pass_bra
 passes_with names (Some which) form after file words is named_file whole rest = pass_branch option tt starts_apart (pass_place (is_named names which is) whole)
 
 -- those of a tariff, and then the name of a file and a form
-file_passes : (names : List (List ℕ)) (tariff : Option ℕ) (form : Form) (file : List ℕ) (words : List (List ℕ)) → IsChosen names tariff → IsFileName file → Passes form words
-    → Passes (with_tariff names (named_form form) form) (tariff_words names tariff ++ file ∷ words)
-file_passes names tariff form file words is named_file rest = passes_with names tariff (named_form form) form file words is named_file (pass_place named_file rest) rest
+topology_passes : (names : List (List ℕ)) (tariff : Option ℕ) (form : Form) (file : List ℕ) (words : List (List ℕ)) → IsOfTopology names tariff file → Passes form words
+    → Passes (topology_form names form) (tariff_words names tariff ++ file ∷ words)
+topology_passes names tariff form file words is rest = passes_with names tariff (named_form form) form file words is.is_tariff is.is_topology (pass_place is.is_topology rest) rest
+
+-- and then that of another one
+journal_passes : (names : List (List ℕ)) (tariff : Option ℕ) (form : Form) (file journal : List ℕ) (words : List (List ℕ)) → IsOfJournal names tariff file journal → Passes form words
+    → Passes (topology_form names (named_form form)) (tariff_words names tariff ++ file ∷ journal ∷ words)
+journal_passes names tariff form file journal words is rest = topology_passes names tariff (named_form form) file (journal ∷ words) is.of (pass_place is.is_journal rest)
 
 run_passes : (names : List (List ℕ)) (tariff : Option ℕ) (journal : Option (List ℕ)) → IsChosen names tariff → MatchOption journal ⊤ IsFileName → Passes (program_form names run) (tariff_words names tariff ++ name_words journal)
 run_passes names None None is named_file = pass_nothing
@@ -322,29 +296,21 @@ run_passes names (Some which) (Some name) is named_file = pass_maybe (passes_wit
 
 task_passes : (names : List (List ℕ)) (verb : Verb) (task : Task verb) → MayDo names verb task → Passes (program_form names verb) (task_words names verb task)
 task_passes names run task may = run_passes names task.tariff task.journal may.is_tariff may.is_journal
-task_passes names audit task may = file_passes names task.tariff (named_form finish) task.topology (task.journal ∷ []) may.is_tariff may.is_topology (pass_place may.is_journal pass_finish)
+task_passes names audit task may = journal_passes names task.tariff finish task.topology task.journal [] may pass_finish
 task_passes names generate task may = pass_place (task.seed, refl, may.is_seed) (pass_branch task.nodes may.nodes_within counts_apart (pass_place (task.links, refl, may.links_within) (pass_place (task.hoses, refl, may.hoses_within) pass_finish)))
-task_passes names prove task may = file_passes names task.tariff end_words_form task.topology task.ends may.is_tariff may.is_topology
+task_passes names prove task may = topology_passes names task.tariff end_words_form task.topology task.ends may.of
     (subst (Passes end_words_form) (map-id task.ends) (pass_list end_words_closed may.are_ends.enough may.are_ends.are))
-task_passes names check task may = file_passes names task.tariff finish task.topology [] may.is_tariff may.is_topology pass_finish
+task_passes names check task may = topology_passes names task.tariff finish task.topology [] may pass_finish
 task_passes names price task may = pass_place may.is_topology pass_finish
-task_passes names ship task may = file_passes names task.tariff (named_form from_form) task.topology (task.journal ∷ decimal task.from ∷ []) may.is_tariff may.is_topology
-    (pass_place may.is_journal (pass_place (task.from, refl, may.is_from) pass_finish))
-task_passes names follow task may = file_passes names task.tariff (named_form finish) task.topology (task.journal ∷ []) may.is_tariff may.is_topology (pass_place may.is_journal pass_finish)
-task_passes names serve task may = file_passes names task.tariff (named_form server_form) task.topology (task.journal ∷ decimal task.port ∷ decimal task.connections ∷ decimal task.workers ∷ []) may.is_tariff may.is_topology
-    (pass_place may.is_journal (pass_place (task.port, refl, may.is_port) (pass_place (task.connections, refl, may.connections_within) (pass_place (task.workers, refl, may.workers_within) pass_finish))))
+task_passes names ship task may = journal_passes names task.tariff from_form task.topology task.journal (decimal task.from ∷ []) may.of (pass_place (task.from, refl, may.is_from) pass_finish)
+task_passes names follow task may = journal_passes names task.tariff finish task.topology task.journal [] may pass_finish
+task_passes names serve task may = journal_passes names task.tariff server_form task.topology task.journal (decimal task.port ∷ decimal task.connections ∷ decimal task.workers ∷ []) may.of
+    (pass_place (task.port, refl, may.is_port) (pass_place (task.connections, refl, may.connections_within) (pass_place (task.workers, refl, may.workers_within) pass_finish)))
 
 -- a command that may be given a task is offered
 offered : (names : List (List ℕ)) (verb : Verb) (task : Task verb) → MayDo names verb task → IsAvailable names verb
-offered names run task may = tt
-offered names audit task may = tt
-offered names generate task may = tt
-offered names prove task may = tt
-offered names check task may = tt
 offered names price task may = may.tariffs
-offered names ship task may = tt
-offered names follow task may = tt
-offered names serve task may = tt
+offered names verb task may = tt
 
 -- none of the words of a command is wrong
 pub none_wrong : (names words : List (List ℕ)) (verb : Verb) (task : Task verb) (number : ℕ) → AreWords names words verb task → IsFirstWrong names words number → ⊥
@@ -388,30 +354,6 @@ one_tariff names (Some which) (Some other) rest rest' is is' plain plain' same =
   rests = ap (drop 2) same;
 }
 
-abbrev run_task : Option ℕ → Option (List ℕ) → RunTask
-run_task tariff journal = record { tariff = tariff; journal = journal }
-
-abbrev named_task : Option ℕ → List ℕ → List ℕ → JournalTask
-named_task tariff topology journal = record { tariff = tariff; topology = topology; journal = journal }
-
-abbrev sizes_task : ℕ → ℕ → ℕ → ℕ → GenerateTask
-sizes_task seed nodes links hoses = record { seed = seed; nodes = nodes; links = links; hoses = hoses }
-
-abbrev proof_task : Option ℕ → List ℕ → List (List ℕ) → ProveTask
-proof_task tariff topology ends = record { tariff = tariff; topology = topology; ends = ends }
-
-abbrev text_task : Option ℕ → List ℕ → CheckTask
-text_task tariff topology = record { tariff = tariff; topology = topology }
-
-abbrev priced_task : List ℕ → PriceTask
-priced_task topology = record { topology = topology }
-
-abbrev shipping_task : Option ℕ → List ℕ → List ℕ → ℕ → ShipTask
-shipping_task tariff topology journal from = record { tariff = tariff; topology = topology; journal = journal; from = from }
-
-abbrev serving_task : Option ℕ → List ℕ → List ℕ → ℕ → ℕ → ℕ → ServeTask
-serving_task tariff topology journal port connections workers = record { tariff = tariff; topology = topology; journal = journal; port = port; connections = connections; workers = workers }
-
 -- the word of a place
 abbrev word_of : ℕ → List (List ℕ) → List ℕ
 word_of at words = get_or words at []
@@ -419,7 +361,7 @@ word_of at words = get_or words at []
 run_once : (names : List (List ℕ)) (one other : RunTask) → IsRunTask names one → IsRunTask names other → task_words names run one ≡ task_words names run other → one ≡ other
 run_once names one other may may' same =
     let is = one_tariff names one.tariff other.tariff (name_words one.journal) (name_words other.journal) may.is_tariff may'.is_tariff (plain one.journal may.is_journal) (plain other.journal may'.is_journal) same in
-    built one.tariff one.journal is.tariffs (back one.journal other.journal is.rests)
+    λ i. record { tariff = is.tariffs i; journal = back one.journal other.journal is.rests i }
   where
     plain : (journal : Option (List ℕ)) → MatchOption journal ⊤ IsFileName → NoOption (name_words journal)
     plain None is first = first
@@ -431,77 +373,57 @@ run_once names one other may may' same =
     back (Some name) None same = absurd (cc same)
     back (Some name) (Some name') same = ap Some (ap (word_of 0) same)
 
-    built : (tariff : Option ℕ) (journal : Option (List ℕ)) → tariff ≡ other.tariff → journal ≡ other.journal → run_task tariff journal ≡ other
-    built tariff journal one two = rw (one, two) refl
-
 -- one tariff, one topology, and the same words after it
-pub record IsSameFile (tariff tariff' : Option ℕ) (topology topology' : List ℕ) (rest rest' : List (List ℕ)) : Type 0 where
+record IsSameFile (tariff tariff' : Option ℕ) (topology topology' : List ℕ) (rest rest' : List (List ℕ)) : Type 0 where
   pub tariffs : tariff ≡ tariff'
   pub topologies : topology ≡ topology'
   pub rests : rest ≡ rest'
 
-one_file : (names : List (List ℕ)) (tariff tariff' : Option ℕ) (topology topology' : List ℕ) (rest rest' : List (List ℕ)) → IsChosen names tariff → IsChosen names tariff' → IsFileName topology → IsFileName topology'
+one_file : (names : List (List ℕ)) (tariff tariff' : Option ℕ) (topology topology' : List ℕ) (rest rest' : List (List ℕ)) → IsOfTopology names tariff topology → IsOfTopology names tariff' topology'
     → tariff_words names tariff ++ topology ∷ rest ≡ tariff_words names tariff' ++ topology' ∷ rest' → IsSameFile tariff tariff' topology topology' rest rest'
-one_file names tariff tariff' topology topology' rest rest' is is' file file' same =
-    let both = one_tariff names tariff tariff' (topology ∷ rest) (topology' ∷ rest') is is' (file_first topology rest file) (file_first topology' rest' file') same in
+one_file names tariff tariff' topology topology' rest rest' is is' same =
+    let both = one_tariff names tariff tariff' (topology ∷ rest) (topology' ∷ rest') is.is_tariff is'.is_tariff (file_first topology rest is.is_topology) (file_first topology' rest' is'.is_topology) same in
     record { tariffs = both.tariffs; topologies = ap (word_of 0) both.rests; rests = ap (drop 1) both.rests }
 
-journal_once : (names : List (List ℕ)) (one other : JournalTask) → IsJournalTask names one → IsJournalTask names other → task_words names audit one ≡ task_words names audit other → one ≡ other
+journal_once : (names : List (List ℕ)) (one other : JournalTask) → MayDo names audit one → MayDo names audit other → task_words names audit one ≡ task_words names audit other → one ≡ other
 journal_once names one other may may' same =
-    let is = one_file names one.tariff other.tariff one.topology other.topology (one.journal ∷ []) (other.journal ∷ []) may.is_tariff may'.is_tariff may.is_topology may'.is_topology same in
-    built one.tariff one.topology one.journal is.tariffs is.topologies (ap (word_of 0) is.rests)
-  where
-    built : (tariff : Option ℕ) (topology journal : List ℕ) → tariff ≡ other.tariff → topology ≡ other.topology → journal ≡ other.journal → named_task tariff topology journal ≡ other
-    built tariff topology journal one two three = rw (one, two, three) refl
+    let is = one_file names one.tariff other.tariff one.topology other.topology (one.journal ∷ []) (other.journal ∷ []) may.of may'.of same in
+    λ i. record { tariff = is.tariffs i; topology = is.topologies i; journal = ap (word_of 0) is.rests i }
 
 generate_once : (names : List (List ℕ)) (one other : GenerateTask) → IsGenerateTask one → IsGenerateTask other → task_words names generate one ≡ task_words names generate other → one ≡ other
-generate_once names one other may may' same = built one.seed one.nodes one.links one.hoses
-    (decimal_injective one.seed other.seed may.is_seed may'.is_seed (ap (word_of 0) same))
-    (decimal_injective one.nodes other.nodes (omega (arith, may.nodes_within)) (omega (arith, may'.nodes_within)) (ap (word_of 1) same))
-    (decimal_injective one.links other.links (omega (arith, may.links_within)) (omega (arith, may'.links_within)) (ap (word_of 2) same))
-    (decimal_injective one.hoses other.hoses (omega (arith, may.hoses_within)) (omega (arith, may'.hoses_within)) (ap (word_of 3) same))
-  where
-    built : (seed nodes links hoses : ℕ) → seed ≡ other.seed → nodes ≡ other.nodes → links ≡ other.links → hoses ≡ other.hoses → sizes_task seed nodes links hoses ≡ other
-    built seed nodes links hoses one two three four = rw (one, two, three, four) refl
+generate_once names one other may may' same =
+    let seeds = decimal_injective one.seed other.seed may.is_seed may'.is_seed (ap (word_of 0) same) in
+    let nodes = decimal_injective one.nodes other.nodes (omega (arith, may.nodes_within)) (omega (arith, may'.nodes_within)) (ap (word_of 1) same) in
+    let links = decimal_injective one.links other.links (omega (arith, may.links_within)) (omega (arith, may'.links_within)) (ap (word_of 2) same) in
+    let hoses = decimal_injective one.hoses other.hoses (omega (arith, may.hoses_within)) (omega (arith, may'.hoses_within)) (ap (word_of 3) same) in
+    λ i. record { seed = seeds i; nodes = nodes i; links = links i; hoses = hoses i }
 
 prove_once : (names : List (List ℕ)) (one other : ProveTask) → IsProveTask names one → IsProveTask names other → task_words names prove one ≡ task_words names prove other → one ≡ other
 prove_once names one other may may' same =
-    let is = one_file names one.tariff other.tariff one.topology other.topology one.ends other.ends may.is_tariff may'.is_tariff may.is_topology may'.is_topology same in
-    built one.tariff one.topology one.ends is.tariffs is.topologies is.rests
-  where
-    built : (tariff : Option ℕ) (topology : List ℕ) (ends : List (List ℕ)) → tariff ≡ other.tariff → topology ≡ other.topology → ends ≡ other.ends → proof_task tariff topology ends ≡ other
-    built tariff topology ends one two three = rw (one, two, three) refl
+    let is = one_file names one.tariff other.tariff one.topology other.topology one.ends other.ends may.of may'.of same in
+    λ i. record { tariff = is.tariffs i; topology = is.topologies i; ends = is.rests i }
 
-check_once : (names : List (List ℕ)) (one other : CheckTask) → IsCheckTask names one → IsCheckTask names other → task_words names check one ≡ task_words names check other → one ≡ other
+check_once : (names : List (List ℕ)) (one other : CheckTask) → MayDo names check one → MayDo names check other → task_words names check one ≡ task_words names check other → one ≡ other
 check_once names one other may may' same =
-    let is = one_file names one.tariff other.tariff one.topology other.topology [] [] may.is_tariff may'.is_tariff may.is_topology may'.is_topology same in
-    built one.tariff one.topology is.tariffs is.topologies
-  where
-    built : (tariff : Option ℕ) (topology : List ℕ) → tariff ≡ other.tariff → topology ≡ other.topology → text_task tariff topology ≡ other
-    built tariff topology one two = rw (one, two) refl
+    let is = one_file names one.tariff other.tariff one.topology other.topology [] [] may may' same in
+    λ i. record { tariff = is.tariffs i; topology = is.topologies i }
 
 ship_once : (names : List (List ℕ)) (one other : ShipTask) → IsShipTask names one → IsShipTask names other → task_words names ship one ≡ task_words names ship other → one ≡ other
 ship_once names one other may may' same =
-    let is = one_file names one.tariff other.tariff one.topology other.topology (one.journal ∷ decimal one.from ∷ []) (other.journal ∷ decimal other.from ∷ []) may.is_tariff may'.is_tariff may.is_topology may'.is_topology same in
-    built one.tariff one.topology one.journal one.from is.tariffs is.topologies (ap (word_of 0) is.rests) (decimal_injective one.from other.from (omega (arith, may.is_from)) (omega (arith, may'.is_from)) (ap (word_of 1) is.rests))
-  where
-    built : (tariff : Option ℕ) (topology journal : List ℕ) (from : ℕ) → tariff ≡ other.tariff → topology ≡ other.topology → journal ≡ other.journal → from ≡ other.from → shipping_task tariff topology journal from ≡ other
-    built tariff topology journal from one two three four = rw (one, two, three, four) refl
+    let is = one_file names one.tariff other.tariff one.topology other.topology (one.journal ∷ decimal one.from ∷ []) (other.journal ∷ decimal other.from ∷ []) may.of.of may'.of.of same in
+    let froms = decimal_injective one.from other.from (omega (arith, may.is_from)) (omega (arith, may'.is_from)) (ap (word_of 1) is.rests) in
+    λ i. record { tariff = is.tariffs i; topology = is.topologies i; journal = ap (word_of 0) is.rests i; from = froms i }
 
 serve_once : (names : List (List ℕ)) (one other : ServeTask) → IsServeTask names one → IsServeTask names other → task_words names serve one ≡ task_words names serve other → one ≡ other
 serve_once names one other may may' same =
-    let is = one_file names one.tariff other.tariff one.topology other.topology (rest one) (rest other) may.is_tariff may'.is_tariff may.is_topology may'.is_topology same in
-    built one.tariff one.topology one.journal one.port one.connections one.workers is.tariffs is.topologies (ap (word_of 0) is.rests)
-    (decimal_injective one.port other.port (omega (arith, may.is_port)) (omega (arith, may'.is_port)) (ap (word_of 1) is.rests))
-    (decimal_injective one.connections other.connections (omega (arith, may.connections_within)) (omega (arith, may'.connections_within)) (ap (word_of 2) is.rests))
-    (decimal_injective one.workers other.workers (omega (arith, may.workers_within)) (omega (arith, may'.workers_within)) (ap (word_of 3) is.rests))
+    let is = one_file names one.tariff other.tariff one.topology other.topology (rest one) (rest other) may.of.of may'.of.of same in
+    let ports = decimal_injective one.port other.port (omega (arith, may.is_port)) (omega (arith, may'.is_port)) (ap (word_of 1) is.rests) in
+    let connections = decimal_injective one.connections other.connections (omega (arith, may.connections_within)) (omega (arith, may'.connections_within)) (ap (word_of 2) is.rests) in
+    let workers = decimal_injective one.workers other.workers (omega (arith, may.workers_within)) (omega (arith, may'.workers_within)) (ap (word_of 3) is.rests) in
+    λ i. record { tariff = is.tariffs i; topology = is.topologies i; journal = ap (word_of 0) is.rests i; port = ports i; connections = connections i; workers = workers i }
   where
     rest : ServeTask → List (List ℕ)
     rest task = task.journal ∷ decimal task.port ∷ decimal task.connections ∷ decimal task.workers ∷ []
-
-    built : (tariff : Option ℕ) (topology journal : List ℕ) (port connections workers : ℕ) → tariff ≡ other.tariff → topology ≡ other.topology → journal ≡ other.journal → port ≡ other.port → connections ≡ other.connections → workers ≡ other.workers
-        → serving_task tariff topology journal port connections workers ≡ other
-    built tariff topology journal port connections workers one two three four five six = rw (one, two, three, four, five, six) refl
 
 -- the words of a command tell one task
 one_task : (names : List (List ℕ)) (verb : Verb) (one other : Task verb) → MayDo names verb one → MayDo names verb other → task_words names verb one ≡ task_words names verb other → one ≡ other
@@ -510,10 +432,7 @@ one_task names audit = journal_once names
 one_task names generate = generate_once names
 one_task names prove = prove_once names
 one_task names check = check_once names
-one_task names price = λ one other may may' same. price_once one.topology other.topology (ap (word_of 0) same)
-  where
-    price_once : (topology topology' : List ℕ) → topology ≡ topology' → priced_task topology ≡ priced_task topology'
-    price_once topology topology' same = rw same refl
+one_task names price = λ one other may may' same. λ i. record { topology = ap (word_of 0) same i }
 one_task names ship = ship_once names
 one_task names follow = journal_once names
 one_task names serve = serve_once names

@@ -2,6 +2,9 @@
 use Rattle.std.proofs.Common.{◌≡◌, ◌∙◌, ◌⊎◌, inl, inr, ⊎_elim, ℕ, ◌≤◌, ◌<◌, List, [], ◌∷◌, length, Bool, Option, Some, is_some, ◌↔◌, IfOk, IfErr, MatchResult, Result, Ok, Err, nat_lt, refl, sym, ap, subst, arith, append-nil, length-append}
 use Rattle.std.specs.Prelude.{⊤}
 use mathlib.Core.List.{IsPrefix}
+use Rattle.hose_crew.specs.Crew.{AreServed}
+use Rattle.hose_io.specs.Frame.{Met}
+use Rattle.hose_io.specs.Stream.{Grows}
 use Rattle.hose_io.specs.declared.Failed.{Failed}
 use Rattle.hose_io.specs.declared.sink.Sink.{Ghosts as SinkGhosts}
 use Rattle.hose_graph.specs.Network.{Network}
@@ -27,7 +30,7 @@ use Rattle.hose_offline.specs.Fault.{of_store}
 use Rattle.hose_offline.specs.OnDisk.{opening_of}
 use Rattle.hose_offline.specs.ServingOnDisk.{IsNotOpened}
 use Rattle.hose_offline.proofs.Journals.{not_opened}
-use Rattle.hosed.specs.ServingDoor.{DoorSeen, HasKept, IsMadeAlong, IsOpening, OpensAt, ServesByStore, ServesOpened, StaysAsRead, served_of}
+use Rattle.hosed.specs.ServingDoor.{DoorSeen, HasKept, IsMadeAlong, IsOpening, OpensAt, ServesByStore, ServesOpened, StaysAsRead, ready_line, served_of}
 use Rattle.hosed.specs.declared.serving.Opened.{Opened}
 use Rattle.hosed.specs.declared.serving.Opened.TheVariants as opened
 
@@ -145,6 +148,11 @@ module _ {E : Type 0} (disk : DiskGhosts E) (was left : E) (network : Network) (
       serves.2,
       serves.3,
     )
+
+-- a door was opened, the line was put, and connections were served
+pub opened_and_served : {O : Type 0} (sink : SinkGhosts O) (count : ℕ) (output output' : O) (door door' : DoorSeen) (old new : Known) (accepting : Result ⊤ Failed) → AreServed door.told door'.told count new accepting → Met door.frame door'.frame accepting
+    → Grows (sink.content output) (sink.content output') ready_line → sink.frame output' ≡ sink.frame output → ServesOpened sink count output output' door door' old new (opened.Ended accepting)
+opened_and_served sink count output output' door door' old new accepting served met grows same = (served, met, grows, same)
 
 -- ---- a store that is opened
 

@@ -61,11 +61,11 @@ offer_of prices name base per tariffs = record {
 
 -- ---- what comes of a command
 
-module _ {I O C E : Type 0} (tells : Tellings I O C E) (offer : Offer) (before after : Outside I O C)
-    (status : ℕ) where
-  -- The command did what its task says, at the prices of the tariff that is chosen; sheets of prices
-  -- are made of a network under all tariffs. Nothing is taken of the input but by a run, a check, a
-  -- following and a sheet of prices. A server is none of these commands.
+module _ {I O C E : Type 0} (tells : Tellings I O C E) (offer : Offer)
+    (before after : Outside I O C) (status : ℕ) where
+  -- The command did what its task says, at the prices of the tariff that is chosen; sheets of
+  -- prices are made of a network under all tariffs. Nothing is taken of the input but by a run, a
+  -- check, a following and a sheet of prices. A server is none of these commands.
   abbrev pub Does : (verb : Verb) → Task verb → Type 0
   Does run task = RunOutcome (offer.prices task.tariff) tells.source tells.sink tells.cabinet
       tells.disk task.journal before.input after.input before.output after.output
@@ -94,9 +94,9 @@ module _ {I O C E : Type 0} (tells : Tellings I O C E) (offer : Offer) (before a
       before.cabinet after.cabinet status
   Does serve task = ⊤
 
-  -- Words that are wrong end with the status 1 and take nothing of the input and of the cabinet; the
-  -- last line tells the first of them that is not allowed. Other words do what their command says.
-  -- Of the other commands `prove` alone can end with the status 1, and says itself where.
+  -- Words that are wrong end with the status 1 and take nothing of the input and of the cabinet;
+  -- the last line tells the first of them that is not allowed. Other words do what their command
+  -- says. Of the other commands `prove` alone can end with the status 1, and says itself where.
   pub record OfflineOutcome (words : List (List ℕ)) : Type 0 where
     pub words_at_1 : ((task : Task prove) → ¬ AreWords offer.names words prove task)
         → (status ≡ 1) ↔ AreWrongWords offer.names words

@@ -1,6 +1,5 @@
 -- The words that the program is run with.
-use Rattle.std.specs.Prelude.{option_map}
-use Rattle.std.specs.Prelude.{◌≡◌, ◌≢◌, ℕ, ◌-◌, ◌<◌, ◌≤◌, List, [], ◌∷◌, ◌++◌, codes, decimal, drop, get_or, length, map, Option, MatchOption, None, Some, suc, zero, ⊤}
+use Rattle.std.specs.Prelude.{◌≡◌, ◌≢◌, ℕ, ◌-◌, ◌<◌, ◌≤◌, List, [], ◌∷◌, ◌++◌, codes, decimal, drop, get_or, length, map, Option, MatchOption, None, Some, option_map, suc, zero, ⊤}
 use Rattle.hose_words.specs.Cursor.{Position}
 use Rattle.hose_words.specs.Form.{Fits64, Form, IsWithin, TellsNumber, branch, finish, grammar_of, maybe, number, place}
 use Rattle.hose_words.specs.Grammar.{IsFirst, IsFirstNotAllowed}
@@ -212,11 +211,17 @@ pub record IsRunTask (names : List (List ℕ)) (task : RunTask) : Type 0 where
   pub is_tariff : IsChosen names task.tariff
   pub is_journal : MatchOption task.journal ⊤ IsFileName
 
--- those of an audit or of a following
-pub record IsJournalTask (names : List (List ℕ)) (task : JournalTask) : Type 0 where
-  pub is_tariff : IsChosen names task.tariff
-  pub is_topology : IsFileName task.topology
-  pub is_journal : IsFileName task.journal
+-- those that name a topology, after a tariff or none
+pub record IsOfTopology (names : List (List ℕ)) (tariff : Option ℕ) (topology : List ℕ) :
+    Type 0 where
+  pub is_tariff : IsChosen names tariff
+  pub is_topology : IsFileName topology
+
+-- those that name a journal too
+pub record IsOfJournal (names : List (List ℕ)) (tariff : Option ℕ) (topology journal : List ℕ) :
+    Type 0 where
+  pub of : IsOfTopology names tariff topology
+  pub is_journal : IsFileName journal
 
 -- those of a network and a script that are generated
 pub record IsGenerateTask (task : GenerateTask) : Type 0 where
@@ -227,14 +232,8 @@ pub record IsGenerateTask (task : GenerateTask) : Type 0 where
 
 -- those of a certificate that is to be written
 pub record IsProveTask (names : List (List ℕ)) (task : ProveTask) : Type 0 where
-  pub is_tariff : IsChosen names task.tariff
-  pub is_topology : IsFileName task.topology
+  pub of : IsOfTopology names task.tariff task.topology
   pub are_ends : AreEndWords task.ends
-
--- those of a certificate that is to be judged
-pub record IsCheckTask (names : List (List ℕ)) (task : CheckTask) : Type 0 where
-  pub is_tariff : IsChosen names task.tariff
-  pub is_topology : IsFileName task.topology
 
 -- those of a sheet of prices, for which there have to be tariffs
 pub record IsPriceTask (names : List (List ℕ)) (task : PriceTask) : Type 0 where
@@ -243,16 +242,12 @@ pub record IsPriceTask (names : List (List ℕ)) (task : PriceTask) : Type 0 whe
 
 -- those of a shipping
 pub record IsShipTask (names : List (List ℕ)) (task : ShipTask) : Type 0 where
-  pub is_tariff : IsChosen names task.tariff
-  pub is_topology : IsFileName task.topology
-  pub is_journal : IsFileName task.journal
+  pub of : IsOfJournal names task.tariff task.topology task.journal
   pub is_from : IsFromEpoch task.from
 
 -- those of a server
 pub record IsServeTask (names : List (List ℕ)) (task : ServeTask) : Type 0 where
-  pub is_tariff : IsChosen names task.tariff
-  pub is_topology : IsFileName task.topology
-  pub is_journal : IsFileName task.journal
+  pub of : IsOfJournal names task.tariff task.topology task.journal
   pub is_port : IsPort task.port
   pub connections_within : IsWithin 1 MOST_CONNECTIONS task.connections
   pub workers_within : IsWithin 1 MOST_WORKERS task.workers
@@ -260,13 +255,13 @@ pub record IsServeTask (names : List (List ℕ)) (task : ServeTask) : Type 0 whe
 -- a program that has tariffs with these names may be given such a task
 abbrev pub MayDo : List (List ℕ) → (verb : Verb) → Task verb → Type 0
 MayDo names run task = IsRunTask names task
-MayDo names audit task = IsJournalTask names task
+MayDo names audit task = IsOfJournal names task.tariff task.topology task.journal
 MayDo names generate task = IsGenerateTask task
 MayDo names prove task = IsProveTask names task
-MayDo names check task = IsCheckTask names task
+MayDo names check task = IsOfTopology names task.tariff task.topology
 MayDo names price task = IsPriceTask names task
 MayDo names ship task = IsShipTask names task
-MayDo names follow task = IsJournalTask names task
+MayDo names follow task = IsOfJournal names task.tariff task.topology task.journal
 MayDo names serve task = IsServeTask names task
 
 -- the words are that of the command, and then those of its task, which it may be given
@@ -374,6 +369,10 @@ with_tariff names form after = branch IsStart start_word (start_form names form 
 abbrev pub named_form : Form → Form
 named_form form = place IsFileName form
 
+-- a tariff or none, the name of a topology, and this
+abbrev pub topology_form : List (List ℕ) → Form → Form
+topology_form names form = with_tariff names (named_form form) form
+
 -- the numbers of a server
 abbrev pub server_form : Form
 server_form = place (TellsNumber IsPort) (place (TellsNumber (IsWithin 1 MOST_CONNECTIONS))
@@ -394,16 +393,14 @@ sizes_form nodes =
 -- and of a journal, and an epoch, nothing more, or the numbers of a server.
 abbrev pub program_form : List (List ℕ) → Verb → Form
 program_form names run = maybe (with_tariff names (maybe (named_form finish)) finish)
-program_form names audit = with_tariff names (named_form (named_form finish)) (named_form finish)
+program_form names audit = topology_form names (named_form finish)
 program_form names generate = number (branch IsNodeCount decimal sizes_form)
-program_form names prove = with_tariff names (named_form end_words_form) end_words_form
-program_form names check = with_tariff names (named_form finish) finish
+program_form names prove = topology_form names end_words_form
+program_form names check = topology_form names finish
 program_form names price = named_form finish
-program_form names ship =
-    with_tariff names (named_form (named_form from_form)) (named_form from_form)
-program_form names follow = with_tariff names (named_form (named_form finish)) (named_form finish)
-program_form names serve =
-    with_tariff names (named_form (named_form server_form)) (named_form server_form)
+program_form names ship = topology_form names (named_form from_form)
+program_form names follow = topology_form names (named_form finish)
+program_form names serve = topology_form names (named_form server_form)
 
 -- what the words may be
 abbrev pub words_form : List (List ℕ) → Form

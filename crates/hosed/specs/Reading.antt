@@ -1,9 +1,9 @@
 -- What is read of the program's words.
-use Rattle.std.specs.Prelude.{◌≡◌, ℕ, ◌+◌, List, [], get_or, Option, None, Some, MatchResult, Result, ⊤}
-use Rattle.hose_words.specs.Cursor.{Took}
+use Rattle.std.specs.Prelude.{◌≡◌, ◌⊎◌, ℕ, ◌+◌, List, [], ◌∷◌, get_or, Option, None, Some, MatchResult, Result}
+use Rattle.hose_words.specs.Cursor.{Misses, Took}
 use Rattle.hose_words.specs.Grammar.{IsFirst}
-use Rattle.hosed.specs.ProgramWords.{AreWordsOf, CheckTask, IsFileName, IsFirstNamed, IsFirstWrong, JournalTask, Verb, at_word, tariff_option}
-use Rattle.hosed.specs.ProgramWords.Verb.{audit, check, follow, prove, serve, ship}
+use Rattle.hosed.specs.ProgramWords.{AreWordsOf, AsksFor, CheckTask, IsFileName, IsFirstNamed, IsFirstWrong, IsTariffName, JournalTask, MayDo, Verb, at_word, program_word, tariff_option, task_words}
+use Rattle.hosed.specs.ProgramWords.Verb.{audit}
 use Rattle.hosed.specs.declared.words.Request.{Request}
 
 -- the request of the words, or the first of them that is not allowed
@@ -45,16 +45,25 @@ pub record NamesJournal (names words : List (List ℕ)) (task : JournalTask) (at
   pub took : Took (at_word from words) (at_word (from + 1) words) task.journal
   pub is : IsFileName task.journal
 
--- a command whose words name a journal after a tariff and a topology
-abbrev pub IsOfJournal : Verb → Type 0
-IsOfJournal audit = ⊤
-IsOfJournal ship = ⊤
-IsOfJournal follow = ⊤
-IsOfJournal serve = ⊤
-IsOfJournal _ = ⊥
+-- the option came, and the word after it, of this number, is the name of no tariff
+pub record NamesNoTariff (names words : List (List ℕ)) (number : ℕ) : Type 0 where
+  pub option : Took (at_word 2 words) (at_word 3 words) tariff_option
+  pub misses : Misses (IsTariffName names) (at_word 3 words) number
 
--- one whose words name a topology after a tariff
-abbrev pub IsOfTopology : Verb → Type 0
-IsOfTopology check = ⊤
-IsOfTopology prove = ⊤
-IsOfTopology verb = IsOfJournal verb
+-- no topology is named: there is no such tariff, or the word of this number names no file
+abbrev pub NamesNoTopology : List (List ℕ) → List (List ℕ) → ℕ → Type 0
+NamesNoTopology names words number = NamesNoTariff names words number
+    ⊎ ((tariff : Option ℕ) × (from : ℕ) × Chooses names words tariff from
+    × Misses IsFileName (at_word from words) number)
+
+-- no journal is: there is no topology, or the word after its name names no file
+abbrev pub NamesNoJournal : List (List ℕ) → List (List ℕ) → ℕ → Type 0
+NamesNoJournal names words number = NamesNoTopology names words number
+    ⊎ ((task : CheckTask) × (from : ℕ) × NamesTopology names words task from
+    × Misses IsFileName (at_word from words) number)
+
+-- the words are that of such a command and those of this task, and no more
+pub record AreJournalWords (names words : List (List ℕ)) (task : JournalTask) : Type 0 where
+  pub are : (verb : Verb) → AsksFor verb words
+      → words ≡ program_word verb ∷ task_words names audit task
+  pub may : MayDo names audit task

@@ -1,5 +1,5 @@
 // Words of endpoints, by their form alone.
-ghost use Rattle.std.specs.Prelude.{◌≡◌, ◌↔◌, ◌+◌, ◌≤◌, [], Any, IfErr, IfNone, IfOk, IfSome, IsTrue, length, map};
+ghost use Rattle.std.specs.Prelude.{◌≡◌, ◌↔◌, ◌+◌, ◌≤◌, Any, IfErr, IfNone, IfOk, IfSome, IsTrue, length, map};
 ghost use Rattle.std.specs.String.{string_bytes};
 ghost use Rattle.hose_words.specs.Cursor.{IsWrong};
 ghost use Rattle.hose_proto.specs.EndWords.{AreEndWords, IsNewEndWord, end_words_form, name_in};

@@ -47,7 +47,8 @@ use hose_offline::{
 };
 use hose_pool::Gate;
 use hose_tariff::{Prices, Tariff};
-use serving::{Means, serve};
+pub use serving::Means;
+use serving::serve;
 use std::alloc::Global;
 use std::sync::Wait;
 use std::thread::Threads;

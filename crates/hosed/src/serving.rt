@@ -120,7 +120,7 @@ pub struct SharedBooks<'a, D: Disk, B: Begun<D>> {
 
 /// A store that was just opened, and what its disk was then.
 #[derive(Drop)]
-pub struct JustOpen<D: Disk> {
+pub struct OpenedStore<D: Disk> {
     pub store: Store<D>,
     pub was: Snapshot<D>,
 }
@@ -197,7 +197,7 @@ fn serve_store<
     G: Gate + Sync,
 >(
     means: Means<'_, R, G>,
-    opening: JustOpen<D>,
+    opening: OpenedStore<D>,
     service: Service<'_>,
     blank: Blank,
     output: &mut O,
@@ -228,7 +228,7 @@ fn serve_store<
     law_run::<D, Decided>();
     law_closed::<D, Decided>();
     // What the disk was is there for the clauses alone.
-    let JustOpen { store, was: _ } = opening;
+    let OpenedStore { store, was: _ } = opening;
     let top = store.book().topology();
     let Ok((crew, table)) = begin::<R, L, N>(means.rt, means.alloc, top, service) else {
         let (_, disk, _) = store.close();
@@ -320,7 +320,7 @@ fn serve_on_disk<R: Threads + Wait + Sync, O: Sink, D: Disk + Send, L: Door + Se
         Err(refused) => return (Err(refused.0), Some(refused.1), door),
     };
     let blank = Blank::new(u64::from(service.workers));
-    let opening = JustOpen { store, was };
+    let opening = OpenedStore { store, was };
     let (served, disk, door) = serve_store::<R, O, D, L, Brand, G>(
         means, opening, service, blank, output, door,
     );

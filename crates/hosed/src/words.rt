@@ -1,12 +1,12 @@
 // The words of the program, and what they ask for.
-ghost use Rattle.std.specs.Prelude.{◌≡◌, ◌↔◌, ◌+◌, ◌<◌, ◌≤◌, [], IfErr, IfNone, IfOk, IfSome, IsTrue, OnOk, decimal, get_or, length, map};
+ghost use Rattle.std.specs.Prelude.{◌≡◌, ◌↔◌, ℕ, ◌+◌, ◌<◌, ◌≤◌, List, [], IfErr, IfNone, IfOk, IfSome, IsTrue, OnOk, decimal, get_or, map};
 ghost use Rattle.std.specs.String.{string_bytes};
-ghost use Rattle.hose_words.specs.Cursor.{Misses, Took};
-ghost use Rattle.hose_words.specs.Form.{Fits64, IsWithin, TellsNumber};
+ghost use Rattle.hose_words.specs.Cursor.{IsWrong, Misses, Took};
+ghost use Rattle.hose_words.specs.Form.{Fits64, IsWithin, TellsNumber, finish};
 ghost use Rattle.hose_words.specs.Grammar.{IsFirst};
-ghost use Rattle.hosed.specs.ProgramWords.{ArePriceable, AreServiceWords, AsksFor, AsksToServe, IsFileName, IsFirstNamed, IsFirstWrong, IsTariffName, Verb, at_word, journal_task, tariff_option, topology_task};
-ghost use Rattle.hosed.specs.Reading.{Chooses, IsOfJournal, IsOfTopology, NamesJournal, NamesTopology, Reads};
-ghost use Rattle.hosed.specs.ProgramWords.Verb.{audit, check, follow, generate, price, prove, run, ship};
+ghost use Rattle.hosed.specs.ProgramWords.{ArePriceable, AreServiceWords, AsksFor, AsksToServe, IsFileName, IsFirstNamed, IsFirstWrong, IsTariffName, at_word, journal_task, program_form, topology_task};
+ghost use Rattle.hosed.specs.Reading.{AreJournalWords, Chooses, NamesJournal, NamesNoJournal, NamesNoTariff, NamesNoTopology, NamesTopology, Reads};
+ghost use Rattle.hosed.specs.ProgramWords.Verb.{audit, check, generate, price, prove, run, ship};
 
 use crate::end_words::ends_at;
 use hose_gen::{LEAST_NODES, MOST_HOSES};
@@ -109,9 +109,9 @@ pub fn request_of<'w>(words: &'w [String], tariffs: &[Tariff]) -> Result<Request
     if begin_with(words, "run") {
         run_of(words, tariffs)
     } else if begin_with(words, "audit") {
-        audit_of(words, tariffs)
+        Ok(Request::Audit(journal_of(words, tariffs)?))
     } else if begin_with(words, "gen") {
-        generate_of(words, tariffs)
+        generate_of(words)
     } else if begin_with(words, "prove") {
         prove_of(words, tariffs)
     } else if begin_with(words, "check") {
@@ -121,7 +121,7 @@ pub fn request_of<'w>(words: &'w [String], tariffs: &[Tariff]) -> Result<Request
     } else if begin_with(words, "ship") {
         ship_of(words, tariffs)
     } else if begin_with(words, "follow") {
-        follow_of(words, tariffs)
+        Ok(Request::Follow(journal_of(words, tariffs)?))
     } else {
         Err(1)
     }
@@ -158,23 +158,25 @@ fn run_of<'w>(words: &'w [String], tariffs: &[Tariff]) -> Result<Request<'w>, u6
     })
 }
 
-// The audit that the words ask for: nothing follows the name of the journal.
-fn audit_of<'w>(words: &'w [String], tariffs: &[Tariff]) -> Result<Request<'w>, u64>
-    requires { AsksFor audit (map string_bytes words.now) }
-    ensures { Reads (map (λ tariff. tariff.name) tariffs.now) (map string_bytes words.now) result }
+// The tariff that the words choose, and the names of a topology and of a journal, after which
+// nothing follows.
+fn journal_of<'w>(words: &'w [String], tariffs: &[Tariff]) -> Result<OfJournal<'w>, u64>
+    ensures ok { IfOk result (λ of. AreJournalWords (map (λ tariff. tariff.name) tariffs.now)
+        (map string_bytes words.now) (journal_task of)) }
+    ensures wrong { IfErr result (IsWrong
+        (program_form (map (λ tariff. tariff.name) tariffs.now) audit)
+        (at_word 2 (map string_bytes words.now))) }
 {
     let (of, at) = journal_at(words, tariffs)?;
     none_at(words, at)?;
-    Ok(Request::Audit(of))
+    Ok(of)
 }
 
 // The four numbers that the words tell, and nothing else.
-fn generate_of<'w>(words: &'w [String], tariffs: &[Tariff]) -> Result<Request<'w>, u64>
+fn generate_of(words: &[String]) -> Result<Request<'_>, u64>
     requires { AsksFor generate (map string_bytes words.now) }
-    ensures { Reads (map (λ tariff. tariff.name) tariffs.now) (map string_bytes words.now) result }
+    ensures { (names : List (List ℕ)) → Reads names (map string_bytes words.now) result }
 {
-    // No tariff stands among them.
-    let _ = tariffs;
     let seed = seed_at(words, 2)?;
     let nodes = number_at(words, 3, LEAST_NODES, MOST_NODES)?;
     let links = number_at(words, 4, nodes - 1, MOST_LINKS)?;
@@ -248,16 +250,6 @@ fn ship_of<'w>(words: &'w [String], tariffs: &[Tariff]) -> Result<Request<'w>, u
     })
 }
 
-// The following that the words ask for: nothing follows the name of the journal.
-fn follow_of<'w>(words: &'w [String], tariffs: &[Tariff]) -> Result<Request<'w>, u64>
-    requires { AsksFor follow (map string_bytes words.now) }
-    ensures { Reads (map (λ tariff. tariff.name) tariffs.now) (map string_bytes words.now) result }
-{
-    let (of, at) = journal_at(words, tariffs)?;
-    none_at(words, at)?;
-    Ok(Request::Follow(of))
-}
-
 /// The server that the words ask for, or the first of them that is not allowed.
 pub fn service_of<'w>(words: &'w [String], tariffs: &[Tariff]) -> Result<Service<'w>, u64>
     requires { AsksToServe (map string_bytes words.now) }
@@ -287,10 +279,8 @@ fn journal_at<'w>(words: &'w [String], tariffs: &[Tariff]) -> Result<(OfJournal<
     ensures ok { IfOk result (λ found. NamesJournal (map (λ tariff. tariff.name) tariffs.now)
         (map string_bytes words.now) (journal_task found.0) found.1) }
     ensures at { IfOk result (λ found. (4 ≤ found.1) × (found.1 ≤ 6)) }
-    ensures wrong { IfErr result (λ wrong. (verb : Verb) → IsOfJournal verb
-        → AsksFor verb (map string_bytes words.now)
-        → IsFirstWrong (map (λ tariff. tariff.name) tariffs.now) (map string_bytes words.now)
-        wrong) }
+    ensures wrong { IfErr result (NamesNoJournal (map (λ tariff. tariff.name) tariffs.now)
+        (map string_bytes words.now)) }
 {
     let (of, at) = topology_at(words, tariffs)?;
     let journal = name_at(words, at)?;
@@ -310,10 +300,8 @@ fn topology_at<'w>(words: &'w [String], tariffs: &[Tariff]) -> Result<(OfTopolog
     ensures ok { IfOk result (λ found. NamesTopology (map (λ tariff. tariff.name) tariffs.now)
         (map string_bytes words.now) (topology_task found.0) found.1) }
     ensures at { IfOk result (λ found. (3 ≤ found.1) × (found.1 ≤ 5)) }
-    ensures wrong { IfErr result (λ wrong. (verb : Verb) → IsOfTopology verb
-        → AsksFor verb (map string_bytes words.now)
-        → IsFirstWrong (map (λ tariff. tariff.name) tariffs.now) (map string_bytes words.now)
-        wrong) }
+    ensures wrong { IfErr result (NamesNoTopology (map (λ tariff. tariff.name) tariffs.now)
+        (map string_bytes words.now)) }
 {
     let (tariff, at) = tariff_at(words, tariffs)?;
     let topology = name_at(words, at)?;
@@ -326,11 +314,8 @@ fn tariff_at(words: &[String], tariffs: &[Tariff]) -> Result<(Option<usize>, u64
     ensures ok { IfOk result (λ found. Chooses (map (λ tariff. tariff.name) tariffs.now)
         (map string_bytes words.now) found.0 found.1) }
     ensures at { IfOk result (λ found. (2 ≤ found.1) × (found.1 ≤ 4)) }
-    ensures wrong { IfErr result (λ wrong. (wrong ≡ 3)
-        × Took (at_word 2 (map string_bytes words.now))
-        (at_word 3 (map string_bytes words.now)) tariff_option
-        × Misses (IsTariffName (map (λ tariff. tariff.name) tariffs.now))
-        (at_word 3 (map string_bytes words.now)) wrong) }
+    ensures wrong { IfErr result (NamesNoTariff (map (λ tariff. tariff.name) tariffs.now)
+        (map string_bytes words.now)) }
 {
     match word_at(words, 2) {
         Some(option) if option == "--tariff" => match named_at(words, tariffs) {
@@ -426,7 +411,7 @@ fn seed_of(word: &str) -> Option<u64>
 fn none_at(words: &[String], at: u64) -> Result<(), u64>
     requires { 1 ≤ at }
     ensures ok { OnOk result ((at_word at (map string_bytes words.now)).left ≡ []) }
-    ensures wrong { IfErr result (λ wrong. (wrong ≡ at) × (at ≤ length words.now)) }
+    ensures wrong { IfErr result (IsWrong finish (at_word at (map string_bytes words.now))) }
 {
     if words.len() as u64 >= at {
         Err(at)

@@ -1,20 +1,16 @@
-use Rattle.std.proofs.Common.{◌≡◌, ◌≤◌, Err, arith, length, map, rules}
-use Rattle.std.proofs.lemmas.List.{length-map}
+use Rattle.std.proofs.Common.{◌≡◌, Err, map, rules}
 use Rattle.std.specs.String.{string_bytes}
 use Rattle.hose_words.specs.Form.{finish}
 use Rattle.hosed.specs.ProgramWords.Verb.{check}
-use Rattle.hosed.proofs.Commands.{of_topology, one_too_many, topology_then}
+use Rattle.hosed.proofs.Commands.{no_topology, topology_then, verb_wrong}
 use Rattle.hosed.proofs.words.check_of.Goals as goal
 
 pub returns-in_err-of : goal.returns-in_err-of
 returns-in_err-of g c =
     let is : c.from_residual.result ≡ Err c.in_err-of.field-0.0 = search rules in
-    rw is (c.in_err-of.ensures.wrong check tt c.requires)
+    rw is (verb_wrong _ check (map string_bytes c.args.words.now) _ tt c.requires (no_topology _ _ _ finish c.in_err-of.ensures.wrong))
 
 pub returns-in_err-none_at : goal.returns-in_err-none_at
 returns-in_err-none_at g c =
-    let words = map string_bytes c.args.words.now in
     let is : c.from_residual-in_err-none_at.result ≡ Err c.in_err-none_at.field-0.0 = search rules in
-    let wrong = c.in_err-none_at.ensures.wrong in
-    let more : c.in_ok-of.at ≤ length words = omega (arith, wrong.1, length-map c.args.words.now string_bytes) in
-    rw (is, wrong.0) (of_topology _ words _ check tt c.requires (topology_then _ words _ c.in_ok-of.at _ finish c.in_ok-of.ensures.ok (one_too_many words c.in_ok-of.at (omega (arith, c.in_ok-of.ensures.at)) more)))
+    rw is (verb_wrong _ check (map string_bytes c.args.words.now) _ tt c.requires (topology_then _ _ _ c.in_ok-of.at _ finish c.in_ok-of.ensures.ok c.in_err-none_at.ensures.wrong))

@@ -1,9 +1,8 @@
-use Rattle.std.proofs.Common.{◌≡◌, ◌≤◌, Err, arith, length, map, rules}
-use Rattle.std.proofs.lemmas.List.{length-map}
+use Rattle.std.proofs.Common.{◌≡◌, Err, map, rules}
 use Rattle.std.specs.String.{string_bytes}
 use Rattle.hose_words.proofs.Forms.{wrong_later, wrong_place}
 use Rattle.hosed.specs.ProgramWords.Verb.{price}
-use Rattle.hosed.proofs.Commands.{not_offered, one_too_many, verb_wrong}
+use Rattle.hosed.proofs.Commands.{not_offered, verb_wrong}
 use Rattle.hosed.proofs.words.price_of.Goals as goal
 
 pub returns-then-not-are_priceable : goal.returns-then-not-are_priceable
@@ -19,6 +18,4 @@ pub returns-in_err-none_at : goal.returns-in_err-none_at
 returns-in_err-none_at g c =
     let words = map string_bytes c.args.words.now in
     let is : c.from_residual-in_err-none_at.result ≡ Err c.in_err-none_at.field-0.0 = search rules in
-    let wrong = c.in_err-none_at.ensures.wrong in
-    let more : 3 ≤ length words = omega (arith, wrong.1, length-map c.args.words.now string_bytes) in
-    rw (is, wrong.0) (verb_wrong _ price words _ (search rules) c.requires (wrong_later c.in_ok-topology.ensures.ok c.in_ok-topology.ensures.named (one_too_many words 3 (omega arith) more)))
+    rw is (verb_wrong _ price words _ (search rules) c.requires (wrong_later c.in_ok-topology.ensures.ok c.in_ok-topology.ensures.named c.in_err-none_at.ensures.wrong))
