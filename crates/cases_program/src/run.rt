@@ -2,9 +2,6 @@
 ghost use Rattle.std.specs.Prelude.{◌≡◌, ◌≢◌, All, IfOk, None};
 ghost use Rattle.hose_disk.specs.CabinetState.{cabinet_frame};
 ghost use Rattle.hose_io.specs.DoorState.{IsFresh};
-ghost use Rattle.hose_graph.specs.Limit.{IsUpTo};
-ghost use Rattle.hose_graph.specs.declared.limits.TheConstants.{MOST_LENGTH};
-ghost use Rattle.hose_tariff.specs.Fact.{IsPrice};
 
 use crate::case::{Case, Connection, Stream};
 use crate::streams::{LongSource, NarrowSink};
@@ -12,7 +9,7 @@ use hose_disk::{Cabinet, Disk, DiskCall, MemCabinet, MemDisk};
 use hose_io::{MemDoor, MemSink, MemSource};
 use hose_pool::Gate;
 use hose_tariff::Tariff;
-use hosed_program::{flat, hops, long, program, tariffs};
+use hosed_program::{Means, World, flat, hops, long, program, tariffs};
 use std::alloc::{AllocError, Global};
 use std::sync::Wait;
 use std::thread::Threads;
@@ -54,27 +51,9 @@ pub fn run_program<R: Threads + Wait + Sync, G: Gate + Sync>(
     journal: &[u8],
     gate: &G,
 ) -> Result<Outcome, AllocError> {
-    let by_flat = Box::new(
-        alloc,
-        |length: u64| -> u64
-            requires { IsUpTo MOST_LENGTH length }
-            ensures { IsPrice 0 1 length result }
-        { flat(length) },
-    )?;
-    let by_hops = Box::new(
-        alloc,
-        |length: u64| -> u64
-            requires { IsUpTo MOST_LENGTH length }
-            ensures { IsPrice 1 0 length result }
-        { hops(length) },
-    )?;
-    let by_long = Box::new(
-        alloc,
-        |length: u64| -> u64
-            requires { IsUpTo MOST_LENGTH length }
-            ensures { IsPrice 5 2 length result }
-        { long(length) },
-    )?;
+    let by_flat = Box::new(alloc, |length: u64| flat(length))?;
+    let by_hops = Box::new(alloc, |length: u64| hops(length))?;
+    let by_long = Box::new(alloc, |length: u64| long(length))?;
     let tariffs = tariffs(alloc, by_flat, by_hops, by_long)?;
     run_by(rt, alloc, case, input, journal, &tariffs, gate)
 }
@@ -93,15 +72,14 @@ fn run_by<R: Threads + Wait + Sync, G: Gate + Sync>(
 }
 
 // What the program is handed of a case.
-#[derive(Drop)]
-struct World {
-    input: LongSource,
-    output: NarrowSink,
-    cabinet: MemCabinet,
-    door: MemDoor,
-}
+type MemWorld = World<LongSource, NarrowSink, MemCabinet, MemDoor>;
 
-fn world_of(alloc: Global, case: &Case, input: &[u8], journal: &[u8]) -> Result<World, AllocError>
+fn world_of(
+    alloc: Global,
+    case: &Case,
+    input: &[u8],
+    journal: &[u8],
+) -> Result<MemWorld, AllocError>
     ensures { IfOk result (λ world. (cabinet_frame world.cabinet).out ≡ None) }
 {
     let input = source_of(alloc, case, input)?;
@@ -120,23 +98,14 @@ fn run_in<R: Threads + Wait + Sync, G: Gate + Sync>(
     rt: &R,
     alloc: Global,
     case: &Case,
-    world: &mut World,
+    world: &mut MemWorld,
     tariffs: &[Tariff],
     gate: &G,
 ) -> Result<Outcome, AllocError>
     requires { (cabinet_frame world.old.cabinet).out ≡ None }
 {
-    let status = call(
-        rt,
-        alloc,
-        &case.words,
-        &mut world.input,
-        &mut world.output,
-        &mut world.cabinet,
-        &mut world.door,
-        tariffs,
-        gate,
-    );
+    let means = Means { rt, alloc, gate };
+    let status = call(means, &case.words, tariffs, world);
     let disk = if status == NO_MEMORY {
         None
     } else {
@@ -147,27 +116,20 @@ fn run_in<R: Threads + Wait + Sync, G: Gate + Sync>(
 
 // The program's call, whose contract is met here alone.
 fn call<R: Threads + Wait + Sync, G: Gate + Sync>(
-    rt: &R,
-    alloc: Global,
+    means: Means<'_, R, G>,
     words: &[String],
-    input: &mut LongSource,
-    output: &mut NarrowSink,
-    cabinet: &mut MemCabinet,
-    door: &mut MemDoor,
     tariffs: &[Tariff],
-    gate: &G,
+    world: &mut MemWorld,
 ) -> u8
-    requires { (cabinet_frame cabinet.old).out ≡ None }
-    ensures { result ≢ 7 → (cabinet_frame cabinet.new).out ≡ None }
+    requires { (cabinet_frame world.old.cabinet).out ≡ None }
+    ensures { result ≢ 7 → (cabinet_frame world.new.cabinet).out ≡ None }
 {
-    program(
-        rt, alloc, words, input, output, cabinet, door, tariffs, gate,
-    )
+    program(means, words, tariffs, world)
 }
 
 fn outcome_of(
     alloc: Global,
-    world: &World,
+    world: &MemWorld,
     status: u8,
     disk: Option<MemDisk>,
     connections: usize,

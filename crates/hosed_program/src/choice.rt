@@ -17,7 +17,7 @@ use hose_disk::Cabinet;
 use hose_io::{Door, Sink, Source, write_all};
 use hose_pool::Gate;
 use hose_tariff::{Prices, Tariff};
-use std::alloc::Global;
+use hosed::Means;
 use std::sync::Wait;
 use std::thread::Threads;
 
@@ -30,6 +30,15 @@ pub enum Asked {
     Service,
 }
 
+/// What the program reads, writes and serves.
+#[derive(Drop)]
+pub struct World<I: Source, O: Sink, C: Cabinet, L: Door> {
+    pub input: I,
+    pub output: O,
+    pub cabinet: C,
+    pub door: L,
+}
+
 /// Does what the words say, and gives the exit status.
 pub fn program<
     R: Threads + Wait + Sync,
@@ -38,47 +47,50 @@ pub fn program<
     C: Cabinet,
     L: Door + Send,
     G: Gate + Sync,
->(
-    rt: &R,
-    alloc: Global,
-    words: &[String],
-    input: &mut I,
-    output: &mut O,
-    cabinet: &mut C,
-    door: &mut L,
-    tariffs: &[Tariff],
-    gate: &G,
-) -> u8
-    requires { (C.frame cabinet.old).out ≡ None }
-    ensures help { asked_of (map string_bytes words.now) ≡ Asked.Help → (input.new ≡ input.old)
-        × (cabinet.new ≡ cabinet.old) × (door.new ≡ door.old)
-        × IsTold O.Sink output.old output.new HELP.now result }
+>(means: Means<'_, R, G>, words: &[String], tariffs: &[Tariff], world: &mut World<I, O, C, L>) -> u8
+    requires { (C.frame world.old.cabinet).out ≡ None }
+    ensures help { asked_of (map string_bytes words.now) ≡ Asked.Help
+        → (world.new.input ≡ world.old.input) × (world.new.cabinet ≡ world.old.cabinet)
+        × (world.new.door ≡ world.old.door)
+        × IsTold O.Sink world.old.output world.new.output HELP.now result }
     ensures version { asked_of (map string_bytes words.now) ≡ Asked.Version
-        → (input.new ≡ input.old) × (cabinet.new ≡ cabinet.old) × (door.new ≡ door.old)
-        × IsTold O.Sink output.old output.new VERSION.now result }
+        → (world.new.input ≡ world.old.input) × (world.new.cabinet ≡ world.old.cabinet)
+        × (world.new.door ≡ world.old.door)
+        × IsTold O.Sink world.old.output world.new.output VERSION.now result }
 
     // All else is as the server's one call says.
     ensures service { asked_of (map string_bytes words.now) ≡ Asked.Service
         → HosedOutcome (tellings I.Source O.Sink C.Cabinet C.Disk.Disk)
         (offer_of ⟦<Tariff as Prices>⟧.prices (λ tariff. tariff.name) (λ tariff. tariff.base)
         (λ tariff. tariff.per) tariffs.now)
-        (with_door input.old output.old cabinet.old (seen_of (L.frame door.old) (L.told door.old)))
-        (with_door input.new output.new cabinet.new (seen_of (L.frame door.new) (L.told door.new)))
+        (with_door world.old.input world.old.output world.old.cabinet
+        (seen_of (L.frame world.old.door) (L.told world.old.door)))
+        (with_door world.new.input world.new.output world.new.cabinet
+        (seen_of (L.frame world.new.door) (L.told world.new.door)))
         result (map string_bytes words.now) }
 
     // The disk of a journal is not put back where there was no memory to share it.
-    ensures back { ((C.frame cabinet.new).out ≡ None)
+    ensures back { ((C.frame world.new.cabinet).out ≡ None)
         ⊎ (AsksToServe (map string_bytes words.now) × (result ≡ 7)) }
-    ensures input { Stays (I.frame input.old) (I.frame input.new) }
-    ensures output { Stays (O.frame output.old) (O.frame output.new) }
-    ensures cabinet { Stays (object_of (C.frame cabinet.old)) (object_of (C.frame cabinet.new)) }
-    ensures door { Stays (L.frame door.old) (L.frame door.new) }
+    ensures input { Stays (I.frame world.old.input) (I.frame world.new.input) }
+    ensures output { Stays (O.frame world.old.output) (O.frame world.new.output) }
+    ensures cabinet { Stays (object_of (C.frame world.old.cabinet))
+        (object_of (C.frame world.new.cabinet)) }
+    ensures door { Stays (L.frame world.old.door) (L.frame world.new.door) }
 {
     match asked_by(words) {
-        Asked::Help => tell(output, HELP),
-        Asked::Version => tell(output, VERSION),
+        Asked::Help => tell(&mut world.output, HELP),
+        Asked::Version => tell(&mut world.output, VERSION),
         Asked::Service => hosed::hosed(
-            rt, alloc, words, input, output, cabinet, door, tariffs, gate,
+            means.rt,
+            means.alloc,
+            words,
+            &mut world.input,
+            &mut world.output,
+            &mut world.cabinet,
+            &mut world.door,
+            tariffs,
+            means.gate,
         ),
     }
 }

@@ -2,10 +2,11 @@
 //! hands it the real streams, files and port, and cases of `cases_program` hand it those in memory:
 //!
 //! ```
-//! let (words, tariffs) = (program_words(&rt, alloc)?, tariffs(alloc)?);
-//! let (input, output) = (&mut input, &mut output);
-//! let (cabinet, door) = (&mut cabinet, &mut door);
-//! let status = program(&rt, alloc, &words, input, output, cabinet, door, &tariffs, &PlainGate);
+//! let words = program_words(&rt, alloc)?;
+//! let tariffs = tariffs(alloc, by_flat, by_hops, by_long)?;
+//! let means = Means { rt: &rt, alloc, gate: &PlainGate };
+//! let mut world = World { input, output, cabinet, door };
+//! let status = program(means, &words, &tariffs, &mut world);
 //! ```
 #![tactic(auto)]
 
@@ -14,7 +15,8 @@ mod rules;
 mod texts;
 mod words;
 
-pub use choice::{Asked, no_memory, program};
+pub use choice::{Asked, World, no_memory, program};
+pub use hosed::Means;
 pub use rules::{flat, hops, long, tariffs};
 pub use texts::{HELP, USAGE, VERSION};
 pub use words::program_words;

@@ -10,8 +10,7 @@ use std::alloc::{AllocError, Global};
 
 /// What a link costs by its length alone: the length.
 pub fn flat(length: u64) -> u64
-    requires { IsUpTo MOST_LENGTH length }
-    ensures price { IsPrice 0 1 length result }
+    ensures price { IsUpTo MOST_LENGTH length → IsPrice 0 1 length result }
     ensures cost { result ≡ length }
 {
     length
@@ -19,8 +18,7 @@ pub fn flat(length: u64) -> u64
 
 /// What each link costs where links are counted: 1.
 pub fn hops(length: u64) -> u64
-    requires { IsUpTo MOST_LENGTH length }
-    ensures price { IsPrice 1 0 length result }
+    ensures price { IsUpTo MOST_LENGTH length → IsPrice 1 0 length result }
     ensures cost { result ≡ 1 }
 {
     let _ = length;
@@ -29,10 +27,9 @@ pub fn hops(length: u64) -> u64
 
 /// What a link costs where long ones are dear: 5 and twice its length, 1,000,000 at most.
 pub fn long(length: u64) -> u64
-    requires { IsUpTo MOST_LENGTH length }
-    ensures price { IsPrice 5 2 length result }
+    ensures price { IsUpTo MOST_LENGTH length → IsPrice 5 2 length result }
 {
-    (5 + 2 * length).min(MOST_COST)
+    (5 + 2 * length.min(MOST_COST)).min(MOST_COST)
 }
 
 /// The tariffs that `--tariff` chooses from, of their rules, which the caller has to make.
