@@ -30,13 +30,28 @@ impl Piece {
     }
 }
 
-/// A stream of a case.
+/// The input of a case.
 #[derive(Drop)]
-pub struct Stream {
+pub struct Input {
     pub bytes: Vec<u8>,
     pub piece: Piece,
     /// The numbers of its calls that fail, counted from 1.
     pub failing: Vec<u64>,
+    /// How many more bytes it has, and whether they are its lines again and again.
+    pub more: u64,
+    pub repeats: bool,
+}
+
+/// The output of a case.
+#[derive(Drop)]
+pub struct Output {
+    /// What must come out.
+    pub bytes: Vec<u8>,
+    pub piece: Piece,
+    /// The numbers of its calls that fail, counted from 1.
+    pub failing: Vec<u64>,
+    /// Whether each call of it fails in turn.
+    pub cuts: bool,
 }
 
 /// A connection of the door, which is accepted after those before it.
@@ -50,16 +65,20 @@ pub struct Connection {
     pub failing: u64,
 }
 
+/// The door of a case.
+#[derive(Drop)]
+pub struct Door {
+    pub connections: Vec<Connection>,
+    /// The numbers of its calls that fail, counted from 1.
+    pub failing: Vec<u64>,
+}
+
 /// The disk of the journal `j`, in the cabinet of a case.
 #[derive(Drop)]
 pub struct Journal {
     pub bytes: Vec<u8>,
-    /// What it holds afterwards.
-    pub left: Option<Vec<u8>>,
     /// The calls of it that fail, by their kinds and their numbers, counted from 1.
     pub failing: Vec<(DiskCall, u64)>,
-    /// What is found after stops of the program.
-    pub stops: Vec<Stop>,
 }
 
 /// Stops of the program after so many calls of its disk.
@@ -83,6 +102,24 @@ pub enum Call {
     Conversation(u64),
 }
 
+/// What must come of a case, besides what is put out and what connections are given.
+#[derive(Drop)]
+pub struct Wanted {
+    /// Whether the case says anything of what must come of it.
+    pub is_said: bool,
+    pub status: u64,
+    /// How many bytes of the input are taken.
+    pub taken: Option<u64>,
+    /// At which epoch the book of the journal is found afterwards.
+    pub at: Option<u64>,
+    /// What the disk of the journal holds afterwards.
+    pub left: Option<Vec<u8>>,
+    /// What is found after stops of the program.
+    pub stops: Vec<Stop>,
+    /// The audits of the books that stops name.
+    pub books: Vec<Vec<u8>>,
+}
+
 /// One call of the server, and what must come of it.
 #[derive(Drop)]
 pub struct Case {
@@ -90,42 +127,98 @@ pub struct Case {
     pub call: Call,
     /// The words after the program's name.
     pub words: Vec<String>,
-    pub input: Stream,
-    /// How many more bytes the input has, and whether they are its lines again and again.
-    pub more: u64,
-    pub repeats: bool,
-    pub output: Stream,
+    pub input: Input,
+    pub output: Output,
     /// The text `t` of the cabinet. Where it has no byte, it is not there.
     pub text: Vec<u8>,
     /// The number of the cabinet's call for a text or a disk that fails, counted from 1.
     pub failing: Option<u64>,
     pub journal: Journal,
-    pub connections: Vec<Connection>,
-    /// The numbers of the door's calls that fail, counted from 1.
-    pub door_failing: Vec<u64>,
-    pub status: u64,
-    pub taken: Option<u64>,
-    /// At which epoch the book of the journal is found afterwards.
-    pub at: Option<u64>,
-    /// The audits of the books that stops name.
-    pub books: Vec<Vec<u8>>,
+    pub door: Door,
+    pub wanted: Wanted,
     /// Whether the gate holds sessions up.
     pub holds: bool,
     /// Whether connections are judged by the rules of replies, and not by their bytes.
     pub is_judged: bool,
-    /// Whether each call of the output fails in turn.
-    pub cuts: bool,
-    /// Whether it says what must come of it.
-    pub compares: bool,
 }
 
-impl Stream {
-    fn new(alloc: Global) -> Stream {
-        Stream {
+// Each part has a call for the lines that begin with a word, which answers whether the word is one
+// of the part's.
+
+impl Input {
+    fn new(alloc: Global) -> Input {
+        Input {
             bytes: Vec::new(alloc),
             piece: Piece { bytes: PIECE },
             failing: Vec::new(alloc),
+            more: 0,
+            repeats: false,
         }
+    }
+
+    fn set(&mut self, alloc: Global, word: &str, rest: &str) -> Result<bool, Trouble> {
+        match word {
+            "read" => self.piece = Piece::new(number(rest)?)?,
+            "read-fails" => self.failing = calls_of(alloc, rest)?,
+            "more" => self.more = number(rest)?,
+            "again" => {
+                self.more = number(rest)?;
+                self.repeats = true;
+            }
+            _ => return Ok(false),
+        }
+        Ok(true)
+    }
+}
+
+impl Output {
+    fn new(alloc: Global) -> Output {
+        Output {
+            bytes: Vec::new(alloc),
+            piece: Piece { bytes: PIECE },
+            failing: Vec::new(alloc),
+            cuts: false,
+        }
+    }
+
+    fn set(&mut self, alloc: Global, word: &str, rest: &str) -> Result<bool, Trouble> {
+        match word {
+            "write" => self.piece = Piece::new(number(rest)?)?,
+            "write-fails" => self.failing = calls_of(alloc, rest)?,
+            "cuts" => self.cuts = true,
+            _ => return Ok(false),
+        }
+        Ok(true)
+    }
+}
+
+impl Door {
+    fn new(alloc: Global) -> Door {
+        Door {
+            connections: Vec::new(alloc),
+            failing: Vec::new(alloc),
+        }
+    }
+
+    fn set(&mut self, alloc: Global, word: &str, rest: &str) -> Result<bool, Trouble> {
+        match word {
+            "door-fails" => self.failing = calls_of(alloc, rest)?,
+            "peer-fails" => set_failing(&mut self.connections, rest)?,
+            _ => return Ok(false),
+        }
+        Ok(true)
+    }
+
+    // Adds bytes that the connection of this number gives, which is the next or one before it.
+    fn add_said(&mut self, alloc: Global, nth: u64, pattern: Pattern<'_>) -> Result<(), Trouble> {
+        add_connection(alloc, &mut self.connections, nth)?;
+        add_said(&mut self.connections, nth, pattern)
+    }
+
+    // Adds bytes that it must be given.
+    fn add_told(&mut self, alloc: Global, nth: u64, pattern: Pattern<'_>) -> Result<(), Trouble> {
+        add_connection(alloc, &mut self.connections, nth)?;
+        add_told(&mut self.connections, nth, pattern)
     }
 }
 
@@ -133,10 +226,44 @@ impl Journal {
     fn new(alloc: Global) -> Journal {
         Journal {
             bytes: Vec::new(alloc),
-            left: None,
             failing: Vec::new(alloc),
-            stops: Vec::new(alloc),
         }
+    }
+
+    fn set(&mut self, alloc: Global, word: &str, rest: &str) -> Result<bool, Trouble> {
+        match word {
+            "journal" => self.bytes = bytes_of(alloc, rest)?,
+            "disk-fails" => add_disk_calls(alloc, &mut self.failing, rest)?,
+            _ => return Ok(false),
+        }
+        Ok(true)
+    }
+}
+
+impl Wanted {
+    fn new(alloc: Global) -> Wanted {
+        Wanted {
+            is_said: false,
+            status: 0,
+            taken: None,
+            at: None,
+            left: None,
+            stops: Vec::new(alloc),
+            books: Vec::new(alloc),
+        }
+    }
+
+    fn set(&mut self, alloc: Global, word: &str, rest: &str) -> Result<bool, Trouble> {
+        match word {
+            "status" => self.status = number(rest)?,
+            "taken" => self.taken = Some(number(rest)?),
+            "at" => self.at = Some(number(rest)?),
+            "left" => self.left = Some(bytes_of(alloc, rest)?),
+            "stop" => self.stops.push(stop_of(alloc, rest)?)?,
+            _ => return Ok(false),
+        }
+        self.is_said = true;
+        Ok(true)
     }
 }
 
@@ -147,84 +274,74 @@ impl Case {
             name: String::new(alloc),
             call: Call::Program,
             words: Vec::new(alloc),
-            input: Stream::new(alloc),
-            more: 0,
-            repeats: false,
-            output: Stream::new(alloc),
+            input: Input::new(alloc),
+            output: Output::new(alloc),
             text: Vec::new(alloc),
             failing: None,
             journal: Journal::new(alloc),
-            connections: Vec::new(alloc),
-            door_failing: Vec::new(alloc),
-            status: 0,
-            taken: None,
-            at: None,
-            books: Vec::new(alloc),
+            door: Door::new(alloc),
+            wanted: Wanted::new(alloc),
             holds: false,
             is_judged: false,
-            cuts: false,
-            compares: false,
         }
     }
 
     /// Adds what a line says. A line that begins a case says nothing of this one.
-    pub fn add(&mut self, alloc: Global, line: Line) -> Result<(), Trouble> {
+    pub fn add(&mut self, alloc: Global, line: Line<'_>) -> Result<(), Trouble> {
         match line {
-            Line::Nothing | Line::Case(_) => {}
-            Line::Words(rest) => self.words = words_of(alloc, rest)?,
-            Line::Input(pattern) => pattern.add_to(&mut self.input.bytes)?,
-            Line::Text(pattern) => pattern.add_to(&mut self.text)?,
-            Line::Session => self.call = Call::Session,
-            Line::Converse(times) => self.call = Call::Conversation(times),
-            Line::More(count) => self.more = count,
-            Line::Again(count) => {
-                self.more = count;
-                self.repeats = true;
+            Line::Nothing | Line::Case(_) => Ok(()),
+            Line::Input(pattern) => pattern.add_to(&mut self.input.bytes),
+            Line::Text(pattern) => pattern.add_to(&mut self.text),
+            Line::Says(nth, pattern) => self.door.add_said(alloc, nth, pattern),
+            Line::Book(nth, pattern) => { add_audited(alloc, &mut self.wanted.books, nth, pattern) }
+            Line::Output(pattern) => {
+                self.wanted.is_said = true;
+                pattern.add_to(&mut self.output.bytes)
             }
-            Line::Read(piece) => self.input.piece = Piece::new(piece)?,
-            Line::Write(piece) => self.output.piece = Piece::new(piece)?,
-            Line::ReadFails(rest) => self.input.failing = calls_of(alloc, rest)?,
-            Line::WriteFails(rest) => self.output.failing = calls_of(alloc, rest)?,
-            Line::Journal(rest) => self.journal.bytes = bytes_of(alloc, rest)?,
-            Line::DiskFails(rest) => add_disk_calls(alloc, &mut self.journal.failing, rest)?,
-            Line::CabinetFails(nth) => self.failing = Some(nth),
-            Line::Cuts => self.cuts = true,
-            Line::Holds => self.holds = true,
-            Line::Judged => self.is_judged = true,
-            Line::PeerFails(rest) => set_failing(&mut self.connections, rest)?,
-            Line::Says(nth, pattern) => {
-                add_connections(alloc, &mut self.connections, nth)?;
-                add_said(&mut self.connections, nth, pattern)?;
+            Line::Told(nth, pattern) => {
+                self.wanted.is_said = true;
+                self.door.add_told(alloc, nth, pattern)
             }
-            Line::DoorFails(rest) => self.door_failing = calls_of(alloc, rest)?,
-            Line::Book(nth, pattern) => add_audited(alloc, &mut self.books, nth, pattern)?,
-            wanted => self.add_wanted(alloc, wanted)?,
+            Line::Setting(word, rest) => self.set(alloc, word, rest),
         }
-        Ok(())
     }
 
-    // Adds what a line says of what must come of the case.
-    fn add_wanted(&mut self, alloc: Global, line: Line) -> Result<(), Trouble> {
-        match line {
-            Line::Output(pattern) => pattern.add_to(&mut self.output.bytes)?,
-            Line::Status(status) => self.status = status,
-            Line::Taken(taken) => self.taken = Some(taken),
-            Line::At(at) => self.at = Some(at),
-            Line::Left(rest) => self.journal.left = Some(bytes_of(alloc, rest)?),
-            Line::Stop(rest) => self.journal.stops.push(stop_of(alloc, rest)?)?,
-            Line::Told(nth, pattern) => {
-                add_connections(alloc, &mut self.connections, nth)?;
-                add_told(&mut self.connections, nth, pattern)?;
-            }
-            _ => return Ok(()),
+    // Does what a line says that begins with a word.
+    fn set(&mut self, alloc: Global, word: &str, rest: &str) -> Result<(), Trouble> {
+        if self.input.set(alloc, word, rest)? {
+            return Ok(());
         }
-        self.compares = true;
+        if self.output.set(alloc, word, rest)? {
+            return Ok(());
+        }
+        if self.door.set(alloc, word, rest)? {
+            return Ok(());
+        }
+        if self.journal.set(alloc, word, rest)? {
+            return Ok(());
+        }
+        if self.wanted.set(alloc, word, rest)? {
+            return Ok(());
+        }
+        self.set_own(alloc, word, rest)
+    }
+
+    fn set_own(&mut self, alloc: Global, word: &str, rest: &str) -> Result<(), Trouble> {
+        match word {
+            "words" => self.words = words_of(alloc, rest)?,
+            "session" => self.call = Call::Session,
+            "converse" => self.call = Call::Conversation(number(rest)?),
+            "cabinet-fails" => self.failing = Some(number(rest)?),
+            "holds" => self.holds = true,
+            "judged" => self.is_judged = true,
+            _ => return Err(Trouble::Word),
+        }
         Ok(())
     }
 }
 
 // Adds the connection of this number, where it is the next.
-fn add_connections(
+fn add_connection(
     alloc: Global,
     connections: &mut Vec<Connection>,
     nth: u64,
@@ -239,7 +356,6 @@ fn add_connections(
     Ok(())
 }
 
-// Adds bytes that the connection of this number gives.
 fn add_said(
     connections: &mut Vec<Connection>,
     nth: u64,
@@ -251,7 +367,6 @@ fn add_said(
     }
 }
 
-// Adds bytes that the connection of this number must be given.
 fn add_told(
     connections: &mut Vec<Connection>,
     nth: u64,

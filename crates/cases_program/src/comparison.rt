@@ -101,8 +101,7 @@ fn run_freely<R: Threads + Wait + Sync>(
     alloc: Global,
     case: &Case,
 ) -> Result<Outcome, Trouble> {
-    let (input, journal) = (&case.input.bytes, &case.journal.bytes);
-    Ok(run_program(rt, alloc, case, input, journal, &PlainGate)?)
+    Ok(run_program(rt, alloc, case, &PlainGate)?)
 }
 
 // A run of the program whose first session is held.
@@ -112,9 +111,8 @@ fn run_held<R: Threads + Wait + Sync>(
     told: &mut String,
     case: &Case,
 ) -> Result<Outcome, Trouble> {
-    let (input, journal) = (&case.input.bytes, &case.journal.bytes);
-    let gate = HoldingGate::new(case.connections.len() as u64);
-    let outcome = run_program(rt, alloc, case, input, journal, &gate)?;
+    let gate = HoldingGate::new(case.door.connections.len() as u64);
+    let outcome = run_program(rt, alloc, case, &gate)?;
     if gate.is_alone() {
         told.push_str("a session went on before the other had come so far\n")?;
     }
@@ -128,13 +126,13 @@ fn add_numbers(
     case: &Case,
     outcome: &Outcome,
 ) -> Result<(), AllocError> {
-    let (status, wanted) = (outcome.status, case.status);
+    let (status, wanted) = (outcome.status, case.wanted.status);
     if status != wanted {
         let line = format!(in alloc; "the status is {status}, and {wanted} is wanted\n")?;
         told.push_str(line.as_str())?;
     }
     let taken = outcome.taken;
-    let wanted = case.taken.unwrap_or(taken);
+    let wanted = case.wanted.taken.unwrap_or(taken);
     if taken != wanted {
         let line = format!(in alloc;
             "{taken} bytes of the input are taken, and {wanted} are wanted\n"
@@ -178,7 +176,7 @@ fn add_given(
     if case.is_judged {
         return Ok(());
     }
-    for place in 0..case.connections.len() {
+    for place in 0..case.door.connections.len() {
         let number = place.saturating_add(1);
         let name = format!(in alloc; "connection {number}")?;
         let given = given_at(&outcome.given, place);
@@ -187,7 +185,7 @@ fn add_given(
             told,
             name.as_str(),
             given,
-            &case.connections[place].wanted,
+            &case.door.connections[place].wanted,
         )?;
     }
     Ok(())
@@ -237,13 +235,13 @@ fn add_journal<R: Threads + Wait + Sync>(
         Some(disk) => held(alloc, disk)?,
         None => Vec::new(alloc),
     };
-    if let Some(wanted) = &case.journal.left {
+    if let Some(wanted) = &case.wanted.left {
         if *wanted != left {
             let is = hex::encode(alloc, &left)?;
             told.push_str(format!(in alloc; "the journal has {is}\n")?.as_str())?;
         }
     }
-    if let Some(at) = case.at {
+    if let Some(at) = case.wanted.at {
         let found = epoch_of(rt, alloc, topology_of(&case.text), &left)?;
         if found != Some(at) {
             let line = format!(in alloc; "the book is found at {found:?}, and {at} is wanted\n")?;

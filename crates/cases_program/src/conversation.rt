@@ -4,7 +4,7 @@ ghost use Rattle.hose_shared.specs.Sharing.{IsPassOf, IsSamePass};
 
 use crate::case::Case;
 use crate::run::Outcome;
-use crate::sessions::{Book, close, serve, share};
+use crate::sessions::{Book, Ends, close, serve, share};
 use crate::trouble::Trouble;
 use hose_io::{Failed, MemSink, MemSource, Sink, Source};
 use hose_turn::Pass;
@@ -33,16 +33,10 @@ pub fn converse_twice<R: Wait + Threads + Sync>(
     let (mine, mut pass) = mine?;
     let (theirs, other) = theirs?;
     book.join(&mut pass, other);
-    let mut given = Vec::new(alloc);
-    given.push(mine)?;
-    given.push(theirs)?;
-    Ok(Outcome {
-        status: 0,
-        output: Vec::new(alloc),
-        taken: 0,
-        disk: Some(close(book, pass)?),
-        given,
-    })
+    let mut outcome = Outcome::new(alloc, 0, Some(close(book, pass)?));
+    outcome.given.push(mine)?;
+    outcome.given.push(theirs)?;
+    Ok(outcome)
 }
 
 // Serves a session of which each release is of what the admission before it was told, and gives its
@@ -58,13 +52,23 @@ fn converse<W: Wait>(
     ensures { IfOk result (λ served. IsSamePass pass served.1) }
 {
     let told = Cell::new(0);
-    let mut source = Asking::new(alloc, &told, times)?;
-    let mut sink = Hearing {
-        stored: MemSink::new(alloc)?,
-        told: &told,
-    };
-    let (_end, pass) = serve(rt, alloc, &mut source, &mut sink, book, pass);
-    Ok((Vec::from_slice(alloc, sink.stored.bytes())?, pass))
+    let mut ends = ends_of(alloc, &told, times)?;
+    let (_, pass) = serve(rt, alloc, &mut ends, book, pass);
+    Ok((Vec::from_slice(alloc, ends.sink.stored.bytes())?, pass))
+}
+
+// The ends of a customer who keeps what it is told.
+fn ends_of<'a>(
+    alloc: Global,
+    told: &'a Cell<u64>,
+    times: u64,
+) -> Result<Ends<Asking<'a>, Hearing<'a>>, AllocError> {
+    let source = Asking::new(alloc, told, times)?;
+    let stored = MemSink::new(alloc)?;
+    Ok(Ends {
+        source,
+        sink: Hearing { stored, told },
+    })
 }
 
 // A sink that keeps the number of the VPN that was admitted last.

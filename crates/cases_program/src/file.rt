@@ -82,7 +82,7 @@ fn add_lines(alloc: Global, case: &mut Case, lines: &[&str]) -> Result<(), Troub
 // Refuses a last case that says nothing of what must come of it.
 fn end_case(cases: &[Case]) -> Result<(), Trouble> {
     match cases.last() {
-        Some(case) if !case.compares => Err(Trouble::NothingToCompare),
+        Some(case) if !case.wanted.is_said => Err(Trouble::NothingToCompare),
         _ => Ok(()),
     }
 }

@@ -3,10 +3,10 @@ ghost use Rattle.std.specs.Prelude.{◌≡◌, ◌≢◌, All, IfOk, None};
 ghost use Rattle.hose_disk.specs.CabinetState.{cabinet_frame};
 ghost use Rattle.hose_io.specs.DoorState.{IsFresh};
 
-use crate::case::{Case, Connection, Stream};
+use crate::case::{Case, Connection, Journal, Output};
 use crate::streams::{LongSource, NarrowSink};
 use hose_disk::{Cabinet, Disk, DiskCall, MemCabinet, MemDisk};
-use hose_io::{MemDoor, MemSink, MemSource};
+use hose_io::{Door, MemDoor, MemSink, MemSource, Sink, Source};
 use hose_pool::Gate;
 use hose_tariff::Tariff;
 use hosed_program::{Means, World, flat, hops, long, program, tariffs};
@@ -42,49 +42,65 @@ pub struct Outcome {
     pub given: Vec<Vec<u8>>,
 }
 
-/// Runs the program on this input and this journal, and as the case says besides.
+impl Outcome {
+    /// What came of a case, of which no stream is told yet.
+    pub fn new(alloc: Global, status: u64, disk: Option<MemDisk>) -> Outcome {
+        Outcome {
+            status,
+            output: Vec::new(alloc),
+            taken: 0,
+            disk,
+            given: Vec::new(alloc),
+        }
+    }
+}
+
+/// Runs the program as the case says.
 pub fn run_program<R: Threads + Wait + Sync, G: Gate + Sync>(
     rt: &R,
     alloc: Global,
     case: &Case,
-    input: &[u8],
-    journal: &[u8],
     gate: &G,
 ) -> Result<Outcome, AllocError> {
     let by_flat = Box::new(alloc, |length: u64| flat(length))?;
     let by_hops = Box::new(alloc, |length: u64| hops(length))?;
     let by_long = Box::new(alloc, |length: u64| long(length))?;
     let tariffs = tariffs(alloc, by_flat, by_hops, by_long)?;
-    run_by(rt, alloc, case, input, journal, &tariffs, gate)
+    run_by(rt, alloc, case, &tariffs, gate)
 }
 
 fn run_by<R: Threads + Wait + Sync, G: Gate + Sync>(
     rt: &R,
     alloc: Global,
     case: &Case,
-    input: &[u8],
-    journal: &[u8],
     tariffs: &[Tariff],
     gate: &G,
 ) -> Result<Outcome, AllocError> {
-    let mut world = world_of(alloc, case, input, journal)?;
-    run_in(rt, alloc, case, &mut world, tariffs, gate)
+    let mut world = world_of(alloc, case)?;
+    let status = run_in(rt, alloc, &case.words, &mut world, tariffs, gate);
+    let disk = disk_after(status, &mut world.cabinet);
+    let mut outcome = Outcome::new(alloc, u64::from(status), disk);
+    tell_streams(alloc, &world, case.door.connections.len(), &mut outcome)?;
+    Ok(outcome)
 }
 
 // What the program is handed of a case.
+#[derive(Drop)]
+struct World<I: Source, O: Sink, C: Cabinet, L: Door> {
+    input: I,
+    output: O,
+    cabinet: C,
+    door: L,
+}
+
 type MemWorld = World<LongSource, NarrowSink, MemCabinet, MemDoor>;
 
-fn world_of(
-    alloc: Global,
-    case: &Case,
-    input: &[u8],
-    journal: &[u8],
-) -> Result<MemWorld, AllocError>
+fn world_of(alloc: Global, case: &Case) -> Result<MemWorld, AllocError>
     ensures { IfOk result (λ world. (cabinet_frame world.cabinet).out ≡ None) }
 {
-    let input = source_of(alloc, case, input)?;
+    let input = source_of(alloc, case)?;
     let output = sink_of(alloc, &case.output, 0)?;
-    let cabinet = cabinet_of(alloc, case, journal)?;
+    let cabinet = cabinet_of(alloc, case)?;
     let door = door_of(alloc, case)?;
     Ok(World {
         input,
@@ -94,62 +110,50 @@ fn world_of(
     })
 }
 
-fn run_in<R: Threads + Wait + Sync, G: Gate + Sync>(
+// The program's call, at types of which no more is known: its clauses are long at those of a case.
+fn run_in<R: Threads + Wait + Sync, I: Source, O: Sink, C: Cabinet, L: Door + Send, G: Gate + Sync>(
     rt: &R,
     alloc: Global,
-    case: &Case,
-    world: &mut MemWorld,
+    words: &[String],
+    world: &mut World<I, O, C, L>,
     tariffs: &[Tariff],
     gate: &G,
-) -> Result<Outcome, AllocError>
-    requires { (cabinet_frame world.old.cabinet).out ≡ None }
-{
-    let means = Means { rt, alloc, gate };
-    let status = call(means, &case.words, tariffs, world);
-    let disk = if status == NO_MEMORY {
-        None
-    } else {
-        taken_out(&mut world.cabinet)
-    };
-    outcome_of(alloc, world, status, disk, case.connections.len())
-}
-
-// The program's call, whose contract is met here alone.
-fn call<R: Threads + Wait + Sync, G: Gate + Sync>(
-    means: Means<'_, R, G>,
-    words: &[String],
-    tariffs: &[Tariff],
-    world: &mut MemWorld,
 ) -> u8
-    requires { (cabinet_frame world.old.cabinet).out ≡ None }
-    ensures { result ≢ 7 → (cabinet_frame world.new.cabinet).out ≡ None }
+    requires { (C.frame world.old.cabinet).out ≡ None }
+    ensures { result ≢ 7 → (C.frame world.new.cabinet).out ≡ None }
 {
-    program(means, words, tariffs, world)
+    program(
+        rt,
+        alloc,
+        words,
+        &mut world.input,
+        &mut world.output,
+        &mut world.cabinet,
+        &mut world.door,
+        tariffs,
+        gate,
+    )
 }
 
-fn outcome_of(
+// The journal's disk after this status, where it was put back.
+fn disk_after(status: u8, cabinet: &mut MemCabinet) -> Option<MemDisk>
+    requires { status ≢ 7 → (cabinet_frame cabinet.old).out ≡ None }
+{
+    if status == NO_MEMORY {
+        return None;
+    }
+    cabinet.disk(JOURNAL).ok()
+}
+
+fn tell_streams(
     alloc: Global,
     world: &MemWorld,
-    status: u8,
-    disk: Option<MemDisk>,
     connections: usize,
-) -> Result<Outcome, AllocError> {
-    let output = Vec::from_slice(alloc, world.output.bytes())?;
-    let given = given_of(alloc, &world.door, connections)?;
-    Ok(Outcome {
-        status: u64::from(status),
-        output,
-        taken: world.input.taken(),
-        disk,
-        given,
-    })
-}
-
-// The journal's disk, as it was put back.
-fn taken_out(cabinet: &mut MemCabinet) -> Option<MemDisk>
-    requires { (cabinet_frame cabinet.old).out ≡ None }
-{
-    cabinet.disk(JOURNAL).ok()
+    outcome: &mut Outcome,
+) -> Result<(), AllocError> {
+    outcome.taken = world.input.taken();
+    outcome.output.extend_from_slice(world.output.bytes())?;
+    add_given(alloc, &world.door, connections, &mut outcome.given)
 }
 
 /// What a disk holds of which no call is to fail.
@@ -162,13 +166,13 @@ pub fn held(alloc: Global, disk: &mut MemDisk) -> Result<Vec<u8>, AllocError> {
     Ok(bytes)
 }
 
-/// A source of this input, as the case says.
-pub fn source_of(alloc: Global, case: &Case, input: &[u8]) -> Result<LongSource, AllocError> {
+/// A source of the input of a case.
+pub fn source_of(alloc: Global, case: &Case) -> Result<LongSource, AllocError> {
     let piece = case.input.piece;
-    let again = again_of(alloc, case, input)?;
-    let mut source = MemSource::new(alloc, input, piece.bytes)?;
-    fail_takes(&mut source, &case.input.failing)?;
-    Ok(LongSource::new(source, piece, again, case.more))
+    let again = again_of(alloc, case)?;
+    let mut source = MemSource::new(alloc, &case.input.bytes, piece.bytes)?;
+    fail_takes(alloc, &mut source, &case.input.failing)?;
+    Ok(LongSource::new(source, piece, again, case.input.more))
 }
 
 fn fail_takes(source: &mut MemSource, calls: &[u64]) -> Result<(), AllocError> {
@@ -179,22 +183,22 @@ fn fail_takes(source: &mut MemSource, calls: &[u64]) -> Result<(), AllocError> {
 }
 
 // What comes again and again after the input.
-fn again_of(alloc: Global, case: &Case, input: &[u8]) -> Result<Vec<u8>, AllocError> {
-    if case.repeats {
-        return Vec::from_slice(alloc, input);
+fn again_of(alloc: Global, case: &Case) -> Result<Vec<u8>, AllocError> {
+    if case.input.repeats {
+        return Vec::from_slice(alloc, &case.input.bytes);
     }
-    if case.more > 0 {
+    if case.input.more > 0 {
         return Vec::from_elem(alloc, b'x', FILLING);
     }
     Ok(Vec::new(alloc))
 }
 
 /// A sink as the case says, of which one more call fails where its number is not 0.
-pub fn sink_of(alloc: Global, stream: &Stream, cut: u64) -> Result<NarrowSink, AllocError> {
+pub fn sink_of(alloc: Global, output: &Output, cut: u64) -> Result<NarrowSink, AllocError> {
     let mut sink = MemSink::new(alloc)?;
-    fail_puts(&mut sink, &stream.failing)?;
-    sink.fail(cut)?;
-    Ok(NarrowSink::new(sink, stream.piece))
+    fail_puts(alloc, &mut sink, &output.failing)?;
+    sink.fail(alloc, cut)?;
+    Ok(NarrowSink::new(sink, output.piece))
 }
 
 fn fail_puts(sink: &mut MemSink, calls: &[u64]) -> Result<(), AllocError> {
@@ -205,10 +209,10 @@ fn fail_puts(sink: &mut MemSink, calls: &[u64]) -> Result<(), AllocError> {
 }
 
 // A cabinet with the journal, and the text if there is one.
-fn cabinet_of(alloc: Global, case: &Case, journal: &[u8]) -> Result<MemCabinet, AllocError>
+fn cabinet_of(alloc: Global, case: &Case) -> Result<MemCabinet, AllocError>
     ensures { IfOk result (λ cabinet. (cabinet_frame cabinet).out ≡ None) }
 {
-    let disk = disk_of(alloc, case, journal)?;
+    let disk = disk_of(alloc, &case.journal)?;
     let mut cabinet = MemCabinet::of(alloc, JOURNAL.as_bytes(), disk)?;
     if !case.text.is_empty() {
         // A name says how its text is written.
@@ -222,16 +226,20 @@ fn cabinet_of(alloc: Global, case: &Case, journal: &[u8]) -> Result<MemCabinet, 
     Ok(cabinet)
 }
 
-/// A disk on which this journal is durable, and of which calls fail as the case says.
-pub fn disk_of(alloc: Global, case: &Case, journal: &[u8]) -> Result<MemDisk, AllocError> {
+/// A disk on which a journal is durable, and of which calls fail as its case says.
+pub fn disk_of(alloc: Global, journal: &Journal) -> Result<MemDisk, AllocError> {
     let mut disk = MemDisk::new(alloc)?;
-    if !journal.is_empty() && (journal.len() as u64) < 1 << 62 {
-        // No call is to fail yet.
-        let _ = disk.write_at(0, journal);
+    write_durably(&mut disk, &journal.bytes);
+    fail_disk(alloc, &mut disk, &journal.failing)?;
+    Ok(disk)
+}
+
+// Writes at the front of a disk of which no call is to fail yet.
+fn write_durably(disk: &mut MemDisk, bytes: &[u8]) {
+    if !bytes.is_empty() && (bytes.len() as u64) < 1 << 62 {
+        let _ = disk.write_at(0, bytes);
         let _ = disk.sync();
     }
-    fail_disk(&mut disk, &case.journal.failing)?;
-    Ok(disk)
 }
 
 fn fail_disk(disk: &mut MemDisk, calls: &[(DiskCall, u64)]) -> Result<(), AllocError> {
@@ -266,9 +274,9 @@ fn door_of(alloc: Global, case: &Case) -> Result<MemDoor, AllocError> {
     let mut peers = Peers {
         sources: Vec::new(alloc),
     };
-    add_peers(alloc, &mut peers, &case.connections)?;
+    add_peers(alloc, &mut peers, &case.door.connections)?;
     let mut door = peers.into_door(alloc)?;
-    fail_door(&mut door, &case.door_failing)?;
+    fail_door(alloc, &mut door, &case.door.failing)?;
     Ok(door)
 }
 
@@ -290,13 +298,17 @@ fn fail_door(door: &mut MemDoor, calls: &[u64]) -> Result<(), AllocError> {
     Ok(())
 }
 
-// What each of so many connections was given, in their order: nothing where it did not end.
-fn given_of(alloc: Global, door: &MemDoor, count: usize) -> Result<Vec<Vec<u8>>, AllocError> {
-    let mut given = Vec::new(alloc);
+// Adds what each of so many connections was given, in their order: nothing where it did not end.
+fn add_given(
+    alloc: Global,
+    door: &MemDoor,
+    count: usize,
+    given: &mut Vec<Vec<u8>>,
+) -> Result<(), AllocError> {
     for number in 1..=count as u64 {
         given.push(Vec::from_slice(alloc, given_to(door, number))?)?;
     }
-    Ok(given)
+    Ok(())
 }
 
 fn given_to(door: &MemDoor, number: u64) -> &[u8] {

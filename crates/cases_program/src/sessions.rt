@@ -16,10 +16,17 @@ use hose_store::Store;
 use hose_topo::read;
 use hose_turn::{ALL_SHARES, Pass};
 use hose_words::LineReader;
-use std::alloc::Global;
+use std::alloc::{AllocError, Global};
 use std::sync::Wait;
 
 pub type Book = Shared<MemDisk, AnyStore>;
+
+/// The two ends of a session.
+#[derive(Drop)]
+pub struct Ends<S: Source, O: Sink> {
+    pub source: S,
+    pub sink: O,
+}
 
 /// Serves the session of a case, after that of its first connection if it has one. One more call of
 /// the output fails, if its number is not 0.
@@ -29,30 +36,44 @@ pub fn run_session<W: Wait>(
     case: &Case,
     cut: u64,
 ) -> Result<Outcome, Trouble> {
-    let mut input = source_of(alloc, case, &case.input.bytes)?;
-    let mut output = sink_of(alloc, &case.output, cut)?;
-    serve_case(rt, alloc, case, &mut input, &mut output)
+    let mut ends = ends_of(alloc, case, cut)?;
+    let mut outcome = Outcome::new(alloc, 0, None);
+    serve_case(rt, alloc, case, &mut ends, &mut outcome)?;
+    outcome.taken = ends.source.taken();
+    outcome.output.extend_from_slice(ends.sink.bytes())?;
+    Ok(outcome)
+}
+
+fn ends_of(
+    alloc: Global,
+    case: &Case,
+    cut: u64,
+) -> Result<Ends<LongSource, NarrowSink>, AllocError> {
+    let source = source_of(alloc, case)?;
+    let sink = sink_of(alloc, &case.output, cut)?;
+    Ok(Ends { source, sink })
 }
 
 fn serve_case<W: Wait>(
     rt: &W,
     alloc: Global,
     case: &Case,
-    input: &mut LongSource,
-    output: &mut NarrowSink,
-) -> Result<Outcome, Trouble> {
-    let mut given = Vec::new(alloc);
+    ends: &mut Ends<LongSource, NarrowSink>,
+    outcome: &mut Outcome,
+) -> Result<(), Trouble> {
     let (book, pass) = share(alloc, case)?;
-    let pass = serve_before(rt, alloc, &case.connections, &book, pass, &mut given)?;
-    let (end, pass) = serve(rt, alloc, input, output, &book, pass);
-    let disk = close(book, pass)?;
-    Ok(Outcome {
-        status: status_of(end),
-        output: Vec::from_slice(alloc, output.bytes())?,
-        taken: input.taken(),
-        disk: Some(disk),
-        given,
-    })
+    let pass = serve_before(
+        rt,
+        alloc,
+        &case.door.connections,
+        &book,
+        pass,
+        &mut outcome.given,
+    )?;
+    let (end, pass) = serve(rt, alloc, ends, &book, pass);
+    outcome.status = status_of(end);
+    outcome.disk = Some(close(book, pass)?);
+    Ok(())
 }
 
 // The status that stands for the end of a session: where one comes of the same in the program, its.
@@ -76,7 +97,7 @@ pub fn share(alloc: Global, case: &Case) -> Result<(Book, Pass), Trouble>
     let Ok(top) = read(alloc, &mut LineReader::new(source)) else {
         return Err(Trouble::Opening);
     };
-    match Store::open(alloc, disk_of(alloc, case, &case.journal.bytes)?, top) {
+    match Store::open(alloc, disk_of(alloc, &case.journal)?, top) {
         Ok(store) => Ok(Shared::new(alloc, store)?),
         Err(_) => Err(Trouble::Opening),
     }
@@ -109,25 +130,11 @@ fn serve_before<W: Wait>(
     let Some(connection) = connections.first() else {
         return Ok(pass);
     };
-    let mut input = MemSource::new(alloc, &connection.bytes, 4_096)?;
-    let mut output = MemSink::new(alloc)?;
-    serve_peer(rt, alloc, &mut input, &mut output, book, pass, given)
-}
-
-fn serve_peer<W: Wait>(
-    rt: &W,
-    alloc: Global,
-    input: &mut MemSource,
-    output: &mut MemSink,
-    book: &Book,
-    pass: Pass,
-    given: &mut Vec<Vec<u8>>,
-) -> Result<Pass, Trouble>
-    requires { IsPassOf book.now pass }
-    ensures { IfOk result (IsSamePass pass) }
-{
-    let (_, pass) = serve(rt, alloc, input, output, book, pass);
-    given.push(Vec::from_slice(alloc, output.bytes())?)?;
+    let source = MemSource::new(alloc, &connection.bytes, 4_096)?;
+    let sink = MemSink::new(alloc)?;
+    let mut ends = Ends { source, sink };
+    let (_, pass) = serve(rt, alloc, &mut ends, book, pass);
+    given.push(Vec::from_slice(alloc, ends.sink.bytes())?)?;
     Ok(pass)
 }
 
@@ -135,14 +142,22 @@ fn serve_peer<W: Wait>(
 pub fn serve<W: Wait, S: Source, O: Sink>(
     rt: &W,
     alloc: Global,
-    source: &mut S,
-    sink: &mut O,
+    ends: &mut Ends<S, O>,
     book: &Book,
     pass: Pass,
 ) -> (SessionEnd, Pass)
     requires { IsPassOf book.now pass }
     ensures { IsSamePass pass result.1 }
 {
-    let rows = &mut PlainRows::new();
-    serve_session(rt, alloc, source, sink, book, pass, 1, rows, &PlainGate)
+    serve_session(
+        rt,
+        alloc,
+        &mut ends.source,
+        &mut ends.sink,
+        book,
+        pass,
+        1,
+        &mut PlainRows::new(),
+        &PlainGate,
+    )
 }

@@ -30,13 +30,13 @@ pub fn stops_that_differ<R: Threads + Wait + Sync>(
     case: &Case,
     disk: &MemDisk,
 ) -> Result<u64, AllocError> {
-    let audit = audit_of(alloc, case)?;
+    let mut audit = audit_of(alloc, case)?;
     let mut differ = 0u64;
-    for stop in &case.journal.stops {
+    for stop in &case.wanted.stops {
         for calls in stop.from..=stop.to {
             for pick in PICKS {
-                let told = audit_after(rt, alloc, &audit, disk, calls, pick)?;
-                if !is_named(&case.books, &stop.books, &told) {
+                let told = audit_after(rt, alloc, &mut audit, disk, calls, pick)?;
+                if !is_named(&case.wanted.books, &stop.books, &told) {
                     differ = differ.saturating_add(1);
                 }
             }
@@ -45,12 +45,10 @@ pub fn stops_that_differ<R: Threads + Wait + Sync>(
     Ok(differ)
 }
 
-// An audit of the journal over the network of a case: its text `t`, or else that of its input.
+// An audit of a journal over the network of a case: its text `t`, or else that of its input.
 fn audit_of(alloc: Global, case: &Case) -> Result<Case, AllocError> {
     let mut audit = Case::new(alloc);
-    for word in ["audit", TEXT, JOURNAL] {
-        audit.words.push(String::from_str(alloc, word)?)?;
-    }
+    add_words(alloc, &mut audit.words, &["audit", TEXT, JOURNAL])?;
     let network = if case.text.is_empty() {
         topology_of(&case.input.bytes)
     } else {
@@ -64,7 +62,7 @@ fn audit_of(alloc: Global, case: &Case) -> Result<Case, AllocError> {
 fn audit_after<R: Threads + Wait + Sync>(
     rt: &R,
     alloc: Global,
-    audit: &Case,
+    audit: &mut Case,
     disk: &MemDisk,
     calls: u64,
     pick: Pick,
@@ -73,8 +71,8 @@ fn audit_after<R: Threads + Wait + Sync>(
         return Ok(Vec::new(alloc));
     }
     let mut image = disk.stop_image(alloc, calls, pick)?;
-    let journal = held(alloc, &mut image)?;
-    let Outcome { output, .. } = run_program(rt, alloc, audit, &[], &journal, &PlainGate)?;
+    audit.journal.bytes = held(alloc, &mut image)?;
+    let Outcome { output, .. } = run_program(rt, alloc, audit, &PlainGate)?;
     Ok(output)
 }
 
@@ -98,12 +96,29 @@ pub fn epoch_of<R: Threads + Wait + Sync>(
     journal: &[u8],
 ) -> Result<Option<u64>, AllocError> {
     let mut case = Case::new(alloc);
-    case.words.push(String::from_str(alloc, "run")?)?;
-    case.words.push(String::from_str(alloc, JOURNAL)?)?;
-    let mut input = Vec::from_slice(alloc, topology)?;
-    input.extend_from_slice(b"x link 0\n")?;
-    let found = run_program(rt, alloc, &case, &input, journal, &PlainGate)?;
+    ask_for_link(alloc, &mut case, topology, journal)?;
+    let found = run_program(rt, alloc, &case, &PlainGate)?;
     Ok(last_place(&found.output))
+}
+
+// Has a new case ask a run on a journal for a link.
+fn ask_for_link(
+    alloc: Global,
+    case: &mut Case,
+    topology: &[u8],
+    journal: &[u8],
+) -> Result<(), AllocError> {
+    add_words(alloc, &mut case.words, &["run", JOURNAL])?;
+    case.input.bytes.extend_from_slice(topology)?;
+    case.input.bytes.extend_from_slice(b"x link 0\n")?;
+    case.journal.bytes.extend_from_slice(journal)
+}
+
+fn add_words(alloc: Global, words: &mut Vec<String>, added: &[&str]) -> Result<(), AllocError> {
+    for word in added {
+        words.push(String::from_str(alloc, word)?)?;
+    }
+    Ok(())
 }
 
 /// The topology with which bytes begin, up to its line `end`.
@@ -126,7 +141,7 @@ pub fn cuts_that_differ<R: Threads + Wait + Sync>(
     case: &Case,
 ) -> Result<u64, Trouble> {
     let mut differ = 0u64;
-    if !case.cuts {
+    if !case.output.cuts {
         return Ok(differ);
     }
     let calls = case.output.bytes.len() as u64;
