@@ -53,40 +53,29 @@ fn tell_word(
     ensures { (cabinet_frame cabinet.new).out ≡ None }
 {
     let (call, rest) = word.split_once(':').ok_or(Trouble::Word)?;
-    match call {
-        "fail" => Ok(cabinet.fail(number(rest)?)?),
-        "text" => tell_text(alloc, cabinet, rest, told),
-        _ => tell_append(alloc, cabinet, rest, told),
+    if call == "fail" {
+        return Ok(cabinet.fail(alloc, number(rest)?)?);
     }
+    let got = made(alloc, cabinet, call, rest)?;
+    tell(alloc, got, cabinet.faults(), cabinet.absent(), told)
 }
 
-fn tell_text(
+// What a call gives: a text is read, or a disk is written at its end.
+fn made(
     alloc: Global,
     cabinet: &mut MemCabinet,
+    call: &str,
     rest: &str,
-    told: &mut String,
-) -> Result<(), Trouble>
+) -> Result<Result<u64, Failed>, Trouble>
     requires { (cabinet_frame cabinet.old).out ≡ None }
     ensures { (cabinet_frame cabinet.new).out ≡ None }
 {
-    let (name, from) = rest.split_once(':').ok_or(Trouble::Word)?;
-    let got = text(cabinet, name, number(from)?);
-    tell(alloc, got, cabinet.faults().count, cabinet.absent(), told)
-}
-
-fn tell_append(
-    alloc: Global,
-    cabinet: &mut MemCabinet,
-    rest: &str,
-    told: &mut String,
-) -> Result<(), Trouble>
-    requires { (cabinet_frame cabinet.old).out ≡ None }
-    ensures { (cabinet_frame cabinet.new).out ≡ None }
-{
-    let (name, digits) = rest.split_once(':').ok_or(Trouble::Word)?;
-    let bytes = from_hex(alloc, digits)?;
-    let got = append_in(cabinet, name, &bytes);
-    tell(alloc, got, cabinet.faults().count, cabinet.absent(), told)
+    let (name, rest) = rest.split_once(':').ok_or(Trouble::Word)?;
+    if call == "text" {
+        return Ok(text(cabinet, name, number(rest)?));
+    }
+    let bytes = from_hex(alloc, rest)?;
+    Ok(append_in(cabinet, name, &bytes))
 }
 
 // What a call gave, and how many calls have failed by then and how many texts were not there.

@@ -1,5 +1,6 @@
 // Doors in memory: connections that come from a list, and come back.
 ghost use Rattle.std.specs.Prelude.{◌≡◌, length};
+ghost use Rattle.hose_io.specs.Frame.{Stays};
 
 use crate::trouble::Trouble;
 use hose_io::{Door, Failed, MemDone, MemDoor, MemSource, Sink, Source};
@@ -30,16 +31,25 @@ fn done_told(alloc: Global, done: &MemDone) -> Result<String, AllocError> {
     format!(in alloc; "{} {taken:?} {left:?} {put:?}", done.number)
 }
 
-// Takes two bytes of the next connection, puts three, and ends it. Fails where none comes.
+// Uses the next connection, and ends it. Fails where none comes.
 fn serve_one(door: &mut MemDoor) -> Result<(), Failed>
     requires { door.old.accepted ≡ length door.old.ended }
 {
     let Some((mut input, mut output)) = door.accept()? else {
         return Err(Failed);
     };
+    use_ends(&mut input, &mut output)?;
+    door.back(MemDoor::done(input, output));
+    Ok(())
+}
+
+// Takes two bytes, and puts three.
+fn use_ends<S: Source, O: Sink>(input: &mut S, output: &mut O) -> Result<(), Failed>
+    ensures input { Stays (S.frame input.old) (S.frame input.new) }
+    ensures output { Stays (O.frame output.old) (O.frame output.new) }
+{
     input.take(&mut [0; 2])?;
     output.put(b"yes")?;
-    door.back(MemDoor::done(input, output));
     Ok(())
 }
 

@@ -40,10 +40,18 @@ fn open(
     Store::open(alloc, disk, top)
 }
 
-/// What a store is opened as on a disk of these bytes.
-pub fn found(alloc: Global, network: &str, bytes: &[u8]) -> Result<String, Trouble> {
+/// What is told of a store.
+#[derive(Clone, Copy)]
+pub enum Asked {
+    Book,
+    /// Its chain value, in digits.
+    Chain,
+}
+
+/// What is told of a store that is opened on a disk of these bytes.
+pub fn found(alloc: Global, network: &str, bytes: &[u8], asked: Asked) -> Result<String, Trouble> {
     let top = named(alloc, network)?;
-    Ok(opened_on(alloc, disk_of(alloc, bytes)?, top, bytes)?)
+    Ok(opened_on(alloc, disk_of(alloc, bytes)?, top, bytes, asked)?)
 }
 
 fn opened_on(
@@ -51,17 +59,22 @@ fn opened_on(
     disk: MemDisk,
     top: Topology,
     bytes: &[u8],
+    asked: Asked,
 ) -> Result<String, AllocError> {
-    told(alloc, &open(alloc, disk, top), bytes)
+    told(alloc, &open(alloc, disk, top), bytes, asked)
 }
 
 fn told<D: Disk>(
     alloc: Global,
     opened: &Result<Store<D>, (StoreFault, D)>,
     bytes: &[u8],
+    asked: Asked,
 ) -> Result<String, AllocError> {
     match opened {
-        Ok(store) => told_book(alloc, store.book()),
+        Ok(store) => match asked {
+            Asked::Book => told_book(alloc, store.book()),
+            Asked::Chain => hex::encode(alloc, &store.chain()),
+        },
         Err(refused) => told_fault(alloc, &refused.0, bytes),
     }
 }
@@ -99,29 +112,12 @@ fn has_digest(bytes: &[u8], digest: &[u8]) -> bool {
     bytes.len() >= 38 && &bytes[6..38] == digest
 }
 
-/// The chain value of a store that is opened on a disk of these bytes, in digits.
-pub fn chain(alloc: Global, network: &str, bytes: &[u8]) -> Result<String, Trouble> {
-    let top = named(alloc, network)?;
-    Ok(told_chain(alloc, &open(alloc, disk_of(alloc, bytes)?, top), bytes)?)
-}
-
-fn told_chain<D: Disk>(
-    alloc: Global,
-    opened: &Result<Store<D>, (StoreFault, D)>,
-    bytes: &[u8],
-) -> Result<String, AllocError> {
-    match opened {
-        Ok(store) => hex::encode(alloc, store.chain().as_slice()),
-        Err(refused) => told_fault(alloc, &refused.0, bytes),
-    }
-}
-
 /// How long the disk is that comes back where a store of the first network is refused on a disk of
 /// these bytes, and what one of the second is opened as on it.
 pub fn again(alloc: Global, network: &str, second: &str, bytes: &[u8]) -> Result<String, Trouble> {
     let mut disk = refused(alloc, network, bytes)?;
     let len = disk.len()?;
-    let told = opened_on(alloc, disk, named(alloc, second)?, bytes)?;
+    let told = opened_on(alloc, disk, named(alloc, second)?, bytes, Asked::Book)?;
     Ok(format!(in alloc; "{told} of {len} bytes")?)
 }
 
@@ -245,13 +241,18 @@ fn went(
 
 // A disk on which no call was made yet.
 fn first_disk(alloc: Global, names: &Names, words: &str) -> Result<MemDisk, Trouble> {
+    let written = disk_of(alloc, first_bytes(names, words)?)?;
+    stopped(alloc, &written, written.calls(), Pick::Kept)
+}
+
+// The bytes of the name after `on:`, or none.
+fn first_bytes<'a>(names: &'a Names, words: &str) -> Result<&'a [u8], Trouble> {
     for word in words.split_whitespace() {
         if let Some(name) = word.strip_prefix("on:") {
-            let written = disk_of(alloc, names.get(name).ok_or(Trouble::Word)?)?;
-            return stopped(alloc, &written, written.calls(), Pick::Kept);
+            return names.get(name).ok_or(Trouble::Word);
         }
     }
-    Ok(MemDisk::new(alloc)?)
+    Ok(&[])
 }
 
 fn fail_all(disk: &mut MemDisk, words: &str) -> Result<(), Trouble> {
@@ -339,5 +340,6 @@ fn opened_after(
     pick: Pick,
 ) -> Result<String, Trouble> {
     let top = named(alloc, network)?;
-    Ok(opened_on(alloc, stopped(alloc, disk, calls, pick)?, top, &[])?)
+    let disk = stopped(alloc, disk, calls, pick)?;
+    Ok(opened_on(alloc, disk, top, &[], Asked::Book)?)
 }

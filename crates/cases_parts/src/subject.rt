@@ -1,6 +1,7 @@
 // What a case is on, and what comes of it.
 use crate::change::{Change, Range};
 use crate::names::Names;
+use crate::stores::Asked;
 use crate::trouble::Trouble;
 use crate::words::first;
 use crate::{cabinets, disks, entries, stores};
@@ -132,8 +133,8 @@ fn outcome_of(alloc: Global, given: &Given<'_>, bytes: &[u8]) -> Result<String, 
     match given.word {
         "entry" => Ok(String::from_str(alloc, entries::verdict(alloc, bytes)?)?),
         "text" => entries::text(alloc, bytes),
-        "store" => stores::found(alloc, given.network, bytes),
-        "chain" => stores::chain(alloc, given.network, bytes),
+        "store" => stores::found(alloc, given.network, bytes, Asked::Book),
+        "chain" => stores::found(alloc, given.network, bytes, Asked::Chain),
         _ => Err(Trouble::Word),
     }
 }
