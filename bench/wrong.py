@@ -1,0 +1,187 @@
+#!/usr/bin/env python3
+"""Tries the wrong bodies of wrong/CRATE, each of which the check of its crate must refuse.
+
+It tells what each comes to, and of each crate how many are refused: by a clause (or a proof of
+one), by a limit of the prover alone, for a name alone (a proof names what the body took away, which
+says little of the contract), with no reason, or not at all. It ends with a failure where one is not
+refused, cannot be tried, or is refused for a name alone and not listed in wrong/README.md.
+
+A caller's proof rests on the callee's contract alone, so bodies of different functions are tried in
+one check. Any other edit, and one of which that check does not tell for sure that a clause refuses
+it, is tried alone. What an edit comes to is judged by the kit's rules, those of `rt must-fail`.
+
+usage: bench/wrong.py [CRATE ..]     (leave the crates' files as they are while it runs)
+"""
+
+import importlib.machinery
+import os
+import pathlib
+import re
+import shutil
+import subprocess
+import sys
+import tempfile
+import types
+
+WRONG = pathlib.Path(__file__).resolve().parent.parent / "wrong"
+JOBS = ["--jobs", "1"]
+# What an answer of the kit begins with, and the column that counts it.
+KINDS = {
+    "refused, as it must be: ": "clause",
+    "refused, as it must be (only by a limit": "limit",
+    "refused, as it must be (only because a proof": "name",
+    "refused": "no reason",
+    "NOT REFUSED": "not refused",
+    "": "not tried",
+}
+ROW = "{:<16}" + "{:>12}" * (len(KINDS) + 1)
+PLACE = re.compile(r"(?:note: )?(?:\./)?((?:src|proofs)/[^:\s]+):(\d+):\d+:")
+# As the kit has it: a proof that names what the edit took away, and what cites that proof.
+NAME = re.compile(r"(note: )?(\./)?proofs/.*(has no (field|`)|is not in scope|was not admitted)")
+
+
+def loaded(name):
+    """A program of the kit, as a module."""
+    sys.modules[name] = module = types.ModuleType(name)
+    module.__file__ = f"{os.path.dirname(os.path.realpath(shutil.which('rt')))}/{name}"
+    importlib.machinery.SourceFileLoader(name, module.__file__).exec_module(module)
+    return module
+
+
+sys.dont_write_bytecode = True
+RT, BODIES = loaded("rt"), loaded("rt-plant-bodies")
+
+
+class Tries:
+    """The tries of a crate's edits, over what the check of the crate as it stands proved."""
+
+    def __init__(self, crate, said):
+        self.crate, self.source, self.names = crate, BODIES.Source(crate.folder), {}
+        self.source.read("src/main.rt" if crate.is_program else "src/lib.rt")
+        told = [it.split("::") for it in re.findall(r"(?m)^fn (\S+): proved\b", said)]
+        for it in self.source.functions:
+            # The name by which the check told that it is proved, where just one fits.
+            module, owner = [crate.name, *it.module], [it.owner] if it.block else []
+            fits = [at for at in told if at[-1 - len(owner) :] == [*owner, it.name]]
+            fits = [at for at in fits if owner or at[:-1] == module]
+            if it.in_trait:
+                fits = [at for at in told if at[-1] == it.name and at[:-2] == module]
+                fits = [at for at in fits if it.block.fits(at[-2])]
+            if len(fits) == 1 and not it.in_cycle:
+                self.names[it] = "::".join(fits[0])
+        self.edits = {it: self.functions(it) for it in sorted((WRONG / crate.name).glob("*.edit"))}
+
+    def functions(self, edit):
+        """Those whose bodies it changes, or none where it changes anything else."""
+        file, found = "", []
+        for word, _, rest in (it.partition(": ") for it in edit.read_text("utf-8").split("\n")):
+            file = rest.strip() if word == "file" else file
+            if word == "old":
+                at = self.source.data.get(file, b"").find(rest.encode())
+                end = at + len(rest.encode())
+                around = [it for it in self.names if it.file == file and it.opens <= at]
+                found.append(next((it for it in around if end <= it.end), None))
+        return set() if None in found or not self.applied([edit]) else set(found)
+
+    def applied(self, edits):
+        """The files with these edits, if they can be applied."""
+        return RT.edited("\n".join(it.read_text("utf-8") for it in edits), self.crate.folder)[0]
+
+    def batches(self):
+        """Puts edits together so that no two change one function, and all can be applied."""
+        found = []
+        for edit in (it for it in self.edits if self.edits[it]):
+            fits = (it for it in found if not self.edits[edit] & self.changed(it))
+            batch = next((it for it in fits if self.applied([*it, edit])), None)
+            if batch is None:
+                found.append(batch := [])
+            batch.append(edit)
+        return found
+
+    def changed(self, batch):
+        return set().union(*(self.edits[it] for it in batch))
+
+    def is_of(self, edit, line):
+        """Whether a line of a check tells of a function that the edit changes."""
+        at = PLACE.match(line)
+        for it in self.edits[edit] if at else ():
+            last = self.source.data[it.file][: it.end].count(b"\n") + 1
+            folder = "/".join(["proofs", *self.names[it].split("::")[1:], ""])
+            if at[1].startswith(folder) or at[1] == it.file and it.line <= int(at[2]) <= last:
+                return True
+        return False
+
+    def over_kept(self, call, *given):
+        """What a call gives over a copy of what the crate's own check kept."""
+        with tempfile.TemporaryDirectory(prefix="wrong-") as room:
+            RT.linked(f"{self.crate.folder}/out/incremental", f"{room}/kept")
+            return call(self.crate, *given, f"{room}/kept")
+
+    def together(self, batch):
+        """The edits of a batch that a clause refuses for sure, and the first line that says so."""
+        texts, found = self.applied(batch), {}
+        only = [word for it in self.changed(batch) for word in ("--only", self.names[it])]
+        ran = self.over_kept(RT.checked, texts, [*JOBS, *only])
+        lines, fell = ran.stdout.split("\n"), r"(?m)^fn (\S+): (?:not proved|no proof)"
+        fell = {*re.findall(fell, ran.stdout)}
+        if re.search(r"\berror\[[\w-]+\]", ran.stdout) and not fell:
+            # (the front end refuses it: without those that it names)
+            rest = [it for it in batch if not any(self.is_of(it, line) for line in lines)]
+            return self.together(rest) if 0 < len(rest) < len(batch) else {}
+        if ran.returncode != 1 or any(RT.unread(line, texts) for line in lines):
+            return {}
+        for edit in batch:
+            told = [it for it in lines if self.is_of(edit, it) and not NAME.match(it)]
+            told = [it for it in told if ": error" in it or it.startswith("note: ")]
+            if told and fell & {self.names[it] for it in self.edits[edit]}:
+                found[edit] = f"refused, as it must be: {told[0][:160]}"
+        return found
+
+    def alone(self, edit):
+        return self.over_kept(RT.must_fail, str(edit), JOBS)[1].split(".edit: ", 1)[1]
+
+
+def stands(crate):
+    """What the check of the crate as it stands says, where the crate is proved."""
+    how = {"stdout": subprocess.PIPE, "stderr": subprocess.STDOUT, "errors": "replace"}
+    ran = subprocess.run(["rt", "check", *JOBS], cwd=crate.folder, **how)
+    return "" if ran.returncode else ran.stdout
+
+
+def tried(crate):
+    """What each edit of the crate comes to, and the processor's seconds of the tries."""
+    were, said = RT.touched(crate), stands(crate)
+    began, tries, found = os.times(), Tries(crate, said), {}
+    for batch in tries.batches() if said else []:
+        found.update(tries.together(batch))
+    for edit in tries.edits:
+        without = "the crate as it stands is not proved"
+        found[edit] = found.get(edit) or (tries.alone(edit) if said else without)
+    if RT.touched(crate) != were:
+        found = dict.fromkeys(found, "a file of the crate changed meanwhile")
+    return found, round(sum(os.times()[:4]) - sum(began[:4]))
+
+
+def main(names):
+    crates = [it for it in RT.rtlib.crates_below(str(WRONG.parent)) if (WRONG / it.name).is_dir()]
+    if {*names} - {it.name for it in crates}:
+        sys.exit("wrong: a crate that is named has no folder below wrong/")
+    listed = re.findall(r"(?m)^- `(\w+/[\w.-]+)`", (WRONG / "README.md").read_text("utf-8"))
+    rows, wrong = [], []
+    for crate in (it for it in crates if not names or it.name in names):
+        (found, spent), kinds = tried(crate), []
+        for edit in sorted(found):
+            name = f"{crate.name}/{edit.stem}"
+            kinds.append(next(it for start, it in KINDS.items() if found[edit].startswith(start)))
+            print(f"{name}: {found[edit]}", flush=True)
+            if kinds[-1] not in ("clause", "limit") and name not in listed:
+                wrong.append(f"{name}: {found[edit]}")
+        rows.append([crate.name, *(kinds.count(it) for it in KINDS.values()), spent])
+    rows.append(["all", *map(sum, [*zip(*rows)][1:])])
+    heads = ROW.format("crate", *KINDS.values(), "seconds")
+    print("", heads, *(ROW.format(*it) for it in rows), *wrong, sep="\n")
+    return 1 if wrong else 0
+
+
+if __name__ == "__main__":
+    sys.exit(main(sys.argv[1:]))
