@@ -284,7 +284,7 @@ topology_task of = record { tariff = of.tariff; topology = of.topology.now }
 
 abbrev pub journal_task : OfJournal → JournalTask
 journal_task of =
-    record { tariff = of.tariff; topology = of.topology.now; journal = of.journal.now }
+    record { tariff = of.tariff; topology = of.names.topology.now; journal = of.names.journal.now }
 
 -- the words are those of this request
 abbrev pub AreWordsOf : List (List ℕ) → List (List ℕ) → Request → Type 0
@@ -307,8 +307,8 @@ AreWordsOf names words (Price topology) =
     AreWords names words price (record { topology = topology.now })
 AreWordsOf names words (Ship of from) = AreWords names words ship (record {
   tariff = of.tariff;
-  topology = of.topology.now;
-  journal = of.journal.now;
+  topology = of.names.topology.now;
+  journal = of.names.journal.now;
   from = from;
 })
 AreWordsOf names words (Follow of) = AreWords names words follow (journal_task of)

@@ -43,7 +43,7 @@ use chosen::costs_of;
 use hose_disk::Cabinet;
 use hose_io::{Door, Sink, Source};
 use hose_offline::{
-    EndWords, Fault, Names, audit, check, end, follow, price, prove, run, run_generated, ship,
+    EndWords, Fault, audit, check, end, follow, price, prove, run, run_generated, ship,
 };
 use hose_pool::Gate;
 use hose_tariff::{Prices, Tariff};
@@ -156,11 +156,7 @@ pub fn offline<I: Source, O: Sink, C: Cabinet>(
         }
         Ok(Request::Audit(of)) => {
             let by = costs_of(tariffs, of.tariff);
-            let names = Names {
-                topology: of.topology,
-                journal: of.journal,
-            };
-            audit(alloc, &by, names, output, cabinet)
+            audit(alloc, &by, of.names, output, cabinet)
         }
         Ok(Request::Generate(of)) => {
             run_generated(alloc, of.seed, of.nodes, of.links, of.hoses, output)
@@ -179,19 +175,11 @@ pub fn offline<I: Source, O: Sink, C: Cabinet>(
         }
         Ok(Request::Ship { of, from }) => {
             let by = costs_of(tariffs, of.tariff);
-            let names = Names {
-                topology: of.topology,
-                journal: of.journal,
-            };
-            ship(alloc, &by, names, from, output, cabinet)
+            ship(alloc, &by, of.names, from, output, cabinet)
         }
         Ok(Request::Follow(of)) => {
             let by = costs_of(tariffs, of.tariff);
-            let names = Names {
-                topology: of.topology,
-                journal: of.journal,
-            };
-            follow(alloc, &by, names, input, output, cabinet)
+            follow(alloc, &by, of.names, input, output, cabinet)
         }
         Err(wrong) => end(Err(Fault::Words(wrong)), output),
     }

@@ -11,6 +11,7 @@ ghost use Rattle.hosed.specs.ProgramWords.Verb.{audit, check, generate, price, p
 use crate::end_words::ends_at;
 use hose_gen::{LEAST_NODES, MOST_HOSES};
 use hose_graph::{MOST_EPOCH, MOST_LINKS, MOST_NODES};
+use hose_offline::Names;
 use hose_pool::MOST_WORKERS;
 use hose_price::MOST_TARIFFS;
 use hose_tariff::{Tariff, find};
@@ -64,8 +65,7 @@ pub struct OfTopology<'w> {
 #[derive(Clone, Copy)]
 pub struct OfJournal<'w> {
     pub tariff: Option<usize>,
-    pub topology: &'w str,
-    pub journal: &'w str,
+    pub names: Names<'w>,
 }
 
 /// What a network and a script are made of: a seed, and how many nodes, links and hoses there are.
@@ -265,8 +265,8 @@ pub fn service_of<'w>(words: &'w [String], tariffs: &[Tariff]) -> Result<Service
     none_at(words, at + 3)?;
     Ok(Service {
         tariff: of.tariff,
-        topology: of.topology,
-        journal: of.journal,
+        topology: of.names.topology,
+        journal: of.names.journal,
         port: port as u16,
         connections,
         workers,
@@ -284,14 +284,12 @@ fn journal_at<'w>(words: &'w [String], tariffs: &[Tariff]) -> Result<(OfJournal<
 {
     let (of, at) = topology_at(words, tariffs)?;
     let journal = name_at(words, at)?;
-    Ok((
-        OfJournal {
-            tariff: of.tariff,
-            topology: of.topology,
-            journal,
-        },
-        at + 1,
-    ))
+    let names = Names {
+        topology: of.topology,
+        journal,
+    };
+    let tariff = of.tariff;
+    Ok((OfJournal { tariff, names }, at + 1))
 }
 
 // The tariff that the words choose, the name of a topology that has to follow, and the number of
