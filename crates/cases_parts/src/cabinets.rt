@@ -54,10 +54,10 @@ fn tell_word(
 {
     let (call, rest) = word.split_once(':').ok_or(Trouble::Word)?;
     if call == "fail" {
-        return Ok(cabinet.fail(alloc, number(rest)?)?);
+        return Ok(cabinet.fail(number(rest)?)?);
     }
     let got = made(alloc, cabinet, call, rest)?;
-    tell(alloc, got, cabinet.faults(), cabinet.absent(), told)
+    tell(alloc, got, cabinet.faults().count, cabinet.absent(), told)
 }
 
 // What a call gives: a text is read, or a disk is written at its end.

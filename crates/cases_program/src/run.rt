@@ -77,7 +77,8 @@ fn run_by<R: Threads + Wait + Sync, G: Gate + Sync>(
     gate: &G,
 ) -> Result<Outcome, AllocError> {
     let mut world = world_of(alloc, case)?;
-    let status = run_in(rt, alloc, &case.words, &mut world, tariffs, gate);
+    let means = Means { rt, alloc, gate };
+    let status = run_in(means, &case.words, &mut world, tariffs);
     let disk = disk_after(status, &mut world.cabinet);
     let mut outcome = Outcome::new(alloc, u64::from(status), disk);
     tell_streams(alloc, &world, case.door.connections.len(), &mut outcome)?;
@@ -85,14 +86,6 @@ fn run_by<R: Threads + Wait + Sync, G: Gate + Sync>(
 }
 
 // What the program is handed of a case.
-#[derive(Drop)]
-struct World<I: Source, O: Sink, C: Cabinet, L: Door> {
-    input: I,
-    output: O,
-    cabinet: C,
-    door: L,
-}
-
 type MemWorld = World<LongSource, NarrowSink, MemCabinet, MemDoor>;
 
 fn world_of(alloc: Global, case: &Case) -> Result<MemWorld, AllocError>
@@ -112,27 +105,15 @@ fn world_of(alloc: Global, case: &Case) -> Result<MemWorld, AllocError>
 
 // The program's call, at types of which no more is known: its clauses are long at those of a case.
 fn run_in<R: Threads + Wait + Sync, I: Source, O: Sink, C: Cabinet, L: Door + Send, G: Gate + Sync>(
-    rt: &R,
-    alloc: Global,
+    means: Means<'_, R, G>,
     words: &[String],
     world: &mut World<I, O, C, L>,
     tariffs: &[Tariff],
-    gate: &G,
 ) -> u8
     requires { (C.frame world.old.cabinet).out ≡ None }
     ensures { result ≢ 7 → (C.frame world.new.cabinet).out ≡ None }
 {
-    program(
-        rt,
-        alloc,
-        words,
-        &mut world.input,
-        &mut world.output,
-        &mut world.cabinet,
-        &mut world.door,
-        tariffs,
-        gate,
-    )
+    program(means, words, tariffs, world)
 }
 
 // The journal's disk after this status, where it was put back.
@@ -171,7 +152,7 @@ pub fn source_of(alloc: Global, case: &Case) -> Result<LongSource, AllocError> {
     let piece = case.input.piece;
     let again = again_of(alloc, case)?;
     let mut source = MemSource::new(alloc, &case.input.bytes, piece.bytes)?;
-    fail_takes(alloc, &mut source, &case.input.failing)?;
+    fail_takes(&mut source, &case.input.failing)?;
     Ok(LongSource::new(source, piece, again, case.input.more))
 }
 
@@ -196,8 +177,8 @@ fn again_of(alloc: Global, case: &Case) -> Result<Vec<u8>, AllocError> {
 /// A sink as the case says, of which one more call fails where its number is not 0.
 pub fn sink_of(alloc: Global, output: &Output, cut: u64) -> Result<NarrowSink, AllocError> {
     let mut sink = MemSink::new(alloc)?;
-    fail_puts(alloc, &mut sink, &output.failing)?;
-    sink.fail(alloc, cut)?;
+    fail_puts(&mut sink, &output.failing)?;
+    sink.fail(cut)?;
     Ok(NarrowSink::new(sink, output.piece))
 }
 
@@ -230,7 +211,7 @@ fn cabinet_of(alloc: Global, case: &Case) -> Result<MemCabinet, AllocError>
 pub fn disk_of(alloc: Global, journal: &Journal) -> Result<MemDisk, AllocError> {
     let mut disk = MemDisk::new(alloc)?;
     write_durably(&mut disk, &journal.bytes);
-    fail_disk(alloc, &mut disk, &journal.failing)?;
+    fail_disk(&mut disk, &journal.failing)?;
     Ok(disk)
 }
 
@@ -276,7 +257,7 @@ fn door_of(alloc: Global, case: &Case) -> Result<MemDoor, AllocError> {
     };
     add_peers(alloc, &mut peers, &case.door.connections)?;
     let mut door = peers.into_door(alloc)?;
-    fail_door(alloc, &mut door, &case.door.failing)?;
+    fail_door(&mut door, &case.door.failing)?;
     Ok(door)
 }
 

@@ -5,12 +5,12 @@ use Rattle.hose_graph.specs.Network.{Network}
 use Rattle.hose_graph.specs.declared.entry.Entry.{Entry}
 use Rattle.hose_law.specs.Book.{Book}
 use Rattle.hose_law.specs.History.{IsSoundAt, book_of}
+use Rattle.hose_law.proofs.Epochs.{epoch_of}
 use Rattle.hose_book.specs.GoingOn.{GoesOn, entry_more, none_yet as nothing_yet}
 use Rattle.hose_book.specs.Ledger.{Ledger}
 use Rattle.hose_book.specs.declared.books.Committed.TheVariants as committed
 use Rattle.hose_disk.specs.declared.disk.Disk.{Ghosts}
 use Rattle.hose_journal.specs.Chain.{chain}
-use Rattle.hose_store.proofs.Histories.{epoch_of}
 use Rattle.hose_store.specs.Commit.{IsLeft, store_books}
 use Rattle.hose_store.specs.Recovery.{digest_of}
 use Rattle.hose_store.specs.Store.{HasHistory, Kept}

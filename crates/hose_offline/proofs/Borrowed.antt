@@ -5,14 +5,6 @@ use Rattle.hose_io.specs.Frame.{Frame, Rose}
 use Rattle.hose_io.specs.Stream.{Stream}
 use Rattle.hose_io.specs.declared.source.Source.{Ghosts}
 
--- a borrow of a source, as a source
-abbrev pub borrowed : {T : Type 0} → Ghosts T → Ghosts (MutBor T)
-borrowed other = record {
-  frame = λ b. record (other.frame b.now) { loan = b.ghost_name ∷ (other.frame b.now).loan };
-  content = λ b. other.content b.now;
-  went = λ old new. other.went old.now new.now;
-}
-
 frame_behind : (frame other : Frame) (name one : GName) → record frame { loan = name ∷ frame.loan } ≡ record other { loan = one ∷ other.loan } → frame ≡ other
 frame_behind frame other name one same = ap (λ (f : Frame). record { faults = f.faults; number = f.number; loan = drop 1 f.loan }) same
 

@@ -2,7 +2,8 @@
 use Rattle.std.proofs.Common.{◌≡◌, ◌⊎◌, ℕ, ◌+◌, ◌≤◌, List, Option, Result, Ok, Err, length, inl, inr, refl, sym, subst, arith, append-nil, ◌++◌, length-append, length-take, take}
 use Rattle.hose_io.specs.Stream.{Gives, IsAtEnd, Stream}
 use Rattle.hose_words.specs.Reading.{WhereTold}
-use Rattle.hose_words.proofs.Coming.{Gives-append, told_at_end}
+use Rattle.hose_io.proofs.Streams.{Gives-append}
+use Rattle.hose_words.proofs.Coming.{told_at_end}
 use Rattle.hose_graph.specs.Network.{Network}
 use Rattle.hose_topo_json.specs.JsonTopology.{IsJsonTopology}
 use Rattle.hose_topo_json.specs.Refused.{IsJsonFault}

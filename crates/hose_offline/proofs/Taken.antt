@@ -2,7 +2,7 @@
 use Rattle.std.proofs.Common.{◌≡◌, ◌⊎◌, ◌↔◌, inl, inr, ℕ, ◌+◌, ◌<◌, ◌≤◌, List, [], length, Option, Result, Ok, Err, arith}
 use Rattle.hose_io.specs.Stream.{Gives, Stream}
 use Rattle.hose_io.specs.declared.source.Source.{Ghosts as SourceGhosts}
-use Rattle.hose_words.proofs.Coming.{Gives-nil}
+use Rattle.hose_io.proofs.Streams.{Gives-nil}
 use Rattle.hose_words.specs.declared.lines.TheConstants.{INPUT_LIMIT}
 use Rattle.hose_disk.specs.declared.cabinet.Cabinet.{Ghosts as CabinetGhosts}
 use Rattle.hose_offline.specs.Auditing.{TakesBoth, TakesText}

@@ -45,7 +45,8 @@ use Rattle.hose_shared.specs.Sharing.{HasSeenMore}
 use Rattle.hose_shared.specs.Turns.{AnswersTurn, StepsAt, joined_of, place_of}
 use Rattle.hose_law.proofs.Fronts.{prefix_same}
 use Rattle.hose_law.proofs.Steps.{step_cases}
-use Rattle.hose_shared.proofs.Passes.{along_of, epoch_of}
+use Rattle.hose_law.proofs.Epochs.{epoch_of}
+use Rattle.hose_shared.proofs.Passes.{along_of}
 use Rattle.hose_shared.proofs.Turned.{answers_turn, none_joined, told_is}
 
 -- what holds of an entry that was committed holds of the one that joined

@@ -30,7 +30,8 @@ use Rattle.hose_shared.specs.Along.{IsCheapestEntry}
 use Rattle.hose_shared.specs.Keeping.{StandsShared}
 use Rattle.hose_shared.specs.Turns.{AnswersTurn, BeginsTurn, StepsAt, faults_in, joined_of, place_of, with_joined}
 use Rattle.hose_law.proofs.Fronts.{prefix_same}
-use Rattle.hose_shared.proofs.Passes.{epoch_of, failed_rise, met_above, prefix_joined}
+use Rattle.hose_law.proofs.Epochs.{epoch_of}
+use Rattle.hose_shared.proofs.Passes.{failed_rise, met_above, prefix_joined}
 
 -- ---- the entry that joined
 

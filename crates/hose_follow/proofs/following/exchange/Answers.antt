@@ -2,7 +2,7 @@ use Rattle.std.proofs.Common.{◌≡◌, ◌∙◌, List, ℕ, Err, inl, refl, a
 use Rattle.std.proofs.lemmas.Result.{err_from_is_err_and}
 use Rattle.hose_follow.specs.Packet.{BeginsNoPacket, Packet}
 use Rattle.hose_follow.specs.declared.following.FollowEnd.TheVariants.{Write}
-use Rattle.hose_follow.proofs.Buffers.{gives_none}
+use Rattle.hose_io.proofs.Streams.{Gives-nil}
 use Rattle.hose_follow.proofs.Exchanges.{answers_with}
 use Rattle.hose_follow.proofs.following.exchange.Goals as goal
 
@@ -10,7 +10,7 @@ pub returns-in-Bad-clause-exchanges : goal.returns-in-Bad-clause-exchanges
 returns-in-Bad-clause-exchanges g c = (
   ap (λ (l : List ℕ). c.args.intake.now.taken - length l) c.pending-pending.ensures,
   inl (subst BeginsNoPacket c.pending-pending.ensures c.in-Bad.ensures),
-  record { gives = gives_none (g.S.Source.content c.args.source.now); frame = refl },
+  record { gives = Gives-nil (g.S.Source.content c.args.source.now); frame = refl },
   record { same_sink = refl; same_store = refl },
 )
 

@@ -1,5 +1,5 @@
 use Rattle.std.proofs.Common.{refl, rules}
-use Rattle.hose_offline.proofs.Borrowed.{borrowed}
+use Rattle.hose_io.specs.Borrowed.{borrowed}
 use Rattle.hose_offline.proofs.Leaving.{leaves_behind}
 use Rattle.hose_offline.proofs.answering.run_input.Goals as goal
 

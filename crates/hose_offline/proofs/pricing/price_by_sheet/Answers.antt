@@ -1,6 +1,6 @@
 use Rattle.std.specs.Prelude.{⊤}
 use Rattle.std.proofs.Common.{refl, rules, map}
-use Rattle.hose_offline.proofs.Borrowed.{borrowed}
+use Rattle.hose_io.specs.Borrowed.{borrowed}
 use Rattle.hose_offline.proofs.Sheets.{answers_behind}
 use Rattle.hose_offline.proofs.pricing.price_by_sheet.Goals as goal
 

@@ -6,7 +6,8 @@ use Rattle.hose_core.specs.Serving.{service_command}
 use Rattle.hose_core.specs.Stepping.{HasStepped}
 use Rattle.hose_turn.specs.Held.{holder}
 use Rattle.hose_shared.proofs.Entries.{order_denied, order_starved, order_turn, stays_along}
-use Rattle.hose_shared.proofs.Passes.{along_of, epoch_of, more_same}
+use Rattle.hose_law.proofs.Epochs.{epoch_of}
+use Rattle.hose_shared.proofs.Passes.{along_of, more_same}
 use Rattle.hose_shared.proofs.shared.Shared.operate.Goals as goal
 
 pub returns-then-not-is_operator-clause-steps : goal.returns-then-not-is_operator-clause-steps

@@ -5,7 +5,8 @@ use Rattle.hose_graph.specs.declared.command.Reply.TheVariants.{Memory, NoQuote}
 use Rattle.hose_law.specs.Quotes.{Held, at_number, with_number}
 use Rattle.hose_core.specs.Holding.{AreHeld}
 use Rattle.hose_shared.proofs.Entries.{no_quote, stale_later, stays_holding, taken_after}
-use Rattle.hose_shared.proofs.Passes.{along_of, epoch_of, more_same}
+use Rattle.hose_law.proofs.Epochs.{epoch_of}
+use Rattle.hose_shared.proofs.Passes.{along_of, more_same}
 use Rattle.hose_law.proofs.Fronts.{prefix_length, prefix_on}
 use Rattle.hose_shared.proofs.shared.Shared.take.Goals as goal
 
