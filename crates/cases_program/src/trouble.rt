@@ -10,7 +10,8 @@ pub enum Trouble {
     Word,
     #[error("a number is wanted")]
     Number,
-    #[error("a brace holds s, t, r, o, c, b and a byte, or a number to count up from, and is closed")]
+    #[error("a brace holds s, t, r, o, c, b and a byte, or a number to count up from, and is \
+            closed")]
     Brace,
     #[error("a piece has one byte at least, and calls are counted from 1")]
     Zero,
