@@ -155,21 +155,6 @@ impl MemDoor {
     {
         self.failing.add(nth)
     }
-
-    // Counts a call of `open` or `accept`, which fails where it was told to.
-    fn count_call(&mut self) -> Result<(), Failed>
-        ensures accounted { AreAccounted (Some (connections_of self.new)) }
-        ensures met { Met (mem_door_frame self.old) (mem_door_frame self.new) result }
-        ensures fails { IsErr result ↔ Contains self.old.failing 1 }
-        ensures after { MatchResult result
-            (λ _. self.new ≡ door_after_call self.old)
-            (λ _. self.new ≡ door_after_fault self.old) }
-    {
-        if self.failing.next() {
-            return Err(self.faults.fail());
-        }
-        Ok(())
-    }
 }
 
 impl Door for MemDoor {
@@ -198,7 +183,11 @@ impl Door for MemDoor {
             (λ _. self.new ≡ door_after_call self.old)
             (λ _. self.new ≡ door_after_fault self.old) }
     {
-        self.count_call()
+        if self.failing.next() {
+            Err(self.faults.fail())
+        } else {
+            Ok(())
+        }
     }
 
     fn accept(&mut self) -> Result<Option<(MemSource, MemSink)>, Failed>
@@ -220,7 +209,9 @@ impl Door for MemDoor {
             (λ ends. IsHandedOut self.old self.new ends.0 ends.1))
             (λ _. self.new ≡ door_after_fault self.old) }
     {
-        self.count_call()?;
+        if self.failing.next() {
+            return Err(self.faults.fail());
+        }
         let Some(next) = self.coming.pop_front() else {
             return Ok(None);
         };
