@@ -5,6 +5,7 @@ pub mod Count
 pub mod DoorState
 pub mod FailingCalls
 pub mod Faults
+pub mod Filling
 pub mod Frame
 pub mod Gather
 pub mod SinkState
