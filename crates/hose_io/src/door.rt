@@ -1,4 +1,4 @@
-// Where connections arrive: its contract, and the same through a borrow.
+// Where connections arrive: the contract of a door, which a borrow of one meets too.
 ghost use Rattle.std.specs.Prelude.{◌≡◌, Option, ◌∷◌, MatchOption, MatchResult};
 ghost use Rattle.hose_io.specs.Connections.{Accepts, AreAccounted, AreUsedUp, ComesBack, Connection, Connections, IsConnection, MayComeBack, connection_of};
 ghost use Rattle.hose_io.specs.Frame.{Frame, Met};

@@ -105,7 +105,7 @@ impl Sink for MemSink {
         ensures all { IfOk result (λ k. k ≡ length bytes.now) }
         ensures given { OnOk result (self.new ≡ sink_after_putting self.old bytes.now) }
 
-        // On its list it fails for that reason, and else only for want of memory.
+        // A call on the list fails for that reason, and another one only for want of memory.
         ensures listed { Contains self.old.failing 1 → IsErr result }
         ensures fault { Contains self.old.failing 1 → self.new ≡ sink_after_fault self.old }
         ensures starved { ¬ Contains self.old.failing 1 →

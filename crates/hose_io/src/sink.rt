@@ -1,4 +1,4 @@
-// What is written: its contract, and the same through a borrow.
+// What is written: the contract of a sink, which a borrow of one meets too.
 ghost use Rattle.std.specs.Prelude.{◌≡◌, ◌<◌, ◌≤◌, ℕ, Option, None, Some, List, ◌∷◌, IfOk, MatchResult, length, take};
 ghost use Rattle.std.specs.Borrow.{GName};
 ghost use Rattle.hose_io.specs.Count.{pieces_after};

@@ -1,4 +1,4 @@
-// What is read: its contract, and the same through a borrow.
+// What is read: the contract of a source, which a borrow of one meets too.
 ghost use Rattle.std.specs.Prelude.{◌≡◌, ◌+◌, ◌<◌, ◌≤◌, Option, Ok, ◌∷◌, IfOk, MatchResult, drop, length, take, ⊤};
 ghost use Rattle.hose_io.specs.Frame.{Frame, Met};
 ghost use Rattle.hose_io.specs.Stream.{Stream, Gives, IsAtEnd};
