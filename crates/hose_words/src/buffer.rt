@@ -1,9 +1,8 @@
 // The bytes that were taken of a source and not yet given in a line.
-ghost use Rattle.std.specs.Prelude.{◌≡◌, ◌<◌, ◌≤◌, [], length, Ok, IfOk, MatchResult};
+ghost use Rattle.std.specs.Prelude.{◌≡◌, ◌<◌, ◌≤◌, [], length};
 ghost use Rattle.std.specs.Bool.{MatchBool};
 ghost use Rattle.std.specs.List.{position, position_or_len};
-ghost use Rattle.hose_io.specs.Frame.{Met};
-ghost use Rattle.hose_io.specs.Stream.{Appends, IsAtEnd};
+ghost use Rattle.hose_io.specs.Filling.{IsFilled};
 ghost use Rattle.hose_words.specs.Lines.{is_line_feed};
 ghost use Rattle.hose_words.specs.Buffer.{CutsLine};
 
@@ -119,15 +118,8 @@ impl Buffer {
     pub(crate) fn fill<S: Source>(&mut self, source: &mut S, most: usize) -> Result<usize, Failed>
         requires some { 0 < most }
         requires room { 0 < self.old.room }
-        ensures most { IfOk result (λ count. count ≤ most) }
-        ensures taken { MatchResult result
-            (λ count. Appends (S.content source.old) (S.content source.new)
-            self.old.pending self.new.pending count)
-            (λ _. (S.content source.new ≡ S.content source.old)
-            × (self.new.pending ≡ self.old.pending)) }
-        ensures none_only_at_end { result ≡ Ok 0 → IsAtEnd (S.content source.old) }
-        ensures met { Met (S.frame source.old) (S.frame source.new) result }
-        ensures went { S.went source.old source.new }
+        ensures { IsFilled S.Source source.old source.new self.old.pending self.new.pending most
+            result }
     {
         let most = most.min(PENDING_LIMIT - self.end);
         let taken = take_after(source, &mut self.bytes, self.end, most);

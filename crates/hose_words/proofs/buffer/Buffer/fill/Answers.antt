@@ -1,4 +1,4 @@
-use Rattle.std.proofs.Common.{arith, le_trans}
+use Rattle.std.proofs.Common.{arith, le_trans, rules}
 use Rattle.hose_words.specs.Lines.{is_line_feed}
 use Rattle.hose_io.proofs.Parts.{appended, unwrap_or_zero-le}
 use Rattle.hose_words.proofs.BufferLemmas.{position_or_len-le-more}
@@ -18,9 +18,16 @@ invariant_of-self g c =
       searched = le_trans c.self.invariant.searched kept;
     }
 
-pub returns-clause-taken : goal.returns-clause-taken
-returns-clause-taken g c =
+pub returns : goal.returns
+returns g c =
     let b = c.self.inside in
-    let count = unwrap_or_zero-le c.take_after-taken.result c.min-most.result c.take_after-taken.ensures.most in
-    rw (← c.self.view_is, c.unwrap_or.ensures)
-    (appended c.take_after-taken.result _ _ b.bytes c.take_after-taken.new.bytes b.start b.end c.take_after-taken.ensures.before (omega arith) (omega (arith, count)) c.take_after-taken.ensures.taken)
+    let took = c.take_after-taken.ensures in
+    let count = unwrap_or_zero-le c.take_after-taken.result c.min-most.result took.most in
+    record {
+      most = search rules;
+      taken = rw (← c.self.view_is, c.unwrap_or.ensures)
+          (appended c.take_after-taken.result _ _ b.bytes c.take_after-taken.new.bytes b.start b.end took.before (omega arith) (omega (arith, count)) took.taken);
+      none_only_at_end = took.none_only_at_end;
+      met = took.met;
+      went = took.went;
+    }

@@ -12,4 +12,4 @@ returns-in-Ok-eq0 g c =
     let none = c.in-Ok-eq0.field-0-test in
     rw (← c.self.view_is)
     (MeetsEnd-now g.S.Source _ _ _ (rw c.make_room.ensures.pending at filled.taken) none (filled.none_only_at_end (ap Ok none)) refl
-    (rw (← c.self.view_is) at c.requires.fault) refl filled.met.ok c.fill.ensures.went c.if-self.false)
+    (rw (← c.self.view_is) at c.requires.fault) refl filled.met.ok filled.went c.if-self.false)
