@@ -110,54 +110,43 @@ module _ {S : Type 0} (source : Ghosts S) where
     pub plain : IsPlain now.pending
     pub short : length now.pending ≤ 4096
 
+  -- Only the buffer changed: of the line that is being read, this front was dropped by now.
+  HasCome-dropped : (old r now : Reader S) (was is_long : Bool) (dropped : List ℕ) (h : HasCome old r was) → old.pending ++ h.bytes ≡ dropped ++ now.pending → IsPlain dropped
+      → MatchBool is_long (4096 < length dropped) (dropped ≡ []) → now.source ≡ r.source → now.taken ≡ r.taken → now.fault ≡ r.fault → now.ended ≡ r.ended → HasCome old now is_long
+  HasCome-dropped old r now was is_long dropped h split plain long source' taken fault ended = record {
+    bytes = h.bytes;
+    dropped = dropped;
+    gives = rw source' h.gives;
+    taken = taken ∙ h.taken;
+    split = split;
+    plain = plain;
+    long = long;
+    limit = rw taken h.limit;
+    was = h.was;
+    fault = fault ∙ h.fault;
+    ended = ended ∙ h.ended;
+    at_end = rw (source', ended) h.at_end;
+    frame = rw source' h.frame;
+    gone = rw source' h.gone;
+    whole_pending = λ line. source' ∙ h.whole_pending line;
+    after_end = λ over. source' ∙ h.after_end over;
+  }
+
   pub HasPassed-from : (old r now : Reader S) (was is_long is_over : Bool) (pending : List ℕ) → HasCome old r was → IsPlain r.pending → pending ≡ r.pending
       → nat_lt 4096 (length pending) ≡ is_over → MatchBool is_over ((is_long ≡ true) × (now.pending ≡ [])) ((is_long ≡ was) × (now.pending ≡ pending))
       → now.source ≡ r.source → now.taken ≡ r.taken → now.fault ≡ r.fault → now.ended ≡ r.ended → HasPassed old now is_long
   HasPassed-from old r now was is_long true pending h plain same over drops source' taken fault ended =
-      let long : 4096 < length r.pending = omega (arith, ltb-true 4096 (length pending) over, ap length same) in
+      let all = h.dropped ++ r.pending in
+      let long : 4096 < length all = omega (arith, ltb-true 4096 (length pending) over, ap length same, length-append h.dropped r.pending) in
       rw drops.0 (record {
-        come = record {
-          bytes = h.bytes;
-          dropped = h.dropped ++ r.pending;
-          gives = rw source' h.gives;
-          taken = taken ∙ h.taken;
-          split = rw (drops.1, append-nil) h.split;
-          plain = IsPlain-append h.dropped r.pending h.plain plain;
-          long = omega (arith, length-append h.dropped r.pending);
-          limit = rw taken h.limit;
-          was = h.was;
-          fault = fault ∙ h.fault;
-          ended = ended ∙ h.ended;
-          at_end = rw (source', ended) h.at_end;
-          frame = rw source' h.frame;
-          gone = rw source' h.gone;
-          whole_pending = λ line. source' ∙ h.whole_pending line;
-          after_end = λ over. source' ∙ h.after_end over;
-        };
+        come = HasCome-dropped old r now was true all h (rw (drops.1, append-nil) h.split) (IsPlain-append h.dropped r.pending h.plain plain) long source' taken fault ended;
         plain = rw drops.1 refl;
         short = rw drops.1 (omega arith);
       })
   HasPassed-from old r now was is_long false pending h plain same over drops source' taken fault ended =
       let kept : now.pending ≡ r.pending = drops.1 ∙ same in
       rw drops.0 (record {
-        come = record {
-          bytes = h.bytes;
-          dropped = h.dropped;
-          gives = rw source' h.gives;
-          taken = taken ∙ h.taken;
-          split = rw kept h.split;
-          plain = h.plain;
-          long = h.long;
-          limit = rw taken h.limit;
-          was = h.was;
-          fault = fault ∙ h.fault;
-          ended = ended ∙ h.ended;
-          at_end = rw (source', ended) h.at_end;
-          frame = rw source' h.frame;
-          gone = rw source' h.gone;
-          whole_pending = λ line. source' ∙ h.whole_pending line;
-          after_end = λ over. source' ∙ h.after_end over;
-        };
+        come = HasCome-dropped old r now was was h.dropped h (rw kept h.split) h.plain h.long source' taken fault ended;
         plain = rw kept plain;
         short = rw drops.1 (ltb-false 4096 (length pending) over);
       })
@@ -261,9 +250,8 @@ module _ {S : Type 0} (source : Ghosts S) where
 
   pub IsNext-last : (old r m now : Reader S) (is_long : Bool) (shown : Option Line) → HasPassed old r is_long → IsIntake source r m (Ok false)
       → now ≡ record { source = m.source; pending = []; taken = m.taken; fault = m.fault; ended = m.ended } → ShowsFound (found_at_end is_long m.pending) m.pending shown → IsNext source old now (Ok shown)
-  IsNext-last old r m now is_long shown p turn same shows =
+  IsNext-last old r m now is_long shown p end same shows =
       let h = p.come in
-      let end = turn in
       let whole : IsPlain (h.dropped ++ r.pending) = IsPlain-append h.dropped r.pending h.plain p.plain in
       let all : GivesLine shown (h.dropped ++ r.pending) [] =
       GivesLine-last is_long h.dropped r.pending shown whole h.long (rw end.pending at shows) in
@@ -288,9 +276,8 @@ module _ {S : Type 0} (source : Ghosts S) where
       })
 
   pub IsNext-fault : (old r now : Reader S) (is_long : Bool) (fault : LineFault) → HasPassed old r is_long → IsIntake source r now (Err fault) → IsNext source old now (Err fault)
-  IsNext-fault old r now is_long Read p turn =
+  IsNext-fault old r now is_long Read p met =
       let h = p.come in
-      let met = turn in
       let gives : Gives (source.content old.source) (source.content now.source) h.bytes = rw met.0 h.gives in
       record {
         after_fault = rw h.was tt;
@@ -311,9 +298,8 @@ module _ {S : Type 0} (source : Ghosts S) where
         unfailed = λ other. absurd (other refl);
         gone = call_more h.gone met.7;
       }
-  IsNext-fault old r now is_long TooLong p turn =
+  IsNext-fault old r now is_long TooLong p met =
       let h = p.come in
-      let met = turn in
       let byte = met.0.0 in
       let all = h.bytes ++ byte ∷ [] in
       let gives = Gives-append _ _ _ h.bytes (byte ∷ []) h.gives met.0.1 in
