@@ -67,40 +67,42 @@ after_branch is word_of forms choice there are = record {
 
 -- ---- what is wrong
 
--- the next word does not pass
-pub wrong_place : {passes : List ℕ → Type 0} {form : Form} {old : Position} {number : ℕ} → Misses passes old number → IsWrong (place passes form) old number
-wrong_place {passes} {form} {old} {number} misses = record {
+-- the first word may not stand at the start of a form, or is missing
+wrong_first : (form : Form) {old : Position} {number : ℕ} → Misses (Follows form []) old number → ¬ IsWhole form [] → IsWrong form old number
+wrong_first form {old} {number} misses some = record {
   place = 1;
   at = misses.at;
-  wrong = wrong_here (grammar_of (place passes form)) [] old.left misses.none (λ whole. whole);
+  wrong = wrong_here (grammar_of form) [] old.left misses.none some;
 }
+
+-- the first word may stand there, and what is wrong comes after it
+wrong_behind : (form rest : Form) (old new : Position) (word : List ℕ) (number : ℕ) → Took old new word → Follows form [] word → GoesOnAs (grammar_of form) (word ∷ []) (grammar_of rest)
+    → IsWrong rest new number → IsWrong form old number
+wrong_behind form rest old new word number took follows on wrong = record {
+  place = 1 + wrong.place;
+  at = omega (arith, wrong.at, took.counted);
+  wrong = subst (λ w. IsFirstNotAllowed (grammar_of form) [] w (1 + wrong.place)) (sym took.cut)
+      (inl (follows, wrong_front (grammar_of form) (grammar_of rest) (word ∷ []) [] new.left wrong.place on wrong.wrong));
+}
+
+-- the next word does not pass
+pub wrong_place : {passes : List ℕ → Type 0} {form : Form} {old : Position} {number : ℕ} → Misses passes old number → IsWrong (place passes form) old number
+wrong_place {passes} {form} misses = wrong_first (place passes form) misses (λ whole. whole)
 
 -- the next word passes, and a later one is wrong
 pub wrong_later : {passes : List ℕ → Type 0} {form : Form} {old new : Position} {word : List ℕ} {number : ℕ} → Took old new word → passes word → IsWrong form new number → IsWrong (place passes form) old number
-wrong_later {passes} {form} {old} {new} {word} {number} took follows wrong = record {
-  place = 1 + wrong.place;
-  at = omega (arith, wrong.at, took.counted);
-  wrong = subst (λ w. IsFirstNotAllowed (grammar_of (place passes form)) [] w (1 + wrong.place)) (sym took.cut)
-      (inl (follows, wrong_front (grammar_of (place passes form)) (grammar_of form) (word ∷ []) [] new.left wrong.place (after_place passes form word) wrong.wrong));
-}
+wrong_later {passes} {form} {old} {new} {word} {number} took follows wrong =
+    wrong_behind (place passes form) form old new word number took follows (after_place passes form word) wrong
 
 -- the next word is none of the choices
 pub wrong_choice : {A : Type 0} {is : A → Type 0} {word_of : A → List ℕ} {forms : A → Form} {old : Position} {number : ℕ} → Misses (IsChoice is word_of) old number → IsWrong (branch is word_of forms) old number
-wrong_choice {A} {is} {word_of} {forms} {old} {number} misses = record {
-  place = 1;
-  at = misses.at;
-  wrong = wrong_here (grammar_of (branch is word_of forms)) [] old.left misses.none (λ whole. whole);
-}
+wrong_choice {A} {is} {word_of} {forms} misses = wrong_first (branch is word_of forms) misses (λ whole. whole)
 
 -- the next word is one of the choices, and a later one is wrong
 pub wrong_chosen : {A : Type 0} {is : A → Type 0} {word_of : A → List ℕ} {forms : A → Form} {old new : Position} {number : ℕ} (choice : A) → is choice → AreApart is word_of → Took old new (word_of choice)
     → IsWrong (forms choice) new number → IsWrong (branch is word_of forms) old number
-wrong_chosen {A} {is} {word_of} {forms} {old} {new} {number} choice there are took wrong = record {
-  place = 1 + wrong.place;
-  at = omega (arith, wrong.at, took.counted);
-  wrong = subst (λ w. IsFirstNotAllowed (grammar_of (branch is word_of forms)) [] w (1 + wrong.place)) (sym took.cut)
-      (inl ((choice, there, refl), wrong_front (grammar_of (branch is word_of forms)) (grammar_of (forms choice)) (word_of choice ∷ []) [] new.left wrong.place (after_branch is word_of forms choice there are) wrong.wrong));
-}
+wrong_chosen {A} {is} {word_of} {forms} {old} {new} {number} choice there are took wrong =
+    wrong_behind (branch is word_of forms) (forms choice) old new (word_of choice) number took (choice, there, refl) (after_branch is word_of forms choice there are) wrong
 
 -- a word is there, and it or a later one is wrong
 pub wrong_maybe : {form : Form} {old : Position} {number : ℕ} → (old.left ≡ [] → ⊥) → IsWrong form old number → IsWrong (maybe form) old number

@@ -1,11 +1,11 @@
 -- Words that pass a form: none of them is wrong.
-use Rattle.std.proofs.Common.{◌≡◌, ◌≢◌, ◌⊎◌, ℕ, ◌+◌, ◌≤◌, List, [], ◌∷◌, ◌++◌, length, map, inl, inr, refl, sym, subst, arith, append_assoc, append-nil, length-append}
+use Rattle.std.proofs.Common.{◌≡◌, ◌≢◌, ℕ, ◌+◌, ◌≤◌, List, [], ◌∷◌, ◌++◌, length, map, inl, inr, refl, sym, subst, arith, append_assoc, append-nil, length-append}
 use Rattle.std.specs.List.{All}
 use Rattle.std.proofs.Math.ListN.{get_or-append}
 use Rattle.std.proofs.lemmas.List.{length-map, map-append}
 use Rattle.hose_words.specs.Grammar.{IsFirstNotAllowed}
-use Rattle.hose_words.specs.Form.{Form, finish, place, branch, maybe, list, until, Follows, TellsItems, grammar_of, these, IsChoice}
-use Rattle.hose_words.proofs.Forms.{AreApart, after_branch, after_place, front_wrong}
+use Rattle.hose_words.specs.Form.{Form, finish, place, branch, maybe, list, until, Follows, TellsItems, grammar_of, these}
+use Rattle.hose_words.proofs.Forms.{AreApart, GoesOnAs, after_branch, after_place, front_wrong}
 use Rattle.hose_words.proofs.Until.{HasNoLast, after_until, until_more}
 
 -- none of the words is wrong
@@ -15,23 +15,21 @@ pub record Passes (form : Form) (words : List (List ℕ)) : Type 0 where
 pub pass_finish : Passes finish []
 pass_finish = record { none = λ place wrong. wrong.0 refl }
 
-pub pass_place : {passes : List ℕ → Type 0} {form : Form} {word : List ℕ} {words : List (List ℕ)} → passes word → Passes form words → Passes (place passes form) (word ∷ words)
-pass_place {passes} {form} {word} {words} is pass = record { none = here }
+-- the first word may stand at the start of a form, and those after it pass what may stand there
+pass_first : (form rest : Form) (word : List ℕ) (words : List (List ℕ)) → Follows form [] word → GoesOnAs (grammar_of form) (word ∷ []) (grammar_of rest) → Passes rest words → Passes form (word ∷ words)
+pass_first form rest word words follows on pass = record { none = here }
   where
-    here : (n : ℕ) → (passes word × IsFirstNotAllowed (grammar_of (place passes form)) (word ∷ []) words n) ⊎ ((passes word → ⊥) × (n ≡ 1)) → ⊥
-    here n (inl (follows, wrong)) =
-        let back = front_wrong (grammar_of (place passes form)) (grammar_of form) (word ∷ []) [] words n (after_place passes form word) wrong in pass.none back.0 back.2
-    here n (inr (never, at)) = never is
+    here : (n : ℕ) → IsFirstNotAllowed (grammar_of form) [] (word ∷ words) n → ⊥
+    here n (inl (may, wrong)) = let back = front_wrong (grammar_of form) (grammar_of rest) (word ∷ []) [] words n on wrong in pass.none back.0 back.2
+    here n (inr (never, at)) = never follows
+
+pub pass_place : {passes : List ℕ → Type 0} {form : Form} {word : List ℕ} {words : List (List ℕ)} → passes word → Passes form words → Passes (place passes form) (word ∷ words)
+pass_place {passes} {form} {word} {words} is pass = pass_first (place passes form) form word words is (after_place passes form word) pass
 
 pub pass_branch : {A : Type 0} {is : A → Type 0} {word_of : A → List ℕ} {forms : A → Form} {words : List (List ℕ)} (choice : A) → is choice → AreApart is word_of → Passes (forms choice) words
     → Passes (branch is word_of forms) (word_of choice ∷ words)
-pass_branch {A} {is} {word_of} {forms} {words} choice there are pass = record { none = here }
-  where
-    here : (n : ℕ) → (IsChoice is word_of (word_of choice) × IsFirstNotAllowed (grammar_of (branch is word_of forms)) (word_of choice ∷ []) words n) ⊎ ((IsChoice is word_of (word_of choice) → ⊥) × (n ≡ 1)) → ⊥
-    here n (inl (follows, wrong)) =
-        let back = front_wrong (grammar_of (branch is word_of forms)) (grammar_of (forms choice)) (word_of choice ∷ []) [] words n (after_branch is word_of forms choice there are) wrong in
-        pass.none back.0 back.2
-    here n (inr (never, at)) = never (choice, there, refl)
+pass_branch {A} {is} {word_of} {forms} {words} choice there are pass =
+    pass_first (branch is word_of forms) (forms choice) (word_of choice) words (choice, there, refl) (after_branch is word_of forms choice there are) pass
 
 pub pass_these : (known : List (List ℕ)) (form : Form) (words : List (List ℕ)) → Passes form words → Passes (these known form) (known ++ words)
 pass_these [] form words pass = pass
