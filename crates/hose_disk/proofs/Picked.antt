@@ -23,14 +23,13 @@ torn_filled at n byte old within =
 -- the filled image is never shorter than what a read gives
 no_shorter : (byte : ℕ) (first : List ℕ) (calls : List Step) → AreInRange first calls → length (read_of first calls) ≤ length (picked (Fill byte) first calls)
 no_shorter byte first [] fits = omega arith
-no_shorter byte first (idle ∷ earlier) fits = no_shorter byte first earlier fits
 no_shorter byte first (wrote at bytes ∷ earlier) (within, small, fits) =
     omega (arith, within, no_shorter byte first earlier fits, length-overwritten at bytes (read_of first earlier), length-filled at (length bytes) byte (picked (Fill byte) first earlier))
 no_shorter byte first (tried_write at n ∷ earlier) (within, small, fits) =
     omega (arith, within, no_shorter byte first earlier fits, length-filled at n byte (picked (Fill byte) first earlier))
 no_shorter byte first (cut_to n ∷ earlier) fits = omega (arith, no_shorter byte first earlier fits, length-take n (read_of first earlier))
-no_shorter byte first (tried_cut n ∷ earlier) fits = no_shorter byte first earlier fits
 no_shorter byte first (synced ∷ earlier) fits = omega arith
+no_shorter byte first (other ∷ earlier) fits = no_shorter byte first earlier fits
 
 -- what a read would have given
 kept_is : (first : List ℕ) (calls : List Step) → picked Kept first calls ≡ read_of first calls
@@ -105,12 +104,9 @@ picked_from pick first image calls value k view le is =
 
 -- what holds after a call held before it
 fits_earlier : (first : List ℕ) (call : Step) (earlier : List Step) → AreInRange first (call ∷ earlier) → AreInRange first earlier
-fits_earlier first idle earlier fits = fits
 fits_earlier first (wrote at bytes) earlier fits = fits.2
 fits_earlier first (tried_write at n) earlier fits = fits.2
-fits_earlier first (cut_to n) earlier fits = fits
-fits_earlier first (tried_cut n) earlier fits = fits
-fits_earlier first synced earlier fits = fits
+fits_earlier first other earlier fits = fits
 
 pub fits_drop : (first : List ℕ) (n : ℕ) (calls : List Step) → AreInRange first calls → AreInRange first (drop n calls)
 fits_drop first zero calls fits = fits
@@ -124,30 +120,24 @@ fits_from first calls value k view fits =
 -- a disk stays below the greatest length
 read_small : (first : List ℕ) (calls : List Step) → AreInRange first calls → length (read_of first calls) < 2 ^ 62
 read_small first [] fits = fits
-read_small first (idle ∷ earlier) fits = read_small first earlier fits
 read_small first (wrote at bytes ∷ earlier) (within, small, fits) = omega (arith, within, small, read_small first earlier fits, length-overwritten at bytes (read_of first earlier))
 read_small first (tried_write at n ∷ earlier) (within, small, fits) = read_small first earlier fits
 read_small first (cut_to n ∷ earlier) fits = omega (arith, read_small first earlier fits, length-take n (read_of first earlier))
-read_small first (tried_cut n ∷ earlier) fits = read_small first earlier fits
-read_small first (synced ∷ earlier) fits = read_small first earlier fits
+read_small first (other ∷ earlier) fits = read_small first earlier fits
 
 lost_small : (first : List ℕ) (calls : List Step) → AreInRange first calls → length (picked Lost first calls) < 2 ^ 62
 lost_small first [] fits = fits
-lost_small first (idle ∷ earlier) fits = lost_small first earlier fits
 lost_small first (wrote at bytes ∷ earlier) (within, small, fits) = lost_small first earlier fits
 lost_small first (tried_write at n ∷ earlier) (within, small, fits) = lost_small first earlier fits
-lost_small first (cut_to n ∷ earlier) fits = lost_small first earlier fits
-lost_small first (tried_cut n ∷ earlier) fits = lost_small first earlier fits
 lost_small first (synced ∷ earlier) fits = read_small first earlier fits
+lost_small first (other ∷ earlier) fits = lost_small first earlier fits
 
 fill_small : (byte : ℕ) (first : List ℕ) (calls : List Step) → AreInRange first calls → length (picked (Fill byte) first calls) < 2 ^ 62
 fill_small byte first [] fits = fits
-fill_small byte first (idle ∷ earlier) fits = fill_small byte first earlier fits
 fill_small byte first (wrote at bytes ∷ earlier) (within, small, fits) = omega (arith, small, fill_small byte first earlier fits, length-filled at (length bytes) byte (picked (Fill byte) first earlier))
 fill_small byte first (tried_write at n ∷ earlier) (within, small, fits) = omega (arith, small, fill_small byte first earlier fits, length-filled at n byte (picked (Fill byte) first earlier))
-fill_small byte first (cut_to n ∷ earlier) fits = fill_small byte first earlier fits
-fill_small byte first (tried_cut n ∷ earlier) fits = fill_small byte first earlier fits
 fill_small byte first (synced ∷ earlier) fits = read_small first earlier fits
+fill_small byte first (other ∷ earlier) fits = fill_small byte first earlier fits
 
 pub picked_small : (pick : Pick) (first : List ℕ) (calls : List Step) → AreInRange first calls → length (picked pick first calls) < 2 ^ 62
 picked_small Kept first calls fits = omega (arith, read_small first calls fits, ap length (kept_is first calls))
