@@ -68,8 +68,8 @@ impl<F: Files<File = File> + AllocGlobal + Drop> DirCabinet<F> {
         }
     }
 
-    /// How many calls have failed, those among them that were the last call of a disk that was
-    /// put back.
+    /// How many calls have failed. A disk that is put back counts as one of them where its last
+    /// call failed.
     pub fn faults(&self) -> u64
         ensures { result ≡ self.now.faults }
     {

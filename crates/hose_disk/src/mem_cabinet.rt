@@ -100,8 +100,8 @@ impl MemCabinet {
         self.failing.add(nth)
     }
 
-    /// What it counts of its calls that failed, those among them that were the last call of a disk
-    /// that was put back.
+    /// What it counts of its calls that failed. A disk that is put back counts as one of them where
+    /// its last call failed.
     pub fn faults(&self) -> Faults
         ensures { result ≡ self.now.faults }
     {
