@@ -1,8 +1,9 @@
 // Writing an entry, field by field.
 ghost use Rattle.std.specs.Prelude.{◌≡◌, ◌<◌, ◌≤◌, ◌^◌, ◌++◌, All, OnOk, IfOk, length, vec_len};
+ghost use Rattle.byteorder.specs.Endian.{big_bytes};
 ghost use Rattle.hose_graph.specs.Name.{IsName};
 ghost use Rattle.hose_graph.specs.Hose.{IsHose};
-ghost use Rattle.hose_codec.specs.Fields.{name_field, pairs_field, ends_field, amounts_field, id_field, link_field, FitsPair};
+ghost use Rattle.hose_codec.specs.Fields.{name_field, pairs_field, ends_field, amounts_field, id_field, FitsPair};
 ghost use Rattle.hose_graph.specs.Ranges.{AreInRanges};
 ghost use Rattle.hose_codec.specs.Spelling.{spelling, IsEntry, IsSpelling};
 ghost use Rattle.hose_graph.specs.Ranges.{IsInRanges};
@@ -62,11 +63,11 @@ fn put_entry(out: &mut Vec<u8>, entry: &Entry) -> Result<(), AllocError>
         }
         Entry::Down { link } => {
             out.push(DOWN)?;
-            put_link(out, *link)
+            put_two_bytes(out, *link)
         }
         Entry::Up { link } => {
             out.push(UP)?;
-            put_link(out, *link)
+            put_two_bytes(out, *link)
         }
     }
 }
@@ -92,9 +93,7 @@ fn put_amounts(out: &mut Vec<u8>, amounts: &[ReservedLink]) -> Result<(), AllocE
     requires { AreInRanges amounts.now }
     ensures { OnOk result (out.new.items ≡ out.old.items ++ amounts_field amounts.now) }
 {
-    let mut count = [0; 2];
-    BigEndian::write_u16(&mut count, amounts.len() as u16);
-    out.extend_from_slice(&count)?;
+    put_two_bytes(out, amounts.len() as u32)?;
     put_pairs(out, amounts)
 }
 
@@ -107,12 +106,12 @@ fn put_id(out: &mut Vec<u8>, id: u64) -> Result<(), AllocError>
     out.extend_from_slice(&field)
 }
 
-fn put_link(out: &mut Vec<u8>, link: u32) -> Result<(), AllocError>
-    requires { link < 2 ^ 16 }
-    ensures { OnOk result (out.new.items ≡ out.old.items ++ link_field link) }
+fn put_two_bytes(out: &mut Vec<u8>, number: u32) -> Result<(), AllocError>
+    requires { number < 2 ^ 16 }
+    ensures { OnOk result (out.new.items ≡ out.old.items ++ big_bytes 2 number) }
 {
     let mut field = [0; 2];
-    BigEndian::write_u16(&mut field, link as u16);
+    BigEndian::write_u16(&mut field, number as u16);
     out.extend_from_slice(&field)
 }
 
