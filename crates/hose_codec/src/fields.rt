@@ -35,7 +35,7 @@ impl<'a> Fields<'a> {
         Fields { rest: bytes }
     }
 
-    /// Whether nothing is left.
+    /// Makes sure that nothing is left.
     pub fn end(&self) -> Result<(), CodecFault>
         ensures ok { IsOk result ↔ (self.now ≡ []) }
         ensures bad { OnErr result (result ≡ Err CodecFault.Bad) }
@@ -57,7 +57,7 @@ impl<'a> Fields<'a> {
     }
 
     /// The name that is next, if there is one.
-    // An option: a name that shares its bytes with a fault would be copied in pieces.
+    // An option and no result: a name in one value with a fault would be copied in pieces.
     pub fn name(&mut self) -> Option<Name>
         ensures { TakesField name_field IsName self.old self.new result }
     {
