@@ -154,7 +154,7 @@ impl<N: Net<Listener = TcpListener, Stream = TcpStream> + Clock + Drop> Door for
         Ok(Some((StdSource::new(input), StdSink::new(output))))
     }
 
-    // The system refuses whom it has not told of to an accept, and who comes later.
+    // The system refuses a peer of which no accept was told yet, and each that comes later.
     fn close(&mut self)
         ensures told { untold_connections ≡ untold_connections }
         ensures frame { tcp_frame self.new ≡ tcp_frame self.old }
