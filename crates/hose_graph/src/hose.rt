@@ -1,5 +1,5 @@
 // Hoses: endpoints with their rates, checked and sorted.
-ghost use Rattle.std.specs.Prelude.{◌≡◌, ℕ, ◌*◌, ◌<◌, ◌≤◌, ◌↔◌, List, length, IsTrue, IsOk, IsErrOf, IfOk, All, Any, IsPermutation};
+ghost use Rattle.std.specs.Prelude.{◌≡◌, ℕ, ◌*◌, ◌<◌, ◌≤◌, ◌↔◌, List, length, IsTrue, IsErrOf, IfOk, All, Any, IsPermutation};
 ghost use Rattle.hose_graph.specs.Hose.{IsEnd, IsHose, IsCounted, MakesHose, HasDistinctNodes, node_of, total_rate};
 
 use crate::limits::{LEAST_ENDS, MOST_ENDS, MOST_NODES, MOST_RATE};
@@ -60,7 +60,18 @@ impl Hose {
             ↔ (IsCounted ends.now × All IsEnd ends.now × (¬ HasDistinctNodes ends.now)) }
         ensures memory { IsErrOf result HoseFault.Memory → MakesHose ends.now }
     {
-        check(ends)?;
+        if ends.len() > MOST_ENDS {
+            return Err(HoseFault::Many);
+        }
+        if ends.len() < LEAST_ENDS {
+            return Err(HoseFault::Few);
+        }
+        if !are_within(ends) {
+            return Err(HoseFault::Range);
+        }
+        if !has_distinct_nodes(ends) {
+            return Err(HoseFault::Repeat);
+        }
         Hose::from_ends(alloc, ends).map_err(|_| HoseFault::Memory)
     }
 
@@ -106,32 +117,6 @@ impl Hose {
     {
         Ok(Hose::from_vec(Vec::from_slice(alloc, self.ends())?))
     }
-}
-
-// Says whether the endpoints make a hose, and if not, why.
-fn check(ends: &[Endpoint]) -> Result<(), HoseFault>
-    ensures ok { IsOk result ↔ MakesHose ends.now }
-    ensures many { IsErrOf result HoseFault.Many ↔ (MOST_ENDS < length ends.now) }
-    ensures few { IsErrOf result HoseFault.Few ↔ (length ends.now < LEAST_ENDS) }
-    ensures range { IsErrOf result HoseFault.Range
-        ↔ (IsCounted ends.now × (¬ All IsEnd ends.now)) }
-    ensures repeat { IsErrOf result HoseFault.Repeat
-        ↔ (IsCounted ends.now × All IsEnd ends.now × (¬ HasDistinctNodes ends.now)) }
-    ensures no_memory { ¬ IsErrOf result HoseFault.Memory }
-{
-    if ends.len() > MOST_ENDS {
-        return Err(HoseFault::Many);
-    }
-    if ends.len() < LEAST_ENDS {
-        return Err(HoseFault::Few);
-    }
-    if !are_within(ends) {
-        return Err(HoseFault::Range);
-    }
-    if !has_distinct_nodes(ends) {
-        return Err(HoseFault::Repeat);
-    }
-    Ok(())
 }
 
 // Whether each endpoint's node and rate are within the limits.
