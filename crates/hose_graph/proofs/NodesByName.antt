@@ -1,9 +1,8 @@
 -- Nodes are known by their names.
-use Rattle.std.proofs.Common.{◌≡◌, ◌≢◌, ◌∙◌, ℕ, ◌<◌, List, [], Some, None, Option, IfNone, IsSome, ◌↔◌, sym, ap, subst, arith, inl, inr}
-use Rattle.std.specs.List.{All, AllPairs, Contains, slice_get}
+use Rattle.std.proofs.Common.{◌≡◌, ◌≢◌, ◌∙◌, ℕ, ◌<◌, List, [], Some, None, Option, IfNone, IsSome, ◌↔◌, sym, ap, arith, inl, inr}
+use Rattle.std.specs.List.{AllPairs, Contains, slice_get}
 use Rattle.std.proofs.lemmas.Bool.{cases_lt, false≢true}
 use Rattle.std.proofs.lemmas.Option.{get_or_from_slice_get, slice_get-get_or, slice_get_within}
-use Rattle.hose_graph.specs.Name.{IsName}
 use Rattle.hose_graph.specs.Network.{Network, IsNodeOf, name_of}
 
 -- no two nodes have one name
@@ -20,11 +19,6 @@ same_node nodes i j name differ one two =
     apart : (k m : ℕ) → slice_get nodes k ≡ Some name → slice_get nodes m ≡ Some name → k < m → ⊥
     apart k m first second below =
         differ k m name below (slice_get_within nodes m name second) (get_or_from_slice_get nodes k name name first ∙ sym (get_or_from_slice_get nodes m name name second))
-
--- what names a node is a name
-pub IsName-node : (nodes : List (List ℕ)) (node : ℕ) (name : List ℕ) → All IsName nodes → slice_get nodes node ≡ Some name → IsName name
-IsName-node nodes node name names there =
-    subst IsName (get_or_from_slice_get nodes node name name there) (names node name (slice_get_within nodes node name there))
 
 -- where a name is not found, no node has it
 pub none_found : (nodes : List (List ℕ)) (name word : List ℕ) (found : Option ℕ) → IsSome found ↔ Contains nodes name → name ≡ word → IfNone found ((node : ℕ) → slice_get nodes node ≡ Some word → ⊥)
