@@ -1,5 +1,6 @@
 -- One plan, one side, one answer: without want of memory the replies of a script are the only ones.
-use Rattle.std.proofs.Common.{◌≡◌, ◌≢◌, ◌∙◌, ℕ, Bool, true, false, not, List, [], ◌∷◌, Option, None, Some, IsSome, length, take, inl, inr, ◌⊎◌, refl, sym, ap, subst, arith}
+use Rattle.std.proofs.Common.{◌≡◌, ◌≢◌, ◌∙◌, ℕ, ◌+◌, ◌<◌, ◌≤◌, Bool, true, false, not, List, [], ◌∷◌, Option, None, Some, IsSome, length, take, inl, inr, ◌⊎◌, refl, sym, ap, subst, arith}
+use Rattle.std.specs.Bool.{⊤}
 use Rattle.std.proofs.lemmas.Bool.{false≢true}
 use Rattle.std.proofs.lemmas.List.Elements.{All-head, All-tail}
 use Rattle.std.proofs.lemmas.List.Kept.{AllPairs-from_increasing}
@@ -7,7 +8,7 @@ use Rattle.hose_graph.specs.Name.{operator}
 use Rattle.hose_graph.specs.Network.{Network, IsNetwork}
 use Rattle.hose_graph.specs.declared.entry.Vpn.{Vpn}
 use Rattle.hose_graph.specs.declared.entry.Entry.{Entry}
-use Rattle.hose_graph.specs.declared.entry.Entry.TheVariants.{Admit as AdmitEntry}
+use Rattle.hose_graph.specs.declared.entry.Entry.TheVariants.{Admit as AdmitEntry, Release as ReleaseEntry}
 use Rattle.hose_graph.specs.declared.command.Command.{Command}
 use Rattle.hose_graph.specs.declared.command.Command.TheVariants.{Admit, Quote, Take, Release, Show, Link, Down as DownCommand, Up as UpCommand}
 use Rattle.hose_graph.specs.declared.command.Reply.{Reply}
@@ -17,21 +18,53 @@ use Rattle.hose_law.proofs.CanonicalPlans.{planned_unique}
 use Rattle.hose_law.proofs.Numbers.{some_is}
 use Rattle.hose_graph.proofs.Ordered.{same_by_elements}
 use Rattle.hose_law.specs.Plan.{plan_cost}
-use Rattle.hose_law.specs.Book.{Book}
-use Rattle.hose_law.specs.Decision.{HaveEqualGrounds, IsReachedList, IsRefused, lowest_end}
-use Rattle.hose_law.specs.History.{book_of}
+use Rattle.hose_law.specs.Book.{Book, HasVpn, IsLiveVpn, load_of}
+use Rattle.hose_law.specs.Decision.{HaveEqualGrounds, IsPlanned, IsReachedList, IsRefused, lowest_end}
+use Rattle.hose_law.specs.History.{book_of, last_epoch, most_live}
 use Rattle.hose_law.specs.Room.{room_of, safe_links}
 use Rattle.hose_law.specs.Answer.{IsPlannedAnswer, IsAdmitAnswer, IsQuoteAnswer, IsTakingAnswer, IsTakeAnswer, IsReleaseAnswer, IsShowAnswer, IsLinkAnswer, IsOperatorAnswer, IsServiceAnswer, IsAnswer, IsStep, IsStepOfKind, with_entry}
-use Rattle.hose_law.specs.Service.{LinkStands}
+use Rattle.hose_law.specs.Service.{LinkStands, is_out, service_entry}
 use Rattle.hose_law.specs.Quotes.{Held, HeldQuote, Holdings, at_number, free_number, with_held, with_number}
 use Rattle.hose_law.specs.ReplyKind.{ReplyKind, IsDiskKind, IsMemoryKind, kind_of}
 use Rattle.hose_law.specs.ReplyKind.ReplyKind.{ByTheBook, ForDisk, ForMemory, ForNoCommand}
-use Rattle.hose_law.specs.Script.{ReadLine, Asks, IsBad, IsLong, Unread, IsForDisk, IsForMemory, IsLineStep, IsScript, WithoutDisk, WithoutMemory}
+use Rattle.hose_law.specs.Script.{ReadLine, Asks, IsForDisk, IsForMemory, IsLineStep, IsScript, WithoutDisk, WithoutMemory}
 
--- none is not some
-is_none_is_some : {X : Type 0} (found : Option X) → found ≡ None → IsSome found → ⊥
-is_none_is_some None none some = cc some
-is_none_is_some (Some value) none some = cc none
+-- A kind of answers relates a reply and what comes of it: the entry that joins the history, or what is held then.
+module _ {X : Type 0} where
+  -- there is one answer of the kind
+  abbrev IsUnique : (Reply → X → Type 0) → Type 0
+  IsUnique Is = (reply other : Reply) (comes more : X) → Is reply comes → Is other more → (reply ≡ other) × (comes ≡ more)
+
+  -- so there is of two kinds together, of which no book has both
+  either_unique : (Is Also : Reply → X → Type 0) → ((reply other : Reply) (comes more : X) → Is reply comes → Also other more → ⊥) → IsUnique Is → IsUnique Also
+      → IsUnique (λ reply comes. Is reply comes ⊎ Also reply comes)
+  either_unique Is Also apart one two reply other comes more (inl is) (inl also) = one reply other comes more is also
+  either_unique Is Also apart one two reply other comes more (inl is) (inr also) = absurd (apart reply other comes more is also)
+  either_unique Is Also apart one two reply other comes more (inr is) (inl also) = absurd (apart other reply more comes also is)
+  either_unique Is Also apart one two reply other comes more (inr is) (inr also) = two reply other comes more is also
+
+  -- where this holds, the reply is the one that is told, and this comes of it
+  abbrev Tells : Type 0 → Reply → X → Reply → X → Type 0
+  Tells Holds told leads reply comes = Holds × (reply ≡ told) × (comes ≡ leads)
+
+  tells_unique : (Holds : Type 0) (told : Reply) (leads : X) → IsUnique (Tells Holds told leads)
+  tells_unique Holds told leads reply other comes more one two = (one.1 ∙ sym two.1, one.2 ∙ sym two.2)
+
+  -- the reply that is told where this holds, and an answer of a kind where something else does
+  abbrev FirstOr : Type 0 → Reply → X → Type 0 → (Reply → X → Type 0) → Reply → X → Type 0
+  FirstOr Holds told leads Else Is reply comes = Tells Holds told leads reply comes ⊎ (Else × Is reply comes)
+
+  first_unique : (Holds : Type 0) (told : Reply) (leads : X) (Else : Type 0) (Is : Reply → X → Type 0) → (Holds → Else → ⊥) → IsUnique Is → IsUnique (FirstOr Holds told leads Else Is)
+  first_unique Holds told leads Else Is apart unique =
+      either_unique (Tells Holds told leads) (λ reply comes. Else × Is reply comes) (λ _ _ _ _ first other. apart first.0 other.0) (tells_unique Holds told leads)
+      (λ reply other comes more one two. unique reply other comes more one.1 two.1)
+
+-- spent where no epoch is left, and an answer of a kind where one is
+abbrev SpentOr : Book → (Reply → Option Entry → Type 0) → Reply → Option Entry → Type 0
+SpentOr book = FirstOr (book.epoch ≡ last_epoch) (Spent book.epoch) None (book.epoch < last_epoch)
+
+spent_unique : (book : Book) (Is : Reply → Option Entry → Type 0) → IsUnique Is → IsUnique (SpentOr book Is)
+spent_unique book Is = first_unique (book.epoch ≡ last_epoch) (Spent book.epoch) None (book.epoch < last_epoch) Is (λ last before. omega (arith, last, before))
 
 -- What a node reaches over a set has one ascending list.
 pub side_unique : (network : Network) (set : List Bool) (from : ℕ) (one other : List ℕ) → IsReachedList network set from one → IsReachedList network set from other → one ≡ other
@@ -42,6 +75,19 @@ side_unique network set from one other is_one is_other =
       λ there. (is_one.reached v).1 ((is_other.reached v).0 there),
     ))
 
+module _ (network : Network) (book : Book) (hose : List (ℕ × ℕ)) {X : Type 0} (leads : X) where
+  -- the hose is refused, and this comes of it
+  record IsRefusal (reply : Reply) (comes : X) : Type 0 where
+    side : List ℕ
+    refused : IsRefused network (room_of network book) hose side
+    tells : reply ≡ Refused book.epoch side
+    after : comes ≡ leads
+
+  refusal_unique : IsUnique IsRefusal
+  refusal_unique reply other comes more one two =
+      let sides : one.side ≡ two.side = side_unique network (safe_links (room_of network book) hose) (lowest_end hose) one.side two.side one.refused.is_side two.refused.is_side in
+      (one.tells ∙ ap (Refused book.epoch) sides ∙ sym two.tells, one.after ∙ sym two.after)
+
 module _ (network : Network) (is : IsNetwork network) (book : Book) (customer : List ℕ) (hose : List (ℕ × ℕ)) where
   -- a hose that has a plan is not refused
   planned_not_refused : (reply : Reply) (entry : Option Entry) (side : List ℕ) → IsPlannedAnswer network book customer hose reply entry → IsRefused network (room_of network book) hose side → ⊥
@@ -50,172 +96,105 @@ module _ (network : Network) (is : IsNetwork network) (book : Book) (customer : 
   planned_not_refused (Admitted id cost at amounts) (Some entry) side answer refused = refused.no_plan amounts answer.2
   planned_not_refused reply entry side answer refused = answer
 
-  -- where no epoch is left, each answer says so
-  spent_alone : (at : ℕ) (other : Reply) (more : Option Entry) → IsPlannedAnswer network book customer hose (Spent at) None → IsPlannedAnswer network book customer hose other more
-      → (Spent at ≡ other) × (None ≡ more)
-  spent_alone at (Spent when) None one two = let times : at ≡ when = one.0 ∙ sym two.0 in (ap Spent times, refl)
-  spent_alone at (Full when) None one two = absurd (omega (arith, one.1, two.1))
-  spent_alone at (Admitted id cost when amounts) (Some entry) one two = absurd (omega (arith, one.1, two.0))
-  spent_alone at other more one two = absurd two
+  -- the hose is admitted with a plan
+  record IsAdmission (reply : Reply) (entry : Option Entry) : Type 0 where
+    plan : List (ℕ × ℕ)
+    planned : IsPlanned network (room_of network book) hose plan
+    tells : reply ≡ Admitted (book.epoch + 1) (plan_cost network plan) (book.epoch + 1) plan
+    enters : entry ≡ Some (AdmitEntry customer hose plan)
 
-  -- where there is no room among the live, each answer says so
-  full_alone : (at : ℕ) (other : Reply) (more : Option Entry) → IsPlannedAnswer network book customer hose (Full at) None → IsPlannedAnswer network book customer hose other more
-      → (Full at ≡ other) × (None ≡ more)
-  full_alone at (Spent when) None one two = absurd (omega (arith, one.1, two.1))
-  full_alone at (Full when) None one two = let times : at ≡ when = one.0 ∙ sym two.0 in (ap Full times, refl)
-  full_alone at (Admitted id cost when amounts) (Some entry) one two = absurd (omega (arith, one.2, two.1))
-  full_alone at other more one two = absurd two
-
-  -- where the hose is admitted, each answer is that admission
-  admitted_alone : (id cost at : ℕ) (amounts : List (ℕ × ℕ)) (entry : Entry) (other : Reply) (more : Option Entry)
-      → IsPlannedAnswer network book customer hose (Admitted id cost at amounts) (Some entry) → IsPlannedAnswer network book customer hose other more
-      → (Admitted id cost at amounts ≡ other) × (Some entry ≡ more)
-  admitted_alone id cost at amounts entry (Spent when) None one two = absurd (omega (arith, one.0, two.1))
-  admitted_alone id cost at amounts entry (Full when) None one two = absurd (omega (arith, one.1, two.2))
-  admitted_alone id cost at amounts entry (Admitted id' cost' when amounts') (Some entry') one two =
-      let plans : amounts ≡ amounts' = planned_unique network is (room_of network book) hose amounts amounts' one.2 two.2 in
-      let ids : id ≡ id' = one.3 ∙ sym two.3 in
-      let times : at ≡ when = one.4 ∙ sym two.4 in
-      let costs : cost ≡ cost' = one.5 ∙ ap (plan_cost network) plans ∙ sym two.5 in
-      let entries : entry ≡ entry' = one.6 ∙ ap (AdmitEntry customer hose) plans ∙ sym two.6 in (
-        ap (λ (n : ℕ). Admitted n cost at amounts) ids ∙ ap (λ (n : ℕ). Admitted id' n at amounts) costs
-            ∙ ap (λ (n : ℕ). Admitted id' cost' n amounts) times ∙ ap (Admitted id' cost' when) plans,
-        ap Some entries,
+  admission_unique : IsUnique IsAdmission
+  admission_unique reply other entry more one two =
+      let plans : one.plan ≡ two.plan = planned_unique network is (room_of network book) hose one.plan two.plan one.planned two.planned in (
+        one.tells ∙ ap (λ (plan : List (ℕ × ℕ)). Admitted (book.epoch + 1) (plan_cost network plan) (book.epoch + 1) plan) plans ∙ sym two.tells,
+        one.enters ∙ ap (λ (plan : List (ℕ × ℕ)). Some (AdmitEntry customer hose plan)) plans ∙ sym two.enters,
       )
-  admitted_alone id cost at amounts entry other more one two = absurd two
+
+  -- where an epoch is left: full where there is no room among the live, else the hose is admitted
+  abbrev FullOrAdmitted : Reply → Option Entry → Type 0
+  FullOrAdmitted = FirstOr (most_live ≤ length book.live) (Full book.epoch) None (length book.live < most_live) IsAdmission
+
+  planned_cases : (reply : Reply) (entry : Option Entry) → IsPlannedAnswer network book customer hose reply entry → SpentOr book FullOrAdmitted reply entry
+  planned_cases (Spent at) None is = inl (is.1, cc is.0, refl)
+  planned_cases (Full at) None is = inr (is.1, inl (is.2, cc is.0, refl))
+  planned_cases (Admitted id cost at amounts) (Some entry) is =
+      inr (is.0, inr (is.1, record { plan = amounts; planned = is.2; tells = cc (is.3, is.4, is.5); enters = ap Some is.6 }))
+  planned_cases reply entry is = absurd is
 
   -- a hose that has a plan has one answer at a book, and one entry of it
-  planned_answer_unique : (reply other : Reply) (entry more : Option Entry) → IsPlannedAnswer network book customer hose reply entry → IsPlannedAnswer network book customer hose other more
-      → (reply ≡ other) × (entry ≡ more)
-  planned_answer_unique (Spent at) other None more one two = spent_alone at other more one two
-  planned_answer_unique (Full at) other None more one two = full_alone at other more one two
-  planned_answer_unique (Admitted id cost at amounts) other (Some entry) more one two = admitted_alone id cost at amounts entry other more one two
-  planned_answer_unique reply other entry more one two = absurd one
-
-  -- the answer is a refusal
-  record IsRefusal (reply : Reply) (entry : Option Entry) : Type 0 where
-    side : List ℕ
-    tells : reply ≡ Refused book.epoch side
-    refused : IsRefused network (room_of network book) hose side
-    alone : entry ≡ None
+  planned_answer_unique : IsUnique (IsPlannedAnswer network book customer hose)
+  planned_answer_unique reply other entry more one two =
+      let placed : IsUnique FullOrAdmitted =
+      first_unique (most_live ≤ length book.live) (Full book.epoch) None (length book.live < most_live) IsAdmission (λ full room. omega (arith, full, room)) admission_unique in
+      spent_unique book FullOrAdmitted placed reply other entry more (planned_cases reply entry one) (planned_cases other more two)
 
   -- an admission is refused, or the hose has a plan
-  admit_cases : (reply : Reply) (entry : Option Entry) → IsAdmitAnswer network book customer hose reply entry → IsRefusal reply entry ⊎ IsPlannedAnswer network book customer hose reply entry
-  admit_cases (Refused at side) None answer =
-      let times : at ≡ book.epoch = answer.0 in
-      inl (record { side = side; tells = ap (λ (n : ℕ). Refused n side) times; refused = answer.1; alone = refl })
-  admit_cases reply entry answer = inr answer
+  admit_cases : (reply : Reply) (entry : Option Entry) → IsAdmitAnswer network book customer hose reply entry → IsRefusal network book hose None reply entry ⊎ IsPlannedAnswer network book customer hose reply entry
+  admit_cases (Refused at side) None is = inl (record { side = side; refused = is.1; tells = ap (λ (n : ℕ). Refused n side) is.0; after = refl })
+  admit_cases reply entry is = inr is
 
   -- an admission has one answer at a book, and one entry of it
-  admit_answer_unique : (reply other : Reply) (entry more : Option Entry) → IsAdmitAnswer network book customer hose reply entry → IsAdmitAnswer network book customer hose other more
-      → (reply ≡ other) × (entry ≡ more)
-  admit_answer_unique reply other entry more one two = at (admit_cases reply entry one) (admit_cases other more two)
-    where
-      at : IsRefusal reply entry ⊎ IsPlannedAnswer network book customer hose reply entry → IsRefusal other more ⊎ IsPlannedAnswer network book customer hose other more → (reply ≡ other) × (entry ≡ more)
-      at (inl refusal) (inl also) =
-          let sides : refusal.side ≡ also.side = side_unique network (safe_links (room_of network book) hose) (lowest_end hose) refusal.side also.side refusal.refused.is_side also.refused.is_side in
-          (refusal.tells ∙ ap (Refused book.epoch) sides ∙ sym also.tells, refusal.alone ∙ sym also.alone)
-      at (inl refusal) (inr planned) = absurd (planned_not_refused other more refusal.side planned refusal.refused)
-      at (inr planned) (inl refusal) = absurd (planned_not_refused reply entry refusal.side planned refusal.refused)
-      at (inr planned) (inr also) = planned_answer_unique reply other entry more planned also
+  admit_answer_unique : IsUnique (IsAdmitAnswer network book customer hose)
+  admit_answer_unique reply other entry more one two =
+      either_unique (IsRefusal network book hose None) (IsPlannedAnswer network book customer hose)
+      (λ reply other entry more refusal planned. planned_not_refused other more refusal.side planned refusal.refused) (refusal_unique network book hose None) planned_answer_unique
+      reply other entry more (admit_cases reply entry one) (admit_cases other more two)
 
 module _ (book : Book) (customer : List ℕ) (id : ℕ) where
-  -- where the customer has no VPN of the number to give up, each answer says so
-  no_vpn_alone : (told at : ℕ) (other : Reply) (more : Option Entry) → IsReleaseAnswer book customer id (NoVpn told at) None → IsReleaseAnswer book customer id other more
-      → (NoVpn told at ≡ other) × (None ≡ more)
-  no_vpn_alone told at (NoVpn tells when) None one two =
-      let ids : told ≡ tells = one.0 ∙ sym two.0 in
-      let times : at ≡ when = one.1 ∙ sym two.1 in
-      (ap (λ (n : ℕ). NoVpn n at) ids ∙ ap (NoVpn tells) times, refl)
-  no_vpn_alone told at (Spent when) None one two = absurd (one.2 two.2)
-  no_vpn_alone told at (Released tells when) (Some entry) one two = absurd (one.2 two.1)
-  no_vpn_alone told at other more one two = absurd two
+  -- where the customer has the VPN: spent where no epoch is left, else it is given up
+  abbrev SpentOrReleased : Reply → Option Entry → Type 0
+  SpentOrReleased = SpentOr book (Tells ⊤ (Released id (book.epoch + 1)) (Some (ReleaseEntry customer id)))
 
-  -- where no epoch is left for a release, each answer says so
-  release_spent_alone : (at : ℕ) (other : Reply) (more : Option Entry) → IsReleaseAnswer book customer id (Spent at) None → IsReleaseAnswer book customer id other more
-      → (Spent at ≡ other) × (None ≡ more)
-  release_spent_alone at (NoVpn tells when) None one two = absurd (two.2 one.2)
-  release_spent_alone at (Spent when) None one two = let times : at ≡ when = one.0 ∙ sym two.0 in (ap Spent times, refl)
-  release_spent_alone at (Released tells when) (Some entry) one two = absurd (omega (arith, one.1, two.0))
-  release_spent_alone at other more one two = absurd two
-
-  -- where a VPN is given up, each answer is that release
-  released_alone : (told at : ℕ) (entry : Entry) (other : Reply) (more : Option Entry)
-      → IsReleaseAnswer book customer id (Released told at) (Some entry) → IsReleaseAnswer book customer id other more → (Released told at ≡ other) × (Some entry ≡ more)
-  released_alone told at entry (NoVpn tells when) None one two = absurd (two.2 one.1)
-  released_alone told at entry (Spent when) None one two = absurd (omega (arith, one.0, two.1))
-  released_alone told at entry (Released tells when) (Some entry') one two =
-      let ids : told ≡ tells = one.2 ∙ sym two.2 in
-      let times : at ≡ when = one.3 ∙ sym two.3 in
-      let entries : entry ≡ entry' = one.4 ∙ sym two.4 in
-      (ap (λ (n : ℕ). Released n at) ids ∙ ap (Released tells) times, ap Some entries)
-  released_alone told at entry other more one two = absurd two
+  release_cases : (reply : Reply) (entry : Option Entry) → IsReleaseAnswer book customer id reply entry
+      → FirstOr (¬ HasVpn book customer id) (NoVpn id book.epoch) None (HasVpn book customer id) SpentOrReleased reply entry
+  release_cases (NoVpn told at) None is = inl (is.2, cc (is.0, is.1), refl)
+  release_cases (Spent at) None is = inr (is.2, inl (is.1, cc is.0, refl))
+  release_cases (Released told at) (Some entry) is = inr (is.1, inr (is.0, (tt, cc (is.2, is.3), ap Some is.4)))
+  release_cases reply entry is = absurd is
 
   -- a release has one answer at a book, and one entry of it
-  release_answer_unique : (reply other : Reply) (entry more : Option Entry) → IsReleaseAnswer book customer id reply entry → IsReleaseAnswer book customer id other more
-      → (reply ≡ other) × (entry ≡ more)
-  release_answer_unique (NoVpn told at) other None more one two = no_vpn_alone told at other more one two
-  release_answer_unique (Spent at) other None more one two = release_spent_alone at other more one two
-  release_answer_unique (Released told at) other (Some entry) more one two = released_alone told at entry other more one two
-  release_answer_unique reply other entry more one two = absurd one
+  release_answer_unique : IsUnique (IsReleaseAnswer book customer id)
+  release_answer_unique reply other entry more one two =
+      let done = Tells ⊤ (Released id (book.epoch + 1)) (Some (ReleaseEntry customer id)) in
+      first_unique (¬ HasVpn book customer id) (NoVpn id book.epoch) None (HasVpn book customer id) SpentOrReleased (λ none has. none has)
+      (spent_unique book done (tells_unique ⊤ (Released id (book.epoch + 1)) (Some (ReleaseEntry customer id))))
+      reply other entry more (release_cases reply entry one) (release_cases other more two)
 
 module _ (network : Network) (book : Book) (customer : List ℕ) (id : ℕ) where
-  -- where the customer has no VPN of the number to be told, each answer says so
-  none_to_show : (told at : ℕ) (other : Reply) (more : Option Entry) → IsShowAnswer network book customer id (NoVpn told at) None → IsShowAnswer network book customer id other more
-      → (NoVpn told at ≡ other) × (None ≡ more)
-  none_to_show told at (NoVpn tells when) None one two =
-      let ids : told ≡ tells = one.0 ∙ sym two.0 in
-      let times : at ≡ when = one.1 ∙ sym two.1 in
-      (ap (λ (n : ℕ). NoVpn n at) ids ∙ ap (NoVpn tells) times, refl)
-  none_to_show told at (Shown tells cost when hose amounts) None one two = absurd (one.2 (two.0, two.1))
-  none_to_show told at other more one two = absurd two
+  -- a live VPN of the customer's is told
+  record IsShown (reply : Reply) (entry : Option Entry) : Type 0 where
+    vpn : Vpn
+    live : IsLiveVpn book customer id vpn
+    tells : reply ≡ Shown id (plan_cost network vpn.amounts) book.epoch vpn.hose vpn.amounts
+    alone : entry ≡ None
 
-  -- where ids are distinct and a VPN is told, each answer tells that one
-  shown_alone : (told cost at : ℕ) (hose amounts : List (ℕ × ℕ)) (other : Reply) (more : Option Entry) → HasDistinctIds book
-      → IsShowAnswer network book customer id (Shown told cost at hose amounts) None → IsShowAnswer network book customer id other more
-      → (Shown told cost at hose amounts ≡ other) × (None ≡ more)
-  shown_alone told cost at hose amounts (NoVpn tells when) None distinct one two = absurd (two.2 (one.0, one.1))
-  shown_alone told cost at hose amounts (Shown told' cost' at' hose' amounts') None distinct one two =
-      let same : one.0 ≡ two.0 = vpn_unique book one.0 two.0 distinct one.1.live two.1.live (one.1.is_id ∙ sym two.1.is_id) in
-      let ids : told ≡ told' = one.2 ∙ sym two.2 in
-      let times : at ≡ at' = one.3 ∙ sym two.3 in
-      let costs : cost ≡ cost' = one.4 ∙ ap (λ (v : Vpn). plan_cost network v.amounts) same ∙ sym two.4 in
-      let hoses : hose ≡ hose' = one.5 ∙ ap (λ (v : Vpn). v.hose) same ∙ sym two.5 in
-      let plans : amounts ≡ amounts' = one.6 ∙ ap (λ (v : Vpn). v.amounts) same ∙ sym two.6 in (
-        ap (λ (n : ℕ). Shown n cost at hose amounts) ids ∙ ap (λ (n : ℕ). Shown told' n at hose amounts) costs
-            ∙ ap (λ (n : ℕ). Shown told' cost' n hose amounts) times ∙ ap (λ (h : List (ℕ × ℕ)). Shown told' cost' at' h amounts) hoses
-            ∙ ap (Shown told' cost' at' hose') plans,
-        refl,
-      )
-  shown_alone told cost at hose amounts other more distinct one two = absurd two
+  shown_unique : HasDistinctIds book → IsUnique IsShown
+  shown_unique distinct reply other entry more one two =
+      let same : one.vpn ≡ two.vpn = vpn_unique book one.vpn two.vpn distinct one.live.live two.live.live (one.live.is_id ∙ sym two.live.is_id) in
+      (one.tells ∙ ap (λ (v : Vpn). Shown id (plan_cost network v.amounts) book.epoch v.hose v.amounts) same ∙ sym two.tells, one.alone ∙ sym two.alone)
+
+  show_cases : (reply : Reply) (entry : Option Entry) → IsShowAnswer network book customer id reply entry
+      → FirstOr (¬ HasVpn book customer id) (NoVpn id book.epoch) None (HasVpn book customer id) IsShown reply entry
+  show_cases (NoVpn told at) None is = inl (is.2, cc (is.0, is.1), refl)
+  show_cases (Shown told cost at hose amounts) None is = inr ((is.0, is.1), record { vpn = is.0; live = is.1; tells = cc (is.2, is.3, is.4, is.5, is.6); alone = refl })
+  show_cases reply entry is = absurd is
 
   -- a question after a VPN has one answer at a book with distinct ids
-  show_answer_unique : (reply other : Reply) (entry more : Option Entry) → HasDistinctIds book
-      → IsShowAnswer network book customer id reply entry → IsShowAnswer network book customer id other more → (reply ≡ other) × (entry ≡ more)
-  show_answer_unique (NoVpn told at) other None more distinct one two = none_to_show told at other more one two
-  show_answer_unique (Shown told cost at hose amounts) other None more distinct one two = shown_alone told cost at hose amounts other more distinct one two
-  show_answer_unique reply other entry more distinct one two = absurd one
+  show_answer_unique : HasDistinctIds book → IsUnique (IsShowAnswer network book customer id)
+  show_answer_unique distinct reply other entry more one two =
+      first_unique (¬ HasVpn book customer id) (NoVpn id book.epoch) None (HasVpn book customer id) IsShown (λ none has. none has) (shown_unique distinct)
+      reply other entry more (show_cases reply entry one) (show_cases other more two)
 
 module _ (book : Book) (link : ℕ) where
-  -- what a link is told as, is told alike
-  link_state_alone : (told load : ℕ) (out : Bool) (at : ℕ) (other : Reply) (more : Option Entry) → IsLinkAnswer book link (LinkState told load out at) None → IsLinkAnswer book link other more
-      → (LinkState told load out at ≡ other) × (None ≡ more)
-  link_state_alone told load out at (LinkState told' load' out' at') None one two =
-      let links : told ≡ told' = one.0 ∙ sym two.0 in
-      let loads : load ≡ load' = one.1 ∙ sym two.1 in
-      let outs : out ≡ out' = one.2 ∙ sym two.2 in
-      let times : at ≡ at' = one.3 ∙ sym two.3 in (
-        ap (λ (n : ℕ). LinkState n load out at) links ∙ ap (λ (n : ℕ). LinkState told' n out at) loads
-            ∙ ap (λ (b : Bool). LinkState told' load' b at) outs ∙ ap (LinkState told' load' out') times,
-        refl,
-      )
-  link_state_alone told load out at other more one two = absurd two
+  -- what a link is told as
+  link_told : (reply : Reply) (entry : Option Entry) → IsLinkAnswer book link reply entry → Tells ⊤ (LinkState link (load_of book link) (is_out book.out link) book.epoch) None reply entry
+  link_told (LinkState told load out at) None is = (tt, cc (is.0, is.1, is.2, is.3), refl)
+  link_told reply entry is = absurd is
 
   -- a question after a link has one answer at a book
-  link_answer_unique : (reply other : Reply) (entry more : Option Entry) → IsLinkAnswer book link reply entry → IsLinkAnswer book link other more
-      → (reply ≡ other) × (entry ≡ more)
-  link_answer_unique (LinkState told load out at) other None more one two = link_state_alone told load out at other more one two
-  link_answer_unique reply other entry more one two = absurd one
+  link_answer_unique : IsUnique (IsLinkAnswer book link)
+  link_answer_unique reply other entry more one two =
+      tells_unique ⊤ (LinkState link (load_of book link) (is_out book.out link) book.epoch) None reply other entry more (link_told reply entry one) (link_told other more two)
 
 -- a link does not stand in two ways
 pub stands_once : (network : Network) (book : Book) (down : Bool) (link : ℕ) → LinkStands network book link down → LinkStands network book link (not down) → ⊥
@@ -223,159 +202,101 @@ stands_once network book true link one two = false≢true (sym two.1 ∙ one.1)
 stands_once network book false link one two = false≢true (sym one.1 ∙ two.1)
 
 module _ (network : Network) (book : Book) (link : ℕ) where
-  -- where the link stands so already, each answer says so
-  already_alone : (down : Bool) (told at : ℕ) (other : Reply) (more : Option Entry) → IsServiceAnswer network book down link (Already told at) None → IsServiceAnswer network book down link other more
-      → (Already told at ≡ other) × (None ≡ more)
-  already_alone down told at (Already tells when) None one two =
-      let links : told ≡ tells = one.0 ∙ sym two.0 in
-      let times : at ≡ when = one.1 ∙ sym two.1 in
-      (ap (λ (n : ℕ). Already n at) links ∙ ap (Already tells) times, refl)
-  already_alone down told at (Spent when) None one two = absurd (stands_once network book down link one.2 two.2)
-  already_alone true told at (Down tells when) (Some entry) one two = absurd (stands_once network book true link one.2 two.1)
-  already_alone false told at (Up tells when) (Some entry) one two = absurd (stands_once network book false link one.2 two.1)
-  already_alone down told at other more one two = absurd two
+  -- what is told where an order is carried out
+  abbrev done_reply : Bool → Reply
+  done_reply true = Down link (book.epoch + 1)
+  done_reply false = Up link (book.epoch + 1)
 
-  -- where no epoch is left for it, each answer says so
-  service_spent_alone : (down : Bool) (at : ℕ) (other : Reply) (more : Option Entry) → IsServiceAnswer network book down link (Spent at) None → IsServiceAnswer network book down link other more
-      → (Spent at ≡ other) × (None ≡ more)
-  service_spent_alone down at (Already tells when) None one two = absurd (stands_once network book down link two.2 one.2)
-  service_spent_alone down at (Spent when) None one two = let times : at ≡ when = one.0 ∙ sym two.0 in (ap Spent times, refl)
-  service_spent_alone true at (Down tells when) (Some entry) one two = absurd (omega (arith, one.1, two.0))
-  service_spent_alone false at (Up tells when) (Some entry) one two = absurd (omega (arith, one.1, two.0))
-  service_spent_alone down at other more one two = absurd two
+  -- where the link does not stand so already: spent where no epoch is left, else the order is carried out
+  abbrev SpentOrDone : Bool → Reply → Option Entry → Type 0
+  SpentOrDone down = SpentOr book (Tells ⊤ (done_reply down) (Some (service_entry down link)))
 
-  -- where the link is taken out, each answer is that
-  down_alone : (told at : ℕ) (entry : Entry) (other : Reply) (more : Option Entry) → IsServiceAnswer network book true link (Down told at) (Some entry) → IsServiceAnswer network book true link other more
-      → (Down told at ≡ other) × (Some entry ≡ more)
-  down_alone told at entry (Already tells when) None one two = absurd (stands_once network book true link two.2 one.1)
-  down_alone told at entry (Spent when) None one two = absurd (omega (arith, one.0, two.1))
-  down_alone told at entry (Down tells when) (Some entry') one two =
-      let links : told ≡ tells = one.2 ∙ sym two.2 in
-      let times : at ≡ when = one.3 ∙ sym two.3 in
-      let entries : entry ≡ entry' = one.4 ∙ sym two.4 in
-      (ap (λ (n : ℕ). Down n at) links ∙ ap (Down tells) times, ap Some entries)
-  down_alone told at entry other more one two = absurd two
-
-  -- where it is put back, each answer is that
-  up_alone : (told at : ℕ) (entry : Entry) (other : Reply) (more : Option Entry) → IsServiceAnswer network book false link (Up told at) (Some entry) → IsServiceAnswer network book false link other more
-      → (Up told at ≡ other) × (Some entry ≡ more)
-  up_alone told at entry (Already tells when) None one two = absurd (stands_once network book false link two.2 one.1)
-  up_alone told at entry (Spent when) None one two = absurd (omega (arith, one.0, two.1))
-  up_alone told at entry (Up tells when) (Some entry') one two =
-      let links : told ≡ tells = one.2 ∙ sym two.2 in
-      let times : at ≡ when = one.3 ∙ sym two.3 in
-      let entries : entry ≡ entry' = one.4 ∙ sym two.4 in
-      (ap (λ (n : ℕ). Up n at) links ∙ ap (Up tells) times, ap Some entries)
-  up_alone told at entry other more one two = absurd two
+  service_cases : (down : Bool) (reply : Reply) (entry : Option Entry) → IsServiceAnswer network book down link reply entry
+      → FirstOr (LinkStands network book link down) (Already link book.epoch) None (LinkStands network book link (not down)) (SpentOrDone down) reply entry
+  service_cases down (Already told at) None is = inl (is.2, cc (is.0, is.1), refl)
+  service_cases down (Spent at) None is = inr (is.2, inl (is.1, cc is.0, refl))
+  service_cases true (Down told at) (Some entry) is = inr (is.1, inr (is.0, (tt, cc (is.2, is.3), ap Some is.4)))
+  service_cases false (Up told at) (Some entry) is = inr (is.1, inr (is.0, (tt, cc (is.2, is.3), ap Some is.4)))
+  service_cases down reply entry is = absurd is
 
   -- the operator's command has one answer at a book, and one entry of it
-  pub service_answer_unique : (down : Bool) (reply other : Reply) (entry more : Option Entry) → IsServiceAnswer network book down link reply entry → IsServiceAnswer network book down link other more
-      → (reply ≡ other) × (entry ≡ more)
-  service_answer_unique down (Already told at) other None more one two = already_alone down told at other more one two
-  service_answer_unique down (Spent at) other None more one two = service_spent_alone down at other more one two
-  service_answer_unique true (Down told at) other (Some entry) more one two = down_alone told at entry other more one two
-  service_answer_unique false (Up told at) other (Some entry) more one two = up_alone told at entry other more one two
-  service_answer_unique down reply other entry more one two = absurd one
+  service_answer_unique : (down : Bool) → IsUnique (IsServiceAnswer network book down link)
+  service_answer_unique down reply other entry more one two =
+      let done = Tells ⊤ (done_reply down) (Some (service_entry down link)) in
+      first_unique (LinkStands network book link down) (Already link book.epoch) None (LinkStands network book link (not down)) (SpentOrDone down) (stands_once network book down link)
+      (spent_unique book done (tells_unique ⊤ (done_reply down) (Some (service_entry down link))))
+      reply other entry more (service_cases down reply entry one) (service_cases down other more two)
 
-  -- the answer is that a customer is denied
-  record IsDenial (customer : List ℕ) (reply : Reply) (entry : Option Entry) : Type 0 where
-    tells : reply ≡ Denied book.epoch
-    denied : customer ≢ operator
-    alone : entry ≡ None
-
-  abbrev IsHeard : List ℕ → Bool → Reply → Option Entry → Type 0
-  IsHeard customer down reply entry = (customer ≡ operator) × IsServiceAnswer network book down link reply entry
-
-  operator_cases : (customer : List ℕ) (down : Bool) (reply : Reply) (entry : Option Entry) → IsOperatorAnswer network book customer down link reply entry → IsDenial customer reply entry ⊎ IsHeard customer down reply entry
-  operator_cases customer down (Denied at) None answer =
-      let times : at ≡ book.epoch = answer.0 in
-      inl (record { tells = ap Denied times; denied = answer.1; alone = refl })
-  operator_cases customer down reply entry answer = inr answer
+  -- a customer is denied, or the operator is answered
+  operator_cases : (customer : List ℕ) (down : Bool) (reply : Reply) (entry : Option Entry) → IsOperatorAnswer network book customer down link reply entry
+      → FirstOr (customer ≢ operator) (Denied book.epoch) None (customer ≡ operator) (IsServiceAnswer network book down link) reply entry
+  operator_cases customer down (Denied at) None is = inl (is.1, ap Denied is.0, refl)
+  operator_cases customer down reply entry is = inr is
 
   -- such a command has one answer at a book, and one entry of it
-  operator_answer_unique : (customer : List ℕ) (down : Bool) (reply other : Reply) (entry more : Option Entry) → IsOperatorAnswer network book customer down link reply entry
-      → IsOperatorAnswer network book customer down link other more → (reply ≡ other) × (entry ≡ more)
-  operator_answer_unique customer down reply other entry more one two = at (operator_cases customer down reply entry one) (operator_cases customer down other more two)
-    where
-      at : IsDenial customer reply entry ⊎ IsHeard customer down reply entry → IsDenial customer other more ⊎ IsHeard customer down other more → (reply ≡ other) × (entry ≡ more)
-      at (inl denial) (inl also) = (denial.tells ∙ sym also.tells, denial.alone ∙ sym also.alone)
-      at (inl denial) (inr heard) = absurd (denial.denied heard.0)
-      at (inr heard) (inl denial) = absurd (denial.denied heard.0)
-      at (inr heard) (inr also) = service_answer_unique down reply other entry more heard.1 also.1
+  operator_answer_unique : (customer : List ℕ) (down : Bool) → IsUnique (IsOperatorAnswer network book customer down link)
+  operator_answer_unique customer down reply other entry more one two =
+      first_unique (customer ≢ operator) (Denied book.epoch) None (customer ≡ operator) (IsServiceAnswer network book down link) (λ other is. other is) (service_answer_unique down)
+      reply other entry more (operator_cases customer down reply entry one) (operator_cases customer down other more two)
+
+-- none is not some
+is_none_is_some : {X : Type 0} (found : Option X) → found ≡ None → IsSome found → ⊥
+is_none_is_some None none some = cc some
+is_none_is_some (Some value) none some = cc none
 
 module _ (network : Network) (is : IsNetwork network) (book : Book) (place : ℕ) (hose : List (ℕ × ℕ)) (held : Held) where
-  -- where no number is free, each answer says so
-  too_many_alone : (at : ℕ) (after : Held) (other : Reply) (left : Held) → IsQuoteAnswer network book place hose held (TooMany at) after → IsQuoteAnswer network book place hose held other left
-      → (TooMany at ≡ other) × (after ≡ left)
-  too_many_alone at after (TooMany when) left one two = let times : at ≡ when = one.0 ∙ sym two.0 in (ap TooMany times, one.2 ∙ sym two.2)
-  too_many_alone at after (Refused when side) left one two = absurd (is_none_is_some (free_number held) one.1 two.1)
-  too_many_alone at after (Quoted number cost when amounts) left one two = absurd (cc (one.1, two.1))
-  too_many_alone at after other left one two = absurd two
+  -- the hose is quoted with a plan, under a number at which it is held then
+  record IsQuoted (reply : Reply) (after : Held) : Type 0 where
+    plan : List (ℕ × ℕ)
+    planned : IsPlanned network (room_of network book) hose plan
+    number : ℕ
+    free : free_number held ≡ Some number
+    tells : reply ≡ Quoted number (plan_cost network plan) book.epoch plan
+    holds : after ≡ with_number held number (Some (record { hose = hose; place = place }))
 
-  -- where a hose is refused, each answer is that refusal
-  quote_refused_alone : (at : ℕ) (side : List ℕ) (after : Held) (other : Reply) (left : Held) → IsQuoteAnswer network book place hose held (Refused at side) after
-      → IsQuoteAnswer network book place hose held other left → (Refused at side ≡ other) × (after ≡ left)
-  quote_refused_alone at side after (TooMany when) left one two = absurd (is_none_is_some (free_number held) two.1 one.1)
-  quote_refused_alone at side after (Refused when nodes) left one two =
-      let times : at ≡ when = one.0 ∙ sym two.0 in
-      let sides : side ≡ nodes = side_unique network (safe_links (room_of network book) hose) (lowest_end hose) side nodes one.2.is_side two.2.is_side in
-      (ap (λ (n : ℕ). Refused n side) times ∙ ap (λ (s : List ℕ). Refused when s) sides, one.3 ∙ sym two.3)
-  quote_refused_alone at side after (Quoted number cost when amounts) left one two = absurd (one.2.no_plan amounts two.2)
-  quote_refused_alone at side after other left one two = absurd two
-
-  -- where a hose is quoted, each answer is that quote
-  quoted_alone : (number cost at : ℕ) (amounts : List (ℕ × ℕ)) (after : Held) (other : Reply) (left : Held) → IsQuoteAnswer network book place hose held (Quoted number cost at amounts) after
-      → IsQuoteAnswer network book place hose held other left → (Quoted number cost at amounts ≡ other) × (after ≡ left)
-  quoted_alone number cost at amounts after (TooMany when) left one two = absurd (cc (one.1, two.1))
-  quoted_alone number cost at amounts after (Refused when side) left one two = absurd (two.2.no_plan amounts one.2)
-  quoted_alone number cost at amounts after (Quoted number' cost' when amounts') left one two =
-      let plans : amounts ≡ amounts' = planned_unique network is (room_of network book) hose amounts amounts' one.2 two.2 in
-      let numbers : number ≡ number' = some_is number number' (sym one.1 ∙ two.1) in
-      let times : at ≡ when = one.0 ∙ sym two.0 in
-      let costs : cost ≡ cost' = one.3 ∙ ap (plan_cost network) plans ∙ sym two.3 in
+  quoted_unique : IsUnique IsQuoted
+  quoted_unique reply other after left one two =
+      let plans : one.plan ≡ two.plan = planned_unique network is (room_of network book) hose one.plan two.plan one.planned two.planned in
+      let numbers : one.number ≡ two.number = some_is one.number two.number (sym one.free ∙ two.free) in
       let quote : Option HeldQuote = Some (record { hose = hose; place = place }) in (
-        ap (λ (n : ℕ). Quoted n cost at amounts) numbers ∙ ap (λ (n : ℕ). Quoted number' n at amounts) costs
-            ∙ ap (λ (n : ℕ). Quoted number' cost' n amounts) times ∙ ap (Quoted number' cost' when) plans,
-        one.4 ∙ ap (λ (n : ℕ). with_number held n quote) numbers ∙ sym two.4,
+        one.tells ∙ ap (λ (n : ℕ). Quoted n (plan_cost network one.plan) book.epoch one.plan) numbers
+            ∙ ap (λ (plan : List (ℕ × ℕ)). Quoted two.number (plan_cost network plan) book.epoch plan) plans ∙ sym two.tells,
+        one.holds ∙ ap (λ (n : ℕ). with_number held n quote) numbers ∙ sym two.holds,
       )
-  quoted_alone number cost at amounts after other left one two = absurd two
+
+  -- where a number is free: the hose is refused or quoted
+  abbrev RefusedOrQuoted : Reply → Held → Type 0
+  RefusedOrQuoted reply after = IsRefusal network book hose held reply after ⊎ IsQuoted reply after
+
+  quote_cases : (reply : Reply) (after : Held) → IsQuoteAnswer network book place hose held reply after
+      → FirstOr (free_number held ≡ None) (TooMany book.epoch) held (free_number held ≢ None) RefusedOrQuoted reply after
+  quote_cases (TooMany at) after is = inl (is.1, ap TooMany is.0, is.2)
+  quote_cases (Refused at side) after is =
+      inr (λ none. is_none_is_some (free_number held) none is.1, inl (record { side = side; refused = is.2; tells = ap (λ (n : ℕ). Refused n side) is.0; after = is.3 }))
+  quote_cases (Quoted number cost at amounts) after is =
+      inr (λ none. cc (none, is.1), inr (record { plan = amounts; planned = is.2; number = number; free = is.1; tells = cc (is.0, is.3); holds = is.4 }))
+  quote_cases reply after is = absurd is
 
   -- a question for a plan has one answer at a book, and one way to hold it
-  quote_answer_unique : (reply other : Reply) (after left : Held) → IsQuoteAnswer network book place hose held reply after → IsQuoteAnswer network book place hose held other left
-      → (reply ≡ other) × (after ≡ left)
-  quote_answer_unique (TooMany at) other after left one two = too_many_alone at after other left one two
-  quote_answer_unique (Refused at side) other after left one two = quote_refused_alone at side after other left one two
-  quote_answer_unique (Quoted number cost at amounts) other after left one two = quoted_alone number cost at amounts after other left one two
-  quote_answer_unique reply other after left one two = absurd one
+  quote_answer_unique : IsUnique (IsQuoteAnswer network book place hose held)
+  quote_answer_unique reply other after left one two =
+      let planned = either_unique (IsRefusal network book hose held) IsQuoted (λ _ _ _ _ refusal quoted. refusal.refused.no_plan quoted.plan quoted.planned) (refusal_unique network book hose held) quoted_unique in
+      first_unique (free_number held ≡ None) (TooMany book.epoch) held (free_number held ≢ None) RefusedOrQuoted (λ none some. some none) planned
+      reply other after left (quote_cases reply after one) (quote_cases other left two)
 
 module _ (network : Network) (is : IsNetwork network) (earlier book : Book) (customer : List ℕ) (hose : List (ℕ × ℕ)) where
-  -- the answer is that the plan is stale
-  record IsStale (reply : Reply) (entry : Option Entry) : Type 0 where
-    tells : reply ≡ Stale earlier.epoch book.epoch
-    differ : HaveEqualGrounds network earlier book hose → ⊥
-    alone : entry ≡ None
-
-  -- the answer is to a hose that is planned as it was
-  abbrev IsGranted : Reply → Option Entry → Type 0
-  IsGranted reply entry = HaveEqualGrounds network earlier book hose × IsPlannedAnswer network book customer hose reply entry
-
-  taking_cases : (reply : Reply) (entry : Option Entry) → IsTakingAnswer network earlier book customer hose reply entry → IsStale reply entry ⊎ IsGranted reply entry
-  taking_cases (Stale seen now) None answer =
-      let seens : seen ≡ earlier.epoch = answer.0 in
-      let nows : now ≡ book.epoch = answer.1 in
-      inl (record { tells = ap (λ (n : ℕ). Stale n now) seens ∙ ap (Stale earlier.epoch) nows; differ = answer.2; alone = refl })
-  taking_cases reply entry answer = inr answer
+  -- the plan is stale, or the hose is planned as it was
+  taking_cases : (reply : Reply) (entry : Option Entry) → IsTakingAnswer network earlier book customer hose reply entry
+      → FirstOr (¬ HaveEqualGrounds network earlier book hose) (Stale earlier.epoch book.epoch) None (HaveEqualGrounds network earlier book hose) (IsPlannedAnswer network book customer hose) reply entry
+  taking_cases (Stale seen now) None is = inl (is.2, cc (is.0, is.1), refl)
+  taking_cases reply entry is = inr is
 
   -- the taking of a plan has one answer
-  taking_unique : (reply other : Reply) (entry more : Option Entry) → IsTakingAnswer network earlier book customer hose reply entry → IsTakingAnswer network earlier book customer hose other more
-      → (reply ≡ other) × (entry ≡ more)
-  taking_unique reply other entry more one two = at (taking_cases reply entry one) (taking_cases other more two)
-    where
-      at : IsStale reply entry ⊎ IsGranted reply entry → IsStale other more ⊎ IsGranted other more → (reply ≡ other) × (entry ≡ more)
-      at (inl stale) (inl also) = (stale.tells ∙ sym also.tells, stale.alone ∙ sym also.alone)
-      at (inl stale) (inr granted) = absurd (stale.differ granted.0)
-      at (inr granted) (inl stale) = absurd (stale.differ granted.0)
-      at (inr granted) (inr also) = planned_answer_unique network is book customer hose reply other entry more granted.1 also.1
+  taking_unique : IsUnique (IsTakingAnswer network earlier book customer hose)
+  taking_unique reply other entry more one two =
+      first_unique (¬ HaveEqualGrounds network earlier book hose) (Stale earlier.epoch book.epoch) None (HaveEqualGrounds network earlier book hose) (IsPlannedAnswer network book customer hose)
+      (λ differ same. differ same) (planned_answer_unique network is book customer hose)
+      reply other entry more (taking_cases reply entry one) (taking_cases other more two)
 
 -- the taking of what stands at a number has one answer
 take_answer_unique : (network : Network) → IsNetwork network → (epoch : ℕ) (history : List Entry) (customer : List ℕ) (number : ℕ) (held : Held) (found : Option HeldQuote) (reply other : Reply) (entry more : Option Entry)
@@ -399,7 +320,7 @@ answer_unique network is epoch history customer held (Take number) reply other e
 answer_unique network is epoch history customer held (Release id) reply other entry more after left one two =
     let same = release_answer_unique (book_of epoch history) customer id reply other entry more one.0 two.0 in (same.0, same.1, one.1 ∙ sym two.1)
 answer_unique network is epoch history customer held (Show id) reply other entry more after left one two =
-    let same = show_answer_unique network (book_of epoch history) customer id reply other entry more (live_ids epoch history) one.0 two.0 in (same.0, same.1, one.1 ∙ sym two.1)
+    let same = show_answer_unique network (book_of epoch history) customer id (live_ids epoch history) reply other entry more one.0 two.0 in (same.0, same.1, one.1 ∙ sym two.1)
 answer_unique network is epoch history customer held (Link link) reply other entry more after left one two =
     let same = link_answer_unique (book_of epoch history) link reply other entry more one.0 two.0 in (same.0, same.1, one.1 ∙ sym two.1)
 answer_unique network is epoch history customer held (DownCommand link) reply other entry more after left one two =
@@ -444,9 +365,7 @@ line_unique network is epoch history holdings (Asks customer command) reply othe
     let theirs = answered network epoch history customer held command other last two.0 (first_answers other others also) two.1 in
     let same = answer_unique network is epoch history customer held command reply other mine.0 theirs.0 one.0 two.0 mine.1 theirs.1 in
     (same.0, mine.2 ∙ ap (with_entry history) same.1 ∙ sym theirs.2, one.2 ∙ ap (with_held holdings customer) same.2 ∙ sym two.2)
-line_unique network is epoch history holdings (IsBad word) reply other replies others next last after left one two all also = (one.0 ∙ sym two.0, one.1 ∙ sym two.1, one.2 ∙ sym two.2)
-line_unique network is epoch history holdings IsLong reply other replies others next last after left one two all also = (one.0 ∙ sym two.0, one.1 ∙ sym two.1, one.2 ∙ sym two.2)
-line_unique network is epoch history holdings Unread reply other replies others next last after left one two all also = (one.0 ∙ sym two.0, one.1 ∙ sym two.1, one.2 ∙ sym two.2)
+line_unique network is epoch history holdings line reply other replies others next last after left one two all also = (one.0 ∙ sym two.0, one.1 ∙ sym two.1, one.2 ∙ sym two.2)
 
 -- Without want of memory and failures of the disk the replies of a script are the only ones, and so is the history that it leads to.
 pub script_unique : (network : Network) → IsNetwork network → (epoch : ℕ) (history : List Entry) (holdings : Holdings) (lines : List ReadLine) (replies others : List Reply) (last end : List Entry) (left kept : Holdings)
