@@ -12,6 +12,6 @@ epoch_after book (entry ∷ entries) = omega (arith, epoch_after (next_book book
 pub epoch_of : (history : List Entry) → (book_of 0 history).epoch ≡ length history
 epoch_of history = omega (arith, epoch_after (opening_book 0) history)
 
--- the same of a book that is told to have this history
+-- so is that of a book which is known to be the one of a history
 pub epoch_is : (book : Book) (history : List Entry) → book ≡ book_of 0 history → book.epoch ≡ length history
 epoch_is book history is = omega (arith, ap (λ (b : Book). b.epoch) is, epoch_of history)

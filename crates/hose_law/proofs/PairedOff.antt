@@ -25,14 +25,11 @@ module _ (rate : ℕ → ℕ) (side : ℕ → Bool) where
       same_sums m (λ k. cond (one_alone (side k) (side m)) 0 (rate k)) (λ k. cond (one_alone here (side k)) (rate k) 0) (λ k below. at here (side k) (side m) (rate k) other)
     where
       at : (here there last : Bool) (x : ℕ) → one_alone here last ≡ true → cond (one_alone there last) 0 x ≡ cond (one_alone here there) x 0
-      at true true true x other = cc
       at true true false x other = refl
-      at true false true x other = cc
       at true false false x other = refl
       at false true true x other = refl
-      at false true false x other = cc
       at false false true x other = refl
-      at false false false x other = cc
+      at here there last x other = cc
 
   -- All that something of a length has in common with the other side's rates is what of it lies within their sum.
   overlaps : (here : Bool) (first much m : ℕ) → sum_below m (λ j. cond (one_alone here (side j)) (overlap first much j) 0) + min first (across here m) ≡ min (first + much) (across here m)

@@ -1,5 +1,5 @@
--- What the ways on trees of the same links have in common: along a link of a tree the ways up of its two nodes differ at that link alone, so that two trees of
--- the same links differ, at each link, at all nodes or at none. Steps come with the last one first here.
+-- Two trees of the same links: along a link of a tree the ways up of its two nodes differ at that link alone. So whether the ways up on two such trees differ
+-- at a link is the same at all nodes. Steps come with the last one first here.
 use Rattle.std.proofs.Common.{◌≡◌, ◌≢◌, ◌∙◌, ℕ, ◌+◌, ◌-◌, Bool, true, false, not, List, [], ◌∷◌, min, cond, eqb, reverse, refl, sym, ap, subst, inl, inr, arith}
 use Rattle.std.specs.List.{All, Contains, sum_by}
 use Rattle.std.proofs.lemmas.Bool.{cases_eq, eq-eqb, ne_eqb}
@@ -15,46 +15,41 @@ use Rattle.hose_law.proofs.TightWays.{in_reverse, from_reverse}
 use Rattle.hose_law.proofs.Trees.{joins_only, link_ends_on, link_is_new, old_is_not_new, off_way, on_before, on_reverse, rate_up}
 use Rattle.hose_graph.proofs.Members.{contains_first, contains_rest, first_or_rest, none_in_empty}
 
--- one of two alone holds just where it does once they are exchanged
+-- whether just one of two holds does not depend on their order
 alone_turned : (a b : Bool) → one_alone a b ≡ one_alone b a
 alone_turned true true = refl
 alone_turned true false = refl
 alone_turned false true = refl
 alone_turned false false = refl
 
--- and never of two that are the same
+-- of two that are equal it is never just one that holds
 alone_never : (a : Bool) → one_alone a a ≡ false
 alone_never true = refl
 alone_never false = refl
 
--- equal differences one way are equal differences the other way
-alone_across : (a b c d : Bool) → one_alone a b ≡ one_alone c d → one_alone a c ≡ one_alone b d
-alone_across true true true true same = refl
-alone_across true true false false same = refl
-alone_across true false true false same = refl
-alone_across true false false true same = refl
-alone_across false true true false same = refl
-alone_across false true false true same = refl
-alone_across false false true true same = refl
-alone_across false false false false same = refl
-alone_across a b c d same = cc
-
--- what holds of just one, and what of both or neither
-alone_no : (a b : Bool) → one_alone a b ≡ false → a ≡ b
-alone_no true true same = refl
-alone_no false false same = refl
-alone_no a b same = cc
-
+-- two of which just one holds are opposites, and two of which not just one holds are equal
 alone_yes : (a b : Bool) → one_alone a b ≡ true → b ≡ not a
 alone_yes true false alone = refl
 alone_yes false true alone = refl
 alone_yes a b alone = cc
 
--- the rates at nodes that pass a test
+alone_no : (a b : Bool) → one_alone a b ≡ false → a ≡ b
+alone_no true true same = refl
+alone_no false false same = refl
+alone_no a b same = cc
+
+-- where a and b differ just where c and d do, a and c differ just where b and d do
+alone_across : (a b c d : Bool) → one_alone a b ≡ one_alone c d → one_alone a c ≡ one_alone b d
+alone_across true true c d same = ap not (alone_no c d (sym same))
+alone_across true false c d same = sym (alone_yes c d (sym same))
+alone_across false true c d same = alone_yes d c (alone_turned d c ∙ sym same)
+alone_across false false c d same = alone_no c d (sym same)
+
+-- the sum of the rates at nodes that pass a test
 abbrev rate_where : (ℕ → Bool) → List (ℕ × ℕ) → ℕ
 rate_where test ends = sum_by (λ (end : ℕ × ℕ). cond (test end.0) end.1 0) ends
 
--- are the same for tests that agree, and together with those for the opposite test they are the total
+-- tests that agree at each endpoint give one sum
 rates_agree : (f g : ℕ → Bool) (ends : List (ℕ × ℕ)) → All (λ (end : ℕ × ℕ). f end.0 ≡ g end.0) ends → rate_where f ends ≡ rate_where g ends
 rates_agree f g [] agree = refl
 rates_agree f g (end ∷ ends) agree =
@@ -66,6 +61,7 @@ cond_not : (test : Bool) (n : ℕ) → cond test n 0 + cond (not test) n 0 ≡ n
 cond_not true n = omega arith
 cond_not false n = omega arith
 
+-- the sums of opposite tests are together the total rate
 rates_opposed : (f g : ℕ → Bool) (ends : List (ℕ × ℕ)) → All (λ (end : ℕ × ℕ). g end.0 ≡ not (f end.0)) ends → rate_where f ends + rate_where g ends ≡ total_rate ends
 rates_opposed f g [] oppose = refl
 rates_opposed f g (end ∷ ends) oppose =
