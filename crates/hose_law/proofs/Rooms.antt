@@ -11,9 +11,6 @@ use Rattle.hose_law.specs.Room.{Room, free_rates, half_rate, room_of, safe_links
 use Rattle.hose_law.specs.Walk.{IsIn, capacity_of}
 
 module _ (network : Network) where
-  pub length-loads_of : (book : Book) → length (loads_of network book) ≡ length network.links
-  length-loads_of book = length-map-range_with_len (load_of book) 0 (length network.links)
-
   pub loads_of-at : (book : Book) (l : ℕ) → l < length network.links → slice_index (loads_of network book) l ≡ load_of book l
   loads_of-at book l below = get_or-map-range_with_len (load_of book) 0 (length network.links) l l 0 below (omega arith)
 

@@ -185,7 +185,3 @@ tracks_anew epoch history entry =
       floor = epoch_apart (opening_book epoch) history;
       changes = sym (append-nil (changes_of (book.epoch + 1) (touched_links book entry)));
     }
-
--- no change tracks the empty history
-pub tracks_none : (epoch : ℕ) → Tracks epoch [] (record { floor = epoch; changes = [] })
-tracks_none epoch = record { before = []; since = []; whole = refl; floor = omega arith; changes = refl }

@@ -1,12 +1,12 @@
 -- Trees: their links and new nodes are distinct, and moving the rates of the last step's new node to its old node leaves what lies beyond each earlier link.
 -- Steps come with the last one first here, as in `Grow` and `links_up`.
-use Rattle.std.proofs.Common.{◌≡◌, ◌≢◌, ◌⊎◌, ◌∙◌, ℕ, ◌+◌, ◌<◌, ◌≤◌, Bool, true, false, List, [], ◌∷◌, ◌++◌, Option, None, Some, length, get_or, map, reverse, cond, eqb, refl, sym, ap, subst, inl, inr, arith}
+use Rattle.std.proofs.Common.{◌≡◌, ◌≢◌, ◌⊎◌, ◌∙◌, ℕ, ◌+◌, ◌<◌, ◌≤◌, Bool, true, false, List, [], ◌∷◌, Option, None, Some, length, get_or, map, reverse, cond, eqb, refl, sym, ap, subst, inl, inr, arith}
 use Rattle.std.specs.List.{All, Contains, IsDistinct, slice_get, sum_by}
 use Rattle.std.specs.Option.{IsSomeAnd}
 use Rattle.std.proofs.lemmas.Bool.{eq-eqb, ne_eqb}
 use Rattle.std.proofs.lemmas.Bool.Decides.{nat_tests}
 use Rattle.std.proofs.lemmas.Cmp.{nat_eq_equiv}
-use Rattle.std.proofs.lemmas.List.{get_or_default, reverse-append}
+use Rattle.std.proofs.lemmas.List.{get_or_default}
 use Rattle.std.proofs.lemmas.List.Elements.{recursion_from_All}
 use Rattle.std.proofs.lemmas.List.Sorted.{Contains-permutation, IsPermutation-map, IsPermutation-reverse, IsPermutation-sym}
 use Rattle.std.proofs.lemmas.List.Sums.{sum_by-cons, sum_by-le-sum_by}
@@ -38,13 +38,6 @@ pub on_unreverse : (start : ℕ) (steps : List Step) (v : ℕ) → IsOn start (r
 on_unreverse start steps v (inl same) = inl same
 on_unreverse start steps v (inr led) =
     inr (Contains-permutation (new_nodes (reverse steps)) (new_nodes steps) v (IsPermutation-map (λ (step : Step). step.new) (reverse steps) steps (IsPermutation-sym steps (reverse steps) (IsPermutation-reverse steps))) led)
-
--- a step more, after the others
-pub grow_push : (network : Network) (start : ℕ) (steps : List Step) (step : Step) → Grow network start (reverse steps)
-    → IsOn start steps step.old → (IsOn start steps step.new → ⊥) → Joins network step.link step.old step.new
-    → Grow network start (reverse (steps ++ step ∷ []))
-grow_push network start steps step grows old_on new_off joins =
-    rw (reverse-append steps (step ∷ [])) (grows, on_reverse start steps step.old old_on, λ on. new_off (on_unreverse start steps step.new on), joins)
 
 -- what is on the tree stays on it by one step more, and the step's new node is on it
 pub on_still : (start : ℕ) (step : Step) (earlier : List Step) (v : ℕ) → IsOn start earlier v → IsOn start (step ∷ earlier) v
