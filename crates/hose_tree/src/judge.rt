@@ -28,7 +28,7 @@ pub fn is_reservation(top: &Topology, hose: &Hose, amounts: &Amounts) -> bool
     let mut forest = Forest::new();
     forest.add_links(top, total, pairs);
     add_rates(&mut forest.rates, hose.ends());
-    forest.peel(top, total) && forest.is_bare(top, total)
+    forest.is_one_tree(top, total)
 }
 
 // Whether each pair is of one of so many links, with an amount of at least 1 and at most the total.
@@ -114,6 +114,16 @@ impl Forest {
         take_at_ends(&mut self.links, link, number as u64);
         take_at_ends(&mut self.amounts, link, amount);
         self.left -= 1;
+    }
+
+    // Whether leaves come off until no link is left, each along a link of which the amount is the
+    // smaller side's rate sum.
+    fn is_one_tree(&mut self, top: &Topology, total: u64) -> bool
+        requires { StandsForSome top.now total self.old }
+        ensures { (question : Question) → StandsForQuestion top.now total question self.old
+            → (IsTrue result ↔ IsYes top.now question) }
+    {
+        self.peel(top, total) && self.is_bare(top, total)
     }
 
     // Takes off leaf after leaf, as long as there is one. False where an amount is not the smaller

@@ -20,30 +20,20 @@ returns-then-pairs c = (
 pub add_links-requires-clause-none : goal.add_links-requires-clause-none
 add_links-requires-clause-none c = c.new-forest.ensures c.args.top.now
 
-pub peel-requires : goal.peel-requires
-peel-requires c =
+pub is_one_tree-requires : goal.is_one_tree-requires
+is_one_tree-requires c =
     let stands = starts c.args.top.now c.links-links.ensures.network c.args.hose.now c.args.amounts.now c.pairs-pairs.result.now c.pairs-pairs.ensures.value
     c.links-links.result c.total-total.result c.links-links.ensures.count c.total-total.ensures.sum (c.are_possible.ensures.0 c.if-not-are_possible.false) c.ends.ensures.hose c.pairs-pairs.ensures.ascending
     c.add_links.new.self c.add_links.ensures c.add_rates.new.rates (subst (λ ends. AreRatesOf ends c.add_rates.new.rates) c.ends.ensures.value c.add_rates.ensures) in
     (record { ends = c.args.hose.now; pairs = c.pairs-pairs.result.now }, stands)
 
-pub returns-then-peel : goal.returns-then-peel
-returns-then-peel c =
+pub returns : goal.returns
+returns c =
     let asked : Question = record { ends = c.args.hose.now; pairs = c.pairs-pairs.result.now } in
     let stands = starts c.args.top.now c.links-links.ensures.network c.args.hose.now c.args.amounts.now c.pairs-pairs.result.now c.pairs-pairs.ensures.value
     c.links-links.result c.total-total.result c.links-links.ensures.count c.total-total.ensures.sum (c.are_possible.ensures.0 c.if-not-are_possible.false) c.ends.ensures.hose c.pairs-pairs.ensures.ascending
     c.add_links.new.self c.add_links.ensures c.add_rates.new.rates (subst (λ ends. AreRatesOf ends c.add_rates.new.rates) c.ends.ensures.value c.add_rates.ensures) in
     let says = answer c.args.top.now c.links-links.ensures.network c.args.hose.now c.args.amounts.now c.pairs-pairs.result.now c.pairs-pairs.ensures.value
     c.links-links.result c.total-total.result c.links-links.ensures.count c.total-total.ensures.sum (c.are_possible.ensures.0 c.if-not-are_possible.false) c.pairs-pairs.ensures.ascending in
-    let bare = c.is_bare.ensures asked (c.peel.ensures.stands c.if-peel.true asked stands) in
-    (λ is_bare. says.0 (bare.0 is_bare), λ reserved. bare.1 (says.1 reserved))
-
-pub returns-else-peel : goal.returns-else-peel
-returns-else-peel c =
-    let asked : Question = record { ends = c.args.hose.now; pairs = c.pairs-pairs.result.now } in
-    let stands = starts c.args.top.now c.links-links.ensures.network c.args.hose.now c.args.amounts.now c.pairs-pairs.result.now c.pairs-pairs.ensures.value
-    c.links-links.result c.total-total.result c.links-links.ensures.count c.total-total.ensures.sum (c.are_possible.ensures.0 c.if-not-are_possible.false) c.ends.ensures.hose c.pairs-pairs.ensures.ascending
-    c.add_links.new.self c.add_links.ensures c.add_rates.new.rates (subst (λ ends. AreRatesOf ends c.add_rates.new.rates) c.ends.ensures.value c.add_rates.ensures) in
-    let says = answer c.args.top.now c.links-links.ensures.network c.args.hose.now c.args.amounts.now c.pairs-pairs.result.now c.pairs-pairs.ensures.value
-    c.links-links.result c.total-total.result c.links-links.ensures.count c.total-total.ensures.sum (c.are_possible.ensures.0 c.if-not-are_possible.false) c.pairs-pairs.ensures.ascending in
-    (λ peeled. absurd (cc (peeled, c.if-peel.false)), λ reserved. absurd (c.peel.ensures.no c.if-peel.false asked stands (says.1 reserved)))
+    let tree = c.is_one_tree.ensures asked stands in
+    (λ is_tree. says.0 (tree.0 is_tree), λ reserved. tree.1 (says.1 reserved))
