@@ -2,8 +2,7 @@
 use Rattle.std.proofs.Common.{◌≡◌, ◌<◌, ◌≤◌, ◌↔◌, ℕ, Bool, true, false, not, List, Result, Ok, Err, IsOk, length, get_or, map, take, get_or-take, refl, sym, ap, subst, inl, inr, ◌∙◌, arith}
 use Rattle.std.specs.Bool.{⊤}
 use mathlib.Core.Bool.{beq}
-use Rattle.std.specs.Prelude.{slice_index_or}
-use Rattle.std.proofs.lemmas.Bool.{cases_eq, cases_lt, false≢true}
+use Rattle.std.proofs.lemmas.Bool.{cases_eq, cases_lt}
 use Rattle.std.proofs.lemmas.List.{get_or-map, get_or_default, length-map, length-take}
 use Rattle.std.proofs.lemmas.List.Kept.{AllPairs-from_increasing}
 use Rattle.std.proofs.lemmas.List.Elements.{All-contains, Contains-get_or}
@@ -14,9 +13,9 @@ use Rattle.hose_law.specs.Book.{Book, HasVpn}
 use Rattle.hose_law.specs.Decision.{CanBeReserved, Fits}
 use Rattle.hose_law.specs.History.{IsSoundAt, last_epoch}
 use Rattle.hose_law.specs.Room.{first_links, room_of}
-use Rattle.hose_law.specs.Service.{LinkStands, is_out, service_entry}
+use Rattle.hose_law.specs.Service.{LinkStands, service_entry}
 use Rattle.hose_law.specs.Walk.{IsIn}
-use Rattle.hose_law.proofs.Serving.{length-links_in_service, links_in_service-at}
+use Rattle.hose_law.proofs.Serving.{length-links_in_service}
 use Rattle.hose_law.proofs.Unique.{stands_once}
 use Rattle.hose_book.proofs.Served.{on_tree, served_on}
 use Rattle.hose_book.specs.declared.checking.BookRefusal.{BookRefusal}
@@ -39,31 +38,20 @@ module _ (network : Network) (book : Book) where
   sound_admission hose amounts (NoRoom link) place sound refused =
       let full = refused.3 in
       let fits = All-contains (λ (pair : ℕ × ℕ). pair.1 ≤ get_or (room_of network book).free pair.0 0) amounts full.pair sound.fits full.there in omega (arith, fits, full.above)
-  sound_admission hose amounts NoVpn place sound refused = refused
-  sound_admission hose amounts NoLink place sound refused = refused
-  sound_admission hose amounts Already place sound refused = refused
+  sound_admission hose amounts refusal place sound refused = refused
 
   -- nor a release
   sound_release : (customer : List ℕ) (id : ℕ) (refusal : BookRefusal) → book.epoch < last_epoch → HasVpn book customer id → IsRefusedRelease book customer id refusal → ⊥
   sound_release customer id Spent left has refused = omega (arith, left, refused.1)
   sound_release customer id NoVpn left has refused = refused has
-  sound_release customer id Full left has refused = refused
-  sound_release customer id NotATree left has refused = refused
-  sound_release customer id (OutOfService link) left has refused = refused
-  sound_release customer id (NoRoom link) left has refused = refused
-  sound_release customer id NoLink left has refused = refused
-  sound_release customer id Already left has refused = refused
+  sound_release customer id refusal left has refused = refused
 
   -- nor an entry on a link
   sound_service : (down : Bool) (link : ℕ) (refusal : BookRefusal) → book.epoch < last_epoch → LinkStands network book link (not down) → IsRefusedService network book down link refusal → ⊥
   sound_service down link NoLink left stands refused = refused stands.0
   sound_service down link Already left stands refused = stands_once network book down link refused stands
   sound_service down link Spent left stands refused = omega (arith, left, refused.1)
-  sound_service down link Full left stands refused = refused
-  sound_service down link NotATree left stands refused = refused
-  sound_service down link (OutOfService other) left stands refused = refused
-  sound_service down link (NoRoom other) left stands refused = refused
-  sound_service down link NoVpn left stands refused = refused
+  sound_service down link refusal left stands refused = refused
 
   -- what is sound is not refused
   sound_not_refused : (entry : Entry) (refusal : BookRefusal) → IsSoundAt network book entry → IsRefusedFor network book entry refusal → ⊥
@@ -129,18 +117,9 @@ module _ (network : Network) (book : Book) where
   one_release customer id Spent NoVpn here there = absurd (there here.0)
   one_release customer id NoVpn Spent here there = absurd (here there.0)
   one_release customer id NoVpn NoVpn here there = refl
-  one_release customer id Full other here there = absurd here
-  one_release customer id NotATree other here there = absurd here
-  one_release customer id (OutOfService link) other here there = absurd here
-  one_release customer id (NoRoom link) other here there = absurd here
-  one_release customer id NoLink other here there = absurd here
-  one_release customer id Already other here there = absurd here
-  one_release customer id one Full here there = absurd there
-  one_release customer id one NotATree here there = absurd there
-  one_release customer id one (OutOfService link) here there = absurd there
-  one_release customer id one (NoRoom link) here there = absurd there
-  one_release customer id one NoLink here there = absurd there
-  one_release customer id one Already here there = absurd there
+  one_release customer id Spent other here there = absurd there
+  one_release customer id NoVpn other here there = absurd there
+  one_release customer id one other here there = absurd here
 
   -- and an entry on a link
   one_service : (down : Bool) (link : ℕ) (one other : BookRefusal) → IsRefusedService network book down link one → IsRefusedService network book down link other → one ≡ other
@@ -153,16 +132,10 @@ module _ (network : Network) (book : Book) where
   one_service down link Spent NoLink here there = absurd (there here.0.0)
   one_service down link Spent Already here there = absurd (stands_once network book down link there here.0)
   one_service down link Spent Spent here there = refl
-  one_service down link Full other here there = absurd here
-  one_service down link NotATree other here there = absurd here
-  one_service down link (OutOfService l) other here there = absurd here
-  one_service down link (NoRoom l) other here there = absurd here
-  one_service down link NoVpn other here there = absurd here
-  one_service down link one Full here there = absurd there
-  one_service down link one NotATree here there = absurd there
-  one_service down link one (OutOfService l) here there = absurd there
-  one_service down link one (NoRoom l) here there = absurd there
-  one_service down link one NoVpn here there = absurd there
+  one_service down link NoLink other here there = absurd there
+  one_service down link Already other here there = absurd there
+  one_service down link Spent other here there = absurd there
+  one_service down link one other here there = absurd here
 
   one_cause : (entry : Entry) (one other : BookRefusal) → IsRefusedFor network book entry one → IsRefusedFor network book entry other → one ≡ other
   one_cause (Admit customer hose amounts) one other here there = one_admission hose amounts one other here there
@@ -179,30 +152,7 @@ module _ (network : Network) (book : Book) where
   service_sound true link left stands = (left, stands)
   service_sound false link left stands = (left, stands)
 
-  -- truth values that differ, and those that do not
-  pub differ_not : (a b : Bool) → not (beq a b) ≡ true → a ≡ not b
-  differ_not true true differ = absurd (false≢true differ)
-  differ_not false false differ = absurd (false≢true differ)
-  differ_not true false differ = refl
-  differ_not false true differ = refl
-
-  pub same_not : (a b : Bool) → not (beq a b) ≡ false → a ≡ not (not b)
-  same_not true true same = refl
-  same_not false false same = refl
-  same_not true false same = absurd (false≢true (sym same))
-  same_not false true same = absurd (false≢true (sym same))
-
-  -- a link stands as the set in service tells it
-  pub stands_so : (link : ℕ) (has down : Bool) → link < length network.links → has ≡ slice_index_or service link false → has ≡ not down → LinkStands network book link down
-  stands_so link has down inside tells is = (inside, not_same (is_out book.out link) down (sym (links_in_service-at network book.out link false inside) ∙ sym tells ∙ is))
-    where
-      not_same : (a b : Bool) → not a ≡ not b → a ≡ b
-      not_same true true same = refl
-      not_same false false same = refl
-      not_same true false same = absurd (false≢true same)
-      not_same false true same = absurd (false≢true (sym same))
-
-  -- So an answer is Ok exactly where the entry is sound, and a refusal exactly where that is the cause.
+  -- An answer is Ok exactly where the entry is sound, and a refusal exactly where that is the cause.
   pub judged_sound : (entry : Entry) (result : Result ⊤ BookRefusal) → Judges network book entry result → IsOk result ↔ IsSoundAt network book entry
   judged_sound entry (Ok done) judges = (λ _. judges, λ _. refl)
   judged_sound entry (Err refusal) judges = (λ ok. absurd (cc ok), λ sound. absurd (sound_not_refused entry refusal sound judges))
@@ -213,6 +163,19 @@ module _ (network : Network) (book : Book) where
     λ same. let is : cause ≡ refusal = cc same in subst (IsRefusedFor network book entry) is judges,
     λ refused. ap Err (one_cause entry cause refusal judges refused),
   )
+
+-- two truth values are the same, or the one is not the other
+pub same_truth : (one other : Bool) → beq one other ≡ true → one ≡ other
+same_truth true true is = refl
+same_truth true false is = absurd (cc is)
+same_truth false true is = absurd (cc is)
+same_truth false false is = refl
+
+pub other_truth : (one other : Bool) → beq one other ≡ false → one ≡ not other
+other_truth true true is = absurd (cc is)
+other_truth true false is = refl
+other_truth false true is = refl
+other_truth false false is = absurd (cc is)
 
 -- a later link is not lower
 later_link : (amounts : List (ℕ × ℕ)) (i k : ℕ) → IsAscending amounts → i ≤ k → k < length amounts → (get_or amounts i (0, 0)).0 ≤ (get_or amounts k (0, 0)).0

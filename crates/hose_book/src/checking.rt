@@ -94,7 +94,7 @@ impl Book {
         if link >= self.topology.links() {
             return Err(BookRefusal::NoLink);
         }
-        if self.service().has(link) != down {
+        if self.is_out(link) == down {
             return Err(BookRefusal::Already);
         }
         if self.epoch == MOST_EPOCH {

@@ -25,6 +25,7 @@ ghost use Rattle.hose_graph.specs.declared.limits.TheConstants.{MOST_EPOCH};
 ghost use Rattle.hose_law.specs.Book.{loads_of};
 ghost use Rattle.hose_law.specs.Live.{Rise};
 ghost use Rattle.hose_law.specs.Room.{first_links};
+ghost use Rattle.hose_law.specs.Service.{is_out};
 ghost use Rattle.hose_law.specs.Tracks.{Tracks};
 ghost use Rattle.hose_tree.specs.Amounts.{AreCarried};
 
@@ -153,6 +154,14 @@ impl Book {
         ensures places { length result.now ≡ length self.now.network.links }
     {
         self.served.links()
+    }
+
+    /// Whether a link of the network is out of service.
+    pub fn is_out(&self, link: u32) -> bool
+        requires { link < length self.now.network.links }
+        ensures { result ≡ is_out self.now.book.out link }
+    {
+        !self.service().has(link)
     }
 
     /// The live VPNs, in the order of their admission: their ids rise.
