@@ -55,6 +55,15 @@ module _ (served : Served) (is : IsSetInService served) (link : ℕ) (inside : l
   abbrev after_back : Served
   after_back = record { links = set served.links link true; out = put_back out link }
 
+  -- where one link changes among those that are out, its place alone changes in the set
+  set_after : (new : List ℕ) (value : Bool) → not (is_out new link) ≡ value → ((l : ℕ) → l ≢ link → is_out new l ≡ is_out out l)
+      → (l : ℕ) → l < length (set served.links link value) → get_or (set served.links link value) l false ≡ not (is_out new l)
+  set_after new value here others l below = elim (cases_eq l link) [
+    | inl same ↦ ap (λ (n : ℕ). get_or (set served.links link value) n false) same ∙ get_or-set_same served.links link value false inside
+        ∙ sym (ap (λ (n : ℕ). not (is_out new n)) same ∙ here)
+    | inr differ ↦ get_or-set_other served.links link l value false differ ∙ is.each l (omega (arith, below, length-set served.links link value)) ∙ ap not (sym (others l differ))
+  ]
+
   module _ (in_service : get_or served.links link false ≡ true) where
     is_free : is_out out link ≡ false
     is_free = at (is_out out link) (sym (is.each link inside) ∙ in_service)
@@ -78,32 +87,18 @@ module _ (served : Served) (is : IsSetInService served) (link : ℕ) (inside : l
     pub served_out : IsSetInService after_out
     served_out = record {
       few = omega (arith, is.few, length-set served.links link false);
-      each = λ l below. at l (omega (arith, below, length-set served.links link false));
+      each = set_after (taken_out out link) false (ap not (out_same out link)) (out_other out link);
       below = subst (λ (n : ℕ). All (λ (l : ℕ). l < n) (taken_out out link)) (sym (length-set served.links link false)) below_more;
       once = once_more;
     }
-      where
-        at : (l : ℕ) → l < count → get_or (set served.links link false) l false ≡ not (is_out (taken_out out link) l)
-        at l below = elim (cases_eq l link) [
-          | inl same ↦ ap (λ (n : ℕ). get_or (set served.links link false) n false) same ∙ get_or-set_same served.links link false false inside
-              ∙ sym (ap (λ (n : ℕ). not (is_out (taken_out out link) n)) same ∙ ap not (out_same out link))
-          | inr differ ↦ get_or-set_other served.links link l false false differ ∙ is.each l below ∙ ap not (sym (out_other out link l differ))
-        ]
 
   pub served_back : IsSetInService after_back
   served_back = record {
     few = omega (arith, is.few, length-set served.links link true);
-    each = λ l below. at l (omega (arith, below, length-set served.links link true));
+    each = set_after (put_back out link) true (ap not (back_same out link)) (back_other out link);
     below = subst (λ (n : ℕ). All (λ (l : ℕ). l < n) (put_back out link)) (sym (length-set served.links link true)) (All-filter (λ o. not (eqb o link)) (λ (l : ℕ). l < count) out is.below);
     once = AllPairs-filter ◌≢◌ (λ o. not (eqb o link)) out is.once;
   }
-    where
-      at : (l : ℕ) → l < count → get_or (set served.links link true) l false ≡ not (is_out (put_back out link) l)
-      at l below = elim (cases_eq l link) [
-        | inl same ↦ ap (λ (n : ℕ). get_or (set served.links link true) n false) same ∙ get_or-set_same served.links link true false inside
-            ∙ sym (ap (λ (n : ℕ). not (is_out (put_back out link) n)) same ∙ ap not (back_same out link))
-        | inr differ ↦ get_or-set_other served.links link l true false differ ∙ is.each l below ∙ ap not (sym (back_other out link l differ))
-      ]
 
 -- where none is out, all are in service
 pub served_all : (count : ℕ) → count ≤ 2048 → IsSetInService (record { links = replicate count true; out = [] })
