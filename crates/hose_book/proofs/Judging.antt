@@ -1,11 +1,11 @@
 -- What a book says of an entry: it is sound, or there is one cause to refuse it.
-use Rattle.std.proofs.Common.{◌≡◌, ◌<◌, ◌≤◌, ◌↔◌, ℕ, Bool, true, false, not, List, Result, Ok, Err, IsOk, length, get_or, map, take, get_or-take, refl, sym, ap, subst, inl, inr, ◌∙◌, arith}
+use Rattle.std.proofs.Common.{◌≡◌, ◌<◌, ◌≤◌, ◌↔◌, ℕ, Bool, true, false, not, List, All, Result, Ok, Err, IsOk, length, get_or, map, take, get_or-take, refl, sym, ap, subst, inl, inr, ◌∙◌, arith}
 use Rattle.std.specs.Bool.{⊤}
 use mathlib.Core.Bool.{beq}
 use Rattle.std.proofs.lemmas.Bool.{cases_eq, cases_lt}
 use Rattle.std.proofs.lemmas.List.{get_or-map, get_or_default, length-map, length-take}
 use Rattle.std.proofs.lemmas.List.Kept.{AllPairs-from_increasing}
-use Rattle.std.proofs.lemmas.List.Elements.{All-contains, Contains-get_or}
+use Rattle.std.proofs.lemmas.List.Elements.{All-contains, All-weaker, Contains-get_or}
 use Rattle.hose_graph.specs.declared.entry.Entry.{Entry}
 use Rattle.hose_graph.specs.declared.entry.Entry.TheVariants.{Admit, Release, Down, Up}
 use Rattle.hose_graph.specs.Network.{Network}
@@ -21,7 +21,7 @@ use Rattle.hose_book.proofs.Served.{on_tree, served_on}
 use Rattle.hose_book.specs.declared.checking.BookRefusal.{BookRefusal}
 use Rattle.hose_book.specs.declared.checking.BookRefusal.TheVariants.{Spent, Full, NotATree, OutOfService, NoRoom, NoVpn, NoLink, Already}
 use Rattle.hose_graph.specs.Ascending.{IsAscending}
-use Rattle.hose_book.specs.Refusal.{AreInService, HasPlace, IsAbove, IsLowestFull, IsLowestOut, IsRefusedAdmission, IsRefusedFor, IsRefusedRelease, IsRefusedService, Judges}
+use Rattle.hose_book.specs.Refusal.{AreInService, HasPlace, IsAbove, IsLowest, IsLowestFull, IsLowestOut, IsOutside, IsRefusedAdmission, IsRefusedFor, IsRefusedRelease, IsRefusedService, Judges}
 
 module _ (network : Network) (book : Book) where
   abbrev service : List Bool
@@ -34,10 +34,10 @@ module _ (network : Network) (book : Book) where
   sound_admission hose amounts NotATree place sound refused = refused.1 (on_tree network service hose amounts sound.on_tree (length-links_in_service network book.out))
   sound_admission hose amounts (OutOfService link) place sound refused =
       let out = refused.2 in
-      out.out (All-contains (λ (pair : ℕ × ℕ). IsIn service pair.0) amounts out.pair (served_on network service hose amounts sound.on_tree) out.there)
+      out.is (All-contains (λ (pair : ℕ × ℕ). IsIn service pair.0) amounts out.pair (served_on network service hose amounts sound.on_tree) out.there)
   sound_admission hose amounts (NoRoom link) place sound refused =
       let full = refused.3 in
-      let fits = All-contains (λ (pair : ℕ × ℕ). pair.1 ≤ get_or (room_of network book).free pair.0 0) amounts full.pair sound.fits full.there in omega (arith, fits, full.above)
+      let fits = All-contains (λ (pair : ℕ × ℕ). pair.1 ≤ get_or (room_of network book).free pair.0 0) amounts full.pair sound.fits full.there in omega (arith, fits, full.is)
   sound_admission hose amounts refusal place sound refused = refused
 
   -- nor a release
@@ -60,22 +60,16 @@ module _ (network : Network) (book : Book) where
   sound_not_refused (Down link) refusal sound refused = sound_service true link refusal sound.0 sound.1 refused
   sound_not_refused (Up link) refusal sound refused = sound_service false link refusal sound.0 sound.1 refused
 
-  -- the lowest link without room is one, and so is the lowest that is out
-  lowest_unique : (free : List ℕ) (amounts : List (ℕ × ℕ)) (one other : ℕ) → IsLowestFull free amounts one → IsLowestFull free amounts other → one ≡ other
-  lowest_unique free amounts one other here there =
-      let below = here.lowest there.pair there.there there.above in
-      let above = there.lowest here.pair here.there here.above in
-      omega (arith, below, above, here.here, there.here)
-
-  lowest_out_unique : (amounts : List (ℕ × ℕ)) (one other : ℕ) → IsLowestOut service amounts one → IsLowestOut service amounts other → one ≡ other
-  lowest_out_unique amounts one other here there =
-      let below = here.lowest there.pair there.there there.out in
-      let above = there.lowest here.pair here.there here.out in
+  -- the lowest link of a kind is one
+  lowest_unique : (Is : ℕ × ℕ → Type 0) (amounts : List (ℕ × ℕ)) (one other : ℕ) → IsLowest Is amounts one → IsLowest Is amounts other → one ≡ other
+  lowest_unique Is amounts one other here there =
+      let below = here.lowest there.pair there.there there.is in
+      let above = there.lowest here.pair here.there here.is in
       omega (arith, below, above, here.here, there.here)
 
   -- amounts of which one is on a link that is out are not all in service
   not_served : (amounts : List (ℕ × ℕ)) (link : ℕ) → IsLowestOut service amounts link → AreInService service amounts → ⊥
-  not_served amounts link out served = out.out (All-contains (λ (pair : ℕ × ℕ). IsIn service pair.0) amounts out.pair served out.there)
+  not_served amounts link out served = out.is (All-contains (λ (pair : ℕ × ℕ). IsIn service pair.0) amounts out.pair served out.there)
 
   -- an admission is refused for one cause
   one_admission : (hose amounts : List (ℕ × ℕ)) (one other : BookRefusal) → IsRefusedAdmission network book hose amounts one → IsRefusedAdmission network book hose amounts other → one ≡ other
@@ -97,13 +91,13 @@ module _ (network : Network) (book : Book) where
   one_admission hose amounts (OutOfService link) Spent here there = absurd (omega (arith, there, here.0.epoch))
   one_admission hose amounts (OutOfService link) Full here there = absurd (omega (arith, there.1, here.0.room))
   one_admission hose amounts (OutOfService link) NotATree here there = absurd (there.1 here.1)
-  one_admission hose amounts (OutOfService link) (OutOfService other) here there = ap OutOfService (lowest_out_unique amounts link other here.2 there.2)
+  one_admission hose amounts (OutOfService link) (OutOfService other) here there = ap OutOfService (lowest_unique (IsOutside service) amounts link other here.2 there.2)
   one_admission hose amounts (OutOfService link) (NoRoom other) here there = absurd (not_served amounts link here.2 there.2)
   one_admission hose amounts (NoRoom link) Spent here there = absurd (omega (arith, there, here.0.epoch))
   one_admission hose amounts (NoRoom link) Full here there = absurd (omega (arith, there.1, here.0.room))
   one_admission hose amounts (NoRoom link) NotATree here there = absurd (there.1 here.1)
   one_admission hose amounts (NoRoom link) (OutOfService other) here there = absurd (not_served amounts other there.2 here.2)
-  one_admission hose amounts (NoRoom link) (NoRoom other) here there = ap NoRoom (lowest_unique (room_of network book).free amounts link other here.3 there.3)
+  one_admission hose amounts (NoRoom link) (NoRoom other) here there = ap NoRoom (lowest_unique (IsAbove (room_of network book).free) amounts link other here.3 there.3)
   one_admission hose amounts NoVpn other here there = absurd here
   one_admission hose amounts NoLink other here there = absurd here
   one_admission hose amounts Already other here there = absurd here
@@ -187,44 +181,33 @@ later_link amounts i k ascending later below = elim (cases_eq i k) [
       omega (arith, rises, get_or-map link amounts i (0, 0) 0 (omega (arith, later, below)), get_or-map link amounts k (0, 0) 0 below)
 ]
 
--- where links rise, the first amount that is above what its link has free is on the lowest such link
-pub first_is_lowest : (free : List ℕ) (amounts : List (ℕ × ℕ)) (i : ℕ) → IsAscending amounts → i < length amounts → Fits free (take i amounts) → IsAbove free (get_or amounts i (0, 0))
-    → IsLowestFull free amounts (get_or amounts i (0, 0)).0
-first_is_lowest free amounts i ascending inside fit above = record {
+-- where links rise, the first amount of a kind is on the lowest link of one
+first_is_lowest : (Is : ℕ × ℕ → Type 0) (amounts : List (ℕ × ℕ)) (i : ℕ) → IsAscending amounts → i < length amounts → All (λ (pair : ℕ × ℕ). ¬ Is pair) (take i amounts)
+    → Is (get_or amounts i (0, 0)) → IsLowest Is amounts (get_or amounts i (0, 0)).0
+first_is_lowest Is amounts i ascending inside none is = record {
   pair = get_or amounts i (0, 0);
   there = Contains-get_or amounts i (0, 0) inside;
   here = refl;
-  above = above;
-  lowest = λ other (k, below, is) over. elim (cases_lt k i) [
+  is = is;
+  lowest = λ other (k, below, there) also. elim (cases_lt k i) [
     | inl before ↦
-        let fits = fit k other (omega (arith, before, inside, length-take i amounts)) in
-        let same : get_or (take i amounts) k other ≡ other = get_or-take i amounts k other before ∙ is in
-        let here = ap (λ (p : ℕ × ℕ). p.1) same in
-        let free_here = ap (λ (p : ℕ × ℕ). get_or free p.0 0) same in
-        absurd (omega (arith, fits, here, free_here, over))
+        let same : get_or (take i amounts) k other ≡ other = get_or-take i amounts k other before ∙ there in
+        absurd (none k other (omega (arith, before, inside, length-take i amounts)) (subst Is (sym same) also))
     | inr later ↦
         let here = get_or_default amounts k other (0, 0) below in
-        let link = ap (λ (p : ℕ × ℕ). p.0) (sym here ∙ is) in
+        let link = ap (λ (p : ℕ × ℕ). p.0) (sym here ∙ there) in
         omega (arith, link, later_link amounts i k ascending later below)
   ];
 }
 
--- so is the first amount that is on a link that is not in a set
-pub first_out_is_lowest : (service : List Bool) (amounts : List (ℕ × ℕ)) (i : ℕ) → IsAscending amounts → i < length amounts → AreInService service (take i amounts)
-    → (¬ IsIn service (get_or amounts i (0, 0)).0) → IsLowestOut service amounts (get_or amounts i (0, 0)).0
-first_out_is_lowest service amounts i ascending inside served out = record {
-  pair = get_or amounts i (0, 0);
-  there = Contains-get_or amounts i (0, 0) inside;
-  here = refl;
-  out = out;
-  lowest = λ other (k, below, is) also. elim (cases_lt k i) [
-    | inl before ↦
-        let free = served k other (omega (arith, before, inside, length-take i amounts)) in
-        let same : get_or (take i amounts) k other ≡ other = get_or-take i amounts k other before ∙ is in
-        absurd (also (subst (λ (pair : ℕ × ℕ). IsIn service pair.0) same free))
-    | inr later ↦
-        let here = get_or_default amounts k other (0, 0) below in
-        let link = ap (λ (p : ℕ × ℕ). p.0) (sym here ∙ is) in
-        omega (arith, link, later_link amounts i k ascending later below)
-  ];
-}
+pub first_full : (free : List ℕ) (amounts : List (ℕ × ℕ)) (i : ℕ) → IsAscending amounts → i < length amounts → Fits free (take i amounts) → IsAbove free (get_or amounts i (0, 0))
+    → IsLowestFull free amounts (get_or amounts i (0, 0)).0
+first_full free amounts i ascending inside fit above =
+    first_is_lowest (IsAbove free) amounts i ascending inside
+    (All-weaker (λ (pair : ℕ × ℕ). pair.1 ≤ get_or free pair.0 0) (λ (pair : ℕ × ℕ). ¬ IsAbove free pair) (λ pair fits over. omega (arith, fits, over)) (take i amounts) fit) above
+
+pub first_out : (service : List Bool) (amounts : List (ℕ × ℕ)) (i : ℕ) → IsAscending amounts → i < length amounts → AreInService service (take i amounts)
+    → IsOutside service (get_or amounts i (0, 0)) → IsLowestOut service amounts (get_or amounts i (0, 0)).0
+first_out service amounts i ascending inside served out =
+    first_is_lowest (IsOutside service) amounts i ascending inside
+    (All-weaker (λ (pair : ℕ × ℕ). IsIn service pair.0) (λ (pair : ℕ × ℕ). ¬ IsOutside service pair) (λ pair is outside. outside is) (take i amounts) served) out

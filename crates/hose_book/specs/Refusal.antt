@@ -23,28 +23,30 @@ pub record HasPlace (book : Book) : Type 0 where
 abbrev pub IsAbove : List ℕ → ReservedLink → Type 0
 IsAbove free pair = slice_index free (link_of pair) < amount_of pair
 
--- this is the lowest link of which the amounts want more than it has free
-pub record IsLowestFull (free : List ℕ) (amounts : List ReservedLink) (link : ℕ) : Type 0 where
+-- this is the lowest link of the amounts of this kind
+pub record IsLowest (Is : ReservedLink → Type 0) (amounts : List ReservedLink) (link : ℕ) :
+    Type 0 where
   pub pair : ReservedLink
   pub there : Contains amounts pair
   pub here : link_of pair ≡ link
-  pub above : IsAbove free pair
-  pub lowest : (other : ReservedLink) → Contains amounts other → IsAbove free other
-      → link ≤ link_of other
+  pub is : Is pair
+  pub lowest : (other : ReservedLink) → Contains amounts other → Is other → link ≤ link_of other
+
+-- this is the lowest link of which the amounts want more than it has free
+abbrev pub IsLowestFull : List ℕ → List ReservedLink → ℕ → Type 0
+IsLowestFull free amounts link = IsLowest (IsAbove free) amounts link
 
 -- all links of these amounts are in a set
 abbrev pub AreInService : List Bool → List ReservedLink → Type 0
 AreInService service amounts = All (λ (pair : ReservedLink). IsIn service (link_of pair)) amounts
 
+-- an amount is on a link that is not in a set
+abbrev pub IsOutside : List Bool → ReservedLink → Type 0
+IsOutside service pair = ¬ IsIn service (link_of pair)
+
 -- this is the lowest link of these amounts that is not in a set
-pub record IsLowestOut (service : List Bool) (amounts : List ReservedLink) (link : ℕ) :
-    Type 0 where
-  pub pair : ReservedLink
-  pub there : Contains amounts pair
-  pub here : link_of pair ≡ link
-  pub out : ¬ IsIn service (link_of pair)
-  pub lowest : (other : ReservedLink) → Contains amounts other → (¬ IsIn service (link_of other))
-      → link ≤ link_of other
+abbrev pub IsLowestOut : List Bool → List ReservedLink → ℕ → Type 0
+IsLowestOut service amounts link = IsLowest (IsOutside service) amounts link
 
 -- the amounts are what the hose reserves on a tree, of whatever links
 abbrev pub AreOnTree : Network → List Endpoint → List ReservedLink → Type 0

@@ -3,7 +3,7 @@ use Rattle.std.proofs.lemmas.List.{take_all}
 use Rattle.std.proofs.lemmas.List.Elements.{All-more}
 use Rattle.hose_law.specs.Decision.{Fits}
 use Rattle.hose_law.specs.Room.{free_rates}
-use Rattle.hose_book.proofs.Judging.{first_is_lowest}
+use Rattle.hose_book.proofs.Judging.{first_full}
 use Rattle.hose_book.specs.Refusal.{IsAbove, IsLowestFull}
 use Rattle.hose_book.proofs.checking.first_full_link.Goals as goal
 
@@ -16,7 +16,7 @@ returns-then-amount-free_rate-clause-some c =
     let link = ap (λ (ps : List (ℕ × ℕ)). (get_or ps i (0, 0)).0) same in
     let above : IsAbove free (get_or amounts i (0, 0)) =
     subst (λ (ps : List (ℕ × ℕ)). IsAbove free (get_or ps i (0, 0))) same (omega (arith, c.free_rate.ensures, c.if-amount-free_rate.true)) in
-    subst (IsLowestFull free amounts) (sym link) (first_is_lowest free amounts i c.pairs-link-items.ensures.ascending (omega (arith, c.loop-link-test.true, ap length same)) c.loop-link.invariant above)
+    subst (IsLowestFull free amounts) (sym link) (first_full free amounts i c.pairs-link-items.ensures.ascending (omega (arith, c.loop-link-test.true, ap length same)) c.loop-link.invariant above)
 
 pub loop-link-preserved : goal.loop-link-preserved
 loop-link-preserved c =

@@ -3,7 +3,7 @@ use Rattle.std.proofs.lemmas.Bool.{false≢true}
 use Rattle.std.proofs.lemmas.List.{take_all}
 use Rattle.std.proofs.lemmas.List.Elements.{All-more}
 use Rattle.hose_law.specs.Walk.{IsIn}
-use Rattle.hose_book.proofs.Judging.{first_out_is_lowest}
+use Rattle.hose_book.proofs.Judging.{first_out}
 use Rattle.hose_book.specs.Refusal.{AreInService, IsLowestOut}
 use Rattle.hose_book.proofs.checking.first_link_out.Goals as goal
 
@@ -17,7 +17,7 @@ returns-then-not-has-clause-some c =
     let no : get_or service (get_or amounts i (0, 0)).0 false ≡ false =
     ap (λ (n : ℕ). get_or service n false) (sym link) ∙ sym c.has.ensures ∙ c.if-not-has.true in
     subst (IsLowestOut service amounts) (sym link)
-    (first_out_is_lowest service amounts i c.pairs-link-items.ensures.ascending (omega (arith, c.loop-link-test.true, ap length same)) c.loop-link.invariant (λ is. false≢true (sym no ∙ is)))
+    (first_out service amounts i c.pairs-link-items.ensures.ascending (omega (arith, c.loop-link-test.true, ap length same)) c.loop-link.invariant (λ is. false≢true (sym no ∙ is)))
 
 pub loop-link-preserved : goal.loop-link-preserved
 loop-link-preserved c =
