@@ -1,5 +1,5 @@
 -- The words that choices are told by differ.
-use Rattle.std.proofs.Common.{◌≡◌, ℕ, ◌<◌, ◌+◌, List, [], ◌∷◌, length, get_or, take, decimal, refl, add-one, arith}
+use Rattle.std.proofs.Common.{zero, suc, ◌≡◌, ◌≢◌, ℕ, ◌<◌, ◌+◌, List, [], ◌∷◌, Option, None, Some, IfNone, length, get_or, take, decimal, refl, sym, subst, add-one, arith}
 use Rattle.std.specs.List.{All}
 use Rattle.std.proofs.Math.Seq.{take-suc}
 use Rattle.std.proofs.lemmas.List.Elements.{All-append, All-cons, All-nil}
@@ -21,59 +21,41 @@ use Rattle.hose_proto.specs.declared.verb.Verb.{Verb}
 use Rattle.hose_proto.specs.declared.verb.Verb.TheVariants as verb
 use Rattle.hose_proto.specs.declared.verb.TheConstants.{VERBS}
 
+-- ---- choices that are found again by their words
+
+-- what holds of all of a list and of one thing more holds of what stands at any place
+holds_at : {A : Type 0} (P : A → Type 0) (xs : List A) (i : ℕ) (other : A) → All P xs → P other → P (get_or xs i other)
+holds_at P [] i other all here = here
+holds_at P (x ∷ xs) zero other all here = all 0 other (omega arith)
+holds_at P (x ∷ xs) (suc i) other all here = holds_at P xs i other (λ k d below. all (suc k) d (omega (arith, below))) here
+
+-- so where each choice is found again in a list, it holds of each
+pub every_choice : {A : Type 0} (word_of : A → List ℕ) (choices : List A) (other : A) → ((one : A) → choice_of word_of choices other (word_of one) ≡ one)
+    → (P : A → Type 0) → All P choices → P other → (one : A) → P one
+every_choice word_of choices other found P all last one = subst P (found one) (holds_at P choices _ other all last)
+
+-- where none of a list that has each choice has a word, no choice has it
+pub no_choice : {A : Type 0} (word_of : A → List ℕ) (choices : List A) → ((P : A → Type 0) → All P choices → (one : A) → P one)
+    → (word : List ℕ) (found : Option A) → IfNone found (All (λ one. word_of one ≢ word) choices) → IfNone found ((one : A) → word ≡ word_of one → ⊥)
+no_choice word_of choices every word (Some one) none = tt
+no_choice word_of choices every word None none = λ one same. every (λ other. word_of other ≢ word) none one (sym same)
+
+-- ---- the words of replies and of commands
+
 -- the first word of a reply that a word is
 abbrev pub head_of : List ℕ → Head
 head_of word = choice_of head_word HEADS head.Bye word
 
-pub head_of-word : (one : Head) → head_of (head_word one) ≡ one
+head_of-word : (one : Head) → head_of (head_word one) ≡ one
 head_of-word head.Welcome = refl
-head_of-word head.Admitted = refl
-head_of-word head.Quoted = refl
-head_of-word head.Refused = refl
-head_of-word head.Stale = refl
-head_of-word head.Released = refl
-head_of-word head.No = refl
-head_of-word head.Too = refl
-head_of-word head.Vpn = refl
-head_of-word head.Link = refl
-head_of-word head.Down = refl
-head_of-word head.Up = refl
-head_of-word head.Already = refl
-head_of-word head.Denied = refl
-head_of-word head.Full = refl
-head_of-word head.Spent = refl
-head_of-word head.Disk = refl
-head_of-word head.Memory = refl
-head_of-word head.Bad = refl
-head_of-word head.Long = refl
-head_of-word head.Bye = refl
+head_of-word other = refl
 
 pub heads_apart : AreApart Each head_word
 heads_apart = apart_by head_of (λ one _. head_of-word one)
 
--- where none of the first words is a word, it is that of no reply
+-- what holds of all first words of replies holds of each
 pub every_head : (P : Head → Type 0) → All P HEADS → (one : Head) → P one
-every_head P all head.Welcome = all 0 head.Bye (omega arith)
-every_head P all head.Admitted = all 1 head.Bye (omega arith)
-every_head P all head.Quoted = all 2 head.Bye (omega arith)
-every_head P all head.Refused = all 3 head.Bye (omega arith)
-every_head P all head.Stale = all 4 head.Bye (omega arith)
-every_head P all head.Released = all 5 head.Bye (omega arith)
-every_head P all head.No = all 6 head.Bye (omega arith)
-every_head P all head.Too = all 7 head.Bye (omega arith)
-every_head P all head.Vpn = all 8 head.Bye (omega arith)
-every_head P all head.Link = all 9 head.Bye (omega arith)
-every_head P all head.Down = all 10 head.Bye (omega arith)
-every_head P all head.Up = all 11 head.Bye (omega arith)
-every_head P all head.Already = all 12 head.Bye (omega arith)
-every_head P all head.Denied = all 13 head.Bye (omega arith)
-every_head P all head.Full = all 14 head.Bye (omega arith)
-every_head P all head.Spent = all 15 head.Bye (omega arith)
-every_head P all head.Disk = all 16 head.Bye (omega arith)
-every_head P all head.Memory = all 17 head.Bye (omega arith)
-every_head P all head.Bad = all 18 head.Bye (omega arith)
-every_head P all head.Long = all 19 head.Bye (omega arith)
-every_head P all head.Bye = all 20 head.Bye (omega arith)
+every_head P all = every_choice head_word HEADS head.Bye head_of-word P all (all 20 head.Bye (omega arith))
 
 -- the word after `no` that a word is
 abbrev pub missing_of : List ℕ → Missing
@@ -101,29 +83,16 @@ services_apart = apart_by service_of (λ one _. service_of-word one)
 abbrev pub verb_of : List ℕ → Verb
 verb_of word = choice_of verb_word VERBS verb.Link word
 
-pub verb_of-word : (one : Verb) → verb_of (verb_word one) ≡ one
+verb_of-word : (one : Verb) → verb_of (verb_word one) ≡ one
 verb_of-word verb.Admit = refl
-verb_of-word verb.Quote = refl
-verb_of-word verb.Take = refl
-verb_of-word verb.Release = refl
-verb_of-word verb.Show = refl
-verb_of-word verb.Link = refl
-verb_of-word verb.Down = refl
-verb_of-word verb.Up = refl
+verb_of-word other = refl
 
 pub verbs_apart : AreApart Each verb_word
 verbs_apart = apart_by verb_of (λ one _. verb_of-word one)
 
--- where none of the first words is a word, it is that of no command
+-- what holds of all first words of commands holds of each
 pub every_verb : (P : Verb → Type 0) → All P VERBS → (one : Verb) → P one
-every_verb P all verb.Admit = all 0 verb.Link (omega arith)
-every_verb P all verb.Quote = all 1 verb.Link (omega arith)
-every_verb P all verb.Take = all 2 verb.Link (omega arith)
-every_verb P all verb.Release = all 3 verb.Link (omega arith)
-every_verb P all verb.Show = all 4 verb.Link (omega arith)
-every_verb P all verb.Link = all 5 verb.Link (omega arith)
-every_verb P all verb.Down = all 6 verb.Link (omega arith)
-every_verb P all verb.Up = all 7 verb.Link (omega arith)
+every_verb P all = every_choice verb_word VERBS verb.Link verb_of-word P all (all 5 verb.Link (omega arith))
 
 pub links_apart : (network : Network) → IsNetwork network → AreApart (IsLinkOf network) decimal
 links_apart network is = record { apart = λ one other below below' same. decimal_injective one other (omega (arith, below, is.few_links)) (omega (arith, below', is.few_links)) same }

@@ -1,7 +1,7 @@
 // The words that tell which reply a line is.
-ghost use Rattle.std.specs.Prelude.{◌≡◌};
 ghost use Rattle.hose_proto.specs.ReplyGrammar.{head_word, missing_word, service_word};
 
+use crate::choices::{HasWord, with_word};
 use hose_words::Keyword;
 
 // The first word of a reply.
@@ -58,19 +58,14 @@ impl Keyword for Head {
     ghost word_of = { head_word };
 
     fn of(word: &[u8]) -> Option<Head> {
-        for head in HEADS {
-            if head.word() == word {
-                return Some(head);
-            }
-        }
-        None
+        with_word(&HEADS, word)
     }
 }
 
-impl Head {
-    fn word(self) -> &'static [u8]
-        ensures { result.now ≡ head_word self }
-    {
+impl HasWord for Head {
+    ghost word_of = { head_word };
+
+    fn word(self) -> &'static [u8] {
         match self {
             Head::Welcome => b"welcome",
             Head::Admitted => b"admitted",

@@ -6,6 +6,7 @@
 //! ```
 #![tactic(auto)]
 
+mod choices;
 mod command;
 mod fault;
 mod head;
@@ -17,6 +18,7 @@ mod reply_reader;
 mod reply_text;
 mod verb;
 
+pub use choices::{HasWord, with_word};
 pub use command::{read_command, read_command_at, read_hose};
 pub use fault::ReadFault;
 pub use pieces::{add_ends, add_link, add_pairs};

@@ -1,7 +1,7 @@
 // The words that tell which command a line is.
-ghost use Rattle.std.specs.Prelude.{◌≡◌};
 ghost use Rattle.hose_proto.specs.Command.{verb_word};
 
+use crate::choices::{HasWord, with_word};
 use hose_words::Keyword;
 
 // What a command's first word says is to be done.
@@ -32,19 +32,14 @@ impl Keyword for Verb {
     ghost word_of = { verb_word };
 
     fn of(word: &[u8]) -> Option<Verb> {
-        for verb in VERBS {
-            if verb.word() == word {
-                return Some(verb);
-            }
-        }
-        None
+        with_word(&VERBS, word)
     }
 }
 
-impl Verb {
-    fn word(self) -> &'static [u8]
-        ensures { result.now ≡ verb_word self }
-    {
+impl HasWord for Verb {
+    ghost word_of = { verb_word };
+
+    fn word(self) -> &'static [u8] {
         match self {
             Verb::Admit => b"admit",
             Verb::Quote => b"quote",
