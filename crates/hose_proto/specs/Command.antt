@@ -96,9 +96,4 @@ command_grammar network = grammar_of (command_form network)
 abbrev pub TakesMemory : Verb → Type 0
 TakesMemory verb.Admit = ⊤
 TakesMemory verb.Quote = ⊤
-TakesMemory verb.Take = ⊥
-TakesMemory verb.Release = ⊥
-TakesMemory verb.Show = ⊥
-TakesMemory verb.Link = ⊥
-TakesMemory verb.Down = ⊥
-TakesMemory verb.Up = ⊥
+TakesMemory other = ⊥

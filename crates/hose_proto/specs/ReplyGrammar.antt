@@ -1,5 +1,5 @@
 -- The grammar of replies, form by form.
-use Rattle.std.specs.Prelude.{ℕ, ◌≤◌, List, [], ◌∷◌, All, ⊤, codes, decimal, length, slice_get}
+use Rattle.std.specs.Prelude.{◌≡◌, ◌⊎◌, ℕ, ◌≤◌, List, [], ◌∷◌, All, ⊤, codes, decimal, length, slice_get}
 use Rattle.hose_words.specs.Form.{Form, finish, branch, list, until, Each, number, this, these, grammar_of}
 use Rattle.hose_words.specs.Grammar.{Grammar}
 use Rattle.hose_graph.specs.Ascending.{IsAscending}
@@ -146,29 +146,21 @@ head_form network head.Bye = finish
 abbrev pub reply_form : Network → Form
 reply_form network = branch Each head_word (head_form network)
 
+-- the first words of the replies that tell what a plan costs and reserves, and no hose
+abbrev pub IsPriced : Head → Type 0
+IsPriced word = (word ≡ head.Admitted) ⊎ (word ≡ head.Quoted)
+
+-- the first words of the replies that tell whether a link is in service now
+abbrev pub IsChanged : Head → Type 0
+IsChanged word = (word ≡ head.Down) ⊎ (word ≡ head.Up) ⊎ (word ≡ head.Already)
+
 -- the replies that have lists, and that take memory to read
 abbrev pub HasLists : Head → Type 0
-HasLists head.Welcome = ⊥
 HasLists head.Admitted = ⊤
 HasLists head.Quoted = ⊤
 HasLists head.Refused = ⊤
-HasLists head.Stale = ⊥
-HasLists head.Released = ⊥
-HasLists head.No = ⊥
-HasLists head.Too = ⊥
 HasLists head.Vpn = ⊤
-HasLists head.Link = ⊥
-HasLists head.Down = ⊥
-HasLists head.Up = ⊥
-HasLists head.Already = ⊥
-HasLists head.Denied = ⊥
-HasLists head.Full = ⊥
-HasLists head.Spent = ⊥
-HasLists head.Disk = ⊥
-HasLists head.Memory = ⊥
-HasLists head.Bad = ⊥
-HasLists head.Long = ⊥
-HasLists head.Bye = ⊥
+HasLists other = ⊥
 
 -- the grammar of replies
 abbrev pub reply_grammar : Network → Grammar

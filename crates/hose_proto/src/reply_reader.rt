@@ -1,21 +1,21 @@
 // Replies read from words.
 ghost use Rattle.std.specs.Prelude.{◌≡◌, ◌⊎◌, ℕ, ◌<◌, ◌++◌, [], ◌∷◌, codes, decimal, length, slice_get, IfOk, OnOk, IfErr, Ok, Err};
 ghost use Rattle.hose_words.specs.Cursor.{Took, TookAll, Misses, IsWrong};
-ghost use Rattle.hose_words.specs.Form.{Fits64, IsChoice, Each, anything, branch, finish, number, these};
+ghost use Rattle.hose_words.specs.Form.{Fits64, IsChoice, Each, anything, branch, finish, number, these, this};
 ghost use Rattle.hose_words.specs.Grammar.{IsFirst, IsFirstNotAllowed};
 ghost use Rattle.hose_words.specs.Words.{words_of};
-ghost use Rattle.hose_graph.specs.Network.{Network, IsNetwork, IsLinkOf, name_of};
+ghost use Rattle.hose_graph.specs.Network.{Network, IsNetwork, name_of};
 ghost use Rattle.hose_graph.specs.declared.command.Reply.{Reply};
 ghost use Rattle.hose_proto.specs.Reading.{IsFaultOf};
-ghost use Rattle.hose_proto.specs.ReplyGrammar.{HasLists, at_form, cost_form, id_form, priced_form, side_form, shown_form, load_form, link_state_form, changed_form, service_form, head_word, missing_word, head_form, reply_form, reply_grammar};
+ghost use Rattle.hose_proto.specs.ReplyGrammar.{HasLists, IsChanged, IsPriced, at_form, cost_form, id_form, priced_form, side_form, shown_form, load_form, link_state_form, changed_form, service_form, head_word, missing_word, head_form, reply_form, reply_grammar};
 ghost use Rattle.hose_graph.specs.Naming.{NamesPlaces};
-ghost use Rattle.hose_proto.specs.ReplyWords.{AreAmounts, IsReply, cost_words, words_of_link, priced_words, service_words};
+ghost use Rattle.hose_proto.specs.ReplyWords.{IsReply, cost_words, words_of_link, service_words};
 
 use crate::fault::ReadFault;
 use crate::head::{Head, Missing, Service};
 use crate::places::read_link_number;
 use crate::reply_lists::{read_amounts, read_hose, read_side};
-use hose_graph::{Amounts, Reply, Topology};
+use hose_graph::{Reply, Topology};
 use hose_words::{Cursor, WrongWord};
 use std::alloc::Global;
 
@@ -76,8 +76,8 @@ fn read_after(
         Head::Welcome => Ok(Reply::Welcome {
             at: read_at(words)?,
         }),
-        Head::Admitted => read_admitted(alloc, top, words),
-        Head::Quoted => read_quoted(alloc, top, words),
+        Head::Admitted => read_priced(alloc, top, head, words),
+        Head::Quoted => read_priced(alloc, top, head, words),
         Head::Refused => read_refused(alloc, top, words),
         Head::Stale => Ok(read_stale(words)?),
         Head::Released => Ok(read_released(words)?),
@@ -85,9 +85,9 @@ fn read_after(
         Head::Too => Ok(read_too_many(words)?),
         Head::Vpn => read_shown(alloc, top, words),
         Head::Link => Ok(read_link(top, words)?),
-        Head::Down => Ok(read_down(top, words)?),
-        Head::Up => Ok(read_up(top, words)?),
-        Head::Already => Ok(read_already(top, words)?),
+        Head::Down => Ok(read_changed(top, head, words)?),
+        Head::Up => Ok(read_changed(top, head, words)?),
+        Head::Already => Ok(read_changed(top, head, words)?),
         Head::Denied => Ok(Reply::Denied {
             at: read_at(words)?,
         }),
@@ -107,34 +107,34 @@ fn read_after(
     }
 }
 
-// After `admitted`.
-fn read_admitted(alloc: Global, top: &Topology, words: &mut Cursor<'_>) -> Result<Reply, ReadFault>
-    requires { IsNetwork top.now }
-    ensures ok { IfOk result (IsReply top.now (codes "admitted" ∷ words.old.left)) }
+// After `admitted` or `quoted`.
+fn read_priced(
+    alloc: Global,
+    top: &Topology,
+    head: Head,
+    words: &mut Cursor<'_>,
+) -> Result<Reply, ReadFault>
+    requires network { IsNetwork top.now }
+    requires head { IsPriced head }
+    ensures ok { IfOk result (IsReply top.now (head_word head ∷ words.old.left)) }
     ensures bad { IfErr result (IsFaultOf (priced_form top.now) words.old) }
 {
-    let (Costed { id, cost, at }, amounts) = read_priced(alloc, top, words)?;
-    Ok(Reply::Admitted {
-        id,
-        cost,
-        at,
-        amounts,
-    })
-}
-
-// After `quoted`.
-fn read_quoted(alloc: Global, top: &Topology, words: &mut Cursor<'_>) -> Result<Reply, ReadFault>
-    requires { IsNetwork top.now }
-    ensures ok { IfOk result (IsReply top.now (codes "quoted" ∷ words.old.left)) }
-    ensures bad { IfErr result (IsFaultOf (priced_form top.now) words.old) }
-{
-    let (Costed { id, cost, at }, amounts) = read_priced(alloc, top, words)?;
-    Ok(Reply::Quoted {
-        quote: id,
-        cost,
-        at,
-        amounts,
-    })
+    let Costed { id, cost, at } = read_cost(words, b"links")?;
+    let amounts = read_amounts(alloc, top, words)?;
+    match head {
+        Head::Admitted => Ok(Reply::Admitted {
+            id,
+            cost,
+            at,
+            amounts,
+        }),
+        _ => Ok(Reply::Quoted {
+            quote: id,
+            cost,
+            at,
+            amounts,
+        }),
+    }
 }
 
 // After `refused`.
@@ -207,11 +207,9 @@ fn read_shown(alloc: Global, top: &Topology, words: &mut Cursor<'_>) -> Result<R
     ensures ok { IfOk result (IsReply top.now (codes "vpn" ∷ words.old.left)) }
     ensures bad { IfErr result (IsFaultOf (shown_form top.now) words.old) }
 {
-    let costed = read_cost(words)?;
-    words.expect(b"ends")?;
+    let Costed { id, cost, at } = read_cost(words, b"ends")?;
     let hose = read_hose(alloc, top, words)?;
     let amounts = read_amounts(alloc, top, words)?;
-    let Costed { id, cost, at } = costed;
     Ok(Reply::Shown {
         id,
         cost,
@@ -298,34 +296,21 @@ fn read_bad(words: &mut Cursor<'_>) -> Result<Reply, WrongWord>
     Ok(Reply::Bad { word })
 }
 
-// After `down`.
-fn read_down(top: &Topology, words: &mut Cursor<'_>) -> Result<Reply, WrongWord>
-    requires { IsNetwork top.now }
-    ensures ok { IfOk result (IsReply top.now (codes "down" ∷ words.old.left)) }
+// After `down`, `up` or `already`.
+fn read_changed(top: &Topology, head: Head, words: &mut Cursor<'_>) -> Result<Reply, WrongWord>
+    requires network { IsNetwork top.now }
+    requires head { IsChanged head }
+    ensures ok { IfOk result (IsReply top.now (head_word head ∷ words.old.left)) }
     ensures wrong { IfErr result (λ wrong. IsWrong (changed_form top.now) words.old wrong.number) }
 {
-    let (link, at) = read_changed(top, words)?;
-    Ok(Reply::Down { link, at })
-}
-
-// After `up`.
-fn read_up(top: &Topology, words: &mut Cursor<'_>) -> Result<Reply, WrongWord>
-    requires { IsNetwork top.now }
-    ensures ok { IfOk result (IsReply top.now (codes "up" ∷ words.old.left)) }
-    ensures wrong { IfErr result (λ wrong. IsWrong (changed_form top.now) words.old wrong.number) }
-{
-    let (link, at) = read_changed(top, words)?;
-    Ok(Reply::Up { link, at })
-}
-
-// After `already`.
-fn read_already(top: &Topology, words: &mut Cursor<'_>) -> Result<Reply, WrongWord>
-    requires { IsNetwork top.now }
-    ensures ok { IfOk result (IsReply top.now (codes "already" ∷ words.old.left)) }
-    ensures wrong { IfErr result (λ wrong. IsWrong (changed_form top.now) words.old wrong.number) }
-{
-    let (link, at) = read_changed(top, words)?;
-    Ok(Reply::Already { link, at })
+    let link = read_link_number(top, words)?;
+    let at = read_at(words)?;
+    let link = u64::from(link);
+    match head {
+        Head::Down => Ok(Reply::Down { link, at }),
+        Head::Up => Ok(Reply::Up { link, at }),
+        _ => Ok(Reply::Already { link, at }),
+    }
 }
 
 // A reply of one word, which came.
@@ -337,54 +322,22 @@ fn read_alone(words: &mut Cursor<'_>, reply: Reply) -> Result<Reply, WrongWord>
     Ok(reply)
 }
 
-// `ID cost C at N links L:R ..`, to the end of the line.
-fn read_priced(
-    alloc: Global,
-    top: &Topology,
-    words: &mut Cursor<'_>,
-) -> Result<(Costed, Amounts), ReadFault>
-    requires { IsNetwork top.now }
-    ensures ok { IfOk result (λ priced. words.old.left
-        ≡ decimal priced.0.id ∷ priced_words priced.0.cost priced.0.at priced.1) }
-    ensures small { IfOk result
-        (λ priced. Fits64 priced.0.id × Fits64 priced.0.cost × Fits64 priced.0.at) }
-    ensures amounts { IfOk result (λ priced. AreAmounts top.now priced.1) }
-    ensures bad { IfErr result (IsFaultOf (priced_form top.now) words.old) }
-{
-    let costed = read_cost(words)?;
-    words.expect(b"links")?;
-    let amounts = read_amounts(alloc, top, words)?;
-    Ok((costed, amounts))
-}
-
-// `ID cost C at N`.
-fn read_cost(words: &mut Cursor<'_>) -> Result<Costed, WrongWord>
-    ensures ok { IfOk result
-        (λ costed. TookAll words.old words.new (cost_words costed.id costed.cost costed.at)) }
+// `ID cost C at N`, and this word.
+fn read_cost(words: &mut Cursor<'_>, next: &[u8]) -> Result<Costed, WrongWord>
+    ensures ok { IfOk result (λ costed. TookAll words.old words.new
+        (cost_words costed.id costed.cost costed.at ++ next.now ∷ [])) }
     ensures small { IfOk result
         (λ costed. Fits64 costed.id × Fits64 costed.cost × Fits64 costed.at) }
-    ensures wrong { IfErr result (λ wrong. IsWrong (cost_form anything) words.old wrong.number) }
+    ensures wrong { IfErr result
+        (λ wrong. IsWrong (cost_form (this next.now anything)) words.old wrong.number) }
 {
     let id = words.number()?;
     words.expect(b"cost")?;
     let cost = words.number()?;
     words.expect(b"at")?;
     let at = words.number()?;
+    words.expect(next)?;
     Ok(Costed { id, cost, at })
-}
-
-// `L at N`, to the end of the line.
-fn read_changed(top: &Topology, words: &mut Cursor<'_>) -> Result<(u64, u64), WrongWord>
-    requires { IsNetwork top.now }
-    ensures ok { IfOk result
-        (λ change. words.old.left ≡ decimal change.0 ∷ codes "at" ∷ decimal change.1 ∷ []) }
-    ensures is_link { IfOk result (λ change. IsLinkOf top.now change.0) }
-    ensures small { IfOk result (λ change. Fits64 change.1) }
-    ensures wrong { IfErr result (λ wrong. IsWrong (changed_form top.now) words.old wrong.number) }
-{
-    let link = read_link_number(top, words)?;
-    let at = read_at(words)?;
-    Ok((u64::from(link), at))
 }
 
 // `at N`, to the end of the line.

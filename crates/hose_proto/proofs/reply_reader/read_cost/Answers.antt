@@ -31,3 +31,12 @@ returns-in_err-at-clause-wrong c =
     (wrong_later c.in_ok-expect.ensures.ok refl
     (wrong_later c.in_ok-cost.ensures.ok (c.in_ok-cost.cost, refl, c.in_ok-cost.ensures.small)
     (wrong_later c.in_ok-expect-2.ensures.ok refl (wrong_place c.in_err-at.ensures.wrong)))))
+
+pub returns-in_err-expect-3-clause-wrong : goal.returns-in_err-expect-3-clause-wrong
+returns-in_err-expect-3-clause-wrong c =
+    still_wrong c.from_residual-in_err-expect-3.result c.from_residual-in_err-expect-3.ensures.1
+    (wrong_later c.in_ok-id.ensures.ok (c.in_ok-id.id, refl, c.in_ok-id.ensures.small)
+    (wrong_later c.in_ok-expect.ensures.ok refl
+    (wrong_later c.in_ok-cost.ensures.ok (c.in_ok-cost.cost, refl, c.in_ok-cost.ensures.small)
+    (wrong_later c.in_ok-expect-2.ensures.ok refl
+    (wrong_later c.in_ok-at.ensures.ok (c.in_ok-at.at, refl, c.in_ok-at.ensures.small) (wrong_place c.in_err-expect-3.ensures.wrong))))))
