@@ -1,28 +1,30 @@
 -- Lists of a line, read item by item to its end.
 use Rattle.std.proofs.Common.{◌≡◌, ℕ, ◌+◌, ◌<◌, ◌≤◌, List, [], ◌∷◌, ◌++◌, Option, None, Some, length, map, inl, inr, refl, sym, ap, subst, arith}
-use Rattle.std.specs.Option.{IfNone}
 use Rattle.std.proofs.lemmas.List.{map-append, length-map}
 use Rattle.hose_words.specs.Cursor.{Position, Took, IsWrong}
 use Rattle.hose_words.specs.Form.{TellsItems, list, grammar_of}
 use Rattle.hose_words.specs.Grammar.{IsFirst, IsFirstNotAllowed}
 use Rattle.hose_words.proofs.Listing.{Listing, MakesList, listing_more, one_item_more, wrong_after}
-use Rattle.hose_proto.specs.Reading.{AreSoFar, EndsList}
+use Rattle.hose_proto.specs.Reading.{AreSoFar, EndsList, TellsMore, TellsNext}
 
 -- where there is an item, the items may stand in a list
 pub some_fine : {A : Type 0} (fine : List A → Type 0) {items : List A} → AreSoFar fine items → 1 ≤ length items → fine items
 some_fine fine (inl none) some = absurd (omega (arith, ap length none, some))
 some_fine fine (inr are) some = are
 
--- a word that tells no item that may come next may not follow
-pub none_tells : {A : Type 0} {is : A → Type 0} {word_of : A → List ℕ} {fine : List A → Type 0} {items : List A} {may : A → Type 0} (word : List ℕ) (found : Option A) → MakesList is word_of fine items may
-    → IfNone found ((item : A) → word ≡ word_of item → may item → ⊥) → IfNone found (¬ TellsItems word_of fine (map word_of items ++ word ∷ []))
-none_tells {A} {is} {word_of} {fine} {items} {may} word found makes none = at found none
+-- what tells an item that may come next tells one item more of a list
+pub tells_more : {A : Type 0} {is : A → Type 0} {word_of : A → List ℕ} {fine : List A → Type 0} {items : List A} {may : A → Type 0} (word : List ℕ) (told : Option A) → MakesList is word_of fine items may
+    → ((item : A) → may item → fine (items ++ item ∷ [])) → TellsNext word_of may word told → TellsMore word_of fine items word told
+tells_more {A} {is} {word_of} {fine} {items} {may} word told makes more = at told
   where
-    at : (found : Option A) → IfNone found ((item : A) → word ≡ word_of item → may item → ⊥) → IfNone found (¬ TellsItems word_of fine (map word_of items ++ word ∷ []))
-    at None none = λ told.
-        let more = one_item_more is word_of items told.0 word makes.apart makes.all (makes.each told.0 told.2) told.1 in
-        none more.0 more.2 (makes.may_come more.0 (subst fine more.1 told.2))
-    at (Some item) none = tt
+    at : (told : Option A) → TellsNext word_of may word told → TellsMore word_of fine items word told
+    at None next = record {
+      some = tt;
+      none = λ tells.
+          let one = one_item_more is word_of items tells.0 word makes.apart makes.all (makes.each tells.0 tells.2) tells.1 in
+          next.none one.0 one.2 (makes.may_come one.0 (subst fine one.1 tells.2));
+    }
+    at (Some item) next = record { some = (next.some.0, more item next.some.1); none = tt }
 
 module _ {A : Type 0} {word_of : A → List ℕ} {fine : List A → Type 0} where
   -- one item more

@@ -1,5 +1,5 @@
 -- What is read of the words of commands and replies.
-use Rattle.std.specs.Prelude.{◌≡◌, ◌⊎◌, ℕ, ◌+◌, ◌<◌, ◌≤◌, List, [], ◌∷◌, ◌++◌, Any, codes, length, map}
+use Rattle.std.specs.Prelude.{◌≡◌, ◌⊎◌, ℕ, ◌+◌, ◌<◌, ◌≤◌, List, [], ◌∷◌, ◌++◌, Option, IfNone, IfSome, Any, codes, length, map}
 use Rattle.std.specs.List.Sorted.{IsStrictlyIncreasing}
 use Rattle.hose_words.specs.Cursor.{Position, IsWrong}
 use Rattle.hose_words.specs.Form.{Form, Fits64, TellsItems}
@@ -37,6 +37,18 @@ pub record EndsList {A : Type 0} (word_of : A → List ℕ) (fine : List A → T
       (λ word. TellsItems word_of fine (map word_of items ++ word ∷ [])) old.left
   pub few : old.left ≡ [] → length items < least
   pub at : number ≡ old.read + 1
+
+-- A word tells an item that may come next; or it tells none.
+pub record TellsNext {A : Type 0} (word_of : A → List ℕ) (may_come : A → Type 0) (word : List ℕ)
+    (told : Option A) : Type 0 where
+  pub some : IfSome told (λ item. (word ≡ word_of item) × may_come item)
+  pub none : IfNone told ((item : A) → word ≡ word_of item → may_come item → ⊥)
+
+-- A word tells one item more of a list; or no list goes on with it.
+pub record TellsMore {A : Type 0} (word_of : A → List ℕ) (fine : List A → Type 0) (items : List A)
+    (word : List ℕ) (told : Option A) : Type 0 where
+  pub some : IfSome told (λ item. (word ≡ word_of item) × fine (items ++ item ∷ []))
+  pub none : IfNone told (¬ TellsItems word_of fine (map word_of items ++ word ∷ []))
 
 -- an endpoint may come after others, which stand in any order
 pub record IsNewEnd (network : Network) (ends : List Endpoint) (end : Endpoint) : Type 0 where

@@ -1,5 +1,5 @@
 // Commands read from words.
-ghost use Rattle.std.specs.Prelude.{◌≡◌, ◌⊎◌, ℕ, List, ◌+◌, ◌≤◌, ◌↔◌, [], ◌∷◌, decimal, length, drop, Ok, Err, IfOk, IfErr, IfSome, IfNone, IsTrue, Any};
+ghost use Rattle.std.specs.Prelude.{◌≡◌, ◌⊎◌, ℕ, List, ◌+◌, ◌≤◌, ◌↔◌, [], ◌∷◌, decimal, length, drop, Ok, Err, IfOk, IfErr, IsTrue, Any};
 ghost use Rattle.hose_words.specs.Cursor.{IsWrong};
 ghost use Rattle.hose_words.specs.Form.{IsChoice, grammar_of};
 ghost use Rattle.hose_words.specs.Grammar.{IsFirst, IsFirstNotAllowed};
@@ -9,7 +9,7 @@ ghost use Rattle.hose_graph.specs.Network.{IsNetwork, IsLinkOf};
 ghost use Rattle.hose_graph.specs.declared.command.Command.{Command};
 ghost use Rattle.hose_proto.specs.Command.{AreEndsOf, AreNewEnds, IsId, IsCommand, TakesMemory, command_form, command_grammar, ends_form, verb_form, sole_id_form, sole_link_form, verb_word};
 ghost use Rattle.hose_proto.specs.Places.{end_word};
-ghost use Rattle.hose_proto.specs.Reading.{IsFaultOf, IsNewEnd};
+ghost use Rattle.hose_proto.specs.Reading.{IsFaultOf, IsNewEnd, TellsNext};
 ghost use Rattle.hose_graph.specs.Naming.{AsksOf};
 
 use crate::fault::ReadFault;
@@ -181,10 +181,7 @@ impl Items for NewEnds {
 // The endpoint that a word spells, where there is room for one more and its node has none yet.
 fn new_end(top: &Topology, ends: &[Endpoint], word: &[u8]) -> Option<Endpoint>
     requires { IsNetwork top.now }
-    ensures some { IfSome result
-        (λ end. (word.now ≡ end_word top.now end) × IsNewEnd top.now ends.now end) }
-    ensures none { IfNone result ((end : Endpoint)
-        → word.now ≡ end_word top.now end → IsNewEnd top.now ends.now end → ⊥) }
+    ensures { TellsNext (end_word top.now) (IsNewEnd top.now ends.now) word.now result }
 {
     let Some(end) = endpoint(top, word) else {
         return None;

@@ -1,9 +1,9 @@
 // Lists read from words, item by item to the end of the line.
 ghost use Rattle.std.specs.Prelude.{◌≡◌, ℕ, ◌≤◌, List, [], ◌∷◌, ◌++◌, length, map, IfOk, IfErr, IfSome, IfNone};
 ghost use Rattle.hose_words.specs.Cursor.{Took};
-ghost use Rattle.hose_words.specs.Form.{TellsItems, list};
+ghost use Rattle.hose_words.specs.Form.{list};
 ghost use Rattle.hose_graph.specs.Network.{Network, IsNetwork};
-ghost use Rattle.hose_proto.specs.Reading.{AreSoFar, EndsList, IsFaultOf};
+ghost use Rattle.hose_proto.specs.Reading.{AreSoFar, EndsList, IsFaultOf, TellsMore};
 
 use crate::fault::ReadFault;
 use hose_graph::Topology;
@@ -24,10 +24,7 @@ pub(crate) trait Items {
     fn next(top: &Topology, items: &[Self::Item], word: &[u8]) -> Option<Self::Item>
         requires network { IsNetwork top.now }
         requires so_far { AreSoFar (fine top.now) items.now }
-        ensures some { IfSome result (λ item.
-            (word.now ≡ word_of top.now item) × fine top.now (items.now ++ item ∷ [])) }
-        ensures none { IfNone result (¬ TellsItems (word_of top.now) (fine top.now)
-            (map (word_of top.now) items.now ++ word.now ∷ [])) };
+        ensures { TellsMore (word_of top.now) (fine top.now) items.now word.now result };
 }
 
 // The items of a list of so many at least, to the end of the line.

@@ -7,7 +7,7 @@ ghost use Rattle.hose_graph.specs.Hose.{Endpoint};
 ghost use Rattle.hose_graph.specs.Ascending.{IsAscending, firsts};
 ghost use Rattle.hose_graph.specs.Network.{IsNetwork, name_of};
 ghost use Rattle.hose_proto.specs.Places.{IsHoseOf, end_word};
-ghost use Rattle.hose_proto.specs.Reading.{IsFaultOf, IsNextEnd, IsNextNode, IsNextPair, MissesEnd};
+ghost use Rattle.hose_proto.specs.Reading.{IsFaultOf, IsNextEnd, IsNextNode, IsNextPair, MissesEnd, TellsNext};
 ghost use Rattle.hose_proto.specs.ReplyGrammar.{amounts_form, names_form, hose_form};
 ghost use Rattle.hose_proto.specs.ReplyWords.{AreAmounts, IsSide, pair_word};
 
@@ -55,10 +55,7 @@ impl Items for Pairs {
 fn pair_after(top: &Topology, pairs: &[ReservedLink], word: &[u8]) -> Option<ReservedLink>
     requires ascending { IsAscending pairs.now }
     requires network { IsNetwork top.now }
-    ensures some { IfSome result
-        (λ pair. (word.now ≡ pair_word pair) × IsNextPair top.now pairs.now pair) }
-    ensures none { IfNone result ((pair : ReservedLink)
-        → word.now ≡ pair_word pair → IsNextPair top.now pairs.now pair → ⊥) }
+    ensures { TellsNext pair_word (IsNextPair top.now pairs.now) word.now result }
 {
     let (link, amount) = parts(word)?;
     let Some(link) = link_number(top, link) else {
@@ -174,10 +171,7 @@ fn next_end(
 fn end_after(top: &Topology, ends: &[Endpoint], word: &[u8]) -> Option<Endpoint>
     requires ascending { IsAscending ends.now }
     requires network { IsNetwork top.now }
-    ensures some { IfSome result
-        (λ end. (word.now ≡ end_word top.now end) × IsNextEnd top.now ends.now end) }
-    ensures none { IfNone result ((end : Endpoint)
-        → word.now ≡ end_word top.now end → IsNextEnd top.now ends.now end → ⊥) }
+    ensures { TellsNext (end_word top.now) (IsNextEnd top.now ends.now) word.now result }
 {
     let Some(end) = endpoint(top, word) else {
         return None;

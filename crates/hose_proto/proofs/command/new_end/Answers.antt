@@ -2,10 +2,13 @@ use Rattle.std.proofs.Common.{◌∙◌, ℕ, Any, ◌≡◌, refl, sym, subst}
 use Rattle.hose_proto.proofs.Items.{ends_spelled}
 use Rattle.hose_proto.proofs.command.new_end.Goals as goal
 
-pub returns-in_default-clause-none : goal.returns-in_default-clause-none
-returns-in_default-clause-none c end told new = c.in_default.ensures.none end told new.is_end
+pub returns-in_default : goal.returns-in_default
+returns-in_default c = record { some = tt; none = λ end told new. c.in_default.ensures.none end told new.is_end }
 
-pub returns-then-has_node-clause-none : goal.returns-then-has_node-clause-none
-returns-then-has_node-clause-none c end told new =
-    let same = (ends_spelled c.args.top.now c.requires).apart c.in-Some.end end c.in-Some.ensures.is_end new.is_end (sym c.in-Some.ensures.spelled ∙ told) in
-    new.is_new (subst (λ (at : ℕ × ℕ). Any (λ (earlier : ℕ × ℕ). earlier.0 ≡ at.0) c.args.ends.now) same (c.if-has_node.ensures.0 refl))
+pub returns-then-has_node : goal.returns-then-has_node
+returns-then-has_node c = record {
+  some = tt;
+  none = λ end told new.
+      let same = (ends_spelled c.args.top.now c.requires).apart c.in-Some.end end c.in-Some.ensures.is_end new.is_end (sym c.in-Some.ensures.spelled ∙ told) in
+      new.is_new (subst (λ (at : ℕ × ℕ). Any (λ (earlier : ℕ × ℕ). earlier.0 ≡ at.0) c.args.ends.now) same (c.if-has_node.ensures.0 refl));
+}
