@@ -1,8 +1,6 @@
-use Rattle.hose_words.proofs.Forms.{wrong_choice, wrong_chosen}
-use Rattle.std.proofs.lemmas.Result.{IfErr-weaker}
-use Rattle.hose_proto.specs.Reading.{IsFaultOf}
-use Rattle.hose_proto.specs.ReplyGrammar.{head_form, reply_form}
-use Rattle.hose_proto.proofs.Faults.{later_fault, told_wrong}
+use Rattle.hose_words.proofs.Forms.{wrong_choice}
+use Rattle.hose_proto.specs.ReplyGrammar.{head_form}
+use Rattle.hose_proto.proofs.Faults.{chosen_fault, told_wrong}
 use Rattle.hose_proto.proofs.Words.{heads_apart}
 use Rattle.hose_proto.proofs.reply_reader.read_words.Goals as goal
 
@@ -10,6 +8,4 @@ pub returns-in_err-head-clause-bad : goal.returns-in_err-head-clause-bad
 returns-in_err-head-clause-bad c = told_wrong c.from_residual.result c.from_residual.ensures.1 (wrong_choice c.in_err-head.ensures.wrong)
 
 pub returns-clause-bad : goal.returns-clause-bad
-returns-clause-bad c =
-    IfErr-weaker c.read_after.result (IsFaultOf (head_form c.args.top.now c.in_ok-head.head) c.keyword.new.self) (IsFaultOf (reply_form c.args.top.now) c.args.words.now)
-    (λ fault is. later_fault (λ number wrong. wrong_chosen c.in_ok-head.head tt heads_apart c.in_ok-head.ensures.ok wrong) is) c.read_after.ensures.bad
+returns-clause-bad c = chosen_fault (head_form c.args.top.now) c.read_after.result c.in_ok-head.head tt heads_apart c.in_ok-head.ensures.ok c.read_after.ensures.bad
