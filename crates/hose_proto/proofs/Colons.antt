@@ -1,5 +1,5 @@
 -- Words of two parts with a colon between them.
-use Rattle.std.proofs.Common.{◌≡◌, ◌∙◌, ℕ, ◌<◌, ◌^◌, true, List, [], ◌∷◌, ◌++◌, codes, decimal, refl, sym, subst, arith, append_assoc}
+use Rattle.std.proofs.Common.{◌≡◌, ◌∙◌, ℕ, ◌<◌, ◌^◌, true, List, [], ◌∷◌, ◌++◌, codes, decimal, refl, sym, arith, append_assoc}
 use Rattle.std.specs.List.{Contains}
 use Rattle.std.proofs.lemmas.Bool.{false≢true}
 use Rattle.std.proofs.lemmas.Fmt.{decimal_is_IsNumeral}
@@ -7,7 +7,7 @@ use Rattle.std.proofs.lemmas.List.{get_or_default}
 use Rattle.std.proofs.lemmas.List.Elements.{All-contains, Contains-append_right}
 use Rattle.std.proofs.lemmas.Str.Parse.{digit_at}
 use Rattle.hose_graph.specs.Name.{IsName, is_name_byte}
-use Rattle.hose_graph.specs.Network.{Network, IsNetwork, IsNodeOf, name_of}
+use Rattle.hose_graph.specs.Network.{Network, name_of}
 use Rattle.hose_proto.specs.Places.{end_word}
 use Rattle.hose_proto.specs.ReplyWords.{pair_word}
 
@@ -52,16 +52,5 @@ pair_told word link amount pair spelled is is' = spelled ∙ (λ i. is i ++ 58 �
 pub end_cut : (network : Network) (end : ℕ × ℕ) → end_word network end ≡ name_of network end.0 ++ 58 ∷ decimal end.1
 end_cut network end = append_assoc (name_of network end.0) (codes ":") (decimal end.1)
 
--- what stands round the first colon is the node's name and the rate
-pub end_parts : (network : Network) (word name rate : List ℕ) (end : ℕ × ℕ) → IsNetwork network → IsNodeOf network end.0 → word ≡ name ++ 58 ∷ rate → (¬ Contains name 58) → word ≡ end_word network end
-    → (name ≡ name_of network end.0) × (rate ≡ decimal end.1)
-end_parts network word name rate end is below spelled free told =
-    same_parts name rate (name_of network end.0) (decimal end.1) free (no_colon (name_of network end.0) (is.names end.0 [] below)) (sym spelled ∙ told ∙ end_cut network end)
-
 pub end_told : (network : Network) (word name rate : List ℕ) (end : ℕ × ℕ) → word ≡ name ++ 58 ∷ rate → name ≡ name_of network end.0 → rate ≡ decimal end.1 → word ≡ end_word network end
 end_told network word name rate end spelled is is' = spelled ∙ (λ i. is i ++ 58 ∷ is' i) ∙ sym (end_cut network end)
-
--- a word without a colon spells no endpoint
-pub no_end : (network : Network) (word : List ℕ) (end : ℕ × ℕ) → (¬ Contains word 58) → word ≡ end_word network end → ⊥
-no_end network word end free told =
-    free (subst (λ text. Contains text 58) (sym (told ∙ end_cut network end)) (Contains-append_right (name_of network end.0) (58 ∷ decimal end.1) 58 (0, omega arith, refl)))

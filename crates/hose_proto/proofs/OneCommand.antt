@@ -40,12 +40,7 @@ command_of network words = command_by network (verb_of (get_or words 0 [])) word
 abbrev IsOrdered : Command → Command → Type 0
 IsOrdered (Admit ends) command = (hose : List (ℕ × ℕ)) × (command ≡ Admit hose) × IsPermutation ends hose × IsHose hose
 IsOrdered (Quote ends) command = (hose : List (ℕ × ℕ)) × (command ≡ Quote hose) × IsPermutation ends hose × IsHose hose
-IsOrdered (Take quote) command = command ≡ Take quote
-IsOrdered (Release id) command = command ≡ Release id
-IsOrdered (Show id) command = command ≡ Show id
-IsOrdered (Link link) command = command ≡ Link link
-IsOrdered (Down link) command = command ≡ Down link
-IsOrdered (Up link) command = command ≡ Up link
+IsOrdered other command = command ≡ other
 
 -- so it is one command at most
 ordered_unique : (command one other : Command) → IsOrdered command one → IsOrdered command other → one ≡ other
@@ -53,12 +48,7 @@ ordered_unique (Admit ends) one other (hose, is, moved, sound) (hose', is', move
     is ∙ ap Admit (one_hose ends hose hose' moved moved' sound sound') ∙ sym is'
 ordered_unique (Quote ends) one other (hose, is, moved, sound) (hose', is', moved', sound') =
     is ∙ ap Quote (one_hose ends hose hose' moved moved' sound sound') ∙ sym is'
-ordered_unique (Take quote) one other is is' = is ∙ sym is'
-ordered_unique (Release id) one other is is' = is ∙ sym is'
-ordered_unique (Show id) one other is is' = is ∙ sym is'
-ordered_unique (Link link) one other is is' = is ∙ sym is'
-ordered_unique (Down link) one other is is' = is ∙ sym is'
-ordered_unique (Up link) one other is is' = is ∙ sym is'
+ordered_unique command one other is is' = is ∙ sym is'
 
 module _ (network : Network) (is : IsNetwork network) where
   -- endpoints are found again from their words

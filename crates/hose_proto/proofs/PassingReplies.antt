@@ -96,28 +96,13 @@ module _ (network : Network) (is : IsNetwork network) where
 
 -- each place that a reply of the network names is one of the network
 places_of : (network : Network) (reply : Reply) → IsOfKind network reply → NamesPlaces network reply
-places_of network (Welcome at) kind = tt
-places_of network (Admitted id cost at amounts) kind = tt
-places_of network (Quoted quote cost at amounts) kind = tt
 places_of network (Refused at side) kind = (kind.1).nodes
-places_of network (Stale seen now) kind = tt
-places_of network (Released id at) kind = tt
-places_of network (NoVpn id at) kind = tt
-places_of network (NoQuote quote at) kind = tt
-places_of network (TooMany at) kind = tt
 places_of network (Shown id cost at hose amounts) kind = (kind.3).nodes
 places_of network (LinkState link load out at) kind = kind.0
 places_of network (Down link at) kind = kind.0
 places_of network (Up link at) kind = kind.0
 places_of network (Already link at) kind = kind.0
-places_of network (Denied at) kind = tt
-places_of network (Full at) kind = tt
-places_of network (Spent at) kind = tt
-places_of network (Disk at) kind = tt
-places_of network Memory kind = tt
-places_of network (Bad word) kind = tt
-places_of network Long kind = tt
-places_of network Bye kind = tt
+places_of network other kind = tt
 
 pub read_places : (network : Network) (words : List (List ℕ)) (result : Result Reply ReadFault) → IfOk result (IsReply network words) → IfOk result (NamesPlaces network)
 read_places network words (Ok reply) told = places_of network reply told.of_kind
