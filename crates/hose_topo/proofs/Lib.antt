@@ -2,7 +2,6 @@ pub mod CanonicalText
 pub mod FirstLineText
 pub mod LinkLine
 pub mod NamesTold
-pub mod NetworkLines
 pub mod TopologyLines
 pub mod TopologyReading
 pub mod WrongWord
