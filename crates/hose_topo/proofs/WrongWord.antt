@@ -1,15 +1,16 @@
 -- A line that is wrong at a word neither adds to the network nor ends the text.
 use Rattle.std.proofs.Common.{◌≡◌, ℕ, List, [], ◌∷◌, codes, decimal, inl, inr, refl, sym, subst, arith}
+use Rattle.hose_words.specs.Cursor.{IsWrong, Position, Took}
 use Rattle.hose_words.specs.Form.{maybe, finish}
 use Rattle.hose_words.specs.Grammar.{IsFirstNotAllowed}
-use Rattle.hose_words.proofs.Forms.{AreApart, apart_by}
+use Rattle.hose_words.proofs.Forms.{AreApart, apart_by, wrong_chosen}
 use Rattle.hose_words.proofs.Keywords.{choice_of}
 use Rattle.hose_words.proofs.Passing.{Passes, pass_branch, pass_finish, pass_maybe, pass_nothing, pass_place}
 use Rattle.hose_graph.specs.Network.{Network, IsNetwork, IsNodeOf, name_of}
 use Rattle.hose_graph.specs.declared.topology.Link.{Link}
 use Rattle.hose_graph.specs.declared.limits.TheConstants.{MOST_COST}
 use Rattle.hose_graph.proofs.NodesByName.{same_name}
-use Rattle.hose_topo.specs.TopologyText.{AddsLine, AddsLink, AddsNode, EndsText, HasLine, IsOtherNode, IsPassedOver, IsWrongLine, MayCome, TellsLink, kind_word, line_form, line_grammar, number_form}
+use Rattle.hose_topo.specs.TopologyText.{AddsLine, AddsLink, AddsNode, EndsText, HasLine, IsOtherNode, IsPassedOver, IsWrongLine, MayCome, TellsLink, kind_word, line_form, line_grammar, link_form, number_form, numbers_form}
 use Rattle.hose_topo.specs.declared.line.Kind.{Kind}
 use Rattle.hose_topo.specs.declared.line.Kind.TheVariants as kind
 use Rattle.hose_topo.proofs.TopologyLines.{line_same}
@@ -32,6 +33,12 @@ nodes_apart network is = record { apart = λ one other below below'. same_name n
 
 pub others_apart : (network : Network) (a : ℕ) → IsNetwork network → AreApart (IsOtherNode network a) (name_of network)
 others_apart network a is = record { apart = λ one other below below'. same_name network one other is.differ below.0 below'.0 }
+
+-- the names of a link's nodes came, and a later word is wrong
+pub past_nodes : (network : Network) → IsNetwork network → {old mid new : Position} {a b number : ℕ} → Took old mid (name_of network a) → IsNodeOf network a → Took mid new (name_of network b) → IsOtherNode network a b
+    → IsWrong numbers_form new number → IsWrong (link_form network) old number
+past_nodes network is {old} {mid} {new} {a} {b} {number} took is_node took' is_other wrong =
+    wrong_chosen a is_node (nodes_apart network is) took (wrong_chosen b is_other (others_apart network a is) took' wrong)
 
 -- ---- a line that does something is not wrong
 
