@@ -1,5 +1,5 @@
 -- Values in order, as data.
-use Rattle.std.proofs.Common.{◌≡◌, ◌∙◌, ℕ, suc, ◌+◌, ◌<◌, ◌≤◌, List, [], ◌∷◌, ◌++◌, Some, length, get_or, take, map, refl, sym, ap, subst}
+use Rattle.std.proofs.Common.{◌≡◌, ◌∙◌, ℕ, suc, ◌+◌, ◌<◌, ◌≤◌, List, [], ◌∷◌, ◌++◌, Some, length, get_or, take, map, refl, sym, ap, subst, arith, length-take}
 use Rattle.std.specs.List.{AllZip, slice_get}
 use Rattle.std.proofs.lemmas.List.{get_or-map, length-map, take_all, take_more}
 use Rattle.std.proofs.lemmas.Option.{slice_get-get_or}
@@ -30,11 +30,18 @@ AllZip-push R (a ∷ xs) [] x y all one = absurd all
 AllZip-push R (a ∷ xs) (b ∷ ys) x y all one = (all.0, AllZip-push R xs ys x y all.1 one)
 
 -- as many in both lists
-pub length-AllZip : {X Y : Type 0} (R : X → Y → Type 0) (xs : List X) (ys : List Y) → AllZip R xs ys → length xs ≡ length ys
+length-AllZip : {X Y : Type 0} (R : X → Y → Type 0) (xs : List X) (ys : List Y) → AllZip R xs ys → length xs ≡ length ys
 length-AllZip R [] [] all = refl
 length-AllZip R [] (b ∷ ys) all = absurd all
 length-AllZip R (a ∷ xs) [] all = absurd all
 length-AllZip R (a ∷ xs) (b ∷ ys) all = ap suc (length-AllZip R xs ys all.1)
+
+-- where a value is left, fewer were told than there are
+pub fewer_told : {Y : Type 0} (R : Data → Y → Type 0) (values : List Value) (ys : List Y) (place : ℕ) → AllZip R (take place (map view values)) ys → place < length values → length ys < length values
+fewer_told R values ys place all below =
+    let same = length-AllZip R (take place (map view values)) ys all in
+    let whole : length (map view values) ≡ length values = length-map values view in
+    omega (arith, same, length-take place (map view values), whole, below)
 
 -- one value more is told
 pub told_more : {Y : Type 0} (R : Data → Y → Type 0) (values : List Value) (ys : List Y) (place : ℕ) (value : Value) (y : Y) → place < length values → value ≡ get_or values place value

@@ -1,9 +1,8 @@
-use Rattle.std.proofs.Common.{◌≡◌, length, map, subst, sym, arith, length-take}
-use Rattle.std.proofs.lemmas.List.{length-map}
+use Rattle.std.proofs.Common.{subst, sym, arith}
 use Rattle.serde_json.specs.View.{view}
 use Rattle.hose_graph.proofs.Growth.{IsLink-kept}
 use Rattle.hose_topo_json.specs.JsonTopology.{TellsJsonLink, unlinked}
-use Rattle.hose_topo_json.proofs.Values.{length-AllZip, told_more, value_here}
+use Rattle.hose_topo_json.proofs.Values.{fewer_told, told_more, value_here}
 use Rattle.hose_topo_json.proofs.links.add_links.Goals as goal
 
 pub returns-in_default-clause-wrong : goal.returns-in_default-clause-wrong
@@ -17,10 +16,7 @@ returns-in_default-clause-wrong c = record {
 
 pub push_link-requires-clause-room : goal.push_link-requires-clause-room
 push_link-requires-clause-room c =
-    let same = length-AllZip _ _ _ c.loop-place.invariant.1 in
-    let front = length-take c.loop-place.place (map view c.args.values.now) in
-    let whole : length (map view c.args.values.now) ≡ length c.args.values.now = length-map c.args.values.now view in
-    omega (arith, same, front, whole, c.requires.few, c.loop-place-test.true)
+    omega (arith, c.requires.few, fewer_told (TellsJsonLink c.args.top.now.nodes) c.args.values.now c.loop-place.top.links c.loop-place.place c.loop-place.invariant.1 c.loop-place-test.true)
 
 pub push_link-requires-clause-is_link : goal.push_link-requires-clause-is_link
 push_link-requires-clause-is_link c =

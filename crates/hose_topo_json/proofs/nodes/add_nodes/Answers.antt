@@ -1,10 +1,9 @@
-use Rattle.std.proofs.Common.{refl, ◌≡◌, ◌∙◌, [], ◌∷◌, ◌++◌, length, map, ap, arith, length-take}
-use Rattle.std.proofs.lemmas.List.{length-map}
+use Rattle.std.proofs.Common.{refl, ◌≡◌, ◌∙◌, [], ◌∷◌, ◌++◌, ap, arith}
 use Rattle.serde_json.specs.View.{view}
 use Rattle.hose_graph.specs.Network.{Network}
 use Rattle.hose_topo_json.specs.JsonTopology.{IsText, unlinked}
 use Rattle.hose_topo_json.proofs.Names.{named_more}
-use Rattle.hose_topo_json.proofs.Values.{all_taken, length-AllZip, value_here}
+use Rattle.hose_topo_json.proofs.Values.{all_taken, fewer_told, value_here}
 use Rattle.hose_topo_json.proofs.nodes.add_nodes.Goals as goal
 
 pub returns-in_default-clause-wrong : goal.returns-in_default-clause-wrong
@@ -18,10 +17,7 @@ returns-in_default-clause-wrong c = record {
 
 pub push_node-requires-clause-room : goal.push_node-requires-clause-room
 push_node-requires-clause-room c =
-    let same = length-AllZip IsText _ _ c.loop-place.invariant.1.texts in
-    let front = length-take c.loop-place.place (map view c.args.values.now) in
-    let whole : length (map view c.args.values.now) ≡ length c.args.values.now = length-map c.args.values.now view in
-    omega (arith, same, front, whole, c.requires.few, c.loop-place-test.true)
+    omega (arith, c.requires.few, fewer_told IsText c.args.values.now c.loop-place.top.nodes c.loop-place.place c.loop-place.invariant.1.texts c.loop-place-test.true)
 
 pub loop-place-preserved : goal.loop-place-preserved
 loop-place-preserved c =
