@@ -2,6 +2,7 @@
 use Rattle.std.proofs.Common.{◌≡◌, ◌∙◌, ℕ, List, refl, sym, ap, arith}
 use Rattle.std.specs.List.{All}
 use Rattle.hose_words.proofs.Keywords.{choice_of}
+use Rattle.hose_proto.proofs.Words.{every_choice}
 use Rattle.hose_cert.specs.Statement.{statement_word}
 use Rattle.hose_cert.specs.declared.statement.Kind.{Kind}
 use Rattle.hose_cert.specs.declared.statement.Kind.TheVariants as kind
@@ -13,20 +14,12 @@ kind_of_word word = choice_of statement_word KINDS kind.End word
 
 pub kind_of_word-word : (one : Kind) → kind_of_word (statement_word one) ≡ one
 kind_of_word-word kind.Cost = refl
-kind_of_word-word kind.Hose = refl
-kind_of_word-word kind.Use = refl
-kind_of_word-word kind.Without = refl
-kind_of_word-word kind.Pot = refl
-kind_of_word-word kind.End = refl
+kind_of_word-word other = refl
 
 -- no two kinds have one word
 pub kinds_apart : (one other : Kind) → statement_word one ≡ statement_word other → one ≡ other
 kinds_apart one other same = sym (kind_of_word-word one) ∙ ap kind_of_word same ∙ kind_of_word-word other
 
+-- what holds of all kinds in the list holds of each
 pub every_kind : (P : Kind → Type 0) → All P KINDS → (one : Kind) → P one
-every_kind P all kind.Cost = all 0 kind.End (omega arith)
-every_kind P all kind.Hose = all 1 kind.End (omega arith)
-every_kind P all kind.Use = all 2 kind.End (omega arith)
-every_kind P all kind.Without = all 3 kind.End (omega arith)
-every_kind P all kind.Pot = all 4 kind.End (omega arith)
-every_kind P all kind.End = all 5 kind.End (omega arith)
+every_kind P all = every_choice statement_word KINDS kind.End kind_of_word-word P all (all 5 kind.End (omega arith))

@@ -1,8 +1,8 @@
 // What a line of a certificate says, the words that begin it, and the limits of its numbers.
-ghost use Rattle.std.specs.Prelude.{◌≡◌};
 ghost use Rattle.hose_cert.specs.Statement.{statement_word};
 
 use hose_graph::{Hose, ReservedLink};
+use hose_proto::{HasWord, with_word};
 use hose_words::Keyword;
 
 /// The greatest cost and the greatest number of a certificate, above each cost of a plan.
@@ -54,19 +54,14 @@ impl Keyword for Kind {
     ghost word_of = { statement_word };
 
     fn of(word: &[u8]) -> Option<Kind> {
-        for kind in KINDS {
-            if kind.word() == word {
-                return Some(kind);
-            }
-        }
-        None
+        with_word(&KINDS, word)
     }
 }
 
-impl Kind {
-    fn word(self) -> &'static [u8]
-        ensures { result.now ≡ statement_word self }
-    {
+impl HasWord for Kind {
+    ghost word_of = { statement_word };
+
+    fn word(self) -> &'static [u8] {
         match self {
             Kind::Cost => b"cost",
             Kind::Hose => b"hose",
