@@ -32,17 +32,7 @@ module _ (network : Network) (l : ℕ) (row : List ℕ) (link : Link) (there : s
 
 -- ---- links that were not left out
 
-is_false : (b : Bool) → IsTrue (not b) → b ≡ false
-is_false false so = refl
-is_false true so = absurd (false≢true so)
-
--- a link that is left out is none of the others
-pub left_out : (set : List Bool) (l : ℕ) → l < length set → IsTrue (slice_index_or set l false) → IsIn (others_of set) l → ⊥
-left_out set l below there is =
-    let other : slice_index_or set l false ≡ false = is_false (slice_index_or set l false) (subst IsTrue (get_or-map not set l false false below) is) in
-    false≢true (sym other ∙ there)
-
--- one that is not left out is one of them
+-- a link that is not left out is one of the others
 pub not_left_out : (set : List Bool) (l : ℕ) → l < length set → (IsIn set l → ⊥) → IsIn (others_of set) l
 not_left_out set l below none = subst IsTrue (sym (get_or-map not set l false false below)) (at (slice_index_or set l false) none)
   where

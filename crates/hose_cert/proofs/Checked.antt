@@ -42,9 +42,6 @@ module _ (network : Network) (is : IsNetwork network) where
       pub some_cheapest : ReadsCertText source network old new (Ok (Some body)) → AreCheapestFound network verdict
       some_cheapest (lines, is_body, all, whole, texts, left) = cheapest_of lines verdict whole (judged lines is_body all)
 
-    pub some_all : (body : Body) → ReadsCertText source network old new (Ok (Some body)) → IsAllRead source old new
-    some_all body (lines, is_body, all, whole, texts, left) = left
-
     -- what holds whatever is told
     told_any : (o n : Option Stream) (P : List ℕ → List ℕ → Type 0) → ((before after : List ℕ) → P before after) → WhereTold o n P
     told_any None n P holds = tt

@@ -400,9 +400,6 @@ module _ (network : Network) (lines : List CertLine) (old : Body) (is : IsBody n
 
   -- ---- numbers
 
-  pub pot_few : (root from : ℕ) (more : List ℕ) → IsSaid network (pot_line root from more) → (root < length network.nodes) × (from < length network.nodes) × (length more ≡ numbers_from network from) × AreUpToMost more
-  pot_few root from more said = (said.1.1, said.1.2, said.1.3, said.1.4)
-
   module _ (root from : ℕ) (more : List ℕ) (said : IsSaid network (pot_line root from more)) (may : MayNumber old.last) (same : root ≡ old.rows.root) (begun : from ≡ length old.rows.row.items)
       (mid : Rows) (mid_root : mid.root ≡ old.rows.root) (mid_row : mid.row.items ≡ old.rows.row.items ++ more) (mid_starts : mid.starts ≡ old.rows.starts) (mid_changes : mid.changes ≡ old.rows.changes) (mid_weighs : mid.weighs ≡ old.rows.weighs) where
     abbrev with_pot : List CertLine
@@ -416,9 +413,6 @@ module _ (network : Network) (lines : List CertLine) (old : Body) (is : IsBody n
 
     pub places : length mid.row.items ≡ from + numbers_from network from
     places = omega (arith, ap length mid_row, length-append old.rows.row.items more, begun, said.1.3)
-
-    pub mid_up : AreUpToMost mid.row.items
-    mid_up = up_on network (λ k. numbers_in k lines) (λ k. numbers_in k with_pot) old.cost old.hose old.without old.rows mid more mid_root mid_row mid_starts mid_changes mid_weighs here else is.rows said.1.4
 
     module _ (new : Body) (cost : new.cost ≡ old.cost) (hose : new.hose ≡ old.hose) (last : new.last ≡ last.Pot) (pairs : new.pairs ≡ old.pairs) (without : new.without ≡ old.without) where
       with_rows : AreDraftRows network (λ k. numbers_in k with_pot) old.cost old.hose old.without new.rows → place_after network (pot_line root from more) ≡ (new.rows.root, length new.rows.row.items) → IsBody network with_pot new

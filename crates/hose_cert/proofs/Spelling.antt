@@ -7,7 +7,6 @@ use Rattle.std.proofs.lemmas.List.Elements.{All-tail}
 use Rattle.hose_words.specs.Words.{words_of}
 use Rattle.hose_graph.specs.Network.{Network, IsNetwork}
 use Rattle.hose_graph.specs.declared.command.Command.TheVariants.{Admit}
-use Rattle.hose_graph.specs.declared.limits.TheConstants.{MOST_AMOUNT}
 use Rattle.hose_proto.specs.Command.{AreEndsOf}
 use Rattle.hose_proto.proofs.Back.{number_back, number_spelled, map_back}
 use Rattle.hose_proto.proofs.OneCommand.{command_unique}
@@ -121,11 +120,7 @@ module _ (network : Network) (is : IsNetwork network) where
       let asked : Admit hose ≡ Admit hose' = command_unique network _ (Admit hose) (Admit hose') is (drop 1 words, refl, ends) (drop 1 words, refl, ends') in
       let equal : hose ≡ hose' = cc asked in
       same ∙ ap hose_line equal ∙ sym same'
-  said_once words (cost_line cost) one other same same' = same ∙ sym same'
-  said_once words (use_line pair) one other same same' = same ∙ sym same'
-  said_once words (without_line link) one other same same' = same ∙ sym same'
-  said_once words (pot_line root from numbers) one other same same' = same ∙ sym same'
-  said_once words end_line one other same same' = same ∙ sym same'
+  said_once words said one other same same' = same ∙ sym same'
 
   pub spelled_once : (words : List (List ℕ)) (one other : CertLine) → IsSpelled network words one → IsSpelled network words other → one ≡ other
   spelled_once words one other spelled spelled' =
@@ -145,72 +140,20 @@ module _ (network : Network) (more : List (List ℕ)) where
   same_kind : (one : Kind) (line : CertLine) → Says one line → kind_of line ≡ one
   same_kind one line is = is_of_kind network (statement_word one ∷ more) more one line refl is
 
-  pub no_cost : ((cost : ℕ) → more ≡ decimal cost ∷ [] → IsFrom 0 (MOST_NUMBER + 1) cost → ⊥) → (line : CertLine) → Says kind.Cost line → ⊥
-  no_cost none line spelled = at line (same_kind kind.Cost line spelled) spelled
-    where
-      at : (line : CertLine) → kind_of line ≡ kind.Cost → Says kind.Cost line → ⊥
-      at (cost_line cost) same is = none cost (ap (drop 1) is.0) (omega arith, omega (arith, is.1))
-      at (hose_line hose) same is = absurd (cc same)
-      at (use_line pair) same is = absurd (cc same)
-      at (without_line link) same is = absurd (cc same)
-      at (pot_line root from numbers) same is = absurd (cc same)
-      at end_line same is = absurd (cc same)
-
   pub no_hose : ((hose : List (ℕ × ℕ)) → AreEndsOf network more hose → ⊥) → (line : CertLine) → Says kind.Hose line → ⊥
   no_hose none line spelled = at line (same_kind kind.Hose line spelled) spelled
     where
       at : (line : CertLine) → kind_of line ≡ kind.Hose → Says kind.Hose line → ⊥
-      at (cost_line cost) same is = absurd (cc same)
       at (hose_line hose) same is = none hose (subst (λ ws. AreEndsOf network ws hose) (sym (ap (drop 1) is.1)) is.2)
-      at (use_line pair) same is = absurd (cc same)
-      at (without_line link) same is = absurd (cc same)
-      at (pot_line root from numbers) same is = absurd (cc same)
-      at end_line same is = absurd (cc same)
-
-  pub no_use : ((link amount : ℕ) → more ≡ decimal link ∷ decimal amount ∷ [] → link < length network.links → IsFrom 1 (MOST_AMOUNT + 1) amount → ⊥) → (line : CertLine) → Says kind.Use line → ⊥
-  no_use none line spelled = at line (same_kind kind.Use line spelled) spelled
-    where
-      at : (line : CertLine) → kind_of line ≡ kind.Use → Says kind.Use line → ⊥
-      at (cost_line cost) same is = absurd (cc same)
-      at (hose_line hose) same is = absurd (cc same)
-      at (use_line pair) same is = none pair.0 pair.1 (ap (drop 1) is.0) is.1 (is.2.0, omega (arith, is.2.1))
-      at (without_line link) same is = absurd (cc same)
-      at (pot_line root from numbers) same is = absurd (cc same)
-      at end_line same is = absurd (cc same)
-
-  pub no_without : ((link : ℕ) → more ≡ decimal link ∷ [] → link < length network.links → ⊥) → (line : CertLine) → Says kind.Without line → ⊥
-  no_without none line spelled = at line (same_kind kind.Without line spelled) spelled
-    where
-      at : (line : CertLine) → kind_of line ≡ kind.Without → Says kind.Without line → ⊥
-      at (cost_line cost) same is = absurd (cc same)
-      at (hose_line hose) same is = absurd (cc same)
-      at (use_line pair) same is = absurd (cc same)
-      at (without_line link) same is = none link (ap (drop 1) is.0) is.1
-      at (pot_line root from numbers) same is = absurd (cc same)
-      at end_line same is = absurd (cc same)
+      at other same is = absurd (cc same)
 
   pub no_pot : ((root from : ℕ) (numbers : List ℕ) → more ≡ decimal root ∷ decimal from ∷ map decimal numbers → root < length network.nodes → from < length network.nodes
       → length numbers ≡ numbers_from network from → AreUpToMost numbers → ⊥) → (line : CertLine) → Says kind.Pot line → ⊥
   no_pot none line spelled = at line (same_kind kind.Pot line spelled) spelled
     where
       at : (line : CertLine) → kind_of line ≡ kind.Pot → Says kind.Pot line → ⊥
-      at (cost_line cost) same is = absurd (cc same)
-      at (hose_line hose) same is = absurd (cc same)
-      at (use_line pair) same is = absurd (cc same)
-      at (without_line link) same is = absurd (cc same)
       at (pot_line root from numbers) same is = none root from numbers (ap (drop 1) is.0) is.1 is.2 is.3 is.4
-      at end_line same is = absurd (cc same)
-
-  pub no_end : (more ≡ [] → ⊥) → (line : CertLine) → Says kind.End line → ⊥
-  no_end none line spelled = at line (same_kind kind.End line spelled) spelled
-    where
-      at : (line : CertLine) → kind_of line ≡ kind.End → Says kind.End line → ⊥
-      at (cost_line cost) same is = absurd (cc same)
-      at (hose_line hose) same is = absurd (cc same)
-      at (use_line pair) same is = absurd (cc same)
-      at (without_line link) same is = absurd (cc same)
-      at (pot_line root from numbers) same is = absurd (cc same)
-      at end_line same is = none (ap (drop 1) is)
+      at other same is = absurd (cc same)
 
 -- what was told of the words after the first one is told of all
 pub told_after : (network : Network) (words more : List (List ℕ)) (one other : Kind) → words ≡ statement_word one ∷ more → one ≡ other → (told : Option Statement) → IsToldAfter network other more told → IsLineTold (IsSpelled network words) told
