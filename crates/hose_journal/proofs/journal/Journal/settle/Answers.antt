@@ -1,10 +1,13 @@
 use Rattle.std.proofs.Common.{◌≢◌, rules, refl, arith, None}
 use Rattle.hose_journal.specs.Gates.{IsDoubtful}
 use Rattle.hose_journal.specs.Entries.{entered}
+use Rattle.hose_journal.specs.Journal.{Account, IsListAmid, Stands}
+use Rattle.hose_journal.specs.Moments.{LeavesOnly}
 use Rattle.hose_journal.specs.declared.layout.TheConstants.{CLOSED, OPEN}
 use Rattle.hose_journal.proofs.Accounts.{closed_here, here, in_doubt, revoked, stands_on, stands_kept}
 use Rattle.hose_journal.proofs.Gates.{shut_gate}
 use Rattle.hose_journal.proofs.Runs.{now_too, on_err_of}
+use Rattle.hose_journal.proofs.journal.Journal.settle.Goals.{After-set_gate}
 use Rattle.hose_journal.proofs.journal.Journal.settle.Goals as goal
 
 pub set_gate-requires-clause-staged : goal.set_gate-requires-clause-staged
@@ -14,17 +17,18 @@ set_gate-requires-clause-staged g c =
     let doubt = in_doubt g.D.Disk c.args.self.now account stands (search rules) in
     (here g.D.Disk c.args.self.now account stands, closed_here g.D.Disk c.args.self.now account stands (entered doubt.0), stands.place, doubt.3)
 
-pub returns-in_err-set_gate-clause-any_moment : goal.returns-in_err-set_gate-clause-any_moment
-returns-in_err-set_gate-clause-any_moment g c = λ account stands.
+-- up to the write of the gate
+closed : (g : _) (c : After-set_gate g) (account : Account) → Stands g.D.Disk c.args.self.now account → LeavesOnly g.D.Disk c.args.self.now.disk c.set_gate.new.disk (IsListAmid account None)
+closed g c account stands =
     let doubt = in_doubt g.D.Disk c.args.self.now account stands (search rules) in
     let run = c.set_gate.ensures.any_moment (here g.D.Disk c.args.self.now account stands) (closed_here g.D.Disk c.args.self.now account stands (entered doubt.0)) stands.place doubt.3 in
     revoked g.D.Disk c.args.self.now account stands c.args.self.now.disk c.set_gate.new.disk doubt.0 doubt.1 doubt.2 run
 
+pub returns-in_err-set_gate-clause-any_moment : goal.returns-in_err-set_gate-clause-any_moment
+returns-in_err-set_gate-clause-any_moment g c = closed g (goal.at.returns-in_err-set_gate-clause-any_moment g c).After-set_gate
+
 pub returns-in_ok-set_gate-clause-any_moment : goal.returns-in_ok-set_gate-clause-any_moment
-returns-in_ok-set_gate-clause-any_moment g c = λ account stands.
-    let doubt = in_doubt g.D.Disk c.args.self.now account stands (search rules) in
-    let run = c.set_gate.ensures.any_moment (here g.D.Disk c.args.self.now account stands) (closed_here g.D.Disk c.args.self.now account stands (entered doubt.0)) stands.place doubt.3 in
-    revoked g.D.Disk c.args.self.now account stands c.args.self.now.disk c.set_gate.new.disk doubt.0 doubt.1 doubt.2 run
+returns-in_ok-set_gate-clause-any_moment g c = closed g (goal.at.returns-in_ok-set_gate-clause-any_moment g c).After-set_gate
 
 pub returns-in_err-set_gate-clause-failed : goal.returns-in_err-set_gate-clause-failed
 returns-in_err-set_gate-clause-failed g c = on_err_of c.from_residual.result _ (λ account stands.
