@@ -78,18 +78,26 @@ head_landed tail was image same is =
     is ∙ ap (λ (l : List ℕ). overwritten 1 tail l) same
     ∙ ap (λ (l : List ℕ). (CLOSED ∷ tail) ++ l) (drop_all (1 + length tail) (CLOSED ∷ []) (omega arith)) ∙ append-nil (CLOSED ∷ tail)
 
--- a head that is written after its closed gate, and then the gate
-pub head_moments : {D : Type 0} (disk : Ghosts D) (old mid new : D) (digest tail : List ℕ) → length digest ≡ DIGEST_BYTES → tail ≡ (MARK ++ CHAINED ∷ digest) ++ CLOSED ∷ [] → Images disk old (λ image. image ≡ CLOSED ∷ [])
-    → LeavesOnly disk old mid (IsTornFrom disk old 1 (length tail)) → Lands disk old mid 1 tail → LeavesOnly disk mid new (IsTornFrom disk mid 0 1) → LeavesOnly disk old new (IsListOf digest [])
-head_moments disk old mid new digest tail size tail_is closed first lands second =
-    let few : length tail ≤ HEAD_BYTES = omega (arith, size, ap length tail_is, length-append (MARK ++ CHAINED ∷ digest) (CLOSED ∷ []), length-append MARK (CHAINED ∷ digest)) in
-    joined disk old mid new (IsListOf digest [])
-    (weaker disk old mid (IsTornFrom disk old 1 (length tail)) (IsListOf digest []) (λ image (was, is_image, torn). unbegun_list digest image (head_unbegun (length tail) was image few (closed was is_image) torn)) first)
-    (weaker disk mid new (IsTornFrom disk mid 0 1) (IsListOf digest [])
-    (λ image (was, is_image, torn).
-    let from = lands was is_image in
-    let gate = gate_torn tail was image (head_landed tail from.0 was (closed from.0 from.1) from.2) torn in
-    begun_list digest image tail gate.0 size tail_is gate.1) second)
+-- from an empty disk with a closed gate: a head is written after the gate, and then the gate
+module _ {D : Type 0} (disk : Ghosts D) (old mid : D) (digest tail : List ℕ) (size : length digest ≡ DIGEST_BYTES) (tail_is : tail ≡ (MARK ++ CHAINED ∷ digest) ++ CLOSED ∷ []) (closed : Images disk old (λ image. image ≡ CLOSED ∷ []))
+    (first : LeavesOnly disk old mid (IsTornFrom disk old 1 (length tail))) where
+  pub head_moments : LeavesOnly disk old mid (IsListOf digest [])
+  head_moments =
+      let few : length tail ≤ HEAD_BYTES = omega (arith, size, ap length tail_is, length-append (MARK ++ CHAINED ∷ digest) (CLOSED ∷ []), length-append MARK (CHAINED ∷ digest)) in
+      weaker disk old mid (IsTornFrom disk old 1 (length tail)) (IsListOf digest []) (λ image (was, is_image, torn). unbegun_list digest image (head_unbegun (length tail) was image few (closed was is_image) torn)) first
+
+  pub gate_moments : (new : D) → Lands disk old mid 1 tail → LeavesOnly disk mid new (IsTornFrom disk mid 0 1) → LeavesOnly disk old new (IsListOf digest [])
+  gate_moments new lands second =
+      joined disk old mid new (IsListOf digest []) head_moments
+      (weaker disk mid new (IsTornFrom disk mid 0 1) (IsListOf digest [])
+      (λ image (was, is_image, torn).
+      let from = lands was is_image in
+      let gate = gate_torn tail was image (head_landed tail from.0 was (closed from.0 from.1) from.2) torn in
+      begun_list digest image tail gate.0 size tail_is gate.1) second)
+
+-- writes after a disk was cleared
+pub cleared_then : {D : Type 0} (disk : Ghosts D) (old mid new : D) (digest : List ℕ) → LeavesOnly disk old mid IsUnbegun → LeavesOnly disk mid new (IsListOf digest []) → LeavesOnly disk old new (IsListOf digest [])
+cleared_then disk old mid new digest clear run = joined disk old mid new (IsListOf digest []) (weaker disk old mid IsUnbegun (IsListOf digest []) (unbegun_list digest) clear) run
 
 module _ {D : Type 0} (disk : Ghosts D) (old new : D) where
   pub cut_empties : ((image : List ℕ) → disk.may_leave new image → (was : List ℕ) × disk.may_leave old was × IsTruncated 0 was image) → Images disk new (λ image. image ≡ [])

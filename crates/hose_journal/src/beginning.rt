@@ -21,7 +21,9 @@ pub fn begin<D: Disk>(disk: &mut D, digest: &[u8; DIGEST_BYTES]) -> Result<(), F
     ensures call { IsCalled (D.frame disk.old) (D.frame disk.new) result }
 {
     clear(disk)?;
-    write_head(disk, digest)?;
+    let bytes = head_bytes(digest);
+    put(disk, 1, &bytes)?;
+    put(disk, 0, &[OPEN])?;
     Ok(())
 }
 
@@ -48,22 +50,6 @@ fn empty<D: Disk>(disk: &mut D) -> Result<(), Failed>
 {
     disk.cut(0)?;
     disk.sync()?;
-    Ok(())
-}
-
-// Writes the head after its closed gate, and then opens the gate.
-fn write_head<D: Disk>(disk: &mut D, digest: &[u8; DIGEST_BYTES]) -> Result<(), Failed>
-    requires { Images D.Disk disk.old (λ image. image ≡ CLOSED ∷ []) }
-    ensures any_moment { LeavesOnly D.Disk disk.old disk.new (IsListOf digest.now []) }
-    ensures begun { OnOk result
-        (Images D.Disk disk.new (IsClosed (front_of CHAINED digest.now []))) }
-    ensures durable { OnOk result (ReadsItsImages D.Disk disk.new) }
-    ensures tells { TellsAsBefore D.Disk disk.old disk.new }
-    ensures call { IsCalled (D.frame disk.old) (D.frame disk.new) result }
-{
-    let bytes = head_bytes(digest);
-    put(disk, 1, &bytes)?;
-    put(disk, 0, &[OPEN])?;
     Ok(())
 }
 
