@@ -31,11 +31,6 @@ module _ {D : Type 0} (disk : Ghosts D) where
   sure_by None flag some clear = refl
   sure_by (Some entry) flag some clear = absurd (let clash : true ≡ false = some ∙ clear in cc)
 
-  pub no_doubt : (journal : Journal D) (account : Account) → Stands disk journal account → IsFalse journal.doubt → Stands disk journal (with_doubt account None)
-  no_doubt journal account stands clear =
-      let none = sure_by account.doubt journal.doubt stands.doubt clear in
-      subst (λ (doubt : Option Entry). Stands disk journal (with_doubt account doubt)) none stands
-
   module _ (journal : Journal D) (account : Account) (stands : Stands disk journal account) where
     abbrev pub here : List ℕ
     here = front_of stands.version account.digest stands.items

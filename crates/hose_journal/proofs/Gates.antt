@@ -1,5 +1,5 @@
 -- What writes do to the front of an image.
-use Rattle.std.proofs.Common.{◌≡◌, ◌≢◌, ℕ, ◌+◌, ◌≤◌, ◌<◌, List, [], ◌∷◌, ◌++◌, length, get_or, take, drop, Option, None, Some, refl, sym, ◌∙◌, ap, subst, arith, length-append, append_assoc, take-append-drop, IfSome}
+use Rattle.std.proofs.Common.{◌≡◌, ◌≢◌, ℕ, ◌+◌, ◌<◌, List, [], ◌∷◌, ◌++◌, length, get_or, take, drop, Option, None, Some, refl, sym, ◌∙◌, ap, subst, arith, length-append, append_assoc, take-append-drop, IfSome}
 use Rattle.std.proofs.lemmas.List.{take_at, drop_at, drop_more}
 use Rattle.hose_disk.specs.Disk.{Torn}
 use Rattle.hose_disk.specs.Images.{overwritten}
@@ -11,15 +11,6 @@ use Rattle.hose_journal.specs.Moments.{Images, IsTornFrom, Lands}
 pub told_so : (P Q : List ℕ → Type 0) → ((image : List ℕ) → P image → Q image) → (content : Option (List ℕ)) → IfSome content P → IfSome content Q
 told_so P Q to None is = tt
 told_so P Q to (Some image) is = to image is
-
-pub long_enough : (before image : List ℕ) → Starts before image → length before ≤ length image
-long_enough before image starts = omega (arith, ap length starts.1, length-append before starts.0)
-
-pub long_closed : (before image : List ℕ) → IsClosed before image → length before + 1 ≤ length image
-long_closed before image closed = omega (arith, ap length closed.is, length-append before (closed.gate ∷ closed.rest))
-
-pub long_doubtful : (before bytes image : List ℕ) → IsDoubtful before bytes image → length before ≤ length image
-long_doubtful before bytes image (gate, (rest, is)) = omega (arith, ap length is, length-append (before ++ gate ∷ bytes) rest, length-append before (gate ∷ bytes))
 
 -- a gate and what follows it
 split_gate : (before : List ℕ) (gate : ℕ) (rest : List ℕ) → before ++ gate ∷ rest ≡ (before ++ gate ∷ []) ++ rest

@@ -1,5 +1,5 @@
 -- Which record begins bytes.
-use Rattle.std.proofs.Common.{◌≡◌, ◌≢◌, ◌⊎◌, inr, ℕ, ◌+◌, ◌-◌, ◌≤◌, ◌<◌, ◌^◌, Bool, true, false, List, [], ◌∷◌, ◌++◌, length, get_or, take, drop, refl, sym, ◌∙◌, ap, arith, length-append, append_assoc, take-append-drop}
+use Rattle.std.proofs.Common.{◌≡◌, ◌≢◌, inr, ℕ, ◌+◌, ◌-◌, ◌≤◌, ◌<◌, Bool, true, false, List, [], ◌∷◌, ◌++◌, length, get_or, take, drop, refl, sym, ◌∙◌, ap, arith, length-append, append_assoc, take-append-drop}
 use Rattle.std.specs.Prelude.{Err}
 use Rattle.std.proofs.lemmas.List.{take_all, take_at, drop_more, length-take-le}
 use Rattle.byteorder.specs.Endian.{big_bytes}
@@ -20,28 +20,6 @@ use Rattle.hose_journal.proofs.Chains.{length-chain}
 use Rattle.hose_journal.proofs.Items.{length-fields, length-seal}
 
 -- ---- fields
-
-length-has : (bytes value body : List ℕ) (has : HasFields bytes value body) → length bytes ≡ 5 + length value + length body + length has.rest
-length-has bytes value body has =
-    omega (
-      arith,
-      ap length has.is,
-      length-fields (big_bytes 4 (length body)) value (body ++ has.gate ∷ has.rest),
-      length-append body (has.gate ∷ has.rest),
-      length-bytes_high_first 4 (length body),
-    )
-
-pub short_fields : (bytes : List ℕ) (width : ℕ) → length bytes < 4 + width → HasNoFields bytes width
-short_fields bytes width short value body wide has = omega (arith, short, wide, length-has bytes value body has)
-
-pub no_fields : (bytes field : List ℕ) (width len : ℕ) → field ≡ take 4 bytes → big_bytes 4 len ≡ field → len < 2 ^ 32 → (MOST_SPELLING < len) ⊎ (length bytes ≤ 4 + width + len) → HasNoFields bytes width
-no_fields bytes field width len front is_len fits bad value body wide has =
-    let number = big_bytes 4 (length body) in
-    let first : take 4 bytes ≡ number = ap (λ (l : List ℕ). take 4 l) has.is ∙ take_at number (value ++ (body ++ has.gate ∷ has.rest)) 4 (length-bytes_high_first 4 (length body)) in
-    let numbers : big_bytes 4 len ++ [] ≡ number ++ [] = ap (λ (l : List ℕ). l ++ []) (is_len ∙ front ∙ first) in
-    let short = has.short in
-    let equal = (same_numbers 4 len (length body) [] [] (omega (arith, fits)) (omega (arith, short)) numbers).0 in
-    omega (arith, equal, short, wide, bad, length-has bytes value body has)
 
 pub has_fields : (bytes field after value rest : List ℕ) (width len : ℕ) → field ≡ take 4 bytes → after ≡ drop 4 bytes → value ≡ take width after → rest ≡ drop width after → big_bytes 4 len ≡ field → len ≤ MOST_SPELLING → len < length rest
     → HasFields bytes value (take len rest)
@@ -74,10 +52,6 @@ same_fields bytes v w b c one other size =
 pub same_width : (chained : Bool) (v w : List ℕ) → length v ≡ length w → length (value_in chained v) ≡ length (value_in chained w)
 same_width false v w size = refl
 same_width true v w size = size
-
-pub width_least : (chained : Bool) (v : List ℕ) → length v ≡ DIGEST_BYTES → length (value_in chained v) ≤ DIGEST_BYTES
-width_least false v size = omega arith
-width_least true v size = omega (arith, size)
 
 module _ (chained : Bool) (digest : List ℕ) (entries : List Entry) (size : length digest ≡ DIGEST_BYTES) (bytes : List ℕ) where
   abbrev value_with : Entry → List ℕ

@@ -11,14 +11,13 @@ use Rattle.hose_journal.specs.declared.layout.TheConstants.{OPEN, DIGEST_BYTES, 
 use Rattle.hose_journal.specs.declared.fault.JournalFault.{JournalFault}
 use Rattle.hose_journal.specs.declared.fault.JournalFault.TheVariants.{Disk, Other, Damaged, Memory}
 use Rattle.hose_journal.specs.declared.part.Found.{Found}
-use Rattle.hose_journal.specs.declared.piece.Piece.{Piece}
 use Rattle.hose_journal.specs.declared.reading.Reading.{Reading}
 use Rattle.hose_journal.specs.AtGate.{BeginsEntry, BeginsNoEntry, BeginsSeal, IsOpenBefore, IsPart, IsShut}
 use Rattle.hose_journal.specs.Chain.{chain}
 use Rattle.hose_journal.specs.Entries.{Item, entered, entries_format, entries_in, entries_reader, entry_bytes, front_of, item_bytes, seal_bytes, sealed, IsListOf}
 use Rattle.hose_journal.specs.Image.{BeginsNoRecord, IsDamaged, IsClosed}
 use Rattle.hose_journal.specs.Journal.{Stands}
-use Rattle.hose_journal.specs.Reading.{AtGate, HasRead, IsAtNoSeal, IsAtClosedGate, IsAtEntry, IsPiece, IsReadUpTo, CoversRecord, Reads, held_from}
+use Rattle.hose_journal.specs.Reading.{AtGate, HasRead, IsAtNoSeal, IsAtClosedGate, IsAtEntry, IsReadUpTo, CoversRecord, Reads, held_from}
 use Rattle.hose_journal.proofs.Chains.{length-chain}
 use Rattle.hose_journal.proofs.Gates.{told_so}
 use Rattle.hose_journal.proofs.Items.{chained_entry, chained_seal, entries_push, entries_seal, length-entry, length-seal}
@@ -275,11 +274,10 @@ module _ {D : Type 0} (disk : Ghosts D) (reading : Reading D) (digest : List ℕ
 -- ---- the next entry
 
 module _ {D : Type 0} (disk : Ghosts D) (reading : Reading D) (digest : List ℕ) (entries : List Entry) (reads : Reads disk reading digest entries) where
-  -- other parts of the reading, of the same content
-  reads_with : (now : D) (piece : Piece) (last : ℕ) (fault : Option JournalFault) (closed : Bool) → IsPiece (disk.content now) reading.end piece → ((image : List ℕ) → disk.may_leave now image → disk.content now ≡ Some image)
-      → IfSome (disk.content now) (IsReadUpTo reads.version digest reads.items reading.end) → (IsTrue closed → IfSome (disk.content now) (IsClosed (front_of reads.version digest reads.items)))
-      → Reads disk (record reading { disk = now; piece = piece; last = last; fault = fault; closed = closed }) digest entries
-  reads_with now piece last fault closed is_piece only told is_closed = record {
+  -- whatever was read last and whatever fault is kept, where it is closed at a gate that is not open
+  reads_with : (last : ℕ) (fault : Option JournalFault) (closed : Bool) → (IsTrue closed → IfSome (disk.content reading.disk) (IsClosed (front_of reads.version digest reads.items)))
+      → Reads disk (record reading { last = last; fault = fault; closed = closed }) digest entries
+  reads_with last fault closed is_closed = record {
     version = reads.version;
     items = reads.items;
     is_version = reads.is_version;
@@ -292,27 +290,19 @@ module _ {D : Type 0} (disk : Ghosts D) (reading : Reading D) (digest : List ℕ
     sealed = reads.sealed;
     chain = reads.chain;
     room = reads.room;
-    piece = is_piece;
-    only = only;
-    told = told;
+    piece = reads.piece;
+    only = reads.only;
+    told = reads.told;
     closed = is_closed;
   }
 
   -- the gate at which was read last and the fault say nothing
   pub reads_told : (last : ℕ) (fault : Option JournalFault) → Reads disk (record reading { last = last; fault = fault }) digest entries
-  reads_told last fault = reads_with reading.disk reading.piece last fault reading.closed reads.piece reads.only reads.told reads.closed
-
-  -- another piece of the same content
-  pub reads_piece : (now : D) (piece : Piece) → disk.content now ≡ disk.content reading.disk → ((image : List ℕ) → disk.may_leave now image → disk.may_leave reading.disk image) → IsPiece (disk.content now) reading.end piece
-      → Reads disk (record reading { disk = now; piece = piece }) digest entries
-  reads_piece now piece same only is_piece =
-      reads_with now piece reading.last reading.fault reading.closed is_piece (λ image is_image. same ∙ reads.only image (only image is_image))
-      (subst (λ (content : Option (List ℕ)). IfSome content (IsReadUpTo reads.version digest reads.items reading.end)) (sym same) reads.told)
-      (λ closed. subst (λ (content : Option (List ℕ)). IfSome content (IsClosed (front_of reads.version digest reads.items))) (sym same) (reads.closed closed))
+  reads_told last fault = reads_with last fault reading.closed reads.closed
 
   -- a gate that is not open ends it
   reads_shut : IfSome (disk.content reading.disk) (IsClosed (front_of reads.version digest reads.items)) → Reads disk (record reading { last = reading.gate; closed = true }) digest entries
-  reads_shut closed = reads_with reading.disk reading.piece reading.gate reading.fault true reads.piece reads.only reads.told (λ yes_closed. closed)
+  reads_shut closed = reads_with reading.gate reading.fault true (λ yes_closed. closed)
 
 pub reads_next : {D : Type 0} (disk : Ghosts D) (reading : Reading D) (digest : List ℕ) (entries : List Entry) (found : Found) → Reads disk reading digest entries → IsFalse reading.closed → AtGate disk reading digest entries (Ok (Some found))
     → Reads disk (record reading { gate = reading.gate + found.distance; last = reading.gate; chain = found.value }) digest (entries ++ found.entry ∷ [])
@@ -345,10 +335,6 @@ reads_next disk reading digest entries found reads going at_it =
       told = it.told;
       closed = λ closed. absurd (let clash : true ≡ false = sym closed ∙ going in cc);
     }
-
--- what was found, by the value that a call gave
-pub gate_as : {D : Type 0} (disk : Ghosts D) (reading : Reading D) (digest : List ℕ) (entries : List Entry) (one other : Result (Option Found) CodecFault) → one ≡ other → AtGate disk reading digest entries one → AtGate disk reading digest entries other
-gate_as disk reading digest entries one other same at_it = subst (λ (result : Result (Option Found) CodecFault). AtGate disk reading digest entries result) same at_it
 
 -- ---- the end
 
@@ -391,15 +377,3 @@ fault_kept disk old new digest entries Disk kept has = has
 fault_kept disk old new digest entries (Damaged at) kept has = has
 fault_kept disk old new digest entries (Other one given) kept has = has
 fault_kept disk old new digest entries Memory kept has = (reads_told disk new digest entries has.0 new.last kept, has.1, has.2)
-
--- ---- for callers
-
--- after an answer the reading goes on, with the entry if there was one
-pub goes_on_reading : {D : Type 0} (disk : Ghosts D) (old new : Reading D) (digest : List ℕ) (entries : List Entry) (found : Option Entry) → HasRead disk old new digest entries (Ok found) → (all : List Entry) × Reads disk new digest all
-goes_on_reading disk old new digest entries None has = (entries, has.0)
-goes_on_reading disk old new digest entries (Some entry) has = (entries ++ entry ∷ [], has.0)
-
--- no entry was found
-pub found_none : {D : Type 0} (disk : Ghosts D) (old new : Reading D) (digest : List ℕ) (entries : List Entry) (found : Option Entry) → found ≡ None → HasRead disk old new digest entries (Ok found) → Reads disk new digest entries × IsTrue new.closed
-found_none disk old new digest entries None none has = (has.0, has.2)
-found_none disk old new digest entries (Some entry) none has = absurd cc

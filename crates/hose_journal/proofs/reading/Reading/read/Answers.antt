@@ -1,11 +1,8 @@
-use Rattle.std.proofs.Common.{◌∙◌, ◌+◌, ◌<◌, ◌^◌, Option, Some, None, IfSome, IsFalse, List, ℕ, rules, refl, ap, subst, arith}
-use Rattle.std.specs.Prelude.{Err, Ok}
-use Rattle.hose_codec.specs.declared.limits.CodecFault.{CodecFault}
-use Rattle.hose_journal.specs.declared.part.Found.{Found}
+use Rattle.std.proofs.Common.{◌∙◌, ◌+◌, ◌<◌, ◌^◌, Option, IfSome, IsFalse, List, ℕ, rules, refl, ap, subst, arith}
 use Rattle.hose_journal.specs.declared.reading.Reading.{Reading}
 use Rattle.hose_journal.specs.Entries.{entries_reader}
 use Rattle.hose_journal.specs.Image.{IsDamaged}
-use Rattle.hose_journal.proofs.Readings.{gate_as, reads_end, reads_next, reads_told}
+use Rattle.hose_journal.proofs.Readings.{reads_end, reads_next, reads_told}
 use Rattle.hose_journal.proofs.reading.Reading.read.Goals as goal
 
 pub returns-then-self-clause-read : goal.returns-then-self-clause-read
@@ -23,8 +20,7 @@ overflow_add-self g c =
     let entries = c.requires.1 in
     let approached = c.in_ok-approach.ensures.approached digest entries c.requires.2 in
     let going : IsFalse mid.closed = ap (λ (r : Reading g.row.D.Denot). r.closed) c.approach.ensures.kept ∙ c.if-self.false in
-    let seen = gate_as disk mid digest entries (Ok c.in-Ok-Some.field-0) (Ok (Some c.in-Ok-Some.found)) (ap (λ (found : Option Found). Ok found) c.in-Ok-Some.field-0-is)
-    (c.in-Ok-Some.ensures digest entries approached c.in_ok-approach.ensures.reaches c.in_ok-approach.ensures.past) in
+    let seen = rw c.in-Ok-Some.field-0-is at (c.in-Ok-Some.ensures digest entries approached c.in_ok-approach.ensures.reaches c.in_ok-approach.ensures.past) in
     let next = reads_next disk mid digest entries c.in-Ok-Some.found approached going seen in
     let within : mid.gate + c.in-Ok-Some.found.distance < mid.end = next.within in
     let small : mid.end < 2 ^ 62 = approached.small in
@@ -36,8 +32,7 @@ returns-in-Ok-Some-clause-read g c = λ digest entries reads.
     let mid = c.approach.new.self in
     let approached = c.in_ok-approach.ensures.approached digest entries reads in
     let going : IsFalse mid.closed = ap (λ (r : Reading g.row.D.Denot). r.closed) c.approach.ensures.kept ∙ c.if-self.false in
-    let seen = gate_as disk mid digest entries (Ok c.in-Ok-Some.field-0) (Ok (Some c.in-Ok-Some.found)) (ap (λ (found : Option Found). Ok found) c.in-Ok-Some.field-0-is)
-    (c.in-Ok-Some.ensures digest entries approached c.in_ok-approach.ensures.reaches c.in_ok-approach.ensures.past) in
+    let seen = rw c.in-Ok-Some.field-0-is at (c.in-Ok-Some.ensures digest entries approached c.in_ok-approach.ensures.reaches c.in_ok-approach.ensures.past) in
     (reads_next disk mid digest entries c.in-Ok-Some.found approached going seen, seen.0.found)
 
 pub returns-in-Ok-None-clause-read : goal.returns-in-Ok-None-clause-read
@@ -45,24 +40,17 @@ returns-in-Ok-None-clause-read g c = λ digest entries reads.
     let disk = g.D.Disk in
     let mid = c.approach.new.self in
     let approached = c.in_ok-approach.ensures.approached digest entries reads in
-    let seen = gate_as disk mid digest entries (Ok c.in-Ok-None.field-0) (Ok None) (ap (λ (found : Option Found). Ok found) c.in-Ok-None.field-0-is)
-    (c.in-Ok-None.ensures digest entries approached c.in_ok-approach.ensures.reaches c.in_ok-approach.ensures.past) in
+    let seen = rw c.in-Ok-None.field-0-is at (c.in-Ok-None.ensures digest entries approached c.in_ok-approach.ensures.reaches c.in_ok-approach.ensures.past) in
     (reads_end disk mid digest entries seen, refl, refl)
 
 pub returns-in-Err-Bad-clause-read : goal.returns-in-Err-Bad-clause-read
 returns-in-Err-Bad-clause-read g c = λ digest entries reads.
-    let disk = g.D.Disk in
-    let mid = c.approach.new.self in
     let approached = c.in_ok-approach.ensures.approached digest entries reads in
-    let seen = gate_as disk mid digest entries (Err c.in-Err-Bad.field-0) (Err _) (ap (λ (fault : CodecFault). Err fault) c.in-Err-Bad.field-0-is)
-    (c.in-Err-Bad.ensures digest entries approached c.in_ok-approach.ensures.reaches c.in_ok-approach.ensures.past) in
-    (refl, subst (λ (content : Option (List ℕ)). IfSome content (IsDamaged entries_reader digest mid.gate entries)) c.approach.ensures.only.same seen)
+    let seen = rw c.in-Err-Bad.field-0-is at (c.in-Err-Bad.ensures digest entries approached c.in_ok-approach.ensures.reaches c.in_ok-approach.ensures.past) in
+    (refl, subst (λ (content : Option (List ℕ)). IfSome content (IsDamaged entries_reader digest c.approach.new.self.gate entries)) c.approach.ensures.only.same seen)
 
 pub returns-in-Err-Memory-clause-read : goal.returns-in-Err-Memory-clause-read
 returns-in-Err-Memory-clause-read g c = λ digest entries reads.
-    let disk = g.D.Disk in
-    let mid = c.approach.new.self in
     let approached = c.in_ok-approach.ensures.approached digest entries reads in
-    let seen = gate_as disk mid digest entries (Err c.in-Err-Memory.field-0) (Err _) (ap (λ (fault : CodecFault). Err fault) c.in-Err-Memory.field-0-is)
-    (c.in-Err-Memory.ensures digest entries approached c.in_ok-approach.ensures.reaches c.in_ok-approach.ensures.past) in
+    let seen = rw c.in-Err-Memory.field-0-is at (c.in-Err-Memory.ensures digest entries approached c.in_ok-approach.ensures.reaches c.in_ok-approach.ensures.past) in
     (approached, ap (λ (r : Reading g.row.D.Denot). r.last) c.approach.ensures.kept, (seen.0, seen.1.found))
