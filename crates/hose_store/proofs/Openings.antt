@@ -1,5 +1,5 @@
 -- What an opening makes of the images of a disk, and of what it holds.
-use Rattle.std.proofs.Common.{◌≡◌, inl, inr, ⊎_elim, ℕ, ◌≤◌, List, [], length, get_or, false, Option, None, Some, IfSome, IsTrue, is_some, refl, sym, ap, ◌∙◌, subst, arith, length-append}
+use Rattle.std.proofs.Common.{◌≡◌, inl, inr, ⊎_elim, ℕ, ◌≤◌, List, [], length, false, Option, None, Some, IfSome, IsTrue, is_some, refl, sym, ap, ◌∙◌, subst, arith}
 use Rattle.hose_io.proofs.Frames.{Rose-later}
 use Rattle.hose_graph.specs.Network.{Network}
 use Rattle.hose_graph.specs.declared.entry.Entry.{Entry}
@@ -13,12 +13,13 @@ use Rattle.hose_journal.specs.declared.fault.JournalFault.TheVariants as journal
 use Rattle.hose_journal.specs.declared.journal.Journal.{Journal}
 use Rattle.hose_journal.specs.declared.reading.Reading.{Reading}
 use Rattle.hose_journal.specs.Entries.{IsListOf}
-use Rattle.hose_journal.specs.Image.{IsOther, IsUnbegun, head, damaged, listed}
+use Rattle.hose_journal.specs.Image.{IsOther, IsUnbegun, damaged, listed}
 use Rattle.hose_journal.specs.Journal.{Stands}
 use Rattle.hose_journal.specs.Moments.{LeavesOnly}
 use Rattle.hose_journal.specs.Opening.{HasNoHead, IsOpened, KeepsDisk, KeepsList, IsRefusedJournal as IsRefusedThere}
 use Rattle.hose_journal.specs.Reading.{OnlyRead}
 use Rattle.hose_journal.proofs.OneList.{one_list}
+use Rattle.hose_journal.proofs.OneMeaning.{head_begun}
 use Rattle.hose_journal.proofs.Readings.{read_list}
 use Rattle.hose_journal.proofs.Runs.{started, joined, weaker, now_too}
 use Rattle.hose_store.specs.declared.fault.StoreFault.{StoreFault}
@@ -34,15 +35,14 @@ use Rattle.hose_store.proofs.OneMeaning.{recovered_once}
 
 -- ---- what was begun
 
-head_begun : (bytes : List ℕ) (at : ℕ) → HasNoHead bytes at → ¬ IsUnbegun bytes
-head_begun bytes at (inl (headless, zero_at)) (inl short) = omega (arith, headless.long, short)
-head_begun bytes at (inl (headless, zero_at)) (inr (long, shut)) = omega (arith, headless.long, long)
-head_begun bytes at (inr (unmarked, one_at)) (inl short) = omega (arith, unmarked.long, short)
-head_begun bytes at (inr (unmarked, one_at)) (inr (long, shut)) = shut unmarked.begun
+no_head_begun : (bytes : List ℕ) (at : ℕ) → HasNoHead bytes at → ¬ IsUnbegun bytes
+no_head_begun bytes at (inl (headless, zero_at)) (inl short) = omega (arith, headless.long, short)
+no_head_begun bytes at (inl (headless, zero_at)) (inr (long, shut)) = omega (arith, headless.long, long)
+no_head_begun bytes at (inr (unmarked, one_at)) (inl short) = omega (arith, unmarked.long, short)
+no_head_begun bytes at (inr (unmarked, one_at)) (inr (long, shut)) = shut unmarked.begun
 
 pub other_begun : (digest kept bytes : List ℕ) → IsOther digest kept bytes → ¬ IsUnbegun bytes
-other_begun digest kept bytes is (inl short) = omega (arith, short, is.some, is.size, ap length is.is, length-append (head is.version kept) is.rest)
-other_begun digest kept bytes is (inr (long, shut)) = shut (ap (λ (l : List ℕ). get_or l 0 0) is.is)
+other_begun digest kept bytes is = head_begun bytes is.version kept is.rest is.size is.some is.is
 
 -- what is damaged is no journal without an entry
 pub damaged_not_empty : (top : Network) (bytes : List ℕ) (at : ℕ) → length (digest_of top) ≡ DIGEST_BYTES → IsRecoveredAs top bytes (damaged at) → ¬ IsListOf (digest_of top) [] bytes
@@ -119,17 +119,18 @@ module _ {D : Type 0} (disk : Ghosts D) where
     refused.1,
   )
   refused_head old new top (journal.Damaged at) only_now untold keeps run refused = (
-    unchanged old new (digest_of top) untold keeps.tells run (told_each (disk.content old) _ (λ bytes. ¬ IsUnbegun bytes) (λ bytes is. head_begun bytes at is) refused),
+    unchanged old new (digest_of top) untold keeps.tells run (told_each (disk.content old) _ (λ bytes. ¬ IsUnbegun bytes) (λ bytes is. no_head_begun bytes at is) refused),
     told_each (disk.content old) (λ bytes. HasNoHead bytes at) (λ bytes. IsRecoveredAs top bytes (damaged at)) (λ bytes. ⊎_elim (λ headless. inl headless) (λ unmarked. inr (inl unmarked))) refused,
   )
   refused_head old new top journal.Memory only_now untold keeps run refused = subst (λ (now : D). IsUnchanged disk old now) (sym refused) (wanting old only_now)
 
-  -- by the digest that the journal was opened for
-  pub refused_open : (old new : D) (top : Network) (digest : List ℕ) (fault : JournalFault) → digest ≡ digest_of top → ((image : List ℕ) → disk.left_since old (disk.moment old) image → disk.may_leave old image)
+  -- by the digest that the journal was opened for, and as a store tells it
+  pub refused_open : (old new : D) (top : Network) (digest : List ℕ) (fault : JournalFault) (told : StoreFault) → digest ≡ digest_of top → told ≡ store_fault fault → ((image : List ℕ) → disk.left_since old (disk.moment old) image → disk.may_leave old image)
       → ((t : ℕ) (image : List ℕ) → disk.content new ≡ None → disk.left_since new t image → ⊥) → KeepsDisk disk old new
-      → LeavesOnly disk old new (IsOpened disk old digest) → IsRefusedThere disk old new digest fault → IsRefusedStore disk old new top (store_fault fault)
-  refused_open old new top digest fault is only_now untold keeps run refused =
-      refused_head old new top fault only_now untold keeps (subst (λ (d : List ℕ). LeavesOnly disk old new (IsOpened disk old d)) is run) (subst (λ (d : List ℕ). IsRefusedThere disk old new d fault) is refused)
+      → LeavesOnly disk old new (IsOpened disk old digest) → IsRefusedThere disk old new digest fault → IsRefusedStore disk old new top told
+  refused_open old new top digest fault told is is_told only_now untold keeps run refused =
+      subst (λ (f : StoreFault). IsRefusedStore disk old new top f) (sym is_told)
+      (refused_head old new top fault only_now untold keeps (subst (λ (d : List ℕ). LeavesOnly disk old new (IsOpened disk old d)) is run) (subst (λ (d : List ℕ). IsRefusedThere disk old new d fault) is refused))
 
   -- its entries were read no further
   pub refused_entries : (old mid new : D) (top : Network) (fault : StoreFault) → length (digest_of top) ≡ DIGEST_BYTES → ((t : ℕ) (image : List ℕ) → disk.content new ≡ None → disk.left_since new t image → ⊥)

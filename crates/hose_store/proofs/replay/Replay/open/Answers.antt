@@ -1,9 +1,7 @@
-use Rattle.std.proofs.Common.{List, ℕ, [], rules, sym, subst}
+use Rattle.std.proofs.Common.{List, ℕ, [], rules, subst}
 use Rattle.hose_journal.specs.Moments.{LeavesOnly}
 use Rattle.hose_journal.specs.Opening.{IsOpened, KeepsList}
 use Rattle.hose_journal.specs.Reading.{Reads}
-use Rattle.hose_store.specs.Opening.{IsRefusedStore}
-use Rattle.hose_store.specs.declared.fault.StoreFault.{StoreFault}
 use Rattle.hose_store.proofs.Histories.{is_digest}
 use Rattle.hose_store.proofs.Openings.{at_opening, refused_open}
 use Rattle.hose_store.proofs.Readings.{given_first, only_none}
@@ -33,7 +31,6 @@ returns-in-Err-clause-refused g c =
     let new = c.in-Err.refused.1 in
     let is = is_digest c.args.top c.digest-digest.result c.digest-digest.ensures in
     let run = subst (λ (digest : List ℕ). LeavesOnly disk old new (IsOpened disk old digest)) is c.in-Err.ensures.any_moment in (
-      subst (λ (fault : StoreFault). IsRefusedStore disk old new c.args.top fault) (sym c.from.ensures)
-          (refused_open disk old new c.args.top c.digest-digest.result c.in-Err.refused.0 is (g.met.D.Disk.only_now old) (g.met.D.Disk.untold new) c.in-Err.ensures.keeps c.in-Err.ensures.any_moment c.in-Err.ensures.refused),
+      refused_open disk old new c.args.top c.digest-digest.result c.in-Err.refused.0 _ is c.from.ensures (g.met.D.Disk.only_now old) (g.met.D.Disk.untold new) c.in-Err.ensures.keeps c.in-Err.ensures.any_moment c.in-Err.ensures.refused,
       record { run = at_opening disk old new c.args.top run; keeps = c.in-Err.ensures.keeps },
     )
