@@ -5,7 +5,7 @@ use Rattle.hose_graph.specs.Network.{Network}
 use Rattle.hose_graph.specs.declared.entry.Entry.{Entry}
 use Rattle.hose_graph.specs.declared.entry.Entry.TheVariants.{Admit, Release, Down, Up}
 use Rattle.hose_law.specs.Book.{Book}
-use Rattle.hose_law.specs.History.{book_of, book_after, opening_book, next_book, last_epoch, IsSound, IsSoundAt, IsSoundFrom, IsSoundWith}
+use Rattle.hose_law.specs.History.{book_of, opening_book, next_book, last_epoch, IsSound, IsSoundAt, IsSoundFrom, IsSoundWith}
 use Rattle.hose_law.proofs.Epochs.{epoch_after}
 use Rattle.hose_law.proofs.LiveIds.{next_epoch}
 use Rattle.hose_law.proofs.Scripts.{book_after_push, sound_push}

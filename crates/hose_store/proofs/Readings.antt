@@ -38,10 +38,6 @@ pub told_each : (content : Option (List ℕ)) (P Q : List ℕ → Type 0) → ((
 told_each None P Q to p = tt
 told_each (Some bytes) P Q to p = to bytes p
 
-pub told_both : (content : Option (List ℕ)) (P Q R : List ℕ → Type 0) → ((bytes : List ℕ) → P bytes → Q bytes → R bytes) → IfSome content P → IfSome content Q → IfSome content R
-told_both None P Q R to p q = tt
-told_both (Some bytes) P Q R to p q = to bytes p q
-
 -- ---- an entry was read
 
 -- an image in which an entry was read is no journal without one

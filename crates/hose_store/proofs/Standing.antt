@@ -5,8 +5,6 @@ use mathlib.Core.List.{IsPrefix}
 use Rattle.hose_io.specs.declared.Failed.{Failed}
 use Rattle.hose_graph.specs.Network.{Network}
 use Rattle.hose_graph.specs.declared.entry.Entry.{Entry}
-use Rattle.hose_law.proofs.Epochs.{epoch_of}
-use Rattle.hose_law.specs.Book.{Book}
 use Rattle.hose_law.specs.History.{AreFrom, EntryKind, book_of, opening_book}
 use Rattle.hose_law.proofs.Scripts.{from_end, from_push}
 use Rattle.hose_book.specs.Ledger.{Ledger}
@@ -46,10 +44,6 @@ amid_part Kind beginning history doubt writing image since in_doubt at (inr (inl
 amid_part Kind beginning history doubt writing image since in_doubt at (inr (inr with)) = with_part Kind beginning history writing image since at with
 
 module _ {D : Type 0} (disk : Ghosts D) where
-  -- the epoch of a store is the length of its history
-  pub store_epoch : (store : Kept D) (history : List Entry) (doubt : Option Entry) → HasHistory disk store history doubt → store.ledger.book.epoch ≡ length history
-  store_epoch store history doubt has = ap (λ (book : Book). book.epoch) has.book ∙ epoch_of history
-
   module _ (Kind : EntryKind) (Had : List ℕ → Type 0) (beginning : Beginning) where
     abbrev Stood : List Entry → Kept D → Type 0
     Stood history store = StandsFor disk Kind Had beginning history store
