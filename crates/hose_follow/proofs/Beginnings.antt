@@ -1,5 +1,5 @@
 -- Beginnings of a history: they are as sound and decided as it is, and one may grow by the next entry.
-use Rattle.std.proofs.Common.{◌≡◌, ◌∙◌, ℕ, zero, suc, ◌+◌, List, [], ◌∷◌, ◌++◌, Some, length, get_or, refl, sym, ap, subst, arith, All}
+use Rattle.std.proofs.Common.{◌≡◌, ◌∙◌, ℕ, zero, suc, ◌+◌, List, [], ◌∷◌, ◌++◌, Some, length, get_or, refl, sym, ap, subst, All}
 use Rattle.std.specs.List.{slice_get}
 use Rattle.std.proofs.lemmas.Option.{slice_get_within}
 use mathlib.Core.List.{IsPrefix}
@@ -8,7 +8,6 @@ use Rattle.hose_graph.specs.declared.entry.Entry.{Entry}
 use Rattle.hose_graph.specs.declared.entry.Entry.TheVariants.{Admit, Release, Down, Up}
 use Rattle.hose_law.specs.Book.{Book}
 use Rattle.hose_law.specs.History.{AreFrom, IsDecided, IsDecidedAt, IsSoundAt, IsSoundFrom, book_after, book_of, next_book, opening_book}
-use Rattle.hose_law.proofs.LiveIds.{next_epoch}
 
 module _ {X : Type 0} where
   -- a beginning with the list's next entry is a beginning

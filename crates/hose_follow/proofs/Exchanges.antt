@@ -1,5 +1,5 @@
 -- Exchanges of following an input, one after another.
-use Rattle.std.proofs.Common.{◌≡◌, ◌≢◌, ◌⊎◌, ◌∙◌, ℕ, ◌+◌, ◌-◌, ◌*◌, ◌≤◌, ◌<◌, ◌^◌, List, [], ◌∷◌, ◌++◌, Option, None, Some, Ok, Err, length, drop, take, refl, sym, ap, subst, inl, inr, arith, append_assoc, append-nil, length-append}
+use Rattle.std.proofs.Common.{◌≡◌, ◌≢◌, ◌⊎◌, ◌∙◌, ℕ, ◌+◌, ◌-◌, ◌≤◌, ◌<◌, ◌^◌, List, [], ◌∷◌, ◌++◌, Option, None, Some, Ok, Err, length, drop, take, refl, sym, ap, subst, inl, inr, arith, append_assoc, append-nil, length-append}
 use Rattle.std.specs.Prelude.{⊤}
 use Rattle.std.specs.List.{flat_map}
 use Rattle.std.proofs.lemmas.Grind.{flat_map-append}
@@ -43,10 +43,6 @@ gives_then (Some old) (Some mid) (Some new) one two p q = record {
 -- the text of one item more
 last_of : {X : Type 0} (f : X → List ℕ) (xs : List X) (x : X) → flat_map f (xs ++ x ∷ []) ≡ flat_map f xs ++ f x
 last_of f xs x = flat_map-append f xs (x ∷ []) ∙ ap (λ (l : List ℕ). flat_map f xs ++ l) (append-nil (f x))
-
--- a whole packet has so many bytes
-pub whole_inside : (pending rest : List ℕ) (packet : Packet) → BeginsPacket pending packet rest → length pending ≡ 38 + length packet.body + length rest
-whole_inside pending rest packet begins = omega (arith, ap length begins.is, length-append (packet_bytes packet) rest, length-packet packet begins.is_packet)
 
 -- what is behind a packet that was passed
 passed : (pending after rest : List ℕ) (packet : Packet) (size : ℕ) → BeginsPacket pending packet rest → size ≡ 38 + length packet.body → after ≡ drop size pending → after ≡ rest
@@ -182,15 +178,6 @@ module _ {S O D : Type 0} (source : SourceGhosts S) (sink : SinkGhosts O) (disk 
   pub exchanged : (first now next : FollowState S O D) (value : ⊤) → FollowsOn source sink disk first now → AdvancesTo source sink disk now next (Ok value) → FollowsOn source sink disk first next
   exchanged first now next value before (inl (exchange, held)) = answered first now next before exchange held
   exchanged first now next value before (inr (more, none)) = took first now next before more none
-
-  -- an exchange answers a packet, or takes bytes
-  pub goes_down : (now next : FollowState S O D) (value : ⊤) → AdvancesTo source sink disk now next (Ok value) → now.taken ≤ 2 ^ 30 → 2 ^ 31 - 2 * next.taken + length next.pending < 2 ^ 31 - 2 * now.taken + length now.pending
-  goes_down now next value (inl (exchange, held)) low = omega (arith, exchange.same_taken, whole_inside now.pending exchange.rest exchange.packet exchange.begins, ap length exchange.pending_is)
-  goes_down now next value (inr (more, none)) low = omega (arith, more.some, more.limit, more.taken_is, ap length more.pending_is, length-append now.pending more.bytes)
-
-  -- what is pending is what was taken and belongs to no packet that was answered
-  pub pending_within : (first now : FollowState S O D) → FollowsOn source sink disk first now → length now.pending ≤ now.taken
-  pending_within first now before = omega (arith, before.taken, ap length before.parts, length-append (packets_bytes before.packets) now.pending)
 
   -- ---- the end
 

@@ -1,11 +1,11 @@
 -- Packets as bytes.
-use Rattle.std.proofs.Common.{◌≡◌, ◌∙◌, inl, inr, ℕ, ◌+◌, ◌-◌, ◌≤◌, ◌<◌, ◌^◌, List, ◌++◌, length, take, drop, sym, ap, arith, append_assoc, length-append, take-append-drop}
+use Rattle.std.proofs.Common.{◌≡◌, ◌∙◌, ℕ, ◌+◌, ◌-◌, ◌≤◌, ◌<◌, ◌^◌, List, ◌++◌, length, take, drop, sym, ap, arith, append_assoc, length-append, take-append-drop}
 use Rattle.std.proofs.lemmas.List.{length-take-le, length-drop}
 use Rattle.byteorder.specs.Endian.{big_bytes}
 use Rattle.byteorder.specs.Numbers.{length-bytes_high_first}
 use Rattle.hose_codec.specs.declared.limits.TheConstants.{MOST_SPELLING}
 use Rattle.hose_follow.specs.Arriving.{BeginsPacket}
-use Rattle.hose_follow.specs.Packet.{HasLength, IsNoLength}
+use Rattle.hose_follow.specs.Packet.{HasLength}
 
 -- a part, and what is behind it
 split : (n : ℕ) (xs front back : List ℕ) → front ≡ take n xs → back ≡ drop n xs → xs ≡ front ++ back
@@ -17,10 +17,6 @@ has_length bytes field after len front back is fits = record {
   fits = fits;
   is = split 2 bytes field after front back ∙ ap (λ (l : List ℕ). l ++ after) (sym is);
 }
-
-pub good_length : (len : ℕ) → 1 ≤ len → len ≤ MOST_SPELLING → ¬ IsNoLength len
-good_length len some few (inl zero) = omega (arith, some, zero)
-good_length len some few (inr more) = omega (arith, few, more)
 
 regrouped : (a b c d e : List ℕ) → a ++ (b ++ (c ++ (d ++ e))) ≡ (a ++ (b ++ (c ++ d))) ++ e
 regrouped a b c d e =
