@@ -102,19 +102,15 @@ module _ {D : Type 0} (disk : Ghosts D) (network : Network) where
 
   -- ---- images
 
+  with_one : (leader own : List Entry) (one : Option Entry) (told : ℕ) (image : List ℕ) → IfSome one (λ entry. IsPrefix (own ++ entry ∷ []) leader) → told ≤ length own → IsHistoryWith network own one image → IsOfLeader network leader told image
+  with_one leader own None told image prefix low none = absurd none
+  with_one leader own (Some entry) told image prefix low stands = record { list = own ++ entry ∷ []; stands = stands; begins = prefix; told = omega (arith, low, length-append own (entry ∷ [])) }
+
   of_leader : (leader own : List Entry) (doubt writing : Option Entry) (told : ℕ) (image : List ℕ) → IsPrefix own leader → IfSome doubt (λ entry. IsPrefix (own ++ entry ∷ []) leader) → IfSome writing (λ entry. IsPrefix (own ++ entry ∷ []) leader)
       → told ≤ length own → IsAmid network own doubt writing image → IsOfLeader network leader told image
   of_leader leader own doubt writing told image begins doubtful written low (inl stands) = record { list = own; stands = stands; begins = begins; told = low }
-  of_leader leader own doubt writing told image begins doubtful written low (inr (inl stands)) = with_one doubt doubtful stands
-    where
-      with_one : (one : Option Entry) → IfSome one (λ entry. IsPrefix (own ++ entry ∷ []) leader) → IsHistoryWith network own one image → IsOfLeader network leader told image
-      with_one None prefix none = absurd none
-      with_one (Some entry) prefix stands = record { list = own ++ entry ∷ []; stands = stands; begins = prefix; told = omega (arith, low, length-append own (entry ∷ [])) }
-  of_leader leader own doubt writing told image begins doubtful written low (inr (inr stands)) = with_one writing written stands
-    where
-      with_one : (one : Option Entry) → IfSome one (λ entry. IsPrefix (own ++ entry ∷ []) leader) → IsHistoryWith network own one image → IsOfLeader network leader told image
-      with_one None prefix none = absurd none
-      with_one (Some entry) prefix stands = record { list = own ++ entry ∷ []; stands = stands; begins = prefix; told = omega (arith, low, length-append own (entry ∷ [])) }
+  of_leader leader own doubt writing told image begins doubtful written low (inr (inl stands)) = with_one leader own doubt told image doubtful low stands
+  of_leader leader own doubt writing told image begins doubtful written low (inr (inr stands)) = with_one leader own writing told image written low stands
 
   pub image_of : (world : World D) (image : List ℕ) → IsFollowing disk network world → disk.may_leave world.store.journal.disk image → IsOfLeader network world.leader world.told image
   image_of world image following left =
