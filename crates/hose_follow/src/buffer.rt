@@ -1,8 +1,7 @@
 // Bytes that were taken of a source and belong to no packet yet that was answered.
-ghost use Rattle.std.specs.Prelude.{◌≡◌, ◌+◌, ◌-◌, ◌<◌, ◌≤◌, [], ◌++◌, List, ℕ, drop, length, take, IfOk, MatchResult, Ok};
+ghost use Rattle.std.specs.Prelude.{◌≡◌, ◌+◌, ◌-◌, ◌<◌, ◌≤◌, [], ◌++◌, List, ℕ, drop, length, take, IfOk};
 ghost use Rattle.std.specs.List.{slice_range};
-ghost use Rattle.hose_io.specs.Frame.{Met};
-ghost use Rattle.hose_io.specs.Stream.{Appends, IsAtEnd};
+ghost use Rattle.hose_io.specs.Filling.{IsFilled};
 
 use hose_io::{Failed, Source, take_after};
 use std::alloc::{AllocError, Global};
@@ -78,14 +77,8 @@ impl Buffer {
     pub fn fill<S: Source>(&mut self, source: &mut S, most: usize) -> Result<usize, Failed>
         requires some { 0 < most }
         requires room { 0 < self.old.room }
-        ensures most { IfOk result (λ count. count ≤ most) }
-        ensures taken { MatchResult result
-            (λ count. Appends (S.content source.old) (S.content source.new)
-            self.old.pending self.new.pending count)
-            (λ _. (S.content source.new ≡ S.content source.old)
-            × (self.new.pending ≡ self.old.pending)) }
-        ensures none_only_at_end { result ≡ Ok 0 → IsAtEnd (S.content source.old) }
-        ensures met { Met (S.frame source.old) (S.frame source.new) result }
+        ensures { IsFilled S.Source source.old source.new self.old.pending self.new.pending most
+            result }
     {
         let most = most.min(ROOM_BYTES - self.end);
         let taken = take_after(source, &mut self.bytes, self.end, most);
