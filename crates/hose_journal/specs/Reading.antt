@@ -91,7 +91,8 @@ pub record IsFoundAt (content : Option (List ℕ)) (digest : List ℕ) (entries 
   pub within : length (front_of version digest (before ++ entered entry ∷ [])) < end
   pub told : IfSome content (IsReadUpTo version digest (before ++ entered entry ∷ []) end)
 
--- an entry's record stands at the gate, and the next gate is this far on
+-- an entry's record stands from the gate to the end of what was read, chained where the journal is
+-- sealed
 pub record IsAtEntry {D : Type 0} (disk : Ghosts D) (reading : Reading D) (digest : List ℕ)
     (entries : List Entry) (entry : Entry) : Type 0 where
   pub found : IsFoundAt (disk.content reading.disk) digest entries entry reading.gate reading.end
