@@ -23,11 +23,12 @@ use Rattle.hose_book.specs.declared.books.Committed.TheVariants.{Done}
 use Rattle.hose_book.specs.Ledger.{Ledger}
 use Rattle.hose_core.specs.Claiming.{HasRanges, IsDecisionAt}
 use Rattle.hose_core.specs.Holding.{IsMadeAt}
-use Rattle.hose_core.specs.Planning.{IsNotPlanned, IsPlannedFor}
+use Rattle.hose_core.specs.Planning.{AdmitsAtOnce, IsNotPlanned, IsPlannedFor}
 use Rattle.hose_core.specs.declared.quotes.Quote.{Quote}
 use Rattle.hose_core.specs.Stepping.{AnswersBy, HasStepped, committed_of}
-use Rattle.hose_core.proofs.Answering.{answers_without}
+use Rattle.hose_core.proofs.Answering.{answered_same, answers_without}
 use Rattle.hose_core.proofs.Stepped.{stepped_by}
+use Rattle.hose_core.proofs.Told.{told_step}
 
 -- the amounts of a sound decision are in their ranges
 ranges_of : (network : Network) → IsNetwork network → (book : Book) (hose : List (ℕ × ℕ)) → IsHose hose → (decision : Decision) → IsSoundDecision network (room_of network book) hose decision → HasRanges decision
@@ -74,10 +75,35 @@ module _ {K R : Type 0} (books : Ghosts K R) (old new : K) (epoch : ℕ) (histor
   admit_step answer by = admits (IsPlannedAnswer network (books.ledger old).book customer hose) (admit_of network (books.ledger old).book customer hose) answer by
 
   -- a hose was refused
-  pub refuse_step : (at : ℕ) (side : List ℕ) → at ≡ (books.ledger old).book.epoch → IsRefused network (room_of network (books.ledger old).book) hose side → new ≡ old → Stepped (reply.Refused at side)
+  refuse_step : (at : ℕ) (side : List ℕ) → at ≡ (books.ledger old).book.epoch → IsRefused network (room_of network (books.ledger old).book) hose side → new ≡ old → Stepped (reply.Refused at side)
   refuse_step at side is refused same =
       let Is : Reply → Option Entry → Type 0 = IsAdmitAnswer network (books.ledger old).book customer hose in
       admits Is (λ given entry answer. answer) (reply.Refused at side) (answers_without books old new Is (reply.Refused at side) (is, refused) same)
+
+module _ {K R : Type 0} (books : Ghosts K R) (old : K) (customer : List ℕ) (hose : List (ℕ × ℕ)) where
+  abbrev was : Ledger
+  was = books.ledger old
+
+  -- so there is nothing to be entered
+  pub refused_admits : (at : ℕ) (side : List ℕ) → at ≡ was.book.epoch → IsRefused was.network (room_of was.network was.book) hose side → NamesPlaces was.network (reply.Refused at side)
+      → AdmitsAtOnce books old old customer hose (reply.Refused at side) None
+  refused_admits at side is refused names = record {
+    step = λ epoch history held here. refuse_step books old old epoch history customer held hose here at side is refused refl;
+    cheapest = tt;
+    answered = answered_same books old (reply.Refused at side) refl names;
+    none = refl;
+    enters = tt;
+  }
+
+  -- nor where memory was wanting
+  pub starved_admits : AdmitsAtOnce books old old customer hose reply.Memory None
+  starved_admits = record {
+    step = λ epoch history held here. told_step books old epoch history customer held here (command.Admit hose) reply.Memory (tt, refl, refl, refl);
+    cheapest = tt;
+    answered = answered_same books old reply.Memory refl tt;
+    none = refl;
+    enters = tt;
+  }
 
 -- ---- a quote
 

@@ -4,7 +4,6 @@ pub mod Decided
 pub mod Earlier
 mod HeldQuotes
 mod Leading
-mod Memory
 mod PlannedEntries
 mod ReleasedEntries
 mod ServiceEntries

@@ -14,12 +14,10 @@ use Rattle.hose_law.specs.Book.{Book}
 use Rattle.hose_law.specs.History.{IsSoundAt, last_epoch, most_live}
 use Rattle.hose_law.specs.Plan.{plan_cost}
 use Rattle.hose_book.specs.declared.books.Books.{Ghosts}
-use Rattle.hose_book.specs.declared.books.Committed.TheVariants.{Done, Disk}
-use Rattle.hose_book.specs.Commit.{Commits}
 use Rattle.hose_book.specs.Ledger.{Ledger}
 use Rattle.hose_core.specs.Claiming.{IsPlannedEntry}
-use Rattle.hose_core.specs.Stepping.{AdmitsCheapest, AnswersBy}
-use Rattle.hose_core.proofs.Answering.{answers_entered, answers_failed, answers_without}
+use Rattle.hose_core.specs.Stepping.{AdmitsCheapest, AnswersBy, Goes, IsToldAs, TellsPlan}
+use Rattle.hose_core.proofs.Answering.{answers_entered, answers_without}
 
 module _ {K R : Type 0} (books : Ghosts K R) (old new : K) (customer : List ℕ) (hose plan : List (ℕ × ℕ)) (entry : Entry)
     (planned : IsPlannedEntry (books.ledger old) customer hose plan entry) where
@@ -49,11 +47,13 @@ module _ {K R : Type 0} (books : Ghosts K R) (old new : K) (customer : List ℕ)
     is_admitted : Is admitted (Some entry)
     is_admitted = (epoch, room, planned.planned, ap (λ n. n + 1) here, ap (λ n. n + 1) here, costs, planned.admits)
 
-    pub admitted_answers : books.went old entry Done new → Commits ledger entry Done (books.ledger new) → AnswersBy books old new Is admitted
-    admitted_answers = answers_entered books old new Is admitted entry is_admitted (sound_entry epoch room) refl
+    pub admitted_answers : (answer : Reply) → Goes books old answer (Some entry) new → IsToldAs admitted (Some entry) answer book (books.ledger new).book → AnswersBy books old new Is answer
+    admitted_answers answer = answers_entered books old new Is admitted entry answer is_admitted (sound_entry epoch room)
 
-    pub failed_answers : books.went old entry Disk new → Commits ledger entry Disk (books.ledger new) → AnswersBy books old new Is (reply.Disk at)
-    failed_answers = answers_failed books old new Is admitted entry is_admitted (sound_entry epoch room) at here
+-- what is told where an admission was entered, or the disk failed
+pub tells_entered : (id cost at : ℕ) (plan : List (ℕ × ℕ)) (entry : Option Entry) (answer : Reply) (old new : Book) → IsToldAs (reply.Admitted id cost at plan) entry answer old new → TellsPlan plan cost answer
+tells_entered id cost at plan entry answer old new (inl told) = subst (TellsPlan plan cost) (sym told.0) (refl, refl)
+tells_entered id cost at plan entry answer old new (inr told) = subst (TellsPlan plan cost) (sym told.0) tt
 
 -- the entry of a hose with what was told of its plan is planned
 pub told_entry : (ledger : Ledger) (customer : List ℕ) (hose plan told : List (ℕ × ℕ)) → told ≡ plan → IsPlanned ledger.network (room_of ledger.network ledger.book) hose plan

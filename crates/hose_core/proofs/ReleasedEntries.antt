@@ -10,11 +10,9 @@ use Rattle.hose_law.specs.Book.{Book, HasVpn}
 use Rattle.hose_law.specs.History.{IsSoundAt, book_of, last_epoch}
 use Rattle.hose_law.specs.Quotes.{Held}
 use Rattle.hose_book.specs.declared.books.Books.{Ghosts}
-use Rattle.hose_book.specs.declared.books.Committed.TheVariants.{Done, Disk}
-use Rattle.hose_book.specs.Commit.{Commits}
 use Rattle.hose_book.specs.Ledger.{Ledger}
-use Rattle.hose_core.specs.Stepping.{AnswersBy, HasStepped}
-use Rattle.hose_core.proofs.Answering.{answers_entered, answers_failed, answers_without}
+use Rattle.hose_core.specs.Stepping.{AnswersBy, Goes, HasStepped, IsToldAs}
+use Rattle.hose_core.proofs.Answering.{answers_entered, answers_without}
 use Rattle.hose_core.proofs.Stepped.{stepped_by}
 
 module _ {K R : Type 0} (books : Ghosts K R) (old new : K) (customer : List ℕ) (id : ℕ) (entry : Entry) (releases : entry ≡ Release customer id) where
@@ -47,11 +45,8 @@ module _ {K R : Type 0} (books : Ghosts K R) (old new : K) (customer : List ℕ)
     pub sound_at : IsSoundAt ledger.network book entry
     sound_at = subst (IsSoundAt ledger.network book) (sym releases) (epoch, has)
 
-    pub released_answers : books.went old entry Done new → Commits ledger entry Done (books.ledger new) → Answers released
-    released_answers = answers_entered books old new Is released entry is_released sound_at refl
-
-    pub failed_answers : books.went old entry Disk new → Commits ledger entry Disk (books.ledger new) → Answers (reply.Disk at)
-    failed_answers = answers_failed books old new Is released entry is_released sound_at at here
+    pub released_answers : (answer : Reply) → Goes books old answer (Some entry) new → IsToldAs released (Some entry) answer book (books.ledger new).book → Answers answer
+    released_answers answer = answers_entered books old new Is released entry answer is_released sound_at
 
   -- and that is a step
   pub release_step : (epoch : ℕ) (history : List Entry) (held : Held) (answer : Reply) → book ≡ book_of epoch history → Answers answer → HasStepped books old new epoch history customer held (command.Release id) answer

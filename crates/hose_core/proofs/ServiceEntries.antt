@@ -11,14 +11,14 @@ use Rattle.hose_law.specs.Answer.{IsAnswer, IsOperatorAnswer, IsServiceAnswer, M
 use Rattle.hose_law.specs.Book.{Book}
 use Rattle.hose_law.specs.History.{IsSoundAt, book_of, last_epoch}
 use Rattle.hose_law.specs.Quotes.{Held}
+use Rattle.hose_law.specs.ReplyKind.{kind_of}
+use Rattle.hose_law.specs.ReplyKind.ReplyKind.{ByTheBook}
 use Rattle.hose_law.specs.Service.{LinkStands, service_entry}
 use Rattle.hose_book.specs.declared.books.Books.{Ghosts}
-use Rattle.hose_book.specs.declared.books.Committed.TheVariants.{Done, Disk}
-use Rattle.hose_book.specs.Commit.{Commits}
 use Rattle.hose_book.specs.Ledger.{Ledger}
 use Rattle.hose_core.specs.Serving.{service_command, service_reply}
-use Rattle.hose_core.specs.Stepping.{AnswersBy, HasStepped, committed_of}
-use Rattle.hose_core.proofs.Answering.{answers_entered, answers_failed, answers_without}
+use Rattle.hose_core.specs.Stepping.{AnswersBy, Goes, HasStepped, IsToldAs}
+use Rattle.hose_core.proofs.Answering.{answers_entered, answers_without}
 use Rattle.hose_core.proofs.Stepped.{stepped_by}
 
 -- ---- orders
@@ -55,9 +55,9 @@ order_wants book customer held true link is = is
 order_wants book customer held false link is = is
 
 -- its reply, where it is done
-pub done_committed : (down : Bool) (link at : ℕ) → committed_of (service_reply down link at) ≡ Done
-done_committed true link at = refl
-done_committed false link at = refl
+pub done_kind : (down : Bool) (link at : ℕ) → kind_of (service_reply down link at) ≡ ByTheBook
+done_kind true link at = refl
+done_kind false link at = refl
 
 pub done_names : (network : Network) (down : Bool) (link at : ℕ) → IsLinkOf network link → NamesPlaces network (service_reply down link at)
 done_names network true link at is = is
@@ -119,12 +119,9 @@ module _ {K R : Type 0} (books : Ghosts K R) (old new : K) (down : Bool) (link :
         by true stands is = subst (IsSoundAt ledger.network book) (sym is) (epoch, stands)
         by false stands is = subst (IsSoundAt ledger.network book) (sym is) (epoch, stands)
 
-    pub done_answers : (answer : Reply) → answer ≡ done → books.went old entry Done new → Commits ledger entry Done (books.ledger new) → Answers answer
-    done_answers answer tells went commits =
-        subst Answers (sym tells) (answers_entered books old new Is done entry is_done sound_at (done_committed down link (at + 1)) went commits)
-
-    pub failed_answers : books.went old entry Disk new → Commits ledger entry Disk (books.ledger new) → Answers (reply.Disk at)
-    failed_answers = answers_failed books old new Is done entry is_done sound_at at here
+    pub done_answers : (told answer : Reply) → told ≡ done → Goes books old answer (Some entry) new → IsToldAs told (Some entry) answer book (books.ledger new).book → Answers answer
+    done_answers told answer tells goes is =
+        answers_entered books old new Is done entry answer is_done sound_at goes (subst (λ (r : Reply). IsToldAs r (Some entry) answer book (books.ledger new).book) tells is)
 
   -- and that is a step of the operator
   pub service_step : (epoch : ℕ) (history : List Entry) (held : Held) (answer : Reply) → book ≡ book_of epoch history → Answers answer → HasStepped books old new epoch history operator held (service_command down link) answer

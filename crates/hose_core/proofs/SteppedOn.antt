@@ -20,10 +20,10 @@ use Rattle.hose_law.proofs.Steps.{IsAnswered, IsIdle, step_cases}
 use Rattle.hose_plan.specs.Planning.{allowed_links}
 use Rattle.hose_book.specs.declared.books.Books.{Ghosts}
 use Rattle.hose_book.specs.Ledger.{Ledger}
-use Rattle.hose_core.specs.Holding.{AreHeld, HoldsNow, IsMadeAt, IsQuoteOf, State, quotes_in}
+use Rattle.hose_core.specs.Holding.{AllQuotes, AreHeld, HoldsNow, IsMadeAt, IsQuoteOf, State, quotes_in}
 use Rattle.hose_core.specs.Planning.{HasTold, IsNotPlanned}
 use Rattle.hose_core.specs.Serving.{service_command}
-use Rattle.hose_core.specs.Stepping.{FitsHistory, HasStepped, StepsOn}
+use Rattle.hose_core.specs.Stepping.{FitsHistory, HasStepped, HaveAnswered, Steps, StepsAtEach, StepsOn}
 use Rattle.hose_core.proofs.Leading.{decided, leads}
 use Rattle.hose_core.specs.declared.quotes.Quote.{Quote}
 use Rattle.hose_core.proofs.Customers.{holds_same}
@@ -274,3 +274,21 @@ pub of_fields : {K R : Type 0} (books : Ghosts K R) (fields old new : State K) (
     → FitsHistory books old epoch history holdings → StepsOn books old new epoch history holdings customer asked answer
 of_fields {K = K} books fields old new epoch history holdings customer asked answer same on =
     subst (λ (s : State K). FitsHistory books s epoch history holdings → StepsOn books s new epoch history holdings customer asked answer) same on
+
+-- ---- what books answered that left what is held
+
+abbrev with_books : {K : Type 0} → AllQuotes → K → State K
+with_books quotes books = record { books = books; quotes = quotes }
+
+module _ {K R : Type 0} {books : Ghosts K R} {was : K} {quotes : AllQuotes} {state : State K} {answer : Reply} (customer : List ℕ) (asked : Command) (keeping : IsKeeping asked) where
+  -- a core with these books and quotes answered so
+  pub keeps_step : {now : K} → with_books quotes was ≡ state → HaveAnswered books was now answer → StepsAtEach books was now customer asked answer → Steps books state (with_books quotes now) customer asked answer
+  keeps_step {now = now} same answered steps = λ epoch history holdings.
+      of_fields books (with_books quotes was) state (with_books quotes now) epoch history holdings customer asked answer same
+      (λ fits. keeps_on books (with_books quotes was) (with_books quotes now) epoch history holdings customer fits answered.network asked answer keeping (steps epoch history (holdings customer) fits.book) refl)
+
+  -- and stays as it was where its books do
+  pub reads_step : with_books quotes was ≡ state → StepsAtEach books was was customer asked answer → Steps books state state customer asked answer
+  reads_step same steps = λ epoch history holdings.
+      subst (λ (s : State K). FitsHistory books s epoch history holdings → StepsOn books s s epoch history holdings customer asked answer) same
+      (λ fits. keeps_on books (with_books quotes was) (with_books quotes was) epoch history holdings customer fits refl asked answer keeping (steps epoch history (holdings customer) fits.book) refl)

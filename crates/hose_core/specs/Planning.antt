@@ -1,10 +1,11 @@
 -- What comes of planning a hose at a book: a quote, or a reply; and of holding the quote.
-use Rattle.std.specs.Prelude.{◌≡◌, ℕ, List, Option, Some, ⊤}
+use Rattle.std.specs.Prelude.{◌≡◌, ℕ, IfNone, IfSome, List, Option, Some, ⊤}
 use Rattle.hose_graph.specs.Hose.{Endpoint}
 use Rattle.hose_graph.specs.Naming.{NamesPlaces}
 use Rattle.hose_graph.specs.Network.{Network}
 use Rattle.hose_graph.specs.declared.entry.Entry.{Entry}
 use Rattle.hose_graph.specs.declared.entry.Entry.TheVariants.{Admit}
+use Rattle.hose_graph.specs.declared.command.Command.TheVariants.{Admit as AdmitHose}
 use Rattle.hose_graph.specs.declared.command.Reply.{Reply}
 use Rattle.hose_graph.specs.declared.command.Reply.TheVariants.{Memory, Quoted, Refused}
 use Rattle.hose_graph.specs.Amounts.{ReservedLink}
@@ -13,7 +14,8 @@ use Rattle.hose_law.specs.Decision.{IsRefused}
 use Rattle.hose_law.specs.Quotes.{with_number}
 use Rattle.hose_law.specs.Room.{room_of}
 use Rattle.hose_core.specs.Holding.{IsMadeAt}
-use Rattle.hose_core.specs.Stepping.{TellsPlan}
+use Rattle.hose_book.specs.declared.books.Books.{Ghosts}
+use Rattle.hose_core.specs.Stepping.{AdmitsCheapest, HaveAnswered, StepsAtEach, TellsPlan}
 use Rattle.hose_core.specs.declared.quotes.Quote.{Quote}
 
 -- the quote is made of the hose at the book
@@ -45,3 +47,13 @@ pub record EntersPlan (customer : List ℕ) (hose : List Endpoint) (reply : Repl
   pub cost : ℕ
   pub tells : TellsPlan plan cost reply
   pub enters : entry ≡ Admit customer hose plan
+
+-- Books answered an admission at once, by a step at each history that they stand for, and by a
+-- cheapest plan. The entry is the one that was to join them, and without one they are as before.
+pub record AdmitsAtOnce {K R : Type 0} (books : Ghosts K R) (old new : K) (customer : List ℕ)
+    (hose : List Endpoint) (answer : Reply) (entry : Option Entry) : Type 0 where
+  pub step : StepsAtEach books old new customer (AdmitHose hose) answer
+  pub cheapest : AdmitsCheapest (books.ledger old).network (books.ledger old).book hose answer
+  pub answered : HaveAnswered books old new answer
+  pub none : IfNone entry (new ≡ old)
+  pub enters : IfSome entry (EntersPlan customer hose answer)

@@ -2,6 +2,7 @@
 use Rattle.std.specs.Prelude.{◌≡◌, ◌⊎◌, ℕ, Bool, List, Option, None, Some, IfSome, IsSome, ⊤}
 use Rattle.hose_graph.specs.Amounts.{ReservedLink}
 use Rattle.hose_graph.specs.Hose.{Endpoint}
+use Rattle.hose_graph.specs.Naming.{NamesPlaces}
 use Rattle.hose_graph.specs.Network.{Network}
 use Rattle.hose_graph.specs.declared.command.Command.{Command}
 use Rattle.hose_graph.specs.declared.entry.Entry.{Entry}
@@ -16,7 +17,7 @@ use Rattle.hose_law.specs.Quotes.{Held, Holdings, with_held}
 use Rattle.hose_law.specs.ReplyKind.{ReplyKind, kind_of}
 use Rattle.hose_law.specs.ReplyKind.ReplyKind.{ByTheBook, ForDisk, ForMemory, ForNoCommand}
 use Rattle.hose_law.specs.Room.{room_of}
-use Rattle.hose_book.specs.Commit.{history_after}
+use Rattle.hose_book.specs.Commit.{IsMet, history_after}
 use Rattle.hose_book.specs.Ledger.{HasBookOf, Ledger, next_ledger}
 use Rattle.hose_book.specs.declared.books.Books.{Ghosts}
 use Rattle.hose_book.specs.declared.books.Committed.{Committed}
@@ -107,6 +108,22 @@ pub record HasStepped {K R : Type 0} (books : Ghosts K R) (old new : K) (epoch :
   pub sound : IsSoundWith (books.ledger old).network (book_of epoch history) entry
   pub goes : Goes books old answer entry new
   pub book : HasBookOf epoch next (books.ledger new)
+
+-- Books answered a command by a step at each history that they stand for, whatever its customer
+-- holds.
+abbrev pub StepsAtEach : {K R : Type 0} → Ghosts K R → K → K → List ℕ → Command → Reply → Type 0
+StepsAtEach books old new customer command answer = (epoch : ℕ) (history : List Entry)
+    (held : Held) → HasBookOf epoch history (books.ledger old)
+    → HasStepped books old new epoch history customer held command answer
+
+-- Books answered a command, whatever it was: their network stays, and they have one entry more or
+-- none. They failed to keep one exactly where the reply tells so, and it names what is there.
+pub record HaveAnswered {K R : Type 0} (books : Ghosts K R) (old new : K) (answer : Reply)
+    : Type 0 where
+  pub network : (books.ledger new).network ≡ (books.ledger old).network
+  pub ledger : IsSameOrNext (books.ledger old) (books.ledger new)
+  pub met : IsMet (books.frame old) (committed_of answer) (books.frame new)
+  pub names : NamesPlaces (books.ledger old).network answer
 
 -- the core's book is that of a history, and its quotes are those that are held there
 pub record FitsHistory {K R : Type 0} (books : Ghosts K R) (state : State K) (epoch : ℕ)

@@ -1,18 +1,11 @@
 // Admitting a hose at once.
-ghost use Rattle.std.specs.Prelude.{◌≡◌, ℕ, IfNone, IfSome, List};
-ghost use Rattle.hose_graph.specs.Naming.{NamesPlaces};
+ghost use Rattle.std.specs.Prelude.{◌≡◌, option_map};
 ghost use Rattle.hose_graph.specs.Network.{IsNetwork};
 ghost use Rattle.hose_graph.specs.Ranges.{AreInRanges};
-ghost use Rattle.hose_graph.specs.declared.command.Command.{Command};
-ghost use Rattle.hose_graph.specs.declared.entry.Entry.{Entry};
 ghost use Rattle.hose_law.specs.Decision.{CanBeReserved, IsPlanned};
 ghost use Rattle.hose_law.specs.Plan.{AreNodes, plan_cost};
-ghost use Rattle.hose_law.specs.Quotes.{Held};
 ghost use Rattle.hose_law.specs.Room.{room_of};
-ghost use Rattle.hose_book.specs.Commit.{IsMet};
-ghost use Rattle.hose_book.specs.Ledger.{HasBookOf};
-ghost use Rattle.hose_core.specs.Planning.{EntersPlan};
-ghost use Rattle.hose_core.specs.Stepping.{AdmitsCheapest, HasStepped, IsSameOrNext, committed_of};
+ghost use Rattle.hose_core.specs.Planning.{AdmitsAtOnce};
 
 use crate::deciding::decide_now;
 use crate::entering::enter_planned;
@@ -34,19 +27,8 @@ pub fn admit_now<K: Books, R: RowMaker>(
     rows: &mut R,
 ) -> (Reply, Option<Snapshot<Entry>>)
     requires { AreNodes (K.ledger books.old).network hose }
-    ensures step { (epoch : ℕ) (history : List Entry) (held : Held)
-        → HasBookOf epoch history (K.ledger books.old)
-        → HasStepped K.Books books.old books.new epoch history customer.now held
-        (Command.Admit hose) result.0 }
-    ensures cheapest { AdmitsCheapest (K.ledger books.old).network (K.ledger books.old).book
-        hose result.0 }
-    ensures network { (K.ledger books.new).network ≡ (K.ledger books.old).network }
-    ensures ledger { IsSameOrNext (K.ledger books.old) (K.ledger books.new) }
-    ensures met { IsMet (K.frame books.old) (committed_of result.0) (K.frame books.new) }
-    ensures names { NamesPlaces (K.ledger books.old).network result.0 }
-    ensures none { IfNone result.1 (books.new ≡ books.old) }
-    ensures entered { IfSome result.1 (λ entry. EntersPlan customer.now hose result.0
-        entry.value) }
+    ensures { AdmitsAtOnce K.Books books.old books.new customer.now hose result.0
+        (option_map (λ entry. entry.value) result.1) }
 {
     match decide_now(alloc, books, &hose, rows) {
         Err(_) => (Reply::Memory, None),
@@ -76,19 +58,8 @@ fn admit_planned<K: Books>(
         (room_of (K.ledger books.old).network (K.ledger books.old).book) hose amounts }
     requires ranges { AreInRanges amounts }
     requires cost { cost ≡ plan_cost (K.ledger books.old).network amounts }
-    ensures step { (epoch : ℕ) (history : List Entry) (held : Held)
-        → HasBookOf epoch history (K.ledger books.old)
-        → HasStepped K.Books books.old books.new epoch history customer.now held
-        (Command.Admit hose) result.0 }
-    ensures cheapest { AdmitsCheapest (K.ledger books.old).network (K.ledger books.old).book
-        hose result.0 }
-    ensures network { (K.ledger books.new).network ≡ (K.ledger books.old).network }
-    ensures ledger { IsSameOrNext (K.ledger books.old) (K.ledger books.new) }
-    ensures met { IsMet (K.frame books.old) (committed_of result.0) (K.frame books.new) }
-    ensures names { NamesPlaces (K.ledger books.old).network result.0 }
-    ensures none { IfNone result.1 (books.new ≡ books.old) }
-    ensures entered { IfSome result.1 (λ entry. EntersPlan customer.now hose result.0
-        entry.value) }
+    ensures { AdmitsAtOnce K.Books books.old books.new customer.now hose result.0
+        (option_map (λ entry. entry.value) result.1) }
 {
     let Ok(told) = amounts.copy(alloc) else {
         return (Reply::Memory, None);

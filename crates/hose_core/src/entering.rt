@@ -1,12 +1,14 @@
-// Entering what was planned.
-ghost use Rattle.std.specs.Prelude.{◌≡◌, ◌≢◌, ℕ, List};
+// Entering what was planned, and any entry that is sound.
+ghost use Rattle.std.specs.Prelude.{◌≡◌, ◌≢◌, ℕ, List, Some};
 ghost use Rattle.hose_graph.specs.Hose.{Endpoint};
 ghost use Rattle.hose_graph.specs.Naming.{NamesPlaces};
 ghost use Rattle.hose_law.specs.Answer.{IsPlannedAnswer};
+ghost use Rattle.hose_law.specs.History.{IsSoundAt};
 ghost use Rattle.hose_law.specs.Plan.{plan_cost};
-ghost use Rattle.hose_book.specs.Commit.{IsMet};
+ghost use Rattle.hose_law.specs.ReplyKind.{kind_of};
+ghost use Rattle.hose_law.specs.ReplyKind.ReplyKind.{ByTheBook};
 ghost use Rattle.hose_core.specs.Claiming.{IsPlannedEntry};
-ghost use Rattle.hose_core.specs.Stepping.{AnswersBy, IsSameOrNext, TellsPlan, committed_of};
+ghost use Rattle.hose_core.specs.Stepping.{AnswersBy, Goes, HaveAnswered, IsToldAs, TellsPlan};
 
 use hose_book::{Books, Committed};
 use hose_graph::{Amounts, Entry, MOST_EPOCH, MOST_LIVE, Reply};
@@ -30,10 +32,7 @@ pub fn enter_planned<K: Books>(
         (IsPlannedAnswer (K.ledger books.old).network (K.ledger books.old).book customer hose)
         result }
     ensures told { TellsPlan told cost result }
-    ensures network { (K.ledger books.new).network ≡ (K.ledger books.old).network }
-    ensures ledger { IsSameOrNext (K.ledger books.old) (K.ledger books.new) }
-    ensures met { IsMet (K.frame books.old) (committed_of result) (K.frame books.new) }
-    ensures names { NamesPlaces (K.ledger books.old).network result }
+    ensures answered { HaveAnswered K.Books books.old books.new result }
     ensures memory { result ≢ Reply.Memory }
 {
     let at = books.book().epoch();
@@ -43,13 +42,31 @@ pub fn enter_planned<K: Books>(
     if books.book().live().len() >= MOST_LIVE {
         return Reply::Full { at };
     }
+    let admitted = Reply::Admitted {
+        id: at + 1,
+        cost,
+        at: at + 1,
+        amounts: told,
+    };
+    enter(books, entry, ready, admitted)
+}
+
+/// Enters an entry that is sound, and gives the reply that tells it; or `Disk`, where what keeps
+/// the book failed. It takes no memory.
+pub fn enter<K: Books>(books: &mut K, entry: Entry, ready: K::Ready, told: Reply) -> Reply
+    requires sound { IsSoundAt (K.ledger books.old).network (K.ledger books.old).book entry }
+    requires ready { K.fits ready entry }
+    requires told { kind_of told ≡ ByTheBook }
+    requires names { NamesPlaces (K.ledger books.old).network told }
+    ensures goes { Goes K.Books books.old result (Some entry) books.new }
+    ensures told { IsToldAs told (Some entry) result (K.ledger books.old).book
+        (K.ledger books.new).book }
+    ensures answered { HaveAnswered K.Books books.old books.new result }
+    ensures memory { result ≢ Reply.Memory }
+{
+    let at = books.book().epoch();
     match books.commit(entry, ready) {
         Committed::Disk => Reply::Disk { at },
-        Committed::Done => Reply::Admitted {
-            id: at + 1,
-            cost,
-            at: at + 1,
-            amounts: told,
-        },
+        Committed::Done => told,
     }
 }

@@ -1,30 +1,21 @@
 // Releasing what is live.
 ghost use Rattle.std.specs.Prelude.{◌≡◌, ◌≢◌, ℕ, List};
-ghost use Rattle.hose_graph.specs.Naming.{NamesPlaces};
 ghost use Rattle.hose_graph.specs.declared.command.Command.{Command};
 ghost use Rattle.hose_graph.specs.declared.entry.Entry.{Entry};
-ghost use Rattle.hose_law.specs.Quotes.{Held};
-ghost use Rattle.hose_book.specs.Commit.{IsMet};
-ghost use Rattle.hose_book.specs.Ledger.{HasBookOf};
 ghost use Rattle.hose_core.specs.Claiming.{IsReleaseClaim};
-ghost use Rattle.hose_core.specs.Stepping.{HasStepped, IsSameOrNext, committed_of};
+ghost use Rattle.hose_core.specs.Stepping.{HaveAnswered, StepsAtEach};
 
 use crate::claim::Claim;
-use hose_book::{Books, Committed};
+use crate::entering::enter;
+use hose_book::Books;
 use hose_graph::{Entry, MOST_EPOCH, Name, Reply};
 
 /// Gives up the VPN of a claim on a release. It takes no memory.
 pub fn release_now<K: Books>(books: &mut K, claim: Claim<K>) -> Reply
     requires claim { (customer : List ℕ) × (id : ℕ) × IsReleaseClaim K.Books claim customer id }
-    ensures step { (customer : List ℕ) (id epoch : ℕ) (history : List Entry) (held : Held)
-        → IsReleaseClaim K.Books claim customer id
-        → HasBookOf epoch history (K.ledger books.old)
-        → HasStepped K.Books books.old books.new epoch history customer held
-        (Command.Release id) result }
-    ensures network { (K.ledger books.new).network ≡ (K.ledger books.old).network }
-    ensures ledger { IsSameOrNext (K.ledger books.old) (K.ledger books.new) }
-    ensures met { IsMet (K.frame books.old) (committed_of result) (K.frame books.new) }
-    ensures names { NamesPlaces (K.ledger books.old).network result }
+    ensures step { (customer : List ℕ) (id : ℕ) → IsReleaseClaim K.Books claim customer id
+        → StepsAtEach K.Books books.old books.new customer (Command.Release id) result }
+    ensures answered { HaveAnswered K.Books books.old books.new result }
     ensures memory { result ≢ Reply.Memory }
 {
     let Claim { entry, ready, .. } = claim;
@@ -42,14 +33,9 @@ fn enter_release<K: Books>(
 ) -> Reply
     requires releases { entry ≡ Entry.Release customer.now id }
     requires ready { K.fits ready entry }
-    ensures step { (epoch : ℕ) (history : List Entry) (held : Held)
-        → HasBookOf epoch history (K.ledger books.old)
-        → HasStepped K.Books books.old books.new epoch history customer.now held
-        (Command.Release id) result }
-    ensures network { (K.ledger books.new).network ≡ (K.ledger books.old).network }
-    ensures ledger { IsSameOrNext (K.ledger books.old) (K.ledger books.new) }
-    ensures met { IsMet (K.frame books.old) (committed_of result) (K.frame books.new) }
-    ensures names { NamesPlaces (K.ledger books.old).network result }
+    ensures step { StepsAtEach K.Books books.old books.new customer.now (Command.Release id)
+        result }
+    ensures answered { HaveAnswered K.Books books.old books.new result }
     ensures memory { result ≢ Reply.Memory }
 {
     let at = books.book().epoch();
@@ -59,10 +45,7 @@ fn enter_release<K: Books>(
     if at == MOST_EPOCH {
         return Reply::Spent { at };
     }
-    match books.commit(entry, ready) {
-        Committed::Disk => Reply::Disk { at },
-        Committed::Done => Reply::Released { id, at: at + 1 },
-    }
+    enter(books, entry, ready, Reply::Released { id, at: at + 1 })
 }
 
 // Whose VPN an entry gives up, and its number.

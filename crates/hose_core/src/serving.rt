@@ -1,20 +1,17 @@
 // Taking links out of service, and putting them back.
 ghost use Rattle.std.specs.Prelude.{◌≡◌, ◌≢◌, ℕ, Bool, List};
 ghost use Rattle.hose_graph.specs.Name.{operator};
-ghost use Rattle.hose_graph.specs.Naming.{NamesPlaces};
 ghost use Rattle.hose_graph.specs.Network.{IsLinkOf};
 ghost use Rattle.hose_graph.specs.declared.entry.Entry.{Entry};
 ghost use Rattle.hose_graph.specs.declared.command.Reply.{Reply};
-ghost use Rattle.hose_law.specs.Quotes.{Held};
 ghost use Rattle.hose_law.specs.Service.{is_out, service_entry};
-ghost use Rattle.hose_book.specs.Commit.{IsMet};
-ghost use Rattle.hose_book.specs.Ledger.{HasBookOf};
 ghost use Rattle.hose_core.specs.Claiming.{IsServiceClaim};
 ghost use Rattle.hose_core.specs.Serving.{service_command, service_reply};
-ghost use Rattle.hose_core.specs.Stepping.{HasStepped, IsSameOrNext, committed_of};
+ghost use Rattle.hose_core.specs.Stepping.{HaveAnswered, StepsAtEach};
 
 use crate::claim::Claim;
-use hose_book::{Book, Books, Committed};
+use crate::entering::enter;
+use hose_book::{Book, Books};
 use hose_graph::{Entry, MOST_EPOCH, Reply};
 
 /// Takes the link of a claim out of service for the operator, or puts it back: `Down`, `Up`,
@@ -22,15 +19,9 @@ use hose_graph::{Entry, MOST_EPOCH, Reply};
 pub fn service_now<K: Books>(books: &mut K, claim: Claim<K>) -> Reply
     requires claim { (down : Bool) × (link : ℕ) × IsServiceClaim K.Books claim down link
         × IsLinkOf (K.ledger books.old).network link }
-    ensures step { (down : Bool) (link epoch : ℕ) (history : List Entry) (held : Held)
-        → IsServiceClaim K.Books claim down link
-        → HasBookOf epoch history (K.ledger books.old)
-        → HasStepped K.Books books.old books.new epoch history operator held
-        (service_command down link) result }
-    ensures network { (K.ledger books.new).network ≡ (K.ledger books.old).network }
-    ensures ledger { IsSameOrNext (K.ledger books.old) (K.ledger books.new) }
-    ensures met { IsMet (K.frame books.old) (committed_of result) (K.frame books.new) }
-    ensures names { NamesPlaces (K.ledger books.old).network result }
+    ensures step { (down : Bool) (link : ℕ) → IsServiceClaim K.Books claim down link
+        → StepsAtEach K.Books books.old books.new operator (service_command down link) result }
+    ensures answered { HaveAnswered K.Books books.old books.new result }
     ensures memory { result ≢ Reply.Memory }
 {
     let Claim { entry, ready, .. } = claim;
@@ -50,14 +41,9 @@ fn enter_order<K: Books>(
     requires orders { entry ≡ service_entry down link }
     requires link { IsLinkOf (K.ledger books.old).network link }
     requires ready { K.fits ready entry }
-    ensures step { (epoch : ℕ) (history : List Entry) (held : Held)
-        → HasBookOf epoch history (K.ledger books.old)
-        → HasStepped K.Books books.old books.new epoch history operator held
-        (service_command down link) result }
-    ensures network { (K.ledger books.new).network ≡ (K.ledger books.old).network }
-    ensures ledger { IsSameOrNext (K.ledger books.old) (K.ledger books.new) }
-    ensures met { IsMet (K.frame books.old) (committed_of result) (K.frame books.new) }
-    ensures names { NamesPlaces (K.ledger books.old).network result }
+    ensures step { StepsAtEach K.Books books.old books.new operator (service_command down link)
+        result }
+    ensures answered { HaveAnswered K.Books books.old books.new result }
     ensures memory { result ≢ Reply.Memory }
 {
     let at = books.book().epoch();
@@ -71,10 +57,7 @@ fn enter_order<K: Books>(
     if at == MOST_EPOCH {
         return Reply::Spent { at };
     }
-    match books.commit(entry, ready) {
-        Committed::Disk => Reply::Disk { at },
-        Committed::Done => done(link, down, at + 1),
-    }
+    enter(books, entry, ready, done(link, down, at + 1))
 }
 
 /// Whether a link of the network is out of service.

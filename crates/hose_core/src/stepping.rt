@@ -12,7 +12,7 @@ ghost use Rattle.hose_book.specs.Ledger.{HasBookOf};
 ghost use Rattle.hose_book.specs.declared.books.Committed.{Committed};
 ghost use Rattle.hose_core.specs.Holding.{IsMadeAt, quotes_of};
 ghost use Rattle.hose_core.specs.Serving.{service_command};
-ghost use Rattle.hose_core.specs.Stepping.{FitsHistory, Steps, committed_of};
+ghost use Rattle.hose_core.specs.Stepping.{FitsHistory, HaveAnswered, Steps, committed_of};
 
 use crate::admitting::admit_now;
 use crate::by_customer::QuotesByCustomer;
@@ -117,10 +117,7 @@ impl<K: Books + Drop> Core<K> {
     ) -> Reply
         requires { AreNodes (K.ledger self.old.books).network hose }
         ensures step { Steps K.Books self.old self.new customer.now (Command.Admit hose) result }
-        ensures network { (K.ledger self.new.books).network ≡ (K.ledger self.old.books).network }
-        ensures met { IsMet (K.frame self.old.books) (committed_of result)
-            (K.frame self.new.books) }
-        ensures names { NamesPlaces (K.ledger self.old.books).network result }
+        ensures answered { HaveAnswered K.Books self.old.books self.new.books result }
     {
         let (reply, _entered) = admit_now(alloc, &mut self.books, customer, hose, rows);
         reply
@@ -168,10 +165,7 @@ impl<K: Books + Drop> Core<K> {
     // Takes the quote under a number.
     fn take(&mut self, alloc: Global, customer: &Name, number: u64) -> Reply
         ensures step { Steps K.Books self.old self.new customer.now (Command.Take number) result }
-        ensures network { (K.ledger self.new.books).network ≡ (K.ledger self.old.books).network }
-        ensures met { IsMet (K.frame self.old.books) (committed_of result)
-            (K.frame self.new.books) }
-        ensures names { NamesPlaces (K.ledger self.old.books).network result }
+        ensures answered { HaveAnswered K.Books self.old.books self.new.books result }
     {
         let Some(quote) = self.quotes.held(customer, number) else {
             let at = self.books.book().epoch();
@@ -189,10 +183,7 @@ impl<K: Books + Drop> Core<K> {
     fn release(&mut self, alloc: Global, customer: &Name, id: u64) -> Reply
         requires { id ≤ MOST_EPOCH }
         ensures step { Steps K.Books self.old self.new customer.now (Command.Release id) result }
-        ensures network { (K.ledger self.new.books).network ≡ (K.ledger self.old.books).network }
-        ensures met { IsMet (K.frame self.old.books) (committed_of result)
-            (K.frame self.new.books) }
-        ensures names { NamesPlaces (K.ledger self.old.books).network result }
+        ensures answered { HaveAnswered K.Books self.old.books self.new.books result }
     {
         let Ok(claim) = claim_release(alloc, customer, id) else {
             return Reply::Memory;
@@ -225,10 +216,7 @@ impl<K: Books + Drop> Core<K> {
         requires { IsLinkOf (K.ledger self.old.books).network link }
         ensures step { Steps K.Books self.old self.new customer.now
             (service_command down link) result }
-        ensures network { (K.ledger self.new.books).network ≡ (K.ledger self.old.books).network }
-        ensures met { IsMet (K.frame self.old.books) (committed_of result)
-            (K.frame self.new.books) }
-        ensures names { NamesPlaces (K.ledger self.old.books).network result }
+        ensures answered { HaveAnswered K.Books self.old.books self.new.books result }
     {
         let book = self.books.book();
         let is_operator = customer.is_operator();

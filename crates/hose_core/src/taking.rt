@@ -1,17 +1,15 @@
 // Taking what was quoted.
 ghost use Rattle.std.specs.Prelude.{◌≡◌, ◌≢◌, ◌↔◌, ℕ, List, Some, IsTrue};
-ghost use Rattle.hose_graph.specs.Naming.{NamesPlaces};
 ghost use Rattle.hose_graph.specs.Network.{IsNetwork};
 ghost use Rattle.hose_graph.specs.declared.command.Command.{Command};
 ghost use Rattle.hose_graph.specs.declared.entry.Entry.{Entry};
 ghost use Rattle.hose_law.specs.Book.{Book};
 ghost use Rattle.hose_law.specs.Decision.{HaveEqualGrounds};
 ghost use Rattle.hose_law.specs.Quotes.{Held, HeldQuote, at_number};
-ghost use Rattle.hose_book.specs.Commit.{IsMet};
 ghost use Rattle.hose_book.specs.Ledger.{HasBookOf};
 ghost use Rattle.hose_core.specs.Claiming.{IsClaimOf};
 ghost use Rattle.hose_core.specs.Holding.{HasGroundsSince, IsMade, IsMadeAt, IsQuoteOf};
-ghost use Rattle.hose_core.specs.Stepping.{AdmitsCheapest, HasStepped, IsSameOrNext, Takes, TellsPlan, committed_of};
+ghost use Rattle.hose_core.specs.Stepping.{AdmitsCheapest, HasStepped, HaveAnswered, Takes, TellsPlan};
 
 use crate::claim::Claim;
 use crate::entering::enter_planned;
@@ -44,10 +42,7 @@ pub fn take_now<K: Books>(books: &mut K, quote: &Quote, claim: Claim<K>) -> Repl
     ensures cheapest { AdmitsCheapest (K.ledger books.old).network (K.ledger books.old).book
         quote.now.hose result }
     ensures told { TellsPlan quote.now.amounts quote.now.cost result }
-    ensures network { (K.ledger books.new).network ≡ (K.ledger books.old).network }
-    ensures ledger { IsSameOrNext (K.ledger books.old) (K.ledger books.new) }
-    ensures met { IsMet (K.frame books.old) (committed_of result) (K.frame books.new) }
-    ensures names { NamesPlaces (K.ledger books.old).network result }
+    ensures answered { HaveAnswered K.Books books.old books.new result }
     ensures memory { result ≢ Reply.Memory }
 {
     let Claim { entry, ready, told } = claim;

@@ -3,13 +3,10 @@ ghost use Rattle.std.specs.Prelude.{◌≡◌, ◌<◌, ℕ, List, None, length}
 ghost use Rattle.hose_graph.specs.Naming.{NamesPlaces};
 ghost use Rattle.hose_graph.specs.Network.{IsLinkOf};
 ghost use Rattle.hose_graph.specs.declared.command.Command.{Command};
-ghost use Rattle.hose_graph.specs.declared.entry.Entry.{Entry};
 ghost use Rattle.hose_law.specs.Answer.{IsLinkAnswer, IsShowAnswer};
 ghost use Rattle.hose_law.specs.Book.{HasVpn};
-ghost use Rattle.hose_law.specs.Quotes.{Held};
-ghost use Rattle.hose_book.specs.Ledger.{HasBookOf};
 ghost use Rattle.hose_book.specs.declared.books.Committed.{Committed};
-ghost use Rattle.hose_core.specs.Stepping.{HasStepped, committed_of};
+ghost use Rattle.hose_core.specs.Stepping.{StepsAtEach, committed_of};
 ghost use Rattle.hose_core.specs.Telling.{IsShown};
 
 use crate::serving::is_out;
@@ -20,10 +17,7 @@ use std::alloc::Global;
 
 /// Tells a customer what the VPN of a number is: `Shown`, `NoVpn` or `Memory`.
 pub fn show_now<K: Books>(alloc: Global, books: &K, customer: &Name, id: u64) -> Reply
-    ensures step { (epoch : ℕ) (history : List Entry) (held : Held)
-        → HasBookOf epoch history (K.ledger books.now)
-        → HasStepped K.Books books.now books.now epoch history customer.now held
-        (Command.Show id) result }
+    ensures step { StepsAtEach K.Books books.now books.now customer.now (Command.Show id) result }
     ensures met { committed_of result ≡ Committed.Done }
     ensures names { NamesPlaces (K.ledger books.now).network result }
 {
@@ -34,10 +28,8 @@ pub fn show_now<K: Books>(alloc: Global, books: &K, customer: &Name, id: u64) ->
 /// It takes no memory.
 pub fn link_now<K: Books>(books: &K, link: u32) -> Reply
     requires { IsLinkOf (K.ledger books.now).network link }
-    ensures step { (customer : List ℕ) (epoch : ℕ) (history : List Entry) (held : Held)
-        → HasBookOf epoch history (K.ledger books.now)
-        → HasStepped K.Books books.now books.now epoch history customer held
-        (Command.Link link) result }
+    ensures step { (customer : List ℕ)
+        → StepsAtEach K.Books books.now books.now customer (Command.Link link) result }
     ensures met { committed_of result ≡ Committed.Done }
     ensures names { NamesPlaces (K.ledger books.now).network result }
 {

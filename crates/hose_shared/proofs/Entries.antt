@@ -1,6 +1,6 @@
 -- Which entry joined, and what an admission's take and the replies without an entry are as steps.
-use Rattle.std.proofs.Common.{◌≡◌, ◌≢◌, ℕ, Bool, true, false, List, ◌++◌, length, take, Option, None, Some, IfSome, IsSome, MatchResult, Result, inl, inr, refl, sym, ap, subst, ◌∙◌, append-nil, arith, ◌≤◌, ◌<◌}
-use Rattle.std.specs.Prelude.{IfNone, option_map, replicate}
+use Rattle.std.proofs.Common.{◌≡◌, ◌≢◌, ◌⊎◌, ℕ, Bool, true, false, List, ◌++◌, length, take, Option, None, Some, IfSome, IsSome, MatchResult, Result, inl, inr, refl, sym, ap, subst, ◌∙◌, append-nil, arith, ◌≤◌, ◌<◌}
+use Rattle.std.specs.Prelude.{IfNone, replicate}
 use Rattle.std.proofs.lemmas.List.{length-append, length-take-le, take-append-le, take_all}
 use mathlib.Core.List.{IsPrefix}
 use mathlib.Core.Logic.{dite}
@@ -25,24 +25,22 @@ use Rattle.hose_law.specs.ReplyKind.{ReplyKind, kind_of}
 use Rattle.hose_law.specs.ReplyKind.ReplyKind.{ByTheBook, ForDisk, ForMemory, ForNoCommand}
 use Rattle.hose_law.specs.Room.{first_links, room_of, safe_links}
 use Rattle.hose_law.specs.Service.{service_entry}
-use Rattle.hose_book.specs.Commit.{IsMet}
 use Rattle.hose_book.specs.Ledger.{Ledger}
 use Rattle.hose_book.specs.declared.books.Committed.{Committed}
 use Rattle.hose_book.specs.declared.books.Committed.TheVariants.{Done, Disk}
 use Rattle.hose_core.specs.Holding.{AreHeld, IsMadeAt, IsQuoteOf}
-use Rattle.hose_core.specs.Planning.{EntersPlan, HasTold, IsNotPlanned, IsPlannedFor}
+use Rattle.hose_core.specs.Planning.{AdmitsAtOnce, EntersPlan, HasTold, IsNotPlanned, IsPlannedFor}
 use Rattle.hose_core.specs.Serving.{service_command}
-use Rattle.hose_core.specs.Stepping.{HasStepped, TellsPlan, committed_for, committed_of}
+use Rattle.hose_core.specs.Stepping.{HasStepped, HaveAnswered, StepsAtEach, TellsPlan, committed_for, committed_of}
 use Rattle.hose_core.specs.declared.quotes.Quote.{Quote}
 use Rattle.hose_plan.specs.Planning.{allowed_links}
-use Rattle.hose_disk.specs.Disk.{object_frame}
 use Rattle.hose_disk.specs.declared.disk.Disk.{Ghosts}
 use Rattle.hose_store.specs.Commit.{store_books}
 use Rattle.hose_store.specs.Store.{Kept as KeptStore}
 use Rattle.hose_turn.specs.Known.{Known}
 use Rattle.hose_shared.specs.Along.{StepsAlong, StepsHolding, is_stale}
 use Rattle.hose_shared.specs.Sharing.{HasSeenMore}
-use Rattle.hose_shared.specs.Turns.{AnswersTurn, StepsAt, joined_of, place_of}
+use Rattle.hose_shared.specs.Turns.{AnswersTurn, BeginsTurn, StepsAt, joined_of, place_of}
 use Rattle.hose_law.proofs.Fronts.{prefix_same}
 use Rattle.hose_law.proofs.Steps.{step_cases}
 use Rattle.hose_law.proofs.Epochs.{epoch_of}
@@ -247,44 +245,56 @@ module _ (network : Network) (history : List Entry) (customer : List ℕ) (held 
 
 -- ---- what a turn answered, by the command
 
-module _ {D : Type 0} (disk : Ghosts D) (seen : List Entry) (old was new : KeptStore D) (told : Option Entry) (same : old ≡ was) (network : new.ledger.network ≡ old.ledger.network) (answer : Reply)
-    (met : IsMet (object_frame (disk.frame old.journal.disk)) (committed_of answer) (object_frame (disk.frame new.journal.disk))) (held : Held) (customer : List ℕ) where
+module _ {D : Type 0} {disk : Ghosts D} {Begins : List Entry → KeptStore D → Type 0} {known : Known} {count at : ℕ} {old was new : KeptStore D} {answer : Reply}
+    (begun : BeginsTurn disk Begins known count at was) (same : old ≡ was) (answered : HaveAnswered (store_books disk) old new answer) (told : Option Entry) (customer : List ℕ) (held : Held) where
+  abbrev Stepped : Command → Type 0
+  Stepped asked = HasStepped (store_books disk) old new 0 known.seen customer held asked answer
+
   abbrev Turn : Command → Type 0
-  Turn asked = HasStepped (store_books disk) old new 0 seen customer held asked answer → AnswersTurn disk seen was new told customer held asked answer
+  Turn asked = AnswersTurn disk known.seen was new told customer held asked answer
 
-  by_entry : (asked : Command) (entry : Entry) → told ≡ Some entry → (stepped : HasStepped (store_books disk) old new 0 seen customer held asked answer)
-      → IfSome (joined_of stepped.entry (committed_of answer)) (λ one. one ≡ entry) → AnswersTurn disk seen was new told customer held asked answer
+  step_of : (asked : Command) → StepsAtEach (store_books disk) old new customer asked answer → Stepped asked
+  step_of asked steps = steps 0 known.seen held (ap (λ (s : KeptStore D). s.ledger.book) same ∙ begun.stands.book)
+
+  by_entry : (asked : Command) (entry : Entry) → told ≡ Some entry → (stepped : Stepped asked) → IfSome (joined_of stepped.entry (committed_of answer)) (λ one. one ≡ entry) → Turn asked
   by_entry asked entry is stepped of =
-      answers_turn disk seen old was new told customer held asked answer same stepped network met (inr (told_is (joined_of stepped.entry (committed_of answer)) told entry is of))
+      answers_turn disk known.seen old was new told customer held asked answer same stepped answered.network answered.met (inr (told_is (joined_of stepped.entry (committed_of answer)) told entry is of))
 
-  pub release_turn : (id : ℕ) → told ≡ Some (Release customer id) → Turn (command.Release id)
-  release_turn id is stepped = by_entry (command.Release id) (Release customer id) is stepped
-      (release_entry old.ledger.network seen customer held id answer stepped.entry stepped.next stepped.after stepped.step)
+  pub release_turn : (id : ℕ) → told ≡ Some (Release customer id) → StepsAtEach (store_books disk) old new customer (command.Release id) answer → Turn (command.Release id)
+  release_turn id is steps =
+      let stepped = step_of (command.Release id) steps in
+      by_entry (command.Release id) (Release customer id) is stepped (release_entry old.ledger.network known.seen customer held id answer stepped.entry stepped.next stepped.after stepped.step)
 
-  pub order_turn : (down : Bool) (link : ℕ) → told ≡ Some (service_entry down link) → Turn (service_command down link)
-  order_turn down link is stepped = by_entry (service_command down link) (service_entry down link) is stepped
-      (order_entry old.ledger.network seen customer held down link answer stepped.entry stepped.next stepped.after stepped.step)
+  pub order_turn : (down : Bool) (link : ℕ) → told ≡ Some (service_entry down link) → customer ≡ operator → StepsAtEach (store_books disk) old new operator (service_command down link) answer → Turn (service_command down link)
+  order_turn down link is mine steps =
+      let asked = service_command down link in
+      let stepped = step_of asked (subst (λ (name : List ℕ). StepsAtEach (store_books disk) old new name asked answer) (sym mine) steps) in
+      by_entry asked (service_entry down link) is stepped (order_entry old.ledger.network known.seen customer held down link answer stepped.entry stepped.next stepped.after stepped.step)
 
   pub take_turn : (number : ℕ) (one : HeldQuote) (quote : Quote) → at_number held number ≡ Some one → one.hose ≡ quote.hose → told ≡ Some (Admit customer quote.hose quote.amounts) → TellsPlan quote.amounts quote.cost answer
-      → Turn (command.Take number)
+      → Stepped (command.Take number) → Turn (command.Take number)
   take_turn number one quote there hose is tells stepped = by_entry (command.Take number) (Admit customer quote.hose quote.amounts) is stepped
       (subst (λ (ends : List Endpoint). IfSome (joined_of stepped.entry (committed_of answer)) (λ joined. joined ≡ Admit customer ends quote.amounts)) hose
-      (take_entry old.ledger.network seen customer held number one there quote.amounts quote.cost answer stepped.entry stepped.next stepped.after tells stepped.step))
+      (take_entry old.ledger.network known.seen customer held number one there quote.amounts quote.cost answer stepped.entry stepped.next stepped.after tells stepped.step))
 
   -- an admission may have had no entry, and then the store is as it was
-  pub admit_turn : {S : Type 0} (value : S → Entry) (entered : Option S) (hose : List Endpoint) → told ≡ option_map value entered → IfNone entered (new ≡ old) → IfSome entered (λ entry. EntersPlan customer hose answer (value entry))
-      → Turn (command.Admit hose)
-  admit_turn value None hose is none enters stepped =
-      answers_turn disk seen old was new told customer held (command.Admit hose) answer same stepped network met (inl none)
-  admit_turn value (Some entry) hose is none enters stepped = by_entry (command.Admit hose) (value entry) is stepped
-      (admit_entry old.ledger.network seen customer held hose answer (value entry) stepped.entry stepped.next stepped.after enters stepped.step)
+  pub admit_turn : (hose : List Endpoint) → AdmitsAtOnce (store_books disk) old new customer hose answer told → Turn (command.Admit hose)
+  admit_turn hose admits = answers_turn disk known.seen old was new told customer held (command.Admit hose) answer same stepped answered.network answered.met (joined told admits.none admits.enters)
+    where
+      stepped : Stepped (command.Admit hose)
+      stepped = step_of (command.Admit hose) admits.step
+
+      joined : (told : Option Entry) → IfNone told (new ≡ old) → IfSome told (EntersPlan customer hose answer) → (new ≡ old) ⊎ IfSome (joined_of stepped.entry (committed_of answer)) (λ one. told ≡ Some one)
+      joined None none enters = inl none
+      joined (Some entry) none enters = inr (told_is (joined_of stepped.entry (committed_of answer)) (Some entry) entry refl
+          (admit_entry old.ledger.network known.seen customer held hose answer entry stepped.entry stepped.next stepped.after enters stepped.step))
 
 -- ---- replies without an entry
 
 -- A reply without an entry, at all that the pass has seen then.
-pub stays_along : (network : Network) (customer : List ℕ) (held after : Held) (asked : Command) (answer : Reply) (old new : Known) → HasSeenMore old new → committed_of answer ≡ Done
+pub stays_along : {network : Network} {customer : List ℕ} {held : Held} {asked : Command} {answer : Reply} {old new : Known} (after : Held) → HasSeenMore old new → committed_of answer ≡ Done
     → IsStepOf network 0 new.seen customer held asked answer None new.seen after → StepsAlong network customer held asked answer old new
-stays_along network customer held after asked answer old new more done step = along_of network customer held asked answer old new new more (record {
+stays_along {network = network} {customer = customer} {held = held} {asked = asked} {answer = answer} {old = old} {new = new} after more done step = along_of network customer held asked answer old new new more (record {
   entry = None;
   joined = None;
   after = after;
@@ -298,10 +308,10 @@ stays_along network customer held after asked answer old new more done step = al
 })
 
 -- A reply without an entry, with what is held then.
-pub stays_holding : (network : Network) (customer : List ℕ) (held after : Held) (asked : Command) (answer : Reply) (old new : Known) (quotes : List (Option Quote)) → HasSeenMore old new → committed_of answer ≡ Done
+pub stays_holding : {network : Network} {customer : List ℕ} {held : Held} {asked : Command} {answer : Reply} {old new : Known} {quotes : List (Option Quote)} (after : Held) → HasSeenMore old new → committed_of answer ≡ Done
     → IsStepOf network 0 new.seen customer held asked answer None new.seen after → AreHeld network 0 new.seen after quotes → StepsHolding network customer held asked answer old new quotes
 unfolding stays_along
-stays_holding network customer held after asked answer old new quotes more done step are = record { along = stays_along network customer held after asked answer old new more done step; holds = are }
+stays_holding after more done step are = record { along = stays_along after more done step; holds = are }
 
 -- ---- what was planned, or not
 
@@ -368,6 +378,12 @@ seen_quote network seen later one quote (rest, same) of = record {
   made = subst (λ (all : List Entry). IsMadeAt network (book_of 0 (take one.place all)) quote) same
       (subst (λ (all : List Entry). IsMadeAt network (book_of 0 all) quote) (sym (take-append-le one.place seen rest of.there)) of.made);
 }
+
+-- and so it is in a turn of a pass that has seen more by then
+pub quote_in_turn : {D : Type 0} {old was : KeptStore D} {network : Network} {pass known : Known} {one : HeldQuote} {quote : Quote} → old ≡ was → was.ledger.network ≡ network → HasSeenMore pass known
+    → IsQuoteOf network 0 pass.seen one quote → IsQuoteOf old.ledger.network 0 known.seen one quote
+quote_in_turn {D = D} {network = network} {pass = pass} {known = known} {one = one} {quote = quote} same is more of =
+    subst (λ (n : Network). IsQuoteOf n 0 known.seen one quote) (sym (ap (λ (s : KeptStore D). s.ledger.network) same ∙ is)) (seen_quote network pass.seen known.seen one quote more.same.seen of)
 
 -- nodes of a network are those of an equal one
 pub nodes_here : (hose : List Endpoint) (network top : Network) → top ≡ network → AreNodes network hose → AreNodes top hose

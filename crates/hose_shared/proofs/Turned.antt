@@ -18,7 +18,7 @@ use Rattle.hose_book.specs.GoingOn.{GoesOn, entry_more}
 use Rattle.hose_book.specs.Ledger.{Ledger}
 use Rattle.hose_book.specs.declared.books.Committed.{Committed}
 use Rattle.hose_book.specs.declared.books.Committed.TheVariants.{Done, Disk}
-use Rattle.hose_core.specs.Stepping.{Goes, HasStepped, committed_of, history_with}
+use Rattle.hose_core.specs.Stepping.{Goes, HasStepped, StepsAtEach, committed_of, history_with}
 use Rattle.hose_disk.specs.Disk.{object_frame}
 use Rattle.hose_disk.specs.declared.disk.Disk.{Ghosts}
 use Rattle.hose_store.specs.Commit.{Went, store_books}
@@ -60,6 +60,11 @@ if_cheapest network is book (Some entry) decided = cheapest_of network is book e
 pub none_joined : (history : List Entry) (joined : Option Entry) → length (with_entry history joined) ≡ length history → joined ≡ None
 none_joined history None same = refl
 none_joined history (Some entry) same = absurd (let a = length-append history (entry ∷ []) in omega arith)
+
+-- and else the entry did that may have
+one_joined : (history : List Entry) (joined : Option Entry) (entry : Entry) → IfSome joined (λ one. one ≡ entry) → (length (with_entry history joined) ≡ length history → ⊥) → joined ≡ Some entry
+one_joined history None entry of differs = absurd (differs refl)
+one_joined history (Some one) entry of differs = ap Some of
 
 -- ---- passes
 
@@ -182,12 +187,12 @@ answers_turn disk before old was new told customer held command answer same step
     subst (λ (s : KeptStore _). AnswersTurn disk before s new told customer held command answer) same (record { stepped = stepped; network = network; met = met; joined = joined })
 
 -- and where the store was only read
-pub reads_turn : {D : Type 0} (disk : Ghosts D) (before : List Entry) (read was now : KeptStore D) (told : Option Entry) (customer : List ℕ) (held : Held) (command : Command) (answer : Reply) → read ≡ was → now ≡ was
-    → HasStepped (store_books disk) read read 0 before customer held command answer → committed_of answer ≡ Done → AnswersTurn disk before was now told customer held command answer
-reads_turn disk before read was now told customer held command answer same stays stepped done =
-    subst (λ (s : KeptStore _). AnswersTurn disk before was s told customer held command answer) (sym stays)
-    (subst (λ (s : KeptStore _). AnswersTurn disk before s s told customer held command answer) same (record {
-      stepped = stepped;
+pub reads_turn : {D : Type 0} {disk : Ghosts D} {Begins : List Entry → KeptStore D → Type 0} {known : Known} {count at : ℕ} {read was now : KeptStore D} {told : Option Entry} {answer : Reply} → BeginsTurn disk Begins known count at was → read ≡ was → now ≡ was
+    → (customer : List ℕ) (held : Held) (command : Command) → StepsAtEach (store_books disk) read read customer command answer → committed_of answer ≡ Done → AnswersTurn disk known.seen was now told customer held command answer
+reads_turn {disk = disk} {known = known} {read = read} {was = was} {told = told} {answer = answer} begun same stays customer held command steps done =
+    subst (λ (s : KeptStore _). AnswersTurn disk known.seen was s told customer held command answer) (sym stays)
+    (subst (λ (s : KeptStore _). AnswersTurn disk known.seen s s told customer held command answer) same (record {
+      stepped = steps 0 known.seen held (ap (λ (s : KeptStore _). s.ledger.book) same ∙ begun.stands.book);
       network = refl;
       met = subst (λ (r : Committed). IsMet (object_frame (disk.frame read.journal.disk)) r (object_frame (disk.frame read.journal.disk))) (sym done) refl;
       joined = inl refl;
@@ -245,16 +250,18 @@ module _ {D : Type 0} {disk : Ghosts D} {Begins : List Entry → KeptStore D →
 
 -- ---- the end of a turn
 
--- nothing joined where the book is as long as what was seen
-pub none_counted : {D : Type 0} (disk : Ghosts D) (Begins : List Entry → KeptStore D → Type 0) (origin : Origin) (seen : List Entry) (store : KeptStore D) (joined : Option Entry) (epoch at : ℕ)
-    → StandsShared disk Begins origin (with_entry seen joined) store → epoch ≡ origin.first + length (with_entry seen joined) → at ≡ length seen → epoch ≡ at → joined ≡ None
-none_counted disk Begins origin seen store joined epoch at stood is here same = none_joined seen joined (let a = stood.epoch in omega arith)
+module _ {D : Type 0} {disk : Ghosts D} {Begins : List Entry → KeptStore D → Type 0} {origin : Origin} {shown store : KeptStore D} {epoch at : ℕ} (seen : List Entry) (joined : Option Entry) (is : shown ≡ store)
+    (tells : (origin : Origin) (history : List Entry) → StandsShared disk Begins origin history shown → epoch ≡ origin.first + length history) (stood : StandsShared disk Begins origin (with_entry seen joined) store) (here : at ≡ length seen) where
+  counted : epoch ≡ length (with_entry seen joined)
+  counted = let a = tells origin (with_entry seen joined) (subst (StandsShared disk Begins origin (with_entry seen joined)) (sym is) stood) in let b = stood.epoch in omega arith
 
--- and else the entry did
-pub one_counted : {D : Type 0} (disk : Ghosts D) (Begins : List Entry → KeptStore D → Type 0) (origin : Origin) (seen : List Entry) (store : KeptStore D) (joined : Option Entry) (entry : Entry) (epoch at : ℕ)
-    → StandsShared disk Begins origin (with_entry seen joined) store → epoch ≡ origin.first + length (with_entry seen joined) → at ≡ length seen → IfSome joined (λ one. one ≡ entry) → (epoch ≡ at → ⊥) → joined ≡ Some entry
-one_counted disk Begins origin seen store None entry epoch at stood is here of differs = absurd (differs (let a = stood.epoch in omega arith))
-one_counted disk Begins origin seen store (Some one) entry epoch at stood is here of differs = ap Some of
+  -- nothing joined where the book is as long as what was seen
+  pub none_counted : epoch ≡ at → joined ≡ None
+  none_counted same = none_joined seen joined (let a = counted in omega arith)
+
+  -- and else the entry did
+  pub one_counted : (entry : Entry) → IfSome joined (λ one. one ≡ entry) → (epoch ≡ at → ⊥) → joined ≡ Some entry
+  one_counted entry of differs = one_joined seen joined entry of (λ same. differs (let a = counted in omega arith))
 
 -- a pass that gave the turn on after a count
 pub passed_counted : (known holder pass : Known) (floor floor' count count' : ℕ) → holder ≡ known → floor' ≡ floor → count' ≡ count → pass ≡ record holder { faults = holder.faults + rise floor' count' }

@@ -89,15 +89,10 @@ impl<D: Disk, B: Begun<D>> Shared<D, B> {
             result.0 }
     {
         pass.law_places();
-        let Caller {
-            rt,
-            alloc,
-            customer,
-        } = caller;
-        let Ok(claim) = claim_take(alloc, customer, &quote) else {
+        let Ok(claim) = claim_take(caller.alloc, caller.customer, &quote) else {
             return (Ok(Reply::Memory), pass);
         };
-        let (reply, pass) = self.take_claimed(rt, pass, &quote, claim);
+        let (reply, pass) = self.take_claimed(caller.rt, pass, &quote, claim);
         if is_stale(&reply) {
             return (Err(quote.hose), pass);
         }
@@ -118,14 +113,9 @@ impl<D: Disk, B: Begun<D>> Shared<D, B> {
             caller.entry.customer.now held (Command.Admit hose) result.0 pass result.1 }
         ensures names { NamesPlaces self.now.network result.0 }
     {
-        let Caller {
-            rt,
-            alloc,
-            customer,
-        } = caller;
-        let (mut held, start) = self.begin_turn(rt, pass);
+        let (mut held, start) = self.begin_turn(caller.rt, pass);
         let store = &mut held.value_mut().store;
-        let (reply, entry) = admit_now(alloc, store, customer, hose, rows);
+        let (reply, entry) = admit_now(caller.alloc, store, caller.customer, hose, rows);
         (reply, self.end_turn(held, start, entry))
     }
 }

@@ -1,11 +1,10 @@
 // Questions after what is live, and its release.
-ghost use Rattle.std.specs.Prelude.{◌≤◌};
+ghost use Rattle.std.specs.Prelude.{◌≤◌, ℕ, List};
 ghost use Rattle.hose_graph.specs.Naming.{NamesPlaces};
 ghost use Rattle.hose_graph.specs.Network.{IsLinkOf};
 ghost use Rattle.hose_graph.specs.declared.command.Command.{Command};
 ghost use Rattle.hose_graph.specs.declared.limits.TheConstants.{MOST_EPOCH};
 ghost use Rattle.hose_law.specs.Quotes.{Held as HeldQuotes};
-ghost use Rattle.std.specs.Prelude.{ℕ, List};
 ghost use Rattle.hose_shared.specs.Along.{StepsAlong};
 ghost use Rattle.hose_shared.specs.Sharing.{IsPassOf};
 
@@ -27,13 +26,8 @@ impl<D: Disk, B: Begun<D>> Shared<D, B> {
             caller.entry.customer.now held (Command.Show id) result.0 pass result.1 }
         ensures names { NamesPlaces self.now.network result.0 }
     {
-        let Caller {
-            rt,
-            alloc,
-            customer,
-        } = caller;
-        let (held, start) = self.begin_turn(rt, pass);
-        let reply = show_now(alloc, &held.value().store, customer, id);
+        let (held, start) = self.begin_turn(caller.rt, pass);
+        let reply = show_now(caller.alloc, &held.value().store, caller.customer, id);
         (reply, self.end_turn(held, start, None))
     }
 
@@ -60,16 +54,11 @@ impl<D: Disk, B: Begun<D>> Shared<D, B> {
         ensures names { NamesPlaces self.now.network result.0 }
     {
         pass.law_places();
-        let Caller {
-            rt,
-            alloc,
-            customer,
-        } = caller;
-        let Ok(claim) = claim_release(alloc, customer, id) else {
+        let Ok(claim) = claim_release(caller.alloc, caller.customer, id) else {
             return (Reply::Memory, pass);
         };
         let entry = Snapshot::of(claim.entry());
-        let (mut held, start) = self.begin_turn(rt, pass);
+        let (mut held, start) = self.begin_turn(caller.rt, pass);
         let reply = release_now(&mut held.value_mut().store, claim);
         (reply, self.end_turn(held, start, Some(entry)))
     }

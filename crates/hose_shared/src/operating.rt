@@ -34,23 +34,18 @@ impl<D: Disk, B: Begun<D>> Shared<D, B> {
         ensures names { NamesPlaces self.now.network result.0 }
     {
         pass.law_places();
-        let Caller {
-            rt,
-            alloc,
-            customer,
-        } = caller;
-        let is_operator = customer.is_operator();
+        let is_operator = caller.customer.is_operator();
         if !is_operator {
-            let (at, pass) = self.now(rt, pass);
+            let (at, pass) = self.now(caller.rt, pass);
             return (Reply::Denied { at }, pass);
         }
         // What holds of the network is told with it: how many links there can be.
         let _topology = self.topology();
-        let Ok(claim) = claim_service(alloc, link, down) else {
+        let Ok(claim) = claim_service(caller.alloc, link, down) else {
             return (Reply::Memory, pass);
         };
         let entry = Snapshot::of(claim.entry());
-        let (mut held, start) = self.begin_turn(rt, pass);
+        let (mut held, start) = self.begin_turn(caller.rt, pass);
         let reply = service_now(&mut held.value_mut().store, claim);
         (reply, self.end_turn(held, start, Some(entry)))
     }

@@ -40,15 +40,14 @@ impl<D: Disk, B: Begun<D>> Shared<D, B> {
         ensures names { NamesPlaces self.now.network result.0 }
     {
         law_quotes();
-        let Caller { rt, alloc, .. } = caller;
         let Some(number) = quotes.free() else {
-            let (at, pass) = self.now(rt, pass);
+            let (at, pass) = self.now(caller.rt, pass);
             return (Reply::TooMany { at }, pass);
         };
-        let (planned, pass) = self.plan(rt, alloc, pass, hose, rows);
+        let (planned, pass) = self.plan(caller.rt, caller.alloc, pass, hose, rows);
         match planned {
             Err(reply) => (reply, pass),
-            Ok(quote) => (quotes.hold(alloc, number, quote), pass),
+            Ok(quote) => (quotes.hold(caller.alloc, number, quote), pass),
         }
     }
 }

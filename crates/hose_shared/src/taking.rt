@@ -45,19 +45,14 @@ impl<D: Disk, B: Begun<D>> Shared<D, B> {
     {
         law_quotes();
         pass.law_places();
-        let Caller {
-            rt,
-            alloc,
-            customer,
-        } = caller;
         let Some(held) = quotes.held(quote) else {
-            let (at, pass) = self.now(rt, pass);
+            let (at, pass) = self.now(caller.rt, pass);
             return (Reply::NoQuote { quote, at }, pass);
         };
-        let Ok(claim) = claim_take(alloc, customer, held) else {
+        let Ok(claim) = claim_take(caller.alloc, caller.customer, held) else {
             return (Reply::Memory, pass);
         };
-        let answered = self.take_claimed(rt, pass, held, claim);
+        let answered = self.take_claimed(caller.rt, pass, held, claim);
         quotes.clear(quote);
         answered
     }

@@ -1,11 +1,11 @@
-use Rattle.std.proofs.Common.{◌∙◌, ℕ, List, ap, refl, subst, sym}
+use Rattle.std.proofs.Common.{◌∙◌, ℕ, List, ap, subst, sym}
 use Rattle.std.proofs.lemmas.Bool.{false≢true}
 use Rattle.hose_book.specs.Ledger.{Ledger}
 use Rattle.hose_core.specs.Holding.{State}
 use Rattle.hose_core.specs.Serving.{service_command}
-use Rattle.hose_core.specs.Stepping.{HasStepped}
+use Rattle.hose_core.specs.Stepping.{StepsAtEach}
 use Rattle.hose_core.proofs.Earlier.{kept_on}
-use Rattle.hose_core.proofs.SteppedOn.{denied_on, keeps_on, of_fields, order_keeps, order_memory_on}
+use Rattle.hose_core.proofs.SteppedOn.{denied_on, keeps_step, order_keeps, order_memory_on}
 use Rattle.hose_core.proofs.stepping.Core.operate.Goals as goal
 
 pub returns-then-not-is_operator-clause-step : goal.returns-then-not-is_operator-clause-step
@@ -18,18 +18,11 @@ returns-in_default-clause-step g c = λ epoch history holdings fits.
     order_memory_on g.K.Books c.args.self.now epoch history holdings c.args.customer.now fits c.args.down c.args.link (c.is_operator-is_operator.ensures.0 c.if-not-is_operator.false)
 
 pub invariant_of-self : goal.invariant_of-self
-invariant_of-self g c = λ customer. kept_on (g.K.Books.ledger c.self.inside.books) _ c.service_now.ensures.ledger _ (c.self.invariant customer)
+invariant_of-self g c = λ customer. kept_on (g.K.Books.ledger c.self.inside.books) _ c.service_now.ensures.answered.ledger _ (c.self.invariant customer)
 
 pub returns-clause-step : goal.returns-clause-step
-returns-clause-step g c = λ epoch history holdings.
-    let books = g.K.Books in
-    let fields : State _ = record { books = c.self.inside.books; quotes = c.self.inside.quotes } in
-    let new : State _ = record { books = c.service_now.new.books; quotes = c.self.inside.quotes } in
-    let customer = c.args.customer.now in
+returns-clause-step g c =
     let asked = service_command c.args.down c.args.link in
-    let answer = c.service_now.result in
-    of_fields books fields c.args.self.now new epoch history holdings customer asked answer c.self.view_is
-    (λ fits.
-    let stepped = c.service_now.ensures.step c.args.down c.args.link epoch history (holdings customer) c.in-Ok.ensures fits.book in
-    let mine = subst (λ (name : List ℕ). HasStepped books c.self.inside.books c.service_now.new.books epoch history name (holdings customer) asked answer) (sym (c.is_operator-is_operator.ensures.0 c.if-not-is_operator.false)) stepped in
-    keeps_on books fields new epoch history holdings customer fits c.service_now.ensures.network asked answer (order_keeps c.args.down c.args.link) mine refl)
+    let steps = subst (λ (name : List ℕ). StepsAtEach g.K.Books c.self.inside.books c.service_now.new.books name asked c.service_now.result) (sym (c.is_operator-is_operator.ensures.0 c.if-not-is_operator.false))
+    (c.service_now.ensures.step c.args.down c.args.link c.in-Ok.ensures) in
+    keeps_step c.args.customer.now asked (order_keeps c.args.down c.args.link) c.self.view_is c.service_now.ensures.answered steps

@@ -53,7 +53,7 @@ invariant_of-self g c =
     let most : c.args.number ≤ MOST_QUOTES = omega (arith, range.1, (c.self.invariant customer).numbers) in
     let one = kept_with ledger quotes c.args.number None range.0 most tt (c.self.invariant customer) in
     let kept = kept_now ledger was c.clear.new.self customer (with_number quotes c.args.number None) c.clear.ensures one c.self.invariant in
-    λ name. kept_on ledger _ c.take_now-reply.ensures.ledger (quotes_in c.clear.new.self name) (kept name)
+    λ name. kept_on ledger _ c.take_now-reply.ensures.answered.ledger (quotes_in c.clear.new.self name) (kept name)
 
 pub returns-clause-step : goal.returns-clause-step
 returns-clause-step g c = λ epoch history holdings.
@@ -67,5 +67,5 @@ returns-clause-step g c = λ epoch history holdings.
     of_fields books fields c.args.self.now new epoch history holdings customer (Take number) reply c.self.view_is
     (λ fits.
     let one = some_alike (books.ledger fields.books).network epoch history (holdings customer) (quotes_in fields.quotes customer) (fits.held customer) number quote c.in-Some.ensures.some in
-    taken_on books fields new epoch history holdings customer fits c.take_now-reply.ensures.network number quote reply c.in-Some.ensures.some c.take_now-reply.ensures.memory
+    taken_on books fields new epoch history holdings customer fits c.take_now-reply.ensures.answered.network number quote reply c.in-Some.ensures.some c.take_now-reply.ensures.memory
     (c.take_now-reply.ensures.step customer epoch number history (holdings customer) one.0 c.in-Ok.ensures fits.book one.1 one.2) c.clear.ensures)

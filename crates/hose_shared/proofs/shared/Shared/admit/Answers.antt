@@ -17,7 +17,7 @@ returns-in-Err-clause-steps g c = λ held.
     let hose = c.args.hose in
     let none : IsNotPlanned network (book_of 0 seen.seen) c.loop.hose c.in-Err.reply = rw c.in-Err.is at c.plan-planned.ensures.planned in
     let mine : IsNotPlanned network (book_of 0 seen.seen) hose c.in-Err.reply = subst (λ (h : List Endpoint). IsNotPlanned network (book_of 0 seen.seen) h c.in-Err.reply) c.loop.invariant.0 none in
-    stays_along network customer held held (Admit hose) c.in-Err.reply c.args.pass seen (more_on c.args.pass c.loop.pass seen c.loop.invariant.1 c.plan-planned.ensures.more) (unplanned_done network (book_of 0 seen.seen) hose c.in-Err.reply mine)
+    stays_along held (more_on c.args.pass c.loop.pass seen c.loop.invariant.1 c.plan-planned.ensures.more) (unplanned_done network (book_of 0 seen.seen) hose c.in-Err.reply mine)
     (unplanned_admit network seen.seen customer held hose c.in-Err.reply mine)
 
 pub returns-in-Err-clause-names : goal.returns-in-Err-clause-names

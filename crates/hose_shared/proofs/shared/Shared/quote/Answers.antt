@@ -1,6 +1,4 @@
 use Rattle.std.proofs.Common.{◌≡◌, ◌≤◌, ◌∙◌, IsSome, Some, arith, length, refl, subst, sym}
-use Rattle.hose_graph.specs.declared.command.Command.TheVariants.{Quote as QuoteOf}
-use Rattle.hose_graph.specs.declared.command.Reply.TheVariants.{TooMany}
 use Rattle.hose_law.specs.History.{book_of}
 use Rattle.hose_law.specs.Quotes.{free_number}
 use Rattle.hose_core.specs.Planning.{IsNotPlanned, IsPlannedFor}
@@ -11,45 +9,34 @@ use Rattle.hose_shared.proofs.shared.Shared.quote.Goals as goal
 
 pub returns-in_default-clause-steps : goal.returns-in_default-clause-steps
 returns-in_default-clause-steps g c = λ customer held are.
-    let network = c.args.self.now.network in
-    let hose = c.args.hose in
-    let quotes = c.args.quotes.now in
-    let pass = c.args.pass in
-    let new = c.now-at.result.1 in
     let more = c.now-at.ensures.more in
-    let none = c.law_quotes.ensures.free network 0 pass.seen held quotes are ∙ sym c.free.ensures.lowest ∙ c.in_default.is in
-    let at = c.now-at.ensures.epoch ∙ sym (epoch_of new.seen) in
-    stays_holding network customer held held (QuoteOf hose) (TooMany c.now-at.result.0) pass new quotes more refl ((refl, (at, none, refl)), refl)
-    (c.law_quotes.ensures.longer network 0 pass.seen new.seen held quotes more.same.seen are)
+    let none = c.law_quotes.ensures.free _ _ _ _ _ are ∙ sym c.free.ensures.lowest ∙ c.in_default.is in
+    let at = c.now-at.ensures.epoch ∙ sym (epoch_of c.now-at.result.1.seen) in
+    stays_holding held more refl ((refl, (at, none, refl)), refl) (c.law_quotes.ensures.longer _ _ _ _ _ _ more.same.seen are)
 
 pub returns-in-Err-clause-steps : goal.returns-in-Err-clause-steps
 returns-in-Err-clause-steps g c = λ customer held are.
     let network = c.args.self.now.network in
-    let hose = c.args.hose in
-    let quotes = c.args.quotes.now in
-    let pass = c.args.pass in
-    let new = c.plan-planned.result.1 in
+    let seen = c.plan-planned.result.1.seen in
     let more = c.plan-planned.ensures.more in
-    let free : free_number held ≡ Some c.in-Some.number = c.law_quotes.ensures.free network 0 pass.seen held quotes are ∙ sym c.free.ensures.lowest ∙ c.in-Some.is in
-    let none : IsNotPlanned network (book_of 0 new.seen) hose c.in-Err.reply = rw c.in-Err.is at c.plan-planned.ensures.planned in
+    let free : free_number held ≡ Some c.in-Some.number = c.law_quotes.ensures.free _ _ _ _ _ are ∙ sym c.free.ensures.lowest ∙ c.in-Some.is in
+    let none : IsNotPlanned network (book_of 0 seen) c.args.hose c.in-Err.reply = rw c.in-Err.is at c.plan-planned.ensures.planned in
     let some : IsSome (free_number held) = subst IsSome (sym free) refl in
-    stays_holding network customer held held (QuoteOf hose) c.in-Err.reply pass new quotes more (unplanned_done network (book_of 0 new.seen) hose c.in-Err.reply none)
-    (unplanned_quote network new.seen customer held hose c.in-Err.reply some none) (c.law_quotes.ensures.longer network 0 pass.seen new.seen held quotes more.same.seen are)
+    stays_holding held more (unplanned_done network (book_of 0 seen) c.args.hose c.in-Err.reply none) (unplanned_quote network seen customer held c.args.hose c.in-Err.reply some none)
+    (c.law_quotes.ensures.longer _ _ _ _ _ _ more.same.seen are)
 
 pub returns-in-Ok-clause-steps : goal.returns-in-Ok-clause-steps
 returns-in-Ok-clause-steps g c = λ customer held are.
     let network = c.args.self.now.network in
-    let hose = c.args.hose in
-    let quotes = c.args.quotes.now in
-    let pass = c.args.pass in
-    let new = c.plan-planned.result.1 in
+    let seen = c.plan-planned.result.1.seen in
     let more = c.plan-planned.ensures.more in
+    let quotes = c.args.quotes.now in
     let number = c.in-Some.number in
     let range = c.in-Some.ensures.range in
-    let free : free_number held ≡ Some number = c.law_quotes.ensures.free network 0 pass.seen held quotes are ∙ sym c.free.ensures.lowest ∙ c.in-Some.is in
-    let planned : IsPlannedFor network (book_of 0 new.seen) hose c.in-Ok.quote = rw c.in-Ok.is at c.plan-planned.ensures.planned in
-    let longer = c.law_quotes.ensures.longer network 0 pass.seen new.seen held quotes more.same.seen are in
+    let free : free_number held ≡ Some number = c.law_quotes.ensures.free _ _ _ _ _ are ∙ sym c.free.ensures.lowest ∙ c.in-Some.is in
+    let planned : IsPlannedFor network (book_of 0 seen) c.args.hose c.in-Ok.quote = rw c.in-Ok.is at c.plan-planned.ensures.planned in
+    let longer = c.law_quotes.ensures.longer _ _ _ _ _ _ more.same.seen are in
     let most : number ≤ length quotes = omega (arith, range.1, c.free.ensures.places) in
-    let told = told_quote network new.seen customer held hose c.in-Ok.quote number quotes c.hold.new.self c.hold.result longer free planned c.hold.ensures
-    (λ one of. c.law_quotes.ensures.put network 0 new.seen held quotes number one c.in-Ok.quote longer range.0 most of) in
-    stays_holding network customer held told.0 (QuoteOf hose) c.hold.result pass new c.hold.new.self more told.3 told.1 told.2
+    let told = told_quote network seen customer held c.args.hose c.in-Ok.quote number quotes c.hold.new.self c.hold.result longer free planned c.hold.ensures
+    (λ one of. c.law_quotes.ensures.put network 0 seen held quotes number one c.in-Ok.quote longer range.0 most of) in
+    stays_holding told.0 more told.3 told.1 told.2

@@ -1,7 +1,6 @@
 use Rattle.std.proofs.Common.{◌∙◌, ap, sym}
 use Rattle.hose_graph.specs.declared.command.Command.TheVariants.{Show}
 use Rattle.hose_law.specs.Quotes.{none_held}
-use Rattle.hose_turn.specs.Held.{holder}
 use Rattle.hose_shared.proofs.Passes.{along_of}
 use Rattle.hose_shared.proofs.Turned.{reads_turn}
 use Rattle.hose_shared.proofs.shared.Shared.show.Goals as goal
@@ -10,17 +9,15 @@ pub end_turn-requires-clause-answers : goal.end_turn-requires-clause-answers
 end_turn-requires-clause-answers g c =
     let now = ap (λ (k : _). k.store) (sym c.begin_turn-held.ensures.value) in
     let same = ap (λ (k : _). k.store) (c.value.ensures ∙ sym c.begin_turn-held.ensures.value) in
-    let book = ap (λ (s : _). s.ledger.book) same ∙ c.begin_turn-held.ensures.begins.stands.book in
+    let customer = c.args.caller.customer.now in
     let told = c.show_now-reply.ensures in
-    let stepped = told.step 0 (holder c.begin_turn-held.result.0).seen none_held book in
-    (c.args.caller.customer.now, none_held, Show c.args.id, c.show_now-reply.result, reads_turn g.D.Disk _ _ _ _ _ c.args.caller.customer.now none_held (Show c.args.id) _ same now stepped told.met)
+    (customer, none_held, Show c.args.id, c.show_now-reply.result, reads_turn c.begin_turn-held.ensures.begins same now customer none_held (Show c.args.id) told.step told.met)
 
 pub returns-clause-steps : goal.returns-clause-steps
 returns-clause-steps g c = λ held.
     let now = ap (λ (k : _). k.store) (sym c.begin_turn-held.ensures.value) in
     let same = ap (λ (k : _). k.store) (c.value.ensures ∙ sym c.begin_turn-held.ensures.value) in
-    let book = ap (λ (s : _). s.ledger.book) same ∙ c.begin_turn-held.ensures.begins.stands.book in
+    let customer = c.args.caller.customer.now in
     let told = c.show_now-reply.ensures in
-    let stepped = told.step 0 (holder c.begin_turn-held.result.0).seen held book in
-    along_of c.args.self.now.network c.args.caller.customer.now held (Show c.args.id) c.show_now-reply.result c.args.pass (holder c.begin_turn-held.result.0) c.end_turn.result c.begin_turn-held.ensures.more
-    (c.end_turn.ensures c.args.caller.customer.now held (Show c.args.id) c.show_now-reply.result (reads_turn g.D.Disk _ _ _ _ _ c.args.caller.customer.now held (Show c.args.id) _ same now stepped told.met))
+    along_of _ customer held _ _ _ _ _ c.begin_turn-held.ensures.more
+    (c.end_turn.ensures customer held (Show c.args.id) c.show_now-reply.result (reads_turn c.begin_turn-held.ensures.begins same now customer held (Show c.args.id) told.step told.met))

@@ -1,7 +1,6 @@
 use Rattle.std.proofs.Common.{◌≤◌, ◌∙◌, IsSome, None, arith, refl, subst, sym, [], ◌∷◌, Some, length}
 use Rattle.hose_graph.specs.declared.command.Command.TheVariants.{Take}
 use Rattle.hose_graph.specs.declared.limits.TheConstants.{MOST_QUOTES}
-use Rattle.hose_graph.specs.declared.command.Reply.TheVariants.{Memory, NoQuote}
 use Rattle.hose_law.specs.Quotes.{Held, at_number, with_number}
 use Rattle.hose_core.specs.Holding.{AreHeld}
 use Rattle.hose_shared.proofs.Entries.{no_quote, stale_later, stays_holding, taken_after}
@@ -12,27 +11,18 @@ use Rattle.hose_shared.proofs.shared.Shared.take.Goals as goal
 
 pub returns-in_default-clause-steps : goal.returns-in_default-clause-steps
 returns-in_default-clause-steps g c = λ held are.
-    let network = c.args.self.now.network in
-    let customer = c.args.caller.customer.now in
     let number = c.args.quote in
-    let quotes = c.args.quotes.now in
-    let pass = c.args.pass in
     let new = c.now-at.result.1 in
     let more = c.now-at.ensures.more in
-    let none = c.law_quotes.ensures.none network 0 pass.seen held quotes number are c.in_default.ensures.none in
+    let none = c.law_quotes.ensures.none _ _ _ _ _ number are c.in_default.ensures.none in
     let at = c.now-at.ensures.epoch ∙ sym (epoch_of new.seen) in
-    stays_holding network customer held held (Take number) (NoQuote number c.now-at.result.0) pass new quotes more refl (no_quote network new.seen customer held number c.now-at.result.0 at none)
-    (c.law_quotes.ensures.longer network 0 pass.seen new.seen held quotes more.same.seen are)
+    stays_holding held more refl (no_quote c.args.self.now.network new.seen c.args.caller.customer.now held number c.now-at.result.0 at none) (c.law_quotes.ensures.longer _ _ _ _ _ _ more.same.seen are)
 
 pub returns-in_default-claim_take-clause-steps : goal.returns-in_default-claim_take-clause-steps
 returns-in_default-claim_take-clause-steps g c = λ held are.
-    let network = c.args.self.now.network in
-    let number = c.args.quote in
-    let quotes = c.args.quotes.now in
-    let pass = c.args.pass in
-    let there = c.law_quotes.ensures.some network 0 pass.seen held quotes number c.in-Some.held.now are c.in-Some.ensures.some in
-    let some : IsSome (at_number held number) = subst IsSome (sym there.2.1) refl in
-    stays_holding network c.args.caller.customer.now held held (Take number) Memory pass pass quotes (more_same pass c.law_places.ensures) refl (some, refl, refl, refl) are
+    let there = c.law_quotes.ensures.some _ _ _ _ _ c.args.quote c.in-Some.held.now are c.in-Some.ensures.some in
+    let some : IsSome (at_number held c.args.quote) = subst IsSome (sym there.2.1) refl in
+    stays_holding held (more_same c.args.pass c.law_places.ensures) refl (some, refl, refl, refl) are
 
 pub take_claimed-answered-requires-clause-quote : goal.take_claimed-answered-requires-clause-quote
 take_claimed-answered-requires-clause-quote g c =

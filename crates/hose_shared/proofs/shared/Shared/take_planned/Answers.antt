@@ -1,6 +1,4 @@
 use Rattle.std.proofs.Common.{◌∙◌, [], ◌∷◌, Some, length, refl, sym}
-use Rattle.hose_graph.specs.declared.command.Command.TheVariants.{Admit}
-use Rattle.hose_graph.specs.declared.command.Reply.TheVariants.{Memory}
 use Rattle.hose_law.specs.Quotes.{HeldQuote}
 use Rattle.hose_shared.proofs.Entries.{admits_at, quote_there, stale_more, stays_along}
 use Rattle.hose_shared.proofs.Passes.{along_of, more_on, more_same}
@@ -8,7 +6,7 @@ use Rattle.hose_shared.proofs.shared.Shared.take_planned.Goals as goal
 
 pub returns-in_default : goal.returns-in_default
 returns-in_default g c = (
-  λ held. stays_along c.args.self.now.network c.args.caller.customer.now held held (Admit c.args.quote.hose) Memory c.args.pass c.args.pass (more_same c.args.pass c.law_places.ensures) refl (tt, refl, refl, refl),
+  λ held. stays_along held (more_same c.args.pass c.law_places.ensures) refl (tt, refl, refl, refl),
   tt,
 )
 
@@ -42,7 +40,7 @@ returns g c =
     let of = quote_there network pass.seen customer [] quote.hose quote (record { of = refl; made = c.requires.planned }) in
     let fresh = sym c.is_stale.ensures ∙ c.if-is_stale.false in
     let turn = c.take_claimed-reply.ensures.steps customer (Some one ∷ []) 1 one c.in-Ok.ensures refl of in (
-      λ held. along_of network customer held (Admit quote.hose) answer pass turn.known new turn.more
+      λ held. along_of network customer held _ answer pass turn.known new turn.more
           (admits_at network turn.known.seen customer (Some one ∷ []) 1 one refl held answer turn.known new fresh turn.at),
       c.take_claimed-reply.ensures.names,
     )
