@@ -11,49 +11,29 @@ use Rattle.hose_graph.specs.Network.{Network}
 use Rattle.hose_graph.specs.declared.entry.Entry.{Entry}
 use Rattle.hose_graph.specs.declared.command.Reply.{Reply}
 use Rattle.hose_law.specs.Script.{disks_in}
-use Rattle.hose_law.specs.Transcript.{Stage}
-use Rattle.hose_law.proofs.Fronts.{prefix_length}
-use Rattle.hose_law.proofs.Transcripts.{transcript_longer}
+use Rattle.hose_law.proofs.Fronts.{prefix_length, prefix_same}
 use Rattle.hose_turn.specs.Known.{Known}
 use Rattle.hose_turn.specs.declared.view.Origin.{Origin}
 use Rattle.hose_session.specs.Accounts.{AccountFor, AreServedAlong, none_served, one_served, ComeTo, IsServedAlong}
-use Rattle.hose_session.specs.Session.{AnswersUpTo, IsSession, ServesSession, Telling, TellsOf}
+use Rattle.hose_session.specs.Session.{IsSession, ServesSession, Telling, TellsOf}
 use Rattle.hose_session.specs.declared.ending.SessionEnd.{SessionEnd}
 use Rattle.hose_session.specs.declared.ending.SessionEnd.TheVariants as session_end
 use Rattle.hose_session.proofs.Completing.{session_moved}
 
+-- what the input of a connection says
+abbrev says_of : Network → Connection → Telling
+says_of network connection = TellsOf network (Some (record { taken = []; left = connection.taken ++ connection.left })) (Some (record { taken = connection.taken; left = connection.left }))
+
 -- ---- a longer history
 
 module _ (network : Network) (history longer : List Entry) (prefix : IsPrefix history longer) where
-  module _ (from : ℕ) (tells : Telling) where
-    answers_longer : (stops : List ℕ → List ℕ → List ℕ → Type 0) (ends : Stage → Type 0) (puts : List Reply → Type 0) (replies : List Reply) (own : List ℕ) → AnswersUpTo network history from tells stops ends puts replies own
-        → AnswersUpTo network longer from tells stops ends puts replies own
-    answers_longer stops ends puts replies own answers = record {
-      lines = answers.lines;
-      stage = answers.stage;
-      last = answers.last;
-      said = answers.said;
-      transcript = transcript_longer network 0 history longer prefix from answers.transcript;
-      ended = answers.ended;
-      out = answers.out;
-    }
-
-    session_longer : (before after : Option (List ℕ)) (R W : Type 0) (end : SessionEnd) (replies : List Reply) (own : List ℕ) → IsSession network history from tells before after R W end replies own
-        → IsSession network longer from tells before after R W end replies own
-    session_longer before after R W session_end.End replies own is = answers_longer _ _ _ replies own is
-    session_longer before after R W session_end.Bye replies own is = answers_longer _ _ _ replies own is
-    session_longer before after R W session_end.NoHello replies own (inl is) = inl (answers_longer _ _ _ replies own is)
-    session_longer before after R W session_end.NoHello replies own (inr is) = inr (answers_longer _ _ _ replies own is)
-    session_longer before after R W session_end.Read replies own is = (answers_longer _ _ _ replies own is.0, is.1)
-    session_longer before after R W session_end.TooLong replies own is = answers_longer _ _ _ replies own is
-    session_longer before after R W session_end.Write replies own is = (answers_longer _ _ _ replies own is.0, is.1)
-
   served_longer : (since : ℕ) (connection : Connection) (replies : List Reply) (own : List ℕ) → IsServedAlong network history since connection replies own → IsServedAlong network longer since connection replies own
   served_longer since connection replies own is = record {
     from = is.from;
     later = is.later;
     end = is.end;
-    session = session_longer is.from _ (Some []) (Some connection.given) (0 < connection.reading) (0 < connection.writing) is.end replies own is.session;
+    session = session_moved network history longer prefix is.from (says_of network connection) (says_of network connection) (λ stops lines says. says) (Some []) (Some connection.given) _ _ _ _ (λ rose. rose) (λ rose. rose) is.end replies own
+        is.session;
     too_long = is.too_long;
   }
 
@@ -117,7 +97,7 @@ one_accounts source sink connections connection old new input input' output outp
     ended = Some (record { taken = connection.taken; left = connection.left })
 
     session : IsSession network new.seen (length old.seen) (TellsOf network (source.content input) (source.content input')) (Some []) (Some connection.given) (0 < connection.reading) (0 < connection.writing) end serves.replies serves.own
-    session = session_moved network new.seen (length old.seen) (TellsOf network (source.content input) (source.content input')) (TellsOf network (source.content input) (source.content input')) (λ stops lines says. says) (Some []) (Some connection.given) _ _ _ _
+    session = session_moved network new.seen new.seen (prefix_same new.seen) (length old.seen) (TellsOf network (source.content input) (source.content input')) (TellsOf network (source.content input) (source.content input')) (λ stops lines says. says) (Some []) (Some connection.given) _ _ _ _
         (failed_once (source.frame input) (source.frame input') connection.reading is.unread is.reading) (failed_once (sink.frame output) (sink.frame output') connection.writing is.unwritten is.writing) end serves.replies serves.own
         (subst (λ (o : Option (List ℕ)). IsSession network new.seen (length old.seen) (TellsOf network (source.content input) (source.content input')) o (Some connection.given) (Rose (source.frame input) (source.frame input')) (Rose (sink.frame output) (sink.frame output')) end serves.replies serves.own) is.empty
         (subst (λ (o : Option (List ℕ)). IsSession network new.seen (length old.seen) (TellsOf network (source.content input) (source.content input')) (sink.content output) o (Rose (source.frame input) (source.frame input')) (Rose (sink.frame output) (sink.frame output')) end serves.replies serves.own) is.given serves.session))

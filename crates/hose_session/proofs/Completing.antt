@@ -1,6 +1,7 @@
 -- A whole session, over what is behind the borrow of its input, and to its end.
 use Rattle.std.proofs.Common.{◌≡◌, ◌⊎◌, inl, inr, ℕ, ◌<◌, List, [], ◌∷◌, ◌++◌, length, codes, MutBor, Option, None, Some, refl, sym, ap, subst, ◌∙◌, arith, length-append}
 use Rattle.std.specs.List.{before_first}
+use mathlib.Core.List.{IsPrefix}
 use Rattle.hose_io.specs.Frame.{Frame, Rose}
 use Rattle.hose_io.specs.Stream.{Gives, Stream}
 use Rattle.hose_io.specs.declared.source.Source.{Ghosts as SourceGhosts}
@@ -16,6 +17,8 @@ use Rattle.hose_graph.specs.declared.entry.Entry.{Entry}
 use Rattle.hose_graph.specs.declared.command.Reply.{Reply}
 use Rattle.hose_law.specs.Transcript.{SessionLine, Stage}
 use Rattle.hose_law.specs.Transcript.SessionLine.{Greets, Asks, Leaves, IsBad, IsLong, Unread}
+use Rattle.hose_law.proofs.Fronts.{prefix_same}
+use Rattle.hose_law.proofs.Transcripts.{transcript_longer}
 use Rattle.hose_turn.specs.Known.{Known}
 use Rattle.hose_session.specs.Session.{AnswersUpTo, IsGreeted, IsSession, ServesAlong, ServesSession, Telling, TellsOf}
 use Rattle.hose_session.specs.SessionLines.{SaysAfter, SaysFirst, greeting_grammar}
@@ -24,23 +27,23 @@ use Rattle.hose_session.specs.declared.ending.SessionEnd.{SessionEnd}
 use Rattle.hose_session.specs.declared.ending.SessionEnd.TheVariants as session_end
 use Rattle.hose_session.proofs.Conversing.{BeginSo, IsGreets, begins_so}
 
--- ---- in other words
+-- ---- in other words, and at a longer history
 
-module _ (network : Network) (history : List Entry) (from : ℕ) (tells other : Telling) (moved : (stops : List ℕ → List ℕ → List ℕ → Type 0) (lines : List SessionLine) → tells stops lines → other stops lines) where
+module _ (network : Network) (history longer : List Entry) (prefix : IsPrefix history longer) (from : ℕ) (tells other : Telling) (moved : (stops : List ℕ → List ℕ → List ℕ → Type 0) (lines : List SessionLine) → tells stops lines → other stops lines) where
   answers_moved : (stops : List ℕ → List ℕ → List ℕ → Type 0) (ends : Stage → Type 0) (puts : List Reply → Type 0) (replies : List Reply) (own : List ℕ) → AnswersUpTo network history from tells stops ends puts replies own
-      → AnswersUpTo network history from other stops ends puts replies own
+      → AnswersUpTo network longer from other stops ends puts replies own
   answers_moved stops ends puts replies own answers = record {
     lines = answers.lines;
     stage = answers.stage;
     last = answers.last;
     said = moved stops answers.lines answers.said;
-    transcript = answers.transcript;
+    transcript = transcript_longer network 0 history longer prefix from answers.transcript;
     ended = answers.ended;
     out = answers.out;
   }
 
   pub session_moved : (before after : Option (List ℕ)) (R R' W W' : Type 0) → (R → R') → (W → W') → (end : SessionEnd) (replies : List Reply) (own : List ℕ) → IsSession network history from tells before after R W end replies own
-      → IsSession network history from other before after R' W' end replies own
+      → IsSession network longer from other before after R' W' end replies own
   session_moved before after R R' W W' read wrote session_end.End replies own is = answers_moved _ _ _ replies own is
   session_moved before after R R' W W' read wrote session_end.Bye replies own is = answers_moved _ _ _ replies own is
   session_moved before after R R' W W' read wrote session_end.NoHello replies own (inl is) = inl (answers_moved _ _ _ replies own is)
@@ -56,7 +59,7 @@ pub session_behind : {T O : Type 0} (other : SourceGhosts T) (source : SourceGho
 session_behind {T} {O} other source sink network start now input behind output output' old new end content frame front back none serves = record {
   replies = serves.replies;
   own = serves.own;
-  session = session_moved network new.seen (length old.seen) (λ stops lines. SaysUpTo source start now (SaysAfter network) lines stops) (TellsOf network (other.content input) (other.content behind)) moved (sink.content output) (sink.content output') _ _ _ _ rose (λ wrote. wrote) end
+  session = session_moved network new.seen new.seen (prefix_same new.seen) (length old.seen) (λ stops lines. SaysUpTo source start now (SaysAfter network) lines stops) (TellsOf network (other.content input) (other.content behind)) moved (sink.content output) (sink.content output') _ _ _ _ rose (λ wrote. wrote) end
       serves.replies serves.own serves.session;
   entries = serves.entries;
   same = serves.same;
