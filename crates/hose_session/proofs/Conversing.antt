@@ -29,7 +29,7 @@ use Rattle.hose_proto.specs.ReplyText.{line_of, reply_text}
 use Rattle.hose_shared.specs.Along.{HasEntryAt}
 use Rattle.hose_shared.specs.Sharing.{IsSamePass}
 use Rattle.hose_turn.specs.Known.{Known}
-use Rattle.hose_session.specs.Session.{AnswersUpTo, WasLeft, MayGoOn, WasRefused, IsServing, IsWaiting}
+use Rattle.hose_session.specs.Session.{AnswersUpTo, IsSession, WasLeft, MayGoOn, WasRefused, IsServing, IsWaiting}
 use Rattle.hose_session.specs.SessionLines.{SaysAfter, SaysFirst, SaysLater}
 use Rattle.hose_session.specs.Exchanges.{EndsAt, GoesAlong, HasServed, IsExchange, NoneComes, ServesLines, AnswersInSession}
 use Rattle.hose_session.specs.declared.ending.SessionEnd.{SessionEnd}
@@ -129,19 +129,6 @@ module _ (laws : PassLaws) (network : Network) where
         → WhereTold (source.content start.source) (source.content new.source) (λ was left. SayLines (SaysAfter network) (start.pending ++ was) (served.lines ++ answered.said ∷ []) (new.pending ++ left))
     said_after served fit puts next answered = said_more source (SaysAfter network) start now new served.lines served.said reads answered.said (λ bytes. Is bytes answered.said) answered.line (λ bytes is. fit bytes answered.said is)
 
-    -- a line more
-    pub served_more : (served : Served) → Fit served → (next : Stage) → AnswersInSession source now new network old pass Is stage (Grows (sink.content output) (sink.content output')) next
-        → HasServed source start new network first pass next (sink.content begun) (sink.content output')
-    served_more served fit next answered = record {
-      lines = served.lines ++ answered.said ∷ [];
-      replies = served.replies ++ answered.reply ∷ [];
-      own = served.own ++ answered.exchange.added;
-      said = said_after served fit (Grows (sink.content output) (sink.content output')) next answered;
-      along = along_more first old pass served.lines served.replies stage next served.own answered.said answered.reply served.along answered.exchange;
-      out = subst (Grows (sink.content begun) (sink.content output')) (sym (flat_map-last (λ reply. line_of (reply_text network reply)) served.replies answered.reply))
-          (Grows-append (sink.content begun) (sink.content output) (sink.content output') (texts_of network served.replies) (line_of (reply_text network answered.reply)) served.out answered.out);
-    }
-
     abbrev Comes : SessionEnd → Type 0
     Comes = ServesLines source sink network start new begun output' first pass
 
@@ -151,45 +138,65 @@ module _ (laws : PassLaws) (network : Network) where
     abbrev Out : List Reply → Type 0
     Out replies = Grows (sink.content begun) (sink.content output') (texts_of network replies)
 
-    -- the last line was answered
-    last_answered : (served : Served) → Fit served → (next : Stage) (ends : Stage → Type 0) → ends next → (answered : AnswersInSession source now new network old pass Is stage (Grows (sink.content output) (sink.content output')) next)
-        → UpTo IsLeftOver ends Out (served.replies ++ answered.reply ∷ []) (served.own ++ answered.exchange.added)
-    last_answered served fit next ends is answered =
-        let more = along_more first old pass served.lines served.replies stage next served.own answered.said answered.reply served.along answered.exchange in
+    abbrev Answered : (List ℕ → Type 0) → Stage → Type 0
+    Answered puts next = AnswersInSession source now new network old pass Is stage puts next
+
+    abbrev PutsWhole : List ℕ → Type 0
+    PutsWhole = Grows (sink.content output) (sink.content output')
+
+    abbrev PutsPart : List ℕ → Type 0
+    PutsPart = GrowsInPart (sink.content output) (sink.content output')
+
+    out_more : (served : Served) (next : Stage) (answered : Answered PutsWhole next) → Out (served.replies ++ answered.reply ∷ [])
+    out_more served next answered = subst (Grows (sink.content begun) (sink.content output')) (sym (flat_map-last (λ reply. line_of (reply_text network reply)) served.replies answered.reply))
+        (Grows-append (sink.content begun) (sink.content output) (sink.content output') (texts_of network served.replies) (line_of (reply_text network answered.reply)) served.out answered.out)
+
+    went : (served : Served) (puts : List ℕ → Type 0) (next : Stage) (answered : Answered puts next) → GoesAlong network first pass (served.lines ++ answered.said ∷ []) (served.replies ++ answered.reply ∷ []) next (served.own ++ answered.exchange.added)
+    went served puts next answered = along_more first old pass served.lines served.replies stage next served.own answered.said answered.reply served.along answered.exchange
+
+    -- a line more
+    pub served_more : (served : Served) → Fit served → (next : Stage) → Answered PutsWhole next → HasServed source start new network first pass next (sink.content begun) (sink.content output')
+    served_more served fit next answered = record {
+      lines = served.lines ++ answered.said ∷ [];
+      replies = served.replies ++ answered.reply ∷ [];
+      own = served.own ++ answered.exchange.added;
+      said = said_after served fit PutsWhole next answered;
+      along = went served PutsWhole next answered;
+      out = out_more served next answered;
+    }
+
+    -- which is the last one
+    last_up_to : (served : Served) → Fit served → (puts : List ℕ → Type 0) (next : Stage) (answered : Answered puts next) (ends : Stage → Type 0) → ends next → (outs : List Reply → Type 0) → outs (served.replies ++ answered.reply ∷ [])
+        → UpTo IsLeftOver ends outs (served.replies ++ answered.reply ∷ []) (served.own ++ answered.exchange.added)
+    last_up_to served fit puts next answered ends is outs out =
+        let more = went served puts next answered in
         record {
           lines = served.lines ++ answered.said ∷ [];
           stage = next;
           last = more.last;
-          said = said_enough source (SaysAfter network) start new (served.lines ++ answered.said ∷ []) (said_after served fit (Grows (sink.content output) (sink.content output')) next answered);
+          said = said_enough source (SaysAfter network) start new (served.lines ++ answered.said ∷ []) (said_after served fit puts next answered);
           transcript = more.transcript;
           ended = is;
-          out = subst (Grows (sink.content begun) (sink.content output')) (sym (flat_map-last (λ reply. line_of (reply_text network reply)) served.replies answered.reply))
-              (Grows-append (sink.content begun) (sink.content output) (sink.content output') (texts_of network served.replies) (line_of (reply_text network answered.reply)) served.out answered.out);
+          out = out;
         }
 
-    -- the output failed in the last reply
-    last_cut : (served : Served) → Fit served → (next : Stage) (answered : AnswersInSession source now new network old pass Is stage (GrowsInPart (sink.content output) (sink.content output')) next)
+    -- its reply is out
+    last_answered : (served : Served) → Fit served → (next : Stage) (ends : Stage → Type 0) → ends next → (answered : Answered PutsWhole next) → UpTo IsLeftOver ends Out (served.replies ++ answered.reply ∷ []) (served.own ++ answered.exchange.added)
+    last_answered served fit next ends is answered = last_up_to served fit PutsWhole next answered ends is Out (out_more served next answered)
+
+    -- or the output failed in it
+    last_cut : (served : Served) → Fit served → (next : Stage) (answered : Answered PutsPart next)
         → UpTo IsLeftOver (λ s. ⊤) (CutsLast network (sink.content begun) (sink.content output')) (served.replies ++ answered.reply ∷ []) (served.own ++ answered.exchange.added)
-    last_cut served fit next answered =
-        let more = along_more first old pass served.lines served.replies stage next served.own answered.said answered.reply served.along answered.exchange in
-        record {
-          lines = served.lines ++ answered.said ∷ [];
-          stage = next;
-          last = more.last;
-          said = said_enough source (SaysAfter network) start new (served.lines ++ answered.said ∷ []) (said_after served fit (GrowsInPart (sink.content output) (sink.content output')) next answered);
-          transcript = more.transcript;
-          ended = tt;
-          out = (
-            served.replies,
-            answered.reply,
-            refl,
-            (
-              answered.out.0,
-              answered.out.1,
-              Grows-append (sink.content begun) (sink.content output) (sink.content output') (texts_of network served.replies) (take answered.out.0 (line_of (reply_text network answered.reply))) served.out answered.out.2,
-            ),
-          );
-        }
+    last_cut served fit next answered = last_up_to served fit PutsPart next answered (λ s. ⊤) tt (CutsLast network (sink.content begun) (sink.content output')) (
+      served.replies,
+      answered.reply,
+      refl,
+      (
+        answered.out.0,
+        answered.out.1,
+        Grows-append (sink.content begun) (sink.content output) (sink.content output') (texts_of network served.replies) (take answered.out.0 (line_of (reply_text network answered.reply))) served.out answered.out.2,
+      ),
+    )
 
     -- no line was answered any more
     none_more : (served : Served) (stops : List ℕ → List ℕ → List ℕ → Type 0) (ends : Stage → Type 0) → SaysUpTo source start new (SaysAfter network) served.lines stops → ends stage → output' ≡ output → pass ≡ old
@@ -211,70 +218,28 @@ module _ (laws : PassLaws) (network : Network) where
       stayed : pass ≡ old → GoesAlong network first pass served.lines served.replies stage served.own
       stayed stays = subst (λ (k : Known). GoesAlong network first k served.lines served.replies stage served.own) (sym stays) served.along
 
-      went : (next : Stage) (puts : List ℕ → Type 0) (answered : AnswersInSession source now new network old pass Is stage puts next) → GoesAlong network first pass (served.lines ++ answered.said ∷ []) (served.replies ++ answered.reply ∷ []) next (served.own ++ answered.exchange.added)
-      went next puts answered = along_more first old pass served.lines served.replies stage next served.own answered.said answered.reply served.along answered.exchange
-
       over : (ends : Stage → Type 0) → ends stage → NoneComes source sink network now new output output' old pass Is stage → UpTo IsAllTaken ends Out served.replies served.own
       over ends is comes = none_more served IsAllTaken ends (said_all source (SaysAfter network) start now new served.lines served.said reads comes.0) is comes.2 comes.3
 
       broke : (fault : LineFault) → MayGoOn stage → StopsReading source now new fault → output' ≡ output → pass ≡ old → UpTo (StopsAfterLines fault) MayGoOn Out served.replies served.own
       broke fault is stops same stays = none_more served (StopsAfterLines fault) MayGoOn (said_until source (SaysAfter network) start now new served.lines served.said reads fault none stops) is same stays
 
+      comes : (end : SessionEnd) {lines : List SessionLine} {replies : List Reply} {stage : Stage} {own : List ℕ} → GoesAlong network first pass lines replies stage own
+          → IsSession network pass.seen (length first.seen) (λ stops lines. SaysUpTo source start new (SaysAfter network) lines stops) (sink.content begun) (sink.content output') (Rose (source.frame start.source) (source.frame new.source))
+          (Rose (sink.frame begun) (sink.frame output')) end replies own → Comes end
+      comes end {replies = replies} {own = own} along session = record { replies = replies; own = own; session = session; entries = along.entries; same = along.same; owns = along.owns; disks = along.disks }
+
       -- the session ends
       pub ends_so : (end : SessionEnd) → EndsAt source sink network now new output output' old pass Is stage end → Comes end
-      ends_so session_end.End ends =
-          let along = stayed ends.1.3 in
-          record { replies = served.replies; own = served.own; session = over IsServing ends.0 ends.1; entries = along.entries; same = along.same; owns = along.owns; disks = along.disks }
-      ends_so session_end.Bye ends =
-          let along = went Left (Grows (sink.content output) (sink.content output')) ends.0 in
-          record {
-            replies = served.replies ++ ends.0.reply ∷ [];
-            own = served.own ++ ends.0.exchange.added;
-            session = last_answered served fit Left WasLeft refl ends.0;
-            entries = along.entries;
-            same = along.same;
-            owns = along.owns;
-            disks = along.disks;
-          }
-      ends_so session_end.NoHello (inl ends) =
-          let along = stayed ends.1.3 in
-          record { replies = served.replies; own = served.own; session = inr (over IsWaiting ends.0 ends.1); entries = along.entries; same = along.same; owns = along.owns; disks = along.disks }
-      ends_so session_end.NoHello (inr ends) =
-          let along = went Refused (Grows (sink.content output) (sink.content output')) ends.0 in
-          record {
-            replies = served.replies ++ ends.0.reply ∷ [];
-            own = served.own ++ ends.0.exchange.added;
-            session = inl (last_answered served fit Refused WasRefused refl ends.0);
-            entries = along.entries;
-            same = along.same;
-            owns = along.owns;
-            disks = along.disks;
-          }
+      ends_so session_end.End ends = comes session_end.End (stayed ends.1.3) (over IsServing ends.0 ends.1)
+      ends_so session_end.Bye ends = comes session_end.Bye (went served PutsWhole Left ends.0) (last_answered served fit Left WasLeft refl ends.0)
+      ends_so session_end.NoHello (inl ends) = comes session_end.NoHello (stayed ends.1.3) (inr (over IsWaiting ends.0 ends.1))
+      ends_so session_end.NoHello (inr ends) = comes session_end.NoHello (went served PutsWhole Refused ends.0) (inl (last_answered served fit Refused WasRefused refl ends.0))
       ends_so session_end.Read ends =
-          let along = stayed ends.4 in
-          record {
-            replies = served.replies;
-            own = served.own;
-            session = (broke line_fault.Read ends.0 ends.1 ends.3 ends.4, subst (λ (f : Frame). Rose f (source.frame new.source)) source_held ends.2);
-            entries = along.entries;
-            same = along.same;
-            owns = along.owns;
-            disks = along.disks;
-          }
-      ends_so session_end.TooLong ends =
-          let along = stayed ends.3 in
-          record { replies = served.replies; own = served.own; session = broke line_fault.TooLong ends.0 ends.1 ends.2 ends.3; entries = along.entries; same = along.same; owns = along.owns; disks = along.disks }
+          comes session_end.Read (stayed ends.4) (broke line_fault.Read ends.0 ends.1 ends.3 ends.4, subst (λ (f : Frame). Rose f (source.frame new.source)) source_held ends.2)
+      ends_so session_end.TooLong ends = comes session_end.TooLong (stayed ends.3) (broke line_fault.TooLong ends.0 ends.1 ends.2 ends.3)
       ends_so session_end.Write ends =
-          let along = went ends.0.0 (GrowsInPart (sink.content output) (sink.content output')) ends.0.1 in
-          record {
-            replies = served.replies ++ ends.0.1.reply ∷ [];
-            own = served.own ++ ends.0.1.exchange.added;
-            session = (last_cut served fit ends.0.0 ends.0.1, subst (λ (f : Frame). Rose f (sink.frame output')) held ends.2);
-            entries = along.entries;
-            same = along.same;
-            owns = along.owns;
-            disks = along.disks;
-          }
+          comes session_end.Write (went served PutsPart ends.0.0 ends.0.1) (last_cut served fit ends.0.0 ends.0.1, subst (λ (f : Frame). Rose f (sink.frame output')) held ends.2)
 
   -- nothing is served yet, and a first line may say what a first line says
   abbrev pub served_none : {S : Type 0} (source : SourceGhosts S) (start : Reader S) (content : Option (List ℕ)) (pass : Known) → IsSamePass pass pass → HasServed source start start network pass pass Waiting content content
