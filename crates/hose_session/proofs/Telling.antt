@@ -15,12 +15,12 @@ use Rattle.hose_graph.specs.declared.command.Reply.{Reply}
 use Rattle.hose_law.specs.Transcript.{SessionLine, Stage}
 use Rattle.hose_proto.specs.ReplyText.{line_of, reply_text}
 use Rattle.hose_turn.specs.Known.{Known}
-use Rattle.hose_session.specs.Exchanges.{IsExchange, SaysLast, ShownSays, AnswersInSession}
+use Rattle.hose_session.specs.Exchanges.{AnswersInSession, EndsAt, IsExchange, SaysLast, SessionGoesOn, ShownSays}
 use Rattle.hose_session.specs.declared.ending.SessionEnd.{SessionEnd}
 use Rattle.hose_session.specs.declared.ending.SessionEnd.TheVariants.{Write}
 
 -- a line that was read and answered makes an exchange
-pub read_exchange : {S : Type 0} (source : SourceGhosts S) (lines lines' : Reader S) (network : Network) (old new : Known) (shown : Line) (Is : List ℕ → SessionLine → Type 0) (stage next : Stage) (said : SessionLine) (reply : Reply)
+read_exchange : {S : Type 0} (source : SourceGhosts S) (lines lines' : Reader S) (network : Network) (old new : Known) (shown : Line) (Is : List ℕ → SessionLine → Type 0) (stage next : Stage) (said : SessionLine) (reply : Reply)
     (puts : List ℕ → Type 0) → IsNext source lines lines' (Ok (Some shown)) → ShownSays Is shown said → IsExchange network old new stage said reply next → puts (line_of (reply_text network reply))
     → AnswersInSession source lines lines' network old new Is stage puts next
 read_exchange source lines lines' network old new shown Is stage next said reply puts read says exchange out = record {
@@ -30,6 +30,21 @@ read_exchange source lines lines' network old new shown Is stage next said reply
   exchange = exchange;
   out = out;
 }
+
+-- so it is where its reply is out, or the output failed in it
+module _ {S O : Type 0} {source : SourceGhosts S} {network : Network} {lines lines' : Reader S} {old new : Known} {stage next : Stage} {shown : Line} {said : SessionLine} {reply : Reply} (sink : SinkGhosts O) (output output' : O)
+    (Is : List ℕ → SessionLine → Type 0) (read : IsNext source lines lines' (Ok (Some shown))) (says : ShownSays Is shown said) (exchange : IsExchange network old new stage said reply next) where
+  abbrev text : List ℕ
+  text = line_of (reply_text network reply)
+
+  answered : (puts : List ℕ → Type 0) → puts text → AnswersInSession source lines lines' network old new Is stage puts next
+  answered puts out = read_exchange source lines lines' network old new shown Is stage next said reply puts read says exchange out
+
+  pub goes_on : Grows (sink.content output) (sink.content output') text → sink.frame output' ≡ sink.frame output → SessionGoesOn source sink network lines lines' output output' old new Is stage next
+  goes_on out same = (answered (Grows (sink.content output) (sink.content output')) out, read.fault.1, same)
+
+  pub ends_cut : GrowsInPart (sink.content output) (sink.content output') text → Rose (sink.frame output) (sink.frame output') → EndsAt source sink network lines lines' output output' old new Is stage Write
+  ends_cut part rose = ((next, answered (GrowsInPart (sink.content output) (sink.content output')) part), read.fault.1, rose)
 
 module _ {O T : Type 0} (sink : SinkGhosts O) (was now : O) (text : List ℕ) where
   pub put_failed : (result : Result T Failed) → IsPut sink was now text result → is_err result ≡ true → GrowsInPart (sink.content was) (sink.content now) text × Rose (sink.frame was) (sink.frame now)
