@@ -1,13 +1,14 @@
 -- Exchanges: a line of a session and its reply, one after another.
-use Rattle.std.specs.Prelude.{◌≡◌, ◌⊎◌, ℕ, ◌+◌, ◌≤◌, All, List, ◌++◌, length, Option, None, Result, Ok, Err}
-use Rattle.hose_io.specs.Frame.{Rose}
+use Rattle.std.specs.Prelude.{◌≡◌, ◌⊎◌, ◌↔◌, ℕ, ◌+◌, ◌<◌, ◌≤◌, All, List, ◌++◌, length, Option, None, Result, Ok, Err}
+use Rattle.hose_io.specs.Frame.{Rose, Stays}
 use Rattle.hose_io.specs.Stream.{Grows}
 use Rattle.hose_io.specs.Writing.{GrowsInPart}
 use Rattle.hose_io.specs.declared.source.Source.{Ghosts as SourceGhosts}
 use Rattle.hose_io.specs.declared.sink.Sink.{Ghosts as SinkGhosts}
 use Rattle.hose_words.specs.Lines.{Reader, Shows}
-use Rattle.hose_words.specs.Reading.{WhereTold}
+use Rattle.hose_words.specs.Reading.{ReadsOn, WhereTold}
 use Rattle.hose_words.specs.Saying.{IsOver, SayLines, SaysUpTo, StopsReading, TakesLine}
+use Rattle.hose_words.specs.declared.lines.TheConstants.{INPUT_LIMIT}
 use Rattle.hose_words.specs.declared.lines.Line.{Line}
 use Rattle.hose_words.specs.declared.lines.LineFault.TheVariants as line_fault
 use Rattle.hose_graph.specs.Network.{Network}
@@ -21,7 +22,7 @@ use Rattle.hose_core.specs.Holding.{AreHeld}
 use Rattle.hose_proto.specs.Replies.{texts_of}
 use Rattle.hose_proto.specs.ReplyText.{line_of, reply_text}
 use Rattle.hose_shared.specs.Along.{HasEntryAt}
-use Rattle.hose_shared.specs.Sharing.{IsSamePass}
+use Rattle.hose_shared.specs.Sharing.{IsPassOf, IsSamePass, SharedBook}
 use Rattle.hose_turn.specs.Known.{Known}
 use Rattle.hose_session.specs.Session.{MayGoOn, IsServing, IsWaiting, ServesAlong}
 use Rattle.hose_session.specs.SessionLines.{SaysAfter, SaysFirst}
@@ -111,6 +112,17 @@ module _ {S O : Type 0} (source : SourceGhosts S) (sink : SinkGhosts O) (network
       × AnswersInSession source lines lines' network old new Is stage
       (GrowsInPart (sink.content output) (sink.content output')) next)
       × (lines'.fault ≡ None) × Rose (sink.frame output) (sink.frame output')
+
+-- A session asked for its next line: the input was read on, and ends it so exactly where it gave
+-- more than 1 GiB. The pass is still one of the shared book, and the output is the same object.
+pub record AsksForLine {S O T : Type 0} (source : SourceGhosts S) (sink : SinkGhosts O)
+    (shared : SharedBook) (lines lines' : Reader S) (output output' : O) (pass : Known)
+    (result : Result T SessionEnd) : Type 0 where
+  pub too_long : (result ≡ Err session_end.TooLong) ↔ (INPUT_LIMIT < lines'.taken)
+  pub reads_on : ReadsOn source lines lines'
+  pub limit : lines'.taken ≤ INPUT_LIMIT + 1
+  pub of : IsPassOf shared pass
+  pub stays : Stays (sink.frame output) (sink.frame output')
 
 -- ---- from the start on
 

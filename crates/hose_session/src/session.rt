@@ -1,5 +1,5 @@
 // A session from its first line to its end.
-ghost use Rattle.std.specs.Prelude.{◌≡◌, ◌≢◌, ◌⊎◌, ◌↔◌, ◌+◌, ◌<◌, ◌≤◌, [], ℕ, Err, IfOk, List, MatchResult, None, length};
+ghost use Rattle.std.specs.Prelude.{◌≡◌, ◌≢◌, ◌⊎◌, ◌↔◌, ◌+◌, ◌<◌, ◌≤◌, [], ℕ, IfOk, List, MatchResult, None, length};
 ghost use Rattle.hose_io.specs.Frame.{Rose, Stays};
 ghost use Rattle.hose_io.specs.Stream.{Gives};
 ghost use Rattle.hose_law.specs.Quotes.{Held, none_held};
@@ -9,7 +9,7 @@ ghost use Rattle.hose_words.specs.Reading.{ReadsOn};
 ghost use Rattle.hose_shared.specs.Sharing.{IsPassOf};
 ghost use Rattle.hose_session.specs.Session.{IsGreeted, ServesSession};
 ghost use Rattle.hose_session.specs.SessionLines.{SaysFirst, SaysLater};
-ghost use Rattle.hose_session.specs.Exchanges.{EndsAt, SessionGoesOn, ServesLines};
+ghost use Rattle.hose_session.specs.Exchanges.{AsksForLine, EndsAt, SessionGoesOn, ServesLines};
 
 use crate::answering::Session;
 use crate::client::Client;
@@ -131,11 +131,8 @@ impl<'a, W: Wait, D: Disk, B: Begun<D>, G: Gate> Session<'a, W, D, B, G> {
             output.old output.new pass result.1 SaysFirst Waiting (Serving name none_held))
             (EndsAt S.Source O.Sink self.now.shared.now.network lines.old lines.new
             output.old output.new pass result.1 SaysFirst Waiting) }
-        ensures too_long { (result.0 ≡ Err SessionEnd.TooLong) ↔ (INPUT_LIMIT < lines.new.taken) }
-        ensures reads_on { ReadsOn S.Source lines.old lines.new }
-        ensures limit { lines.new.taken ≤ INPUT_LIMIT + 1 }
-        ensures of { IsPassOf self.now.shared.now result.1 }
-        ensures output { Stays (O.frame output.old) (O.frame output.new) }
+        ensures asks { AsksForLine S.Source O.Sink self.now.shared.now lines.old lines.new
+            output.old output.new result.1 result.0 }
     {
         law_passes(&pass);
         let line = match lines.next() {
@@ -184,11 +181,8 @@ impl<'a, W: Wait, D: Disk, B: Begun<D>, G: Gate> Session<'a, W, D, B, G> {
         ensures name { IfOk result.0 (λ _. client.new.name ≡ client.old.name) }
         ensures progress { IfOk result.0 (λ _. length lines.new.pending + lines.old.taken
             < length lines.old.pending + lines.new.taken) }
-        ensures too_long { (result.0 ≡ Err SessionEnd.TooLong) ↔ (INPUT_LIMIT < lines.new.taken) }
-        ensures reads_on { ReadsOn S.Source lines.old lines.new }
-        ensures limit { lines.new.taken ≤ INPUT_LIMIT + 1 }
-        ensures of { IsPassOf self.now.shared.now result.1 }
-        ensures output { Stays (O.frame output.old) (O.frame output.new) }
+        ensures asks { AsksForLine S.Source O.Sink self.now.shared.now lines.old lines.new
+            output.old output.new result.1 result.0 }
     {
         law_passes(&pass);
         let line = match lines.next() {

@@ -27,10 +27,10 @@ loop-end-init g c =
     (served_none laws network g.S.Source lines (g.O.Sink.content output) c.args.pass c.law_passes.ensures.stays) (first_fits laws network) (Serving c.in-Ok.name none_held) goes.0 in
     record {
       served = rw c.new-client.ensures (none_held, served, c.law_quotes.ensures.first network 0 c.greet-greeted.result.1.seen);
-      reads = c.greet-greeted.ensures.reads_on;
+      reads = c.greet-greeted.ensures.asks.reads_on;
       none = goes.1;
-      limit = c.greet-greeted.ensures.limit;
-      of = c.greet-greeted.ensures.of;
+      limit = c.greet-greeted.ensures.asks.limit;
+      of = c.greet-greeted.ensures.asks.of;
       held = goes.2;
     }
 
@@ -46,7 +46,7 @@ returns-in-Err-served-clause-serves g c =
     served (says_later network c.loop-end.pass.seen _ c.loop-end.client.name held served.lines served.replies served.along.last served.own served.along.transcript) before.none before.held c.in-Err-served.end ends
 
 pub returns-in-Err-served-clause-reads_on : goal.returns-in-Err-served-clause-reads_on
-returns-in-Err-served-clause-reads_on g c = ReadsOn-then g.S.Source c.args.lines.now c.loop-end.lines c.serve_line-served.new.lines c.loop-end.invariant.reads c.serve_line-served.ensures.reads_on
+returns-in-Err-served-clause-reads_on g c = ReadsOn-then g.S.Source c.args.lines.now c.loop-end.lines c.serve_line-served.new.lines c.loop-end.invariant.reads c.serve_line-served.ensures.asks.reads_on
 
 pub loop-end-preserved : goal.loop-end-preserved
 loop-end-preserved g c =
@@ -61,9 +61,9 @@ loop-end-preserved g c =
     was (says_later network c.loop-end.pass.seen _ c.loop-end.client.name held was.lines was.replies was.along.last was.own was.along.transcript) (Serving c.loop-end.client.name goes.0) goes.1.0 in
     record {
       served = rw same (goes.0, served, goes.2);
-      reads = ReadsOn-then g.S.Source c.args.lines.now c.loop-end.lines c.serve_line-served.new.lines before.reads c.serve_line-served.ensures.reads_on;
+      reads = ReadsOn-then g.S.Source c.args.lines.now c.loop-end.lines c.serve_line-served.new.lines before.reads c.serve_line-served.ensures.asks.reads_on;
       none = goes.1.1;
-      limit = c.serve_line-served.ensures.limit;
-      of = c.serve_line-served.ensures.of;
+      limit = c.serve_line-served.ensures.asks.limit;
+      of = c.serve_line-served.ensures.asks.of;
       held = goes.1.2 ∙ before.held;
     }
