@@ -11,7 +11,7 @@ pub fn verdict(alloc: Global, bytes: &[u8]) -> Result<&'static str, Trouble> {
             Ok(if is_same { "spelling" } else { "of another" })
         }
         Err(CodecFault::Bad) => Ok("bad"),
-        Err(CodecFault::Memory) => Err(Trouble::Memory),
+        Err(fault) => Err(Trouble::Entry(fault)),
     }
 }
 

@@ -39,7 +39,7 @@ pub fn hose_of(alloc: Global, words: &str) -> Result<String, Trouble> {
     }
     match Hose::build(alloc, &ends) {
         Ok(hose) => Ok(with_copy(alloc, &hose)?),
-        Err(HoseFault::Memory) => Err(Trouble::Memory),
+        Err(HoseFault::Memory) => Err(Trouble::Memory(AllocError)),
         Err(fault) => Ok(debugged(alloc, &fault)?),
     }
 }

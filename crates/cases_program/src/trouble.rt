@@ -1,5 +1,5 @@
 // What is wrong with a file of cases, and why the program stops.
-use std::alloc::{AllocError, AllocFailed};
+use std::alloc::AllocError;
 use std::io;
 use thiserror::Error;
 
@@ -33,19 +33,7 @@ pub enum Trouble {
     #[error("the store is not closed")]
     Close,
     #[error("no memory")]
-    Memory,
+    Memory(#[from(alloc)] AllocError),
     #[error("{0}")]
     System(#[from] io::Error),
-}
-
-impl From<AllocError> for Trouble {
-    fn from(_error: AllocError) -> Trouble {
-        Trouble::Memory
-    }
-}
-
-impl<T: Drop> From<AllocFailed<T>> for Trouble {
-    fn from(_error: AllocFailed<T>) -> Trouble {
-        Trouble::Memory
-    }
 }
