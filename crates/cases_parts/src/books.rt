@@ -1,13 +1,13 @@
 // Books: what they say of entries, in which order, what entries change, and how they are audited.
 ghost use Rattle.hose_graph.specs.declared.limits.TheConstants.{MOST_EPOCH};
 
+use crate::networks::shown;
 use crate::trouble::Trouble;
 use crate::words::{debugged, first, name, number};
 use hose_audit::audit;
 use hose_book::{Book, Books, Plain};
-use hose_graph::{Entry, MOST_EPOCH, MOST_LIVE, Reply, Topology};
+use hose_graph::{Entry, MOST_EPOCH, MOST_LIVE, Topology};
 use hose_io::MemSink;
-use hose_proto::read_reply;
 use std::alloc::{AllocError, Global};
 
 /// What comes of steps at the book of a network, which begins at an epoch. They stand between
@@ -75,15 +75,13 @@ fn link(word: &str) -> Result<u32, Trouble> {
 
 // The admission for acme of the ends and links of a reply.
 fn admission(alloc: Global, top: &Topology, words: &str) -> Result<Entry, Trouble> {
-    let line = format!(in alloc; "vpn 1 cost 1 at 1 {words}")?;
-    match read_reply(alloc, top, line.as_bytes())? {
-        Reply::Shown { hose, amounts, .. } => Ok(Entry::Admit {
-            customer: name("acme")?,
-            hose,
-            amounts,
-        }),
-        _ => Err(Trouble::Word),
-    }
+    let (hose, amounts) = shown(alloc, top, words)?;
+    let customer = name("acme")?;
+    Ok(Entry::Admit {
+        customer,
+        hose,
+        amounts,
+    })
 }
 
 fn entered(alloc: Global, book: &mut Book, entry: Entry) -> Result<String, AllocError> {

@@ -1,20 +1,15 @@
 // Whether amounts are what a hose reserves on some tree.
+use crate::networks::shown;
 use crate::trouble::Trouble;
 use crate::words::debugged;
-use hose_graph::{Amounts, Hose, Reply, Topology};
-use hose_proto::read_reply;
+use hose_graph::{Amounts, Hose, Topology};
 use hose_tree::is_reservation;
 use std::alloc::{AllocError, Global};
 
 /// Whether amounts are what a hose reserves, of the ends and links of a reply.
 pub fn judged(alloc: Global, top: &Topology, words: &str) -> Result<String, Trouble> {
-    let line = format!(in alloc; "vpn 1 cost 1 at 1 {words}")?;
-    match read_reply(alloc, top, line.as_bytes())? {
-        Reply::Shown { hose, amounts, .. } => {
-            Ok(debugged(alloc, &is_reservation(top, &hose, &amounts))?)
-        }
-        _ => Err(Trouble::Word),
-    }
+    let (hose, amounts) = shown(alloc, top, words)?;
+    Ok(debugged(alloc, &is_reservation(top, &hose, &amounts))?)
 }
 
 /// Whether amounts are what a hose reserves, of the hose of the first node and another one, of 3

@@ -1,11 +1,11 @@
-// Networks by their names, and hoses by their words.
+// Networks by their names, and hoses and what they reserve by their words.
 ghost use Rattle.std.specs.Prelude.{IfOk};
 ghost use Rattle.hose_law.specs.Plan.{AreNodes};
 
 use crate::trouble::Trouble;
-use hose_graph::{Command, Hose, Topology};
+use hose_graph::{Amounts, Command, Hose, Reply, Topology};
 use hose_io::MemSource;
-use hose_proto::read_command;
+use hose_proto::{read_command, read_reply};
 use hose_topo::read;
 use hose_words::LineReader;
 use std::alloc::{AllocError, Global};
@@ -83,6 +83,15 @@ pub fn hose(alloc: Global, top: &Topology, line: &str) -> Result<Hose, Trouble>
 {
     match read_command(alloc, top, line.as_bytes(), 0)? {
         Command::Admit(hose) => Ok(hose),
+        _ => Err(Trouble::Word),
+    }
+}
+
+/// The hose and what it reserves, of the ends and links of a reply.
+pub fn shown(alloc: Global, top: &Topology, words: &str) -> Result<(Hose, Amounts), Trouble> {
+    let line = format!(in alloc; "vpn 1 cost 1 at 1 {words}")?;
+    match read_reply(alloc, top, line.as_bytes())? {
+        Reply::Shown { hose, amounts, .. } => Ok((hose, amounts)),
         _ => Err(Trouble::Word),
     }
 }
