@@ -12,13 +12,8 @@ use hose_graph::Topology;
 use hose_store::{Store, StoreFault};
 use std::alloc::{AllocError, Global};
 
-const PICKS: [Pick; 5] = [
-    Pick::Kept,
-    Pick::Lost,
-    Pick::Fill(0),
-    Pick::Fill(1),
-    Pick::Fill(255),
-];
+// What a stop may leave of bytes that no sync made durable, by the words of `pick_of`.
+const PICKS: [&str; 5] = ["kept", "lost", "0", "1", "255"];
 
 // More bytes than a journal of a case has.
 const MOST: usize = 4_000;
@@ -192,7 +187,8 @@ fn first_left_of(
 ) -> Result<Option<String>, Trouble> {
     for calls in 0..=disk.calls() {
         for pick in PICKS {
-            if let Some(got) = other(opened_after(alloc, network, disk, calls, pick)?, wanted) {
+            let got = opened_after(alloc, network, disk, calls, pick_of(pick)?)?;
+            if let Some(got) = other(got, wanted) {
                 return Ok(Some(got));
             }
         }
