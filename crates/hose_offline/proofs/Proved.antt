@@ -5,7 +5,9 @@ use Rattle.hose_io.specs.declared.sink.Sink.{Ghosts as SinkGhosts}
 use Rattle.hose_graph.specs.Network.{Network}
 use Rattle.hose_disk.specs.declared.cabinet.Cabinet.{Ghosts as CabinetGhosts}
 use Rattle.hose_offline.specs.Auditing.{ReadsTopology}
-use Rattle.hose_offline.specs.ProveOutcome.{IsNoHose, ProvesNamed, ProvesWords}
+use Rattle.hose_offline.specs.Ending.{IsLastLine, IsOut, status_of_done}
+use Rattle.hose_offline.specs.Fault.{last_line, status_of}
+use Rattle.hose_offline.specs.ProveOutcome.{IsNoHose, ProveOutcome, ProvesWords}
 use Rattle.hose_offline.specs.TopologyTold.{notation_of}
 use Rattle.hose_offline.specs.declared.fault.Fault.{Fault}
 use Rattle.hose_offline.specs.declared.fault.Fault.TheVariants as fault
@@ -26,11 +28,24 @@ module _ (words : List (List ℕ)) (first : ℕ) (network : Network) {O : Type 0
 
 module _ (prices : Network → Network → Type 0) (words : List (List ℕ)) (first : ℕ) {O C E : Type 0} (sink : SinkGhosts O) (cabinet : CabinetGhosts C E) (topology : List ℕ) (output : O) (old new : C) where
   -- no topology was read
-  pub proved_none : (why : Fault) → ReadsTopology cabinet old new prices topology (Err why) → ProvesNamed prices words first sink cabinet topology output output old new (Err why)
-  proved_none why reads = text_failed cabinet old new topology _ _ (notation_of topology) why reads (inr (refl, (why, refl, reads.text)))
+  pub proved_none : (output' : O) (why : Fault) (status : ℕ) → ReadsTopology cabinet old new prices topology (Err why) → IsOut sink output output' (last_line why) → status ≡ status_of why
+      → ProveOutcome prices words first sink cabinet topology output output' old new status
+  proved_none output' why status reads last is = record {
+    done = Err why;
+    left = output;
+    proves = text_failed cabinet old new topology _ _ (notation_of topology) why reads (inr (refl, (why, refl, reads.text)));
+    last_line = last;
+    is_status = is;
+  }
 
   -- one was read, and then the words were taken as endpoints of its network
-  pub proved_then : (output' : O) (network : Network) (result : Result ⊤ Fault) → ReadsTopology cabinet old new prices topology (Ok network) → ProvesWords words first network sink output output' result
-      → ProvesNamed prices words first sink cabinet topology output output' old new result
-  proved_then output' network result reads proves = text_then cabinet old new topology _ _ (notation_of topology) network result reads (never_long words first network sink output output' result proves)
-      (inl (record { network = network; text = reads.text.2; is = proves }, reads.text.1))
+  pub proved_then : (left output' : O) (network : Network) (result : Result ⊤ Fault) (status : ℕ) → ReadsTopology cabinet old new prices topology (Ok network) → ProvesWords words first network sink output left result
+      → IsLastLine sink left output' result → status ≡ status_of_done result → ProveOutcome prices words first sink cabinet topology output output' old new status
+  proved_then left output' network result status reads proves last is = record {
+    done = result;
+    left = left;
+    proves = text_then cabinet old new topology _ _ (notation_of topology) network result reads (never_long words first network sink output left result proves)
+        (inl (record { network = network; text = reads.text.2; is = proves }, reads.text.1));
+    last_line = last;
+    is_status = is;
+  }

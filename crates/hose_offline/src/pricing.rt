@@ -1,12 +1,12 @@
 // Prices: the lines of a sheet of hoses, each priced under every tariff.
-ghost use Rattle.std.specs.Prelude.{◌≡◌, ◌≢◌, ◌↔◌, ◌+◌, [], ◌<◌, ◌≤◌, ℕ, List, Err, None, length, map};
+ghost use Rattle.std.specs.Prelude.{◌≡◌, ◌≢◌, ◌↔◌, ◌+◌, ◌<◌, ◌≤◌, ℕ, List, Err, None, length, map};
 ghost use Rattle.hose_io.specs.Frame.{Stays};
 ghost use Rattle.hose_io.specs.Stream.{Gives};
 ghost use Rattle.hose_disk.specs.Cabinet.{object_of};
 ghost use Rattle.hose_words.specs.Lines.{Shows};
 ghost use Rattle.hose_words.specs.Reading.{ReadsOn};
 ghost use Rattle.hose_law.specs.Plan.{AreNodes};
-ghost use Rattle.hose_offline.specs.PriceOutcome.{AnswersInput, IsSheetBy, PriceOutcome, PricesInput, PricesNamed};
+ghost use Rattle.hose_offline.specs.PriceOutcome.{AnswersInput, IsSheetBy, PriceOutcome, PricesInput};
 ghost use Rattle.hose_offline.specs.Pricing.{PricesAll, PricesLine};
 ghost use Rattle.hose_offline.specs.SheetLine.{AnswersSheet, PricesHose};
 
@@ -47,32 +47,13 @@ pub fn price<I: Source, O: Sink, C: Cabinet>(
     ensures output { Stays (O.frame output.old) (O.frame output.new) }
     ensures cabinet { Stays (object_of (C.frame cabinet.old)) (object_of (C.frame cabinet.new)) }
 {
-    let done = price_named(alloc, tariffs, topology, input, output, cabinet);
-    end(done, output)
-}
-
-// What that comes to, before its last line.
-fn price_named<I: Source, O: Sink, C: Cabinet>(
-    alloc: Global,
-    tariffs: &[Tariff],
-    topology: &str,
-    input: &mut I,
-    output: &mut O,
-    cabinet: &mut C,
-) -> Result<(), Fault>
-    requires some { 1 ≤ length tariffs.now }
-    requires few { length tariffs.now ≤ MOST_TARIFFS }
-    ensures prices { PricesNamed
-        (IsSheetBy ⟦<Tariff as Prices>⟧.prices (λ tariff. tariff.base) (λ tariff. tariff.per)
-        tariffs.now)
-        (map (λ tariff. tariff.name) tariffs.now) I.Source O.Sink
-        input.old input.new output.old output.new C.Cabinet topology.now
-        cabinet.old cabinet.new result }
-    ensures input { Stays (I.frame input.old) (I.frame input.new) }
-    ensures output { Stays (O.frame output.old) (O.frame output.new) }
-{
-    let top = read_topology(alloc, &OwnCosts, topology, cabinet)?;
-    price_input(alloc, tariffs, &top, input, output)
+    match read_topology(alloc, &OwnCosts, topology, cabinet) {
+        Ok(top) => {
+            let done = price_input(alloc, tariffs, &top, input, output);
+            end(done, output)
+        }
+        Err(why) => end(Err(why), output),
+    }
 }
 
 // Answers the lines of the input on a network. The rows of all nodes are made first, for each of
@@ -125,34 +106,10 @@ fn price_by_sheet<I: Source, O: Sink, R: RowMaker>(
     ensures output { Stays (O.frame output.old) (O.frame output.new) }
 {
     let mut lines = LineReader::new(input);
-    let done = price_lines(alloc, tariffs, sheet, rows, &mut lines, output);
+    let done = price_all(alloc, tariffs, sheet, rows, &mut lines, output);
     // What is known of the input again comes from here.
     let _ = lines.into_source();
     done
-}
-
-// Answers the lines of a reader that has taken nothing.
-fn price_lines<S: Source, O: Sink, R: RowMaker>(
-    alloc: Global,
-    tariffs: &[Tariff],
-    sheet: &PriceSheet,
-    rows: &mut R,
-    lines: &mut LineReader<S>,
-    output: &mut O,
-) -> Result<(), Fault>
-    requires pending { lines.old.pending ≡ [] }
-    requires taken { lines.old.taken ≡ 0 }
-    requires fault { lines.old.fault ≡ None }
-    ensures answers { AnswersInput sheet.now (map (λ tariff. tariff.name) tariffs.now)
-        (S.content lines.old.source) (S.content lines.new.source)
-        (S.frame lines.old.source) (S.frame lines.new.source)
-        O.Sink output.old output.new result }
-    ensures too_long { (result ≡ Err Fault.TooLong) ↔ (INPUT_LIMIT < lines.new.taken) }
-    ensures reads_on { ReadsOn S.Source lines.old lines.new }
-    ensures limit { lines.new.taken ≤ INPUT_LIMIT + 1 }
-    ensures output { Stays (O.frame output.old) (O.frame output.new) }
-{
-    price_all(alloc, tariffs, sheet, rows, lines, output)
 }
 
 // Answers all lines that are to come.

@@ -7,7 +7,7 @@ ghost use Rattle.hose_law.specs.Plan.{AreNodes};
 ghost use Rattle.hose_disk.specs.Cabinet.{object_of};
 ghost use Rattle.hose_proto.specs.Command.{AreEndsOf};
 ghost use Rattle.hose_proto.specs.EndWords.{AreEndWords};
-ghost use Rattle.hose_offline.specs.ProveOutcome.{AreEndsInOrder, IsNoHose, ProveOutcome, ProvesNamed, ProvesWords, PutsProof};
+ghost use Rattle.hose_offline.specs.ProveOutcome.{AreEndsInOrder, IsNoHose, ProveOutcome, ProvesWords, PutsProof};
 
 use crate::auditing::read_topology;
 use crate::fault::{Fault, end};
@@ -47,28 +47,13 @@ pub fn prove<P: Prices, O: Sink, C: Cabinet>(
     ensures output { Stays (O.frame output.old) (O.frame output.new) }
     ensures cabinet { Stays (object_of (C.frame cabinet.old)) (object_of (C.frame cabinet.new)) }
 {
-    let done = prove_named(alloc, costs, topology, ends, output, cabinet);
-    end(done, output)
-}
-
-// What that comes to, before its last line.
-fn prove_named<P: Prices, O: Sink, C: Cabinet>(
-    alloc: Global,
-    costs: &P,
-    topology: &str,
-    ends: EndWords<'_>,
-    output: &mut O,
-    cabinet: &mut C,
-) -> Result<(), Fault>
-    requires ends { AreEndWords (map string_bytes ends.words.now) }
-    requires first { ends.first ≤ 2 ^ 63 }
-    ensures proves { ProvesNamed (P.prices costs.now) (map string_bytes ends.entry.words.now)
-        ends.entry.first O.Sink C.Cabinet topology.now output.old output.new
-        cabinet.old cabinet.new result }
-    ensures output { Stays (O.frame output.old) (O.frame output.new) }
-{
-    let top = read_topology(alloc, costs, topology, cabinet)?;
-    prove_words(alloc, &top, ends, output)
+    match read_topology(alloc, costs, topology, cabinet) {
+        Ok(top) => {
+            let done = prove_words(alloc, &top, ends, output);
+            end(done, output)
+        }
+        Err(why) => end(Err(why), output),
+    }
 }
 
 // Proves the hose of the words on a network that was read.

@@ -1,17 +1,25 @@
-use Rattle.std.proofs.Common.{◌∙◌, sym}
-use Rattle.hose_offline.proofs.Priced.{priced_not_1}
+use Rattle.std.proofs.Common.{subst}
+use Rattle.hose_offline.specs.Auditing.{ReadsTopology}
+use Rattle.hose_offline.specs.TopologyTold.{own_costs}
+use Rattle.hose_offline.proofs.Priced.{price_not_1, priced_none, priced_then}
 use Rattle.hose_offline.proofs.pricing.price.Goals as goal
 
-pub returns-clause-outcome : goal.returns-clause-outcome
-returns-clause-outcome g c = record {
-  done = c.price_named-done.result;
-  left = c.price_named-done.new.output;
-  leaves = c.price_named-done.ensures.prices;
-  last_line = c.end.ensures.last_line;
-  is_status = c.end.ensures.status;
-}
+pub returns-in-Ok-clause-outcome : goal.returns-in-Ok-clause-outcome
+returns-in-Ok-clause-outcome g c =
+    let done = c.price_input-done in
+    let reads = subst (ReadsTopology g.C.Cabinet c.args.cabinet.now c.read_topology.new.cabinet own_costs c.args.topology.now) c.in-Ok.is c.read_topology.ensures.reads in
+    priced_then _ _ g.I.Source g.O.Sink c.args.input.now c.args.output.now g.C.Cabinet c.args.topology.now c.args.cabinet.now c.read_topology.new.cabinet done.new.input done.new.output c.end.new.output c.in-Ok.top done.result c.end.result
+    reads done.ensures.prices c.end.ensures.last_line c.end.ensures.status
 
-pub returns-clause-not_words : goal.returns-clause-not_words
-returns-clause-not_words g c = λ one.
-    priced_not_1 _ _ g.I.Source g.O.Sink c.args.input.now c.args.output.now g.C.Cabinet c.args.topology.now c.args.cabinet.now c.price_named-done.new.cabinet c.price_named-done.new.input c.price_named-done.new.output c.price_named-done.result c.price_named-done.ensures.prices
-    (sym c.end.ensures.status ∙ one)
+pub returns-in-Err-clause-outcome : goal.returns-in-Err-clause-outcome
+returns-in-Err-clause-outcome g c =
+    let reads = subst (ReadsTopology g.C.Cabinet c.args.cabinet.now c.read_topology.new.cabinet own_costs c.args.topology.now) c.in-Err.is c.read_topology.ensures.reads in
+    priced_none _ _ g.I.Source g.O.Sink c.args.input.now c.args.output.now g.C.Cabinet c.args.topology.now c.args.cabinet.now c.read_topology.new.cabinet c.end-in-Err.new.output c.in-Err.why c.end-in-Err.result reads c.end-in-Err.ensures.last_line c.end-in-Err.ensures.status
+
+pub returns-in-Ok-clause-not_words : goal.returns-in-Ok-clause-not_words
+returns-in-Ok-clause-not_words g c =
+    price_not_1 _ _ g.I.Source g.O.Sink c.args.input.now c.args.output.now g.C.Cabinet c.args.topology.now c.args.cabinet.now c.read_topology.new.cabinet c.price_input-done.new.input c.end.new.output c.end.result (returns-in-Ok-clause-outcome g c)
+
+pub returns-in-Err-clause-not_words : goal.returns-in-Err-clause-not_words
+returns-in-Err-clause-not_words g c =
+    price_not_1 _ _ g.I.Source g.O.Sink c.args.input.now c.args.output.now g.C.Cabinet c.args.topology.now c.args.cabinet.now c.read_topology.new.cabinet c.args.input.now c.end-in-Err.new.output c.end-in-Err.result (returns-in-Err-clause-outcome g c)
