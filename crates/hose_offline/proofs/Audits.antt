@@ -1,4 +1,4 @@
--- An audit: the text of a topology in a cabinet, and the book of a journal on its disk.
+-- An audit: the text of a topology in a cabinet, and the book of its journal.
 use Rattle.std.proofs.Common.{◌≡◌, ◌≢◌, ◌∙◌, length, ◌⊎◌, ◌↔◌, inl, inr, ℕ, ◌+◌, ◌<◌, ◌≤◌, List, [], Bool, Option, None, Some, IfSome, IsSome, IsTrue, Result, Ok, Err, refl, sym, ap, subst, arith, append-nil, ◌++◌, false}
 use Rattle.std.specs.Prelude.{⊤}
 use Rattle.hose_io.specs.Calls.{HasGone}
@@ -31,7 +31,7 @@ use Rattle.hose_topo.specs.Reading.{KeepsFault, StopsInTopology, fault_of}
 use Rattle.hose_topo.specs.TopologyText.{IsTopologyText, IsWrongAt}
 use Rattle.hose_topo.specs.declared.fault.TopoFault.{TopoFault}
 use Rattle.hose_topo.specs.declared.fault.TopoFault.TheVariants as topo
-use Rattle.hose_offline.specs.Auditing.{HasAudited, HasReadBook, IsBookOf, IsLongAt, IsStarvedAt, IsTextFault, TextComesTo, ReadsBook, ReadsNamed, ReadsText, ReadsTopology}
+use Rattle.hose_offline.specs.Auditing.{HasAudited, IsBookOf, IsLongAt, IsStarvedAt, IsTextFault, TextComesTo, ReadsBook, ReadsNamed, ReadsText, ReadsTopology}
 use Rattle.hose_offline.specs.CabinetText.{HasAsked, OnlyTextsRead, TextState, reading_frame, stream_at, text_at, text_source, text_stream, whole_text}
 use Rattle.hose_offline.specs.Fault.{of_topology}
 use Rattle.hose_offline.specs.OnDisk.{CabinetFailed, CabinetWorked, HadContent, IsRefusedOnDisk, IsUnopened}
@@ -50,36 +50,6 @@ use Rattle.hose_offline.proofs.Texts.{HasAsked-next, HasAsked-none}
 use Rattle.hose_offline.specs.ServingOnDisk.{IsNotServed}
 use Rattle.hose_offline.specs.declared.fault.Fault.{Fault}
 use Rattle.hose_offline.specs.declared.fault.Fault.TheVariants as fault
-
--- ---- the book on a disk
-
-module _ {E : Type 0} (disk : DiskGhosts E) (network : Network) (old left : E) (store : Kept E) (ledger : Ledger) (closing : Result ⊤ Failed)
-    (counts_now : (d : E) (t : ℕ) (image : List ℕ) → t ≤ disk.moment d → disk.may_leave d image → disk.left_since d t image)
-    (opened : IsOpenedOn disk old network store) (opening : LeavesOnly disk old store.journal.disk (IsAtOpening disk old network))
-    (closes : Closes disk store left closing) (call : IsCalled (disk.frame store.journal.disk) (disk.frame left) closing) (is : ledger ≡ store.ledger) where
-  amid : LeavesOnly disk store.journal.disk left (IsAmid store.ledger.network opened.history None None)
-  amid = closes.any_moment opened.history None opened.has
-
-  stands : (image : List ℕ) → IsAmid store.ledger.network opened.history None None image → IsHistoryOf network opened.history image
-  stands image is = subst (λ (n : Network). IsHistoryOf n opened.history image) opened.network (alone store.ledger.network opened.history image is)
-
-  -- a store was opened and closed
-  pub read_on : HasReadBook disk old left network ledger closing
-  read_on = record {
-    history = opened.history;
-    read = opened.read;
-    sound = subst (λ (n : Network). IsSound n 0 opened.history) opened.network opened.has.sound;
-    is = subst (IsLedgerOf network 0 opened.history) (sym is) (record { is_network = opened.network; is_book = opened.has.book; tracks = opened.has.tracks });
-    told = call.told;
-    images = record {
-      now = λ image may. stands image (amid.each image (counts_now left (disk.moment store.journal.disk) image amid.later may));
-      moments = λ image since. at image (amid.before (disk.moment old) image opening.later since);
-    };
-  }
-    where
-      at : (image : List ℕ) → disk.left_since store.journal.disk (disk.moment old) image ⊎ IsAmid store.ledger.network opened.history None None image → IsAtOpening disk old network image
-      at image (inl before) = opening.each image before
-      at image (inr in_closing) = inr (opened.history, opened.read, stands image in_closing)
 
 -- ---- the text of a topology
 

@@ -1,5 +1,5 @@
--- A run over a journal: on its disk, and in the cabinet that holds the disk.
-use Rattle.std.proofs.Common.{◌≡◌, ◌↔◌, inl, inr, ℕ, ◌≤◌, List, Option, Some, None, IfSome, Result, Ok, Err, sym, ap, subst, arith}
+-- A journal that is opened and closed: its store on a disk, and what a run and an audit make of it.
+use Rattle.std.proofs.Common.{◌≡◌, ◌↔◌, ◌⊎◌, inl, inr, ℕ, ◌≤◌, List, Option, Some, None, IfSome, Result, Ok, Err, sym, ap, subst, arith}
 use Rattle.std.specs.Prelude.{⊤}
 use Rattle.hose_io.specs.declared.Failed.{Failed}
 use Rattle.hose_io.specs.declared.source.Source.{Ghosts as SourceGhosts}
@@ -8,28 +8,25 @@ use Rattle.hose_words.specs.Lines.{Reader}
 use Rattle.hose_graph.specs.Network.{Network}
 use Rattle.hose_graph.specs.declared.entry.Entry.{Entry}
 use Rattle.hose_graph.specs.declared.command.Reply.{Reply}
-use Rattle.hose_law.specs.History.{IsDecidedAt}
-use Rattle.hose_book.specs.GoingOn.{GoesOn}
-use Rattle.hose_book.specs.Ledger.{Ledger}
+use Rattle.hose_law.specs.History.{EntryKind, IsDecidedAt, IsSound}
+use Rattle.hose_book.specs.Ledger.{IsLedgerOf, Ledger}
 use Rattle.hose_disk.specs.Cabinet.{CabinetFrame}
-use Rattle.hose_disk.specs.Disk.{IsCalled}
 use Rattle.hose_disk.specs.declared.cabinet.Cabinet.{Ghosts as CabinetGhosts}
 use Rattle.hose_disk.specs.declared.disk.Disk.{Ghosts as DiskGhosts}
 use Rattle.hose_journal.specs.Image.{Meaning, listed, damaged, other}
 use Rattle.hose_journal.specs.Moments.{LeavesOnly}
 use Rattle.hose_journal.proofs.Runs.{joined, weaker}
-use Rattle.hose_store.specs.Beginning.{HasLeft, StandsFor}
 use Rattle.hose_store.specs.Commit.{Closes, store_books}
 use Rattle.hose_store.specs.Opening.{IsAtOpening, IsOpenedOn, IsRefusedStore}
 use Rattle.hose_store.specs.Recovery.{IsHistoryOf, IsRecoveredAs}
 use Rattle.hose_store.specs.Store.{IsAmid, Kept}
 use Rattle.hose_store.specs.declared.fault.StoreFault.{StoreFault}
 use Rattle.hose_store.specs.declared.fault.StoreFault.TheVariants as store
-use Rattle.hose_offline.specs.Auditing.{AuditsBook, HasReadBook, IsLeftWith, ReadsBook, ReadsBookOnDisk}
+use Rattle.hose_offline.specs.Auditing.{AuditsBook}
 use Rattle.hose_offline.specs.Fault.{of_store}
-use Rattle.hose_offline.specs.OnDisk.{opening_of}
+use Rattle.hose_offline.specs.Journal.{ClosesJournal, IsJustOpened, IsLeftWith, OpensJournal}
 use Rattle.hose_offline.specs.Serving.{Serves, TellsDisks}
-use Rattle.hose_offline.specs.ServingOnDisk.{HasServedInCabinet, HasServedOnDisk, IsNotOpened, ServesInCabinet, ServesOnDisk, first_of}
+use Rattle.hose_offline.specs.ServingOnDisk.{HasServedInCabinet, IsNotOpened, IsNotServed, first_of}
 use Rattle.hose_offline.specs.declared.fault.Fault.{Fault}
 use Rattle.hose_offline.specs.declared.fault.Fault.TheVariants.{Memory, TooLong}
 use Rattle.hose_offline.proofs.PutBack.{IsPutBack, TakenFrom, at_opening, counts, held_as, left_as, left_in, not_served}
@@ -42,17 +39,37 @@ alone network history image (inl is) = is
 alone network history image (inr (inl none)) = absurd none
 alone network history image (inr (inr none)) = absurd none
 
+-- A store was opened, and closed before anything was added to it: the disk is left with its history.
+module _ {E : Type 0} (disk : DiskGhosts E) (network : Network) (old left : E) (store : Kept E) (closing : Result ⊤ Failed)
+    (counts_now : (d : E) (t : ℕ) (image : List ℕ) → t ≤ disk.moment d → disk.may_leave d image → disk.left_since d t image)
+    (opened : IsOpenedOn disk old network store) (opening : LeavesOnly disk old store.journal.disk (IsAtOpening disk old network)) (closes : Closes disk store left closing) where
+  amid : LeavesOnly disk store.journal.disk left (IsAmid store.ledger.network opened.history None None)
+  amid = closes.any_moment opened.history None opened.has
+
+  stands : (image : List ℕ) → IsAmid store.ledger.network opened.history None None image → IsHistoryOf network opened.history image
+  stands image is = subst (λ (n : Network). IsHistoryOf n opened.history image) opened.network (alone store.ledger.network opened.history image is)
+
+  pub left_unused : IsLeftWith disk old network opened.history left
+  left_unused = record {
+    now = λ image may. stands image (amid.each image (counts_now left (disk.moment store.journal.disk) image amid.later may));
+    moments = λ image since. at image (amid.before (disk.moment old) image opening.later since);
+  }
+    where
+      at : (image : List ℕ) → disk.left_since store.journal.disk (disk.moment old) image ⊎ IsAmid store.ledger.network opened.history None None image → IsAtOpening disk old network image
+      at image (inl before) = opening.each image before
+      at image (inr in_closing) = inr (opened.history, opened.read, stands image in_closing)
+
 -- A store was opened, and closed before anything was asked of it: at each moment an image is one of
 -- before, or stands for what the disk stood for.
-pub closed_unused : {E : Type 0} (disk : DiskGhosts E) (network : Network) (old left : E) (store : Kept E) (closing : Result ⊤ Failed) → IsOpenedOn disk old network store
-    → LeavesOnly disk old store.journal.disk (IsAtOpening disk old network) → Closes disk store left closing → IsNotOpened disk old left network (Err Memory)
-closed_unused disk network old left store closing opened run closes =
+pub closed_unused : {E : Type 0} (disk : DiskGhosts E) (Kind : EntryKind) (network : Network) (old left : E) (store : Kept E) (closing : Result ⊤ Failed) → IsJustOpened disk Kind old network store → Closes disk store left closing → IsNotOpened disk old left network (Err Memory)
+closed_unused disk Kind network old left store closing opens closes =
+    let opened = opens.opened in
     let history = opened.history in
     let after = closes.any_moment history None opened.has in
     record {
       why = tt;
       images =
-          joined disk old store.journal.disk left (IsAtOpening disk old network) run
+          joined disk old store.journal.disk left (IsAtOpening disk old network) opens.images
           (weaker disk store.journal.disk left (IsAmid store.ledger.network history None None) (IsAtOpening disk old network)
           (λ image amid. inr (history, opened.read, subst (λ (n : Network). IsHistoryOf n history image) opened.network (alone store.ledger.network history image amid))) after);
     }
@@ -82,79 +99,86 @@ module _ {E : Type 0} (disk : DiskGhosts E) (network : Network) (old left : E) w
   not_opened (store.Damaged at) one run refused = record { why = not_listed network (damaged at) (λ history same. cc same) one (disk.content old) refused.1; images = run }
   not_opened store.Memory one run refused = record { why = tt; images = run }
 
--- what the laws of stores say of a run over a store that was opened and closed
-module _ {S O E : Type 0} (source : SourceGhosts S) (sink : SinkGhosts O) (disk : DiskGhosts E) (start now : Reader S) (output output' : O) (network : Network) (old left : E) (store first last closed : Kept E) (served : Result ⊤ Fault) (closing : Result ⊤ Failed)
-    (opened : IsOpenedOn disk old network store) (is_first : first ≡ store) (is_last : closed ≡ last)
-    (closes : Closes disk closed left closing) (call : IsCalled (disk.frame closed.journal.disk) (disk.frame left) closing) where
-  abbrev Stood : List Entry → Kept E → Type 0
-  Stood history kept = StandsFor disk IsDecidedAt (disk.may_leave old) (opening_of disk network opened.history old) history kept
+-- a fault for which nothing was served is not that of an input too long
+pub not_too_long : {C E : Type 0} (cabinet : CabinetGhosts C E) (disk : DiskGhosts E) (name : List ℕ) (old new : C) (network : Network) (why : Fault) → IsNotServed cabinet disk name old new network (Err why) → why ≡ TooLong → ⊥
+not_too_long cabinet disk name old new network why not is = subst (λ (fault : Fault). IsNotServed cabinet disk name old new network (Err fault)) is not
 
-  pub served_on : Stood opened.history store → ((history : List Entry) (kept : Kept E) → Stood opened.history store → GoesOn (store_books disk) IsDecidedAt network opened.history store history kept → Stood history kept)
-      → ((history : List Entry) (kept : Kept E) → Stood history kept → Closes disk kept left closing → HasLeft disk IsDecidedAt (disk.may_leave old) (opening_of disk network opened.history old) history left closing)
-      → Serves source sink (store_books disk) start now output output' first.ledger.network opened.history first last served
-      → HasServedOnDisk source sink disk start now output output' network old left served closing
-  served_on stood run close serves = record {
-    since = opened.history;
-    first = store;
-    last = last;
-    read = opened.read;
-    serves = subst (λ (n : Network). Serves source sink (store_books disk) start now output output' n opened.history store last served) opened.network
-        (subst (λ (kept : Kept E). Serves source sink (store_books disk) start now output output' kept.ledger.network opened.history kept last served) is_first serves);
-    faults = subst (λ (kept : Kept E). (disk.frame kept.journal.disk).faults ≤ (disk.frame left).faults) is_last call.met.stays.never_falls;
-    told = call.told;
-    leaves = λ history goes. close history last (run history last stood goes) (subst (λ (kept : Kept E). Closes disk kept left closing) is_last closes);
-  }
+-- a core begins with a sound history where its store does
+pub first_sound : {E : Type 0} (first store : Kept E) (history : List Entry) → first ≡ store → IsSound store.ledger.network 0 history → IsSound first.ledger.network 0 history
+first_sound {E} first store history same sound = subst (λ (kept : Kept E). IsSound kept.ledger.network 0 history) (sym same) sound
 
 -- ---- in a cabinet
 
-module _ {C E : Type 0} (cabinet : CabinetGhosts C E) (disk : DiskGhosts E) (name : List ℕ) (old mid new : C) (network : Network) (opened left : E)
-    (back : IsPutBack cabinet disk name old mid new opened left) where
-  -- a store was opened, and closed
-  module _ {S O : Type 0} (source : SourceGhosts S) (sink : SinkGhosts O) (start now : Reader S) (output output' : O) where
-    served_in : (served : Result ⊤ Fault) (closing : Result ⊤ Failed) → HasServedOnDisk source sink disk start now output output' network opened left served closing
-        → HasServedInCabinet source sink cabinet disk name start now output output' old new network served closing
-    served_in served closing has = record {
-      since = has.since;
-      first = has.first;
-      last = has.last;
-      begun = held_as cabinet disk name old mid new network opened left back (IsHistoryOf network has.since) has.read;
-      serves = has.serves;
+module _ {C E : Type 0} (cabinet : CabinetGhosts C E) (disk : DiskGhosts E) (name : List ℕ) (old mid new : C) (network : Network) (store : Kept E) where
+  pub put_back : (Kind : EntryKind) (opens : OpensJournal cabinet disk Kind name old mid network store) (last : Kept E) (closing : Result ⊤ Failed) (closes : ClosesJournal cabinet disk mid new last closing) → IsPutBack cabinet disk name old mid new opens.was closes.left
+  put_back Kind opens last closing closes = record { out = opens.taken; in_place = closes.back }
+
+  -- the store was closed before anything was asked of it, for want of memory
+  pub unused_in : (Kind : EntryKind) (closing : Result ⊤ Failed) → OpensJournal cabinet disk Kind name old mid network store → ClosesJournal cabinet disk mid new store closing → IsNotServed cabinet disk name old new network (Err Memory)
+  unused_in Kind closing opens closes = not_served cabinet disk name old mid new network opens.was closes.left (put_back Kind opens store closing closes) (Err Memory)
+      (closed_unused disk Kind network opens.was closes.left store closing opens.opens closes.closes)
+
+  -- ---- a run
+
+  module _ {S O : Type 0} (source : SourceGhosts S) (sink : SinkGhosts O) (start now : Reader S) (output output' : O) (first last : Kept E) (served : Result ⊤ Fault) (closing : Result ⊤ Failed)
+      (opens : OpensJournal cabinet disk IsDecidedAt name old mid network store) (closes : ClosesJournal cabinet disk mid new last closing) where
+    back : IsPutBack cabinet disk name old mid new opens.was closes.left
+    back = put_back IsDecidedAt opens last closing closes
+
+    returned : (cabinet.frame new).returned ≡ (disk.frame closes.left).faults
+    returned = ap (λ (f : CabinetFrame). f.returned) closes.back.call
+
+    told_back : (before after : ℕ) (replies : List Reply) → after ≤ (disk.frame closes.left).faults → TellsDisks before replies after → TellsDisks 0 replies (cabinet.frame new).returned
+    told_back before after replies more (inl told) = inl (omega (arith, told, more, returned))
+    told_back before after replies more (inr most) = inr (omega (arith, most, more, returned))
+
+    serves_in : Serves source sink (store_books disk) start now output output' network opens.opens.opened.history store last served → HasServedInCabinet source sink cabinet disk name start now output output' old new network served closing
+    serves_in serves = record {
+      since = opens.opens.opened.history;
+      first = store;
+      last = last;
+      begun = held_as cabinet disk name old mid new network opens.was closes.left back (IsHistoryOf network opens.opens.opened.history) opens.opens.opened.read;
+      serves = serves;
       keeps = λ history replies goes told. record {
-        told = told_back replies told;
-        met = counts cabinet disk name old mid new network opened left back closing has.told;
-        left = left_in cabinet disk name old mid new network opened left back has.since history closing (has.leaves history goes);
+        told = told_back _ _ replies closes.call.met.stays.never_falls told;
+        met = counts cabinet disk name old mid new network opens.was closes.left back closing closes.call.told;
+        left = left_in cabinet disk name old mid new network opens.was closes.left back opens.opens.opened.history history closing (opens.opens.leaves history last closes.left closing goes closes.closes);
       };
     }
-      where
-        told_back : (replies : List Reply) → TellsDisks (disk.frame has.first.journal.disk).faults replies (disk.frame has.last.journal.disk).faults → TellsDisks 0 replies (cabinet.frame new).returned
-        told_back replies (inl told) = inl (omega (arith, told, has.faults, ap (λ (f : CabinetFrame). f.returned) back.after))
-        told_back replies (inr most) = inr (omega (arith, most, has.faults, ap (λ (f : CabinetFrame). f.returned) back.after))
 
-    pub in_cabinet : (done : Result ⊤ Fault) → ServesOnDisk source sink disk start now output output' network opened left done → ServesInCabinet source sink cabinet disk name start now output output' old new network done
-    in_cabinet done (inl (not, stays, same)) = inl (not_served cabinet disk name old mid new network opened left back done not, stays, same)
-    in_cabinet done (inr (served, closing, has, told)) = inr (served, closing, served_in served closing has, told)
+    -- lines were answered by a core that began with the store
+    pub served_in : first ≡ store → Serves source sink (store_books disk) start now output output' first.ledger.network opens.opens.opened.history first last served
+        → HasServedInCabinet source sink cabinet disk name start now output output' old new network served closing
+    served_in same serves = serves_in
+        (subst (λ (n : Network). Serves source sink (store_books disk) start now output output' n opens.opens.opened.history store last served) opens.opens.opened.network
+        (subst (λ (kept : Kept E). Serves source sink (store_books disk) start now output output' kept.ledger.network opens.opens.opened.history kept last served) same serves))
 
   -- ---- an audit
 
-  -- the book was read
-  read_in : (ledger : Ledger) (closing : Result ⊤ Failed) → HasReadBook disk opened left network ledger closing → AuditsBook cabinet disk name old new network ledger closing
-  read_in ledger closing has = record {
-    history = has.history;
-    is = has.is;
-    audited = record {
-      begun = held_as cabinet disk name old mid new network opened left back (IsHistoryOf network has.history) has.read;
-      sound = has.sound;
-      met = counts cabinet disk name old mid new network opened left back closing has.told;
-      left = left_as cabinet disk name old mid new network opened left back (λ was now. IsLeftWith disk was network has.history now) left_before;
-    };
-  }
-    where
-      left_before : (was : E) → TakenFrom cabinet disk name old mid new network opened left back was → IsLeftWith disk was network has.history left
-      left_before was is = record {
-        now = has.images.now;
-        moments = λ image since. at_opening cabinet disk name old mid new network opened left back was image is.0 is.1.0 (has.images.moments image (subst (λ (t : ℕ). disk.left_since left t image) (sym is.1.1) since));
-      }
+  module _ (Kind : EntryKind) (closing : Result ⊤ Failed) (opens : OpensJournal cabinet disk Kind name old mid network store) (closes : ClosesJournal cabinet disk mid new store closing) where
+    abbrev opened : IsOpenedOn disk opens.was network store
+    opened = opens.opens.opened
 
-  pub audits_in : (done : Result (Ledger × Result ⊤ Failed) Fault) → ReadsBookOnDisk disk opened left network done → ReadsBook cabinet disk name old new network done
-  audits_in (Ok read) has = read_in read.0 read.1 has
-  audits_in (Err why) not = not_served cabinet disk name old mid new network opened left back (Err why) not
+    unused_back : IsPutBack cabinet disk name old mid new opens.was closes.left
+    unused_back = put_back Kind opens store closing closes
+
+    left_before : (was : E) → TakenFrom cabinet disk name old mid new network opens.was closes.left unused_back was → IsLeftWith disk was network opened.history closes.left
+    left_before was is =
+        let images = opens.opens.unused closes.left closing closes.closes in
+        record {
+          now = images.now;
+          moments = λ image since. at_opening cabinet disk name old mid new network opens.was closes.left unused_back was image is.0 is.1.0 (images.moments image (subst (λ (t : ℕ). disk.left_since closes.left t image) (sym is.1.1) since));
+        }
+
+    -- the book of the store was read
+    pub audits_in : (ledger : Ledger) → ledger ≡ store.ledger → AuditsBook cabinet disk name old new network ledger closing
+    audits_in ledger is = record {
+      history = opened.history;
+      is = subst (IsLedgerOf network 0 opened.history) (sym is) (record { is_network = opened.network; is_book = opened.has.book; tracks = opened.has.tracks });
+      audited = record {
+        begun = held_as cabinet disk name old mid new network opens.was closes.left unused_back (IsHistoryOf network opened.history) opened.read;
+        sound = subst (λ (n : Network). IsSound n 0 opened.history) opened.network opened.has.sound;
+        met = counts cabinet disk name old mid new network opens.was closes.left unused_back closing closes.call.told;
+        left = left_as cabinet disk name old mid new network opens.was closes.left unused_back (λ was now. IsLeftWith disk was network opened.history now) left_before;
+      };
+    }

@@ -8,7 +8,7 @@ use Rattle.hose_io.specs.declared.Failed.{Failed}
 use Rattle.hose_graph.specs.Network.{Network}
 use Rattle.hose_graph.specs.declared.entry.Entry.{Entry}
 use Rattle.hose_law.specs.History.{EntryKind, IsDecidedAt}
-use Rattle.hose_disk.specs.Cabinet.{CabinetFrame, Has, IsDiskCall, after_back, object_of, where_told}
+use Rattle.hose_disk.specs.Cabinet.{CabinetFrame, Has, object_of, where_told}
 use Rattle.hose_disk.specs.Disk.{NoneNew}
 use Rattle.hose_disk.specs.declared.cabinet.Cabinet.{Ghosts as CabinetGhosts}
 use Rattle.hose_disk.specs.declared.disk.Disk.{Ghosts as DiskGhosts}
@@ -17,6 +17,7 @@ use Rattle.hose_journal.specs.Moments.{LeavesOnly}
 use Rattle.hose_store.specs.Beginning.{HasLeft}
 use Rattle.hose_store.specs.Opening.{IsAtOpening}
 use Rattle.hose_store.specs.Recovery.{IsHistoryOf, IsRecoveredAs}
+use Rattle.hose_offline.specs.Journal.{IsPutIn, IsTakenOut}
 use Rattle.hose_offline.specs.OnDisk.{HadContent, IsRefusedOnDisk, IsUnopened, opening_of}
 use Rattle.hose_offline.specs.ServingOnDisk.{IsNotOpened, IsNotServed, Refuses}
 use Rattle.hose_offline.specs.declared.fault.Fault.{Fault}
@@ -40,13 +41,8 @@ told_some false value told = absurd (cc told)
 
 -- A disk was taken out of a cabinet as it was held there, and another one was put back in its place.
 pub record IsPutBack {C E : Type 0} (cabinet : CabinetGhosts C E) (disk : DiskGhosts E) (name : List ℕ) (old mid new : C) (opened left : E) : Type 0 where
-  pub content : Has (cabinet.frame old).tells (cabinet.held old name) (λ was. disk.content opened ≡ disk.content was)
-  pub images : Has (cabinet.frame old).tells (cabinet.held old name) (λ was. NoneNew (disk.may_leave was) (disk.may_leave opened))
-  pub moment : Has (cabinet.frame old).tells (cabinet.held old name) (λ was. disk.moment opened ≡ disk.moment was)
-  pub taken : IsDiskCall {T = E} name (cabinet.frame old) (cabinet.frame mid) (Ok opened)
-  pub held : IfSome (cabinet.frame mid).out (λ out. cabinet.held new out ≡ where_told (cabinet.frame mid).tells left)
-  pub never_falls : (cabinet.frame mid).faults ≤ (cabinet.frame new).faults
-  pub after : cabinet.frame new ≡ after_back (disk.frame left) (cabinet.frame mid)
+  pub out : IsTakenOut cabinet disk name old mid opened
+  pub in_place : IsPutIn cabinet disk mid new left
 
 module _ {C E : Type 0} (cabinet : CabinetGhosts C E) (disk : DiskGhosts E) (name : List ℕ) (old mid new : C) (network : Network) (opened left : E)
     (back : IsPutBack cabinet disk name old mid new opened left) where
@@ -56,8 +52,8 @@ module _ {C E : Type 0} (cabinet : CabinetGhosts C E) (disk : DiskGhosts E) (nam
   -- the disk that is put back is held under the name
   held_left : Has (cabinet.frame new).tells (cabinet.held new name) (λ now. now ≡ left)
   held_left = λ told.
-      let tells : (cabinet.frame new).tells ≡ (cabinet.frame mid).tells = ap (λ (f : CabinetFrame). f.tells) back.after in
-      let there = subst (λ (out : Option (List ℕ)). IfSome out (λ out. cabinet.held new out ≡ where_told (cabinet.frame mid).tells left)) back.taken.taken_out back.held in
+      let tells : (cabinet.frame new).tells ≡ (cabinet.frame mid).tells = ap (λ (f : CabinetFrame). f.tells) back.in_place.call in
+      let there = subst (λ (out : Option (List ℕ)). IfSome out (λ out. cabinet.held new out ≡ where_told (cabinet.frame mid).tells left)) back.out.call.taken_out back.in_place.held in
       (left, there ∙ told_some (cabinet.frame mid).tells left (subst IsTrue tells told), refl)
 
   pub at_opening : (was : E) (image : List ℕ) → disk.content opened ≡ disk.content was → NoneNew (disk.may_leave was) (disk.may_leave opened) → IsAtOpening disk opened network image → IsAtOpening disk was network image
@@ -69,7 +65,7 @@ module _ {C E : Type 0} (cabinet : CabinetGhosts C E) (disk : DiskGhosts E) (nam
   TakenFrom was = (disk.content opened ≡ disk.content was) × (NoneNew (disk.may_leave was) (disk.may_leave opened) × (disk.moment opened ≡ disk.moment was))
 
   taken_from : Has was_tells (cabinet.held old name) TakenFrom
-  taken_from = has_both was_tells (cabinet.held old name) _ _ back.content (has_both was_tells (cabinet.held old name) _ _ back.images back.moment)
+  taken_from = has_both was_tells (cabinet.held old name) _ _ back.out.content (has_both was_tells (cabinet.held old name) _ _ back.out.images back.out.moment)
 
   -- what holds of it beside the disk as it was held holds in the cabinet
   pub left_as : (P : E → E → Type 0) → ((was : E) → TakenFrom was → P was left) → Has was_tells (cabinet.held old name) (λ was. Has (cabinet.frame new).tells (cabinet.held new name) (P was))
@@ -86,17 +82,17 @@ module _ {C E : Type 0} (cabinet : CabinetGhosts C E) (disk : DiskGhosts E) (nam
 
   -- what was read of the disk is what it held
   pub held_as : (P : List ℕ → Type 0) → IfSome (disk.content opened) P → HadContent cabinet disk old new name P
-  held_as P is = has_weaker was_tells (cabinet.held old name) _ _ (λ was same. subst (λ (c : Option (List ℕ)). IfSome c P) same is) back.content
+  held_as P is = has_weaker was_tells (cabinet.held old name) _ _ (λ was same. subst (λ (c : Option (List ℕ)). IfSome c P) same is) back.out.content
 
   -- the count of the cabinet
   faults_before : (cabinet.frame mid).faults ≡ (cabinet.frame old).faults
-  faults_before = ap (λ (f : Frame). f.faults) back.taken.met.ok
+  faults_before = ap (λ (f : Frame). f.faults) back.out.call.met.ok
 
   abbrev Counted : Bool → ℕ
   Counted failed = if failed then one_more (cabinet.frame mid).faults else (cabinet.frame mid).faults
 
   counted : (failed : Bool) → (disk.frame left).has_failed ≡ failed → (cabinet.frame new).faults ≡ Counted failed
-  counted failed told = ap (λ (f : CabinetFrame). f.faults) back.after ∙ ap Counted told
+  counted failed told = ap (λ (f : CabinetFrame). f.faults) back.in_place.call ∙ ap Counted told
 
   risen : (disk.frame left).has_failed ≡ true → Rose (object_of (cabinet.frame old)) (object_of (cabinet.frame new))
   risen told = record { rose = at (cases_lt (cabinet.frame old).faults (cabinet.frame new).faults) }
@@ -114,7 +110,7 @@ module _ {C E : Type 0} (cabinet : CabinetGhosts C E) (disk : DiskGhosts E) (nam
         ok = ap (λ (n : ℕ). record { faults = n; number = 0; loan = [] }) same;
       }
   counts (Err failed) told = record {
-    stays = record { never_falls = omega (arith, back.never_falls, faults_before); number = refl; loan = refl };
+    stays = record { never_falls = omega (arith, back.in_place.never_falls, faults_before); number = refl; loan = refl };
     failed = λ err. risen told;
     ok = tt;
   }

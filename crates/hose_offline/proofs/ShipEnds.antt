@@ -84,7 +84,7 @@ module _ {O C E : Type 0} (sink : SinkGhosts O) (cabinet : CabinetGhosts C E) (d
       held = held_as cabinet disk name old mid new network opened left back (IsHistoryOf network ships.0.history) ships.0.read;
       out = ships.0.out;
       writing = ships.1;
-      keeping = ap (λ (f : CabinetFrame). f.returned) back.after ∙ (ships.2 ∙ ap (λ (f : DiskFrame). f.faults) fresh);
+      keeping = ap (λ (f : CabinetFrame). f.returned) back.in_place.call ∙ (ships.2 ∙ ap (λ (f : DiskFrame). f.faults) fresh);
     }
     ships_in (Err Write) ships run = (part _ ships.0, ships.1)
     ships_in (Err (Store store.Disk)) ships run = (not_shipped store.Disk ships run, part _ ships.0, ships.1)

@@ -1,5 +1,5 @@
 -- What an audit does, step by step: it reads the text of a topology, and the book of a journal.
-use Rattle.std.specs.Prelude.{◌≡◌, ◌⊎◌, ◌↔◌, ℕ, ◌+◌, ◌<◌, ◌≤◌, List, Option, None, IfSome, IsSome, IsTrue, Result, Ok, Err, is_err, length, ⊤}
+use Rattle.std.specs.Prelude.{◌≡◌, ◌⊎◌, ◌↔◌, ℕ, ◌+◌, ◌<◌, ◌≤◌, List, Option, None, IsSome, IsTrue, Result, Ok, Err, length, ⊤}
 use Rattle.hose_io.specs.Frame.{Met}
 use Rattle.hose_io.specs.Stream.{Stream, Gives}
 use Rattle.hose_io.specs.declared.Failed.{Failed}
@@ -14,14 +14,13 @@ use Rattle.hose_book.specs.Ledger.{IsLedgerOf, Ledger}
 use Rattle.hose_disk.specs.Cabinet.{Has, object_of}
 use Rattle.hose_disk.specs.declared.cabinet.Cabinet.{Ghosts as CabinetGhosts}
 use Rattle.hose_disk.specs.declared.disk.Disk.{Ghosts as DiskGhosts}
-use Rattle.hose_journal.specs.Moments.{Images}
-use Rattle.hose_store.specs.Opening.{IsAtOpening}
 use Rattle.hose_store.specs.Recovery.{IsHistoryOf}
 use Rattle.hose_topo.specs.Reading.{StopsInTopology}
 use Rattle.hose_offline.specs.CabinetText.{OnlyTextsRead, whole_text}
+use Rattle.hose_offline.specs.Journal.{IsLeftWith}
 use Rattle.hose_offline.specs.OnDisk.{CabinetFailed, CabinetWorked, HadContent}
 use Rattle.hose_offline.specs.Run.{HasNetwork, HasText, TellsNoNetwork}
-use Rattle.hose_offline.specs.ServingOnDisk.{IsNotOpened, IsNotServed}
+use Rattle.hose_offline.specs.ServingOnDisk.{IsNotServed}
 use Rattle.hose_offline.specs.TopologyTold.{TellsPriced, limit_of, notation_of}
 use Rattle.hose_offline.specs.declared.fault.Fault.{Fault}
 use Rattle.hose_offline.specs.declared.notation.Notation.{Notation}
@@ -111,34 +110,7 @@ module _ {C E : Type 0} (cabinet : CabinetGhosts C E) (old new : C) where
   abbrev pub ReadsTopology : (Network → Network → Type 0) → List ℕ → Result Network Fault → Type 0
   ReadsTopology prices name = ReadsText (notation_of name) prices name
 
--- ---- the book on a disk
-
--- Each image that a stop may leave of a disk stands for the history. At each moment since its
--- opening each image is one that it had then, or stands for what it stood for as it was read.
-pub record IsLeftWith {E : Type 0} (disk : DiskGhosts E) (old : E) (network : Network)
-    (history : List Entry) (left : E) : Type 0 where
-  pub now : Images disk left (IsHistoryOf network history)
-  pub moments : (image : List ℕ) → disk.left_since left (disk.moment old) image
-      → IsAtOpening disk old network image
-
--- The book of a journal was read, and the journal was closed: it is that of the history for which
--- the disk stood as it was read.
-pub record HasReadBook {E : Type 0} (disk : DiskGhosts E) (old left : E) (network : Network)
-    (ledger : Ledger) (closing : Result ⊤ Failed) : Type 0 where
-  pub history : List Entry
-  pub read : IfSome (disk.content old) (IsHistoryOf network history)
-  pub sound : IsSound network 0 history
-  pub is : IsLedgerOf network 0 history ledger
-  pub told : (disk.frame left).has_failed ≡ is_err closing
-  pub images : IsLeftWith disk old network history left
-
--- no store was opened, or the book was read
-abbrev pub ReadsBookOnDisk : {E : Type 0} → DiskGhosts E → E → E → Network
-    → Result (Ledger × Result ⊤ Failed) Fault → Type 0
-ReadsBookOnDisk disk old left network (Ok read) = HasReadBook disk old left network read.0 read.1
-ReadsBookOnDisk disk old left network (Err why) = IsNotOpened disk old left network (Err why)
-
--- ---- the book in a cabinet
+-- ---- the book of the journal
 
 -- The journal of a name stood for the history, as it was read at its opening, and is left with it.
 -- The cabinet failed exactly where closing did.

@@ -1,6 +1,5 @@
--- What the answers of a follower make of the history of its journal, and what following does to the
--- journal's disk.
-use Rattle.std.specs.Prelude.{◌≡◌, ◌≢◌, ◌⊎◌, ◌↔◌, ℕ, ◌+◌, ◌<◌, ◌≤◌, List, [], ◌∷◌, ◌++◌, length, All, IfSome, Result, Ok, Err, is_err, ⊤}
+-- What the answers of a follower make of the history of its journal, and what following comes to.
+use Rattle.std.specs.Prelude.{◌≡◌, ◌≢◌, ◌⊎◌, ◌↔◌, ℕ, ◌+◌, ◌<◌, ◌≤◌, List, [], ◌∷◌, ◌++◌, length, All, Result, Ok, Err, ⊤}
 use mathlib.Core.List.{IsPrefix}
 use Rattle.hose_io.specs.Frame.{Met}
 use Rattle.hose_io.specs.Stream.{Gives}
@@ -26,7 +25,7 @@ use Rattle.hose_follow.specs.declared.following.FollowEnd.{FollowEnd}
 use Rattle.hose_follow.specs.declared.following.FollowEnd.TheVariants as end
 use Rattle.hose_follow.specs.declared.following.TheConstants.{INPUT_LIMIT}
 use Rattle.hose_offline.specs.OnDisk.{HadContent, opening_of}
-use Rattle.hose_offline.specs.ServingOnDisk.{IsNotOpened, IsNotServed, first_of}
+use Rattle.hose_offline.specs.ServingOnDisk.{IsNotServed, first_of}
 use Rattle.hose_offline.specs.declared.fault.Fault.{Fault}
 use Rattle.hose_offline.specs.declared.fault.Fault.TheVariants as fault
 
@@ -113,31 +112,6 @@ following_done end.Read = Err fault.Read
 following_done end.Write = Err fault.Write
 following_done end.TooLong = Err fault.TooLong
 following_done end.Memory = Err fault.Memory
-
--- ---- on a disk
-
--- The input was followed by the store of a disk, which was closed then. What is left of the disk
--- stands for the history, as `HasLeft` says.
-pub record HasFollowedOnDisk {I O E : Type 0} (source : SourceGhosts I) (sink : SinkGhosts O)
-    (disk : DiskGhosts E) (input input' : I) (output output' : O) (network : Network)
-    (old left : E) (ended : FollowEnd) (closing : Result ⊤ Failed) : Type 0 where
-  pub since : List Entry
-  pub history : List Entry
-  pub read : IfSome (disk.content old) (IsHistoryOf network since)
-  pub follows : FollowsFrom source sink input input' output output' network since history ended
-  pub disks : TellsDiskAnswers (disk.frame old).faults follows.answers (disk.frame left).faults
-  pub told : (disk.frame left).has_failed ≡ is_err closing
-  pub leaves : HasLeft disk IsSoundAt (disk.may_leave old) (opening_of disk network since old)
-      history left closing
-
--- no store was opened, or the input was followed by it, and the first fault is told
-abbrev pub FollowsOnDisk : {I O E : Type 0} → SourceGhosts I → SinkGhosts O → DiskGhosts E → I → I
-    → O → O → Network → E → E → Result ⊤ Fault → Type 0
-FollowsOnDisk source sink disk input input' output output' network old left result =
-    (IsNotOpened disk old left network result × (input' ≡ input) × (output' ≡ output))
-    ⊎ ((ended : FollowEnd) × (closing : Result ⊤ Failed)
-    × HasFollowedOnDisk source sink disk input input' output output' network old left ended closing
-    × (result ≡ first_of (following_done ended) closing))
 
 -- ---- in a cabinet
 

@@ -8,6 +8,7 @@ pub mod FollowOutcome
 pub mod Following
 pub mod GenOutcome
 pub mod Generating
+pub mod Journal
 pub mod JsonRead
 pub mod OnDisk
 pub mod PriceOutcome

@@ -1,5 +1,5 @@
--- What answering lines by the book of a journal comes to, and what it does to the journal's disk.
-use Rattle.std.specs.Prelude.{◌≡◌, ◌⊎◌, ℕ, ◌≤◌, List, IfSome, true, Result, Ok, Err, is_err, ⊤}
+-- What answering lines by the book of a journal comes to, and why it is not done.
+use Rattle.std.specs.Prelude.{◌≡◌, ◌⊎◌, ℕ, List, IfSome, true, Result, Ok, Err, ⊤}
 use Rattle.hose_io.specs.declared.Failed.{Failed}
 use Rattle.hose_io.specs.declared.source.Source.{Ghosts as SourceGhosts}
 use Rattle.hose_io.specs.declared.sink.Sink.{Ghosts as SinkGhosts}
@@ -13,12 +13,11 @@ use Rattle.hose_disk.specs.declared.cabinet.Cabinet.{Ghosts as CabinetGhosts}
 use Rattle.hose_disk.specs.declared.disk.Disk.{Ghosts as DiskGhosts}
 use Rattle.hose_journal.specs.Image.{Meaning, damaged, other}
 use Rattle.hose_journal.specs.Moments.{LeavesOnly}
-use Rattle.hose_store.specs.Beginning.{HasLeft}
 use Rattle.hose_store.specs.Commit.{store_books}
 use Rattle.hose_store.specs.Opening.{IsAtOpening}
 use Rattle.hose_store.specs.Recovery.{IsHistoryOf, IsRecoveredAs, digest_of}
 use Rattle.hose_store.specs.Store.{Kept}
-use Rattle.hose_offline.specs.OnDisk.{CabinetFailed, HadContent, IsRefusedOnDisk, IsUnopened, KeptOnDisk, opening_of}
+use Rattle.hose_offline.specs.OnDisk.{CabinetFailed, HadContent, IsRefusedOnDisk, IsUnopened, KeptOnDisk}
 use Rattle.hose_offline.specs.Serving.{Serves, TellsDisks}
 use Rattle.hose_offline.specs.declared.fault.Fault.{Fault}
 use Rattle.hose_offline.specs.declared.fault.Fault.TheVariants as fault
@@ -51,32 +50,6 @@ pub record IsNotOpened {E : Type 0} (disk : DiskGhosts E) (old left : E) (networ
     (result : Result ⊤ Fault) : Type 0 where
   pub why : IsWhy disk old left network result
   pub images : LeavesOnly disk old left (IsAtOpening disk old network)
-
--- Lines were answered by a store, which was closed then.
-pub record HasServedOnDisk {S O E : Type 0} (source : SourceGhosts S) (sink : SinkGhosts O)
-    (disk : DiskGhosts E) (start now : Reader S) (output output' : O) (network : Network)
-    (old left : E) (served : Result ⊤ Fault) (closing : Result ⊤ Failed) : Type 0 where
-  pub since : List Entry
-  pub first : Kept E
-  pub last : Kept E
-  pub read : IfSome (disk.content old) (IsHistoryOf network since)
-  pub serves : Serves source sink (store_books disk) start now output output' network since first
-      last served
-  pub faults : (disk.frame last.journal.disk).faults ≤ (disk.frame left).faults
-  pub told : (disk.frame left).has_failed ≡ is_err closing
-  pub leaves : (history : List Entry)
-      → GoesOn (store_books disk) IsDecidedAt network since first history last
-      → HasLeft disk IsDecidedAt (disk.may_leave old) (opening_of disk network since old) history
-      left closing
-
--- no store was opened, or lines were answered by it, and the first fault is told
-abbrev pub ServesOnDisk : {S O E : Type 0} → SourceGhosts S → SinkGhosts O → DiskGhosts E → Reader S
-    → Reader S → O → O → Network → E → E → Result ⊤ Fault → Type 0
-ServesOnDisk source sink disk start now output output' network old left result =
-    (IsNotOpened disk old left network result × (now ≡ start) × (output' ≡ output))
-    ⊎ ((served : Result ⊤ Fault) × (closing : Result ⊤ Failed)
-    × HasServedOnDisk source sink disk start now output output' network old left served closing
-    × (result ≡ first_of served closing))
 
 -- ---- in a cabinet
 

@@ -14,10 +14,11 @@ ghost use Rattle.hose_core.specs.Stepping.{FitsHistory};
 ghost use Rattle.hose_disk.specs.Cabinet.{object_of};
 ghost use Rattle.hose_offline.specs.RunOutcome.{RunLeaves, RunOutcome};
 ghost use Rattle.hose_offline.specs.Serving.{SaysOneThing, SaysRead, AnswersLine, Serves, ServesInMemory, ServesLine};
+ghost use Rattle.hose_offline.specs.ServingOnDisk.{ServesInCabinet};
 
 use crate::fault::{Fault, end};
 use crate::input_line::read_line;
-use crate::journal::answer_in_cabinet;
+use crate::journal::{close_journal, first_fault, open_journal};
 use hose_book::{Book, Books, Plain};
 use hose_core::Core;
 use hose_disk::Cabinet;
@@ -25,6 +26,7 @@ use hose_graph::{Reply, Topology};
 use hose_io::{Sink, Source};
 use hose_paths::{RowMaker, RowTable, TableRows};
 use hose_proto::{ReadFault, put_reply};
+use hose_store::Decided;
 use hose_tariff::Prices;
 use hose_topo::read;
 use hose_words::{INPUT_LIMIT, Line, LineReader};
@@ -119,8 +121,8 @@ fn run_lines<P: Prices, S: Source, O: Sink, C: Cabinet>(
     }
 }
 
-/// Answers all lines by a book in memory. The rows of all nodes are made first.
-pub fn answer_in_memory<S: Source, O: Sink>(
+// Answers all lines by a book in memory. The rows of all nodes are made first.
+fn answer_in_memory<S: Source, O: Sink>(
     alloc: Global,
     topology: Topology,
     lines: &mut LineReader<S>,
@@ -141,8 +143,43 @@ pub fn answer_in_memory<S: Source, O: Sink>(
     answer_all(alloc, &mut core, lines, output, &mut TableRows::new(&table))
 }
 
-/// Answers all lines that are to come.
-pub fn answer_all<S: Source, O: Sink, K: Books + Drop, R: RowMaker>(
+// Answers all lines by the book of the journal of a name. The first fault is told, and the disk is
+// back in the cabinet. The rows of all nodes are made once the journal is open; where there is no
+// memory for them, it is closed as it is.
+fn answer_in_cabinet<S: Source, O: Sink, C: Cabinet>(
+    alloc: Global,
+    name: &str,
+    topology: Topology,
+    lines: &mut LineReader<S>,
+    output: &mut O,
+    cabinet: &mut C,
+) -> Result<(), Fault>
+    requires none_out { (C.frame cabinet.old).out ≡ None }
+    requires limit { lines.old.taken ≤ INPUT_LIMIT }
+    requires no_fault { lines.old.fault ≡ None }
+    ensures serves { ServesInCabinet S.Source O.Sink C.Cabinet C.Disk.Disk name.now
+        lines.old lines.new output.old output.new cabinet.old cabinet.new topology result }
+    ensures too_long { (result ≡ Err Fault.TooLong) ↔ (INPUT_LIMIT < lines.new.taken) }
+    ensures reads_on { ReadsOn S.Source lines.old lines.new }
+    ensures limit { lines.new.taken ≤ INPUT_LIMIT + 1 }
+    ensures absent { (C.frame cabinet.new).absent ≡ (C.frame cabinet.old).absent }
+    ensures back { (C.frame cabinet.new).out ≡ None }
+    ensures output { Stays (O.frame output.old) (O.frame output.new) }
+    ensures cabinet { Stays (object_of (C.frame cabinet.old)) (object_of (C.frame cabinet.new)) }
+{
+    let store = open_journal::<C, Decided>(alloc, name, topology, cabinet)?;
+    let Ok(table) = RowTable::of_all(alloc, store.book().topology()) else {
+        let _ = close_journal(store, cabinet);
+        return Err(Fault::Memory);
+    };
+    let mut core = Core::new(alloc, store);
+    let served = answer_all(alloc, &mut core, lines, output, &mut TableRows::new(&table));
+    let closed = close_journal(core.into_books(), cabinet);
+    first_fault(served, closed.0)
+}
+
+// Answers all lines that are to come.
+fn answer_all<S: Source, O: Sink, K: Books + Drop, R: RowMaker>(
     alloc: Global,
     core: &mut Core<K>,
     lines: &mut LineReader<S>,

@@ -5,18 +5,18 @@ ghost use Rattle.hose_audit.specs.Audit.{audit_text};
 ghost use Rattle.hose_disk.specs.Cabinet.{object_of};
 ghost use Rattle.hose_offline.specs.AuditOutcome.{AuditOutcome, EndsTold};
 ghost use Rattle.hose_offline.specs.TopologyTold.{own_costs};
-ghost use Rattle.hose_offline.specs.Auditing.{ReadsBook, ReadsBookOnDisk, ReadsNamed, ReadsText, ReadsTopology};
+ghost use Rattle.hose_offline.specs.Auditing.{ReadsBook, ReadsNamed, ReadsText, ReadsTopology};
 
 use crate::cabinet_text::CabinetText;
 use crate::fault::{Fault, end};
-use crate::journal::first_fault;
+use crate::journal::{close_journal, first_fault, open_journal};
 use crate::json_text::read_whole_json;
 use crate::notation::Notation;
 use hose_book::Book;
-use hose_disk::{Cabinet, Disk};
+use hose_disk::Cabinet;
 use hose_graph::Topology;
 use hose_io::{Failed, Sink};
-use hose_store::{Store, law_one_meaning};
+use hose_store::Decided;
 use hose_tariff::Prices;
 use hose_topo::read;
 use hose_words::LineReader;
@@ -173,29 +173,8 @@ fn read_book<C: Cabinet>(
     ensures back { (C.frame cabinet.new).out ≡ None }
     ensures cabinet { Stays (object_of (C.frame cabinet.old)) (object_of (C.frame cabinet.new)) }
 {
-    let Ok(disk) = cabinet.disk(name) else {
-        return Err(Fault::Cabinet);
-    };
-    let read = read_book_on_disk(alloc, topology, disk);
-    cabinet.back(read.1);
-    read.0
-}
-
-// Reads the book of a journal on a disk, which comes back.
-fn read_book_on_disk<D: Disk>(
-    alloc: Global,
-    topology: Topology,
-    disk: D,
-) -> (Result<(Book, Result<(), Failed>), Fault>, D)
-    ensures { ReadsBookOnDisk D.Disk disk result.1 topology result.0 }
-{
-    // What is known of each image of the disk comes from the law.
-    law_one_meaning(&topology);
-    match Store::open(alloc, disk, topology) {
-        Ok(store) => {
-            let (closed, disk, book) = store.close();
-            (Ok((book, closed)), disk)
-        }
-        Err(refused) => (Err(Fault::from(refused.0)), refused.1),
-    }
+    // Nothing is added to the store, so any premises serve.
+    let store = open_journal::<C, Decided>(alloc, name, topology, cabinet)?;
+    let (closing, book) = close_journal(store, cabinet);
+    Ok((book, closing))
 }

@@ -3,16 +3,15 @@ ghost use Rattle.std.specs.Prelude.{◌≡◌, ◌≢◌, None};
 ghost use Rattle.hose_io.specs.Frame.{Stays};
 ghost use Rattle.hose_disk.specs.Cabinet.{object_of};
 ghost use Rattle.hose_offline.specs.FollowOutcome.{FollowOutcome};
-ghost use Rattle.hose_offline.specs.Following.{FollowsInCabinet, FollowsOnDisk, following_done};
+ghost use Rattle.hose_offline.specs.Following.{FollowsInCabinet, following_done};
 
 use crate::auditing::{Names, read_topology};
 use crate::fault::{Fault, end};
-use crate::journal::first_fault;
-use hose_disk::{Cabinet, Disk};
+use crate::journal::{close_journal, first_fault, open_journal};
+use hose_disk::Cabinet;
 use hose_follow::{FollowEnd, Sound};
 use hose_graph::Topology;
 use hose_io::{Sink, Source};
-use hose_store::{Store, law_closed, law_one_meaning, law_opened, law_run};
 use hose_tariff::Prices;
 use std::alloc::Global;
 
@@ -45,7 +44,8 @@ pub fn follow<P: Prices, I: Source, O: Sink, C: Cabinet>(
     }
 }
 
-// Answers all packets by the journal of a name. The disk is back in the cabinet then.
+// Answers all packets by the journal of a name. The first fault is told, and the disk is back in
+// the cabinet.
 fn follow_in_cabinet<I: Source, O: Sink, C: Cabinet>(
     alloc: Global,
     name: &str,
@@ -63,39 +63,10 @@ fn follow_in_cabinet<I: Source, O: Sink, C: Cabinet>(
     ensures output { Stays (O.frame output.old) (O.frame output.new) }
     ensures cabinet { Stays (object_of (C.frame cabinet.old)) (object_of (C.frame cabinet.new)) }
 {
-    let Ok(disk) = cabinet.disk(name) else {
-        return Err(Fault::Cabinet);
-    };
-    let followed = follow_on_disk(alloc, topology, disk, input, output);
-    cabinet.back(followed.1);
-    followed.0
-}
-
-// Answers all packets by the journal on a disk, which comes back. The first fault is told.
-fn follow_on_disk<I: Source, O: Sink, D: Disk>(
-    alloc: Global,
-    topology: Topology,
-    disk: D,
-    input: &mut I,
-    output: &mut O,
-) -> (Result<(), Fault>, D)
-    ensures follows { FollowsOnDisk I.Source O.Sink D.Disk input.old input.new
-        output.old output.new topology disk result.1 result.0 }
-    ensures input { Stays (I.frame input.old) (I.frame input.new) }
-    ensures output { Stays (O.frame output.old) (O.frame output.new) }
-{
-    // What is known of each image of the disk comes from the laws of stores.
-    law_one_meaning(&topology);
-    let mut store = match Store::open(alloc, disk, topology) {
-        Ok(store) => store,
-        Err(refused) => return (Err(Fault::from(refused.0)), refused.1),
-    };
-    law_opened::<D, Sound>();
-    law_run::<D, Sound>();
-    law_closed::<D, Sound>();
+    let mut store = open_journal::<C, Sound>(alloc, name, topology, cabinet)?;
     let ended = hose_follow::follow(alloc, input, output, &mut store);
-    let closed = store.close();
-    (first_fault(done_of_end(ended), closed.0), closed.1)
+    let closed = close_journal(store, cabinet);
+    first_fault(done_of_end(ended), closed.0)
 }
 
 // What ended following, as a fault of the program.

@@ -1,96 +1,95 @@
-// A run whose book is kept in a journal.
-ghost use Rattle.std.specs.Prelude.{◌≡◌, ◌↔◌, ◌+◌, ◌<◌, ◌≤◌, None, Err};
+// The journal of a name in a cabinet: how its store is opened and closed.
+ghost use Rattle.std.specs.Prelude.{◌≡◌, IfErr, IfOk, IsSome, Err, None, OnErr, OnOk, Some};
 ghost use Rattle.hose_io.specs.Frame.{Stays};
-ghost use Rattle.hose_words.specs.Reading.{ReadsOn};
 ghost use Rattle.hose_disk.specs.Cabinet.{object_of};
-ghost use Rattle.hose_offline.specs.ServingOnDisk.{ServesInCabinet, ServesOnDisk, first_of};
+ghost use Rattle.hose_offline.specs.Journal.{ClosesJournal, IsJustOpened, OpensJournal};
+ghost use Rattle.hose_offline.specs.ServingOnDisk.{IsNotOpened, IsNotServed, first_of};
 
-use crate::answering::answer_all;
 use crate::fault::Fault;
-use hose_book::Books;
-use hose_core::Core;
+use hose_book::Book;
 use hose_disk::{Cabinet, Disk};
 use hose_graph::Topology;
-use hose_io::{Failed, Sink, Source};
-use hose_paths::{RowTable, TableRows};
-use hose_store::{Decided, Store, law_closed, law_one_meaning, law_opened, law_run};
-use hose_words::{INPUT_LIMIT, LineReader};
+use hose_io::Failed;
+use hose_store::{Premises, Store, law_closed, law_one_meaning, law_opened, law_run};
 use std::alloc::Global;
 
-/// Answers all lines by the book of the journal of a name. The disk is back in the cabinet then.
-pub fn answer_in_cabinet<S: Source, O: Sink, C: Cabinet>(
+/// Takes the disk of a name out of the cabinet and opens the store on it; where none is opened, the
+/// disk is put back. What is added to the store is to be as `P` says.
+pub fn open_journal<C: Cabinet, P: Premises>(
     alloc: Global,
     name: &str,
     topology: Topology,
-    lines: &mut LineReader<S>,
-    output: &mut O,
     cabinet: &mut C,
-) -> Result<(), Fault>
-    requires none_out { (C.frame cabinet.old).out ≡ None }
-    requires limit { lines.old.taken ≤ INPUT_LIMIT }
-    requires no_fault { lines.old.fault ≡ None }
-    ensures serves { ServesInCabinet S.Source O.Sink C.Cabinet C.Disk.Disk name.now
-        lines.old lines.new output.old output.new cabinet.old cabinet.new topology result }
-    ensures too_long { (result ≡ Err Fault.TooLong) ↔ (INPUT_LIMIT < lines.new.taken) }
-    ensures reads_on { ReadsOn S.Source lines.old lines.new }
-    ensures limit { lines.new.taken ≤ INPUT_LIMIT + 1 }
+) -> Result<Store<C::Disk>, Fault>
+    requires { (C.frame cabinet.old).out ≡ None }
+    ensures opens { IfOk result (OpensJournal C.Cabinet C.Disk.Disk P.kind name.now
+        cabinet.old cabinet.new topology) }
+    ensures refused { IfErr result (λ why. IsNotServed C.Cabinet C.Disk.Disk name.now
+        cabinet.old cabinet.new topology (Err why)) }
+    ensures out { OnOk result ((C.frame cabinet.new).out ≡ Some name.now) }
+    ensures back { OnErr result ((C.frame cabinet.new).out ≡ None) }
     ensures absent { (C.frame cabinet.new).absent ≡ (C.frame cabinet.old).absent }
-    ensures back { (C.frame cabinet.new).out ≡ None }
-    ensures output { Stays (O.frame output.old) (O.frame output.new) }
     ensures cabinet { Stays (object_of (C.frame cabinet.old)) (object_of (C.frame cabinet.new)) }
 {
     let Ok(disk) = cabinet.disk(name) else {
         return Err(Fault::Cabinet);
     };
-    let served = answer_on_disk(alloc, topology, disk, lines, output);
-    cabinet.back(served.1);
-    served.0
+    match open_store::<C::Disk, P>(alloc, topology, disk) {
+        Ok(store) => Ok(store),
+        Err(refused) => {
+            cabinet.back(refused.1);
+            Err(refused.0)
+        }
+    }
 }
 
-// Answers all lines by the book of a journal on a disk, which comes back. The first fault is told.
-// The rows of all nodes are made once the journal is open; where there is no memory for them, it is
-// closed as it is.
-fn answer_on_disk<S: Source, O: Sink, D: Disk>(
+/// Closes a store, and puts its disk back into the cabinet that it was taken out of. The book comes
+/// back.
+pub fn close_journal<C: Cabinet>(
+    store: Store<C::Disk>,
+    cabinet: &mut C,
+) -> (Result<(), Failed>, Book)
+    requires { IsSome (C.frame cabinet.old).out }
+    ensures closes { ClosesJournal C.Cabinet C.Disk.Disk cabinet.old cabinet.new store result.0 }
+    ensures book { result.1 ≡ store.ledger }
+    ensures back { (C.frame cabinet.new).out ≡ None }
+    ensures absent { (C.frame cabinet.new).absent ≡ (C.frame cabinet.old).absent }
+    ensures cabinet { Stays (object_of (C.frame cabinet.old)) (object_of (C.frame cabinet.new)) }
+{
+    let (closing, disk, book) = store.close();
+    cabinet.back(disk);
+    (closing, book)
+}
+
+/// Opens the store on a disk, or says why it is not opened and hands the disk back. What is added
+/// to it is to be as `P` says.
+pub fn open_store<D: Disk, P: Premises>(
     alloc: Global,
     topology: Topology,
     disk: D,
-    lines: &mut LineReader<S>,
-    output: &mut O,
-) -> (Result<(), Fault>, D)
-    requires limit { lines.old.taken ≤ INPUT_LIMIT }
-    requires no_fault { lines.old.fault ≡ None }
-    ensures serves { ServesOnDisk S.Source O.Sink D.Disk lines.old lines.new
-        output.old output.new topology disk result.1 result.0 }
-    ensures too_long { (result.0 ≡ Err Fault.TooLong) ↔ (INPUT_LIMIT < lines.new.taken) }
-    ensures reads_on { ReadsOn S.Source lines.old lines.new }
-    ensures limit { lines.new.taken ≤ INPUT_LIMIT + 1 }
-    ensures output { Stays (O.frame output.old) (O.frame output.new) }
+) -> Result<Store<D>, (Fault, D)>
+    ensures network { IfOk result (λ store. store.ledger.network ≡ topology) }
+    ensures opens { IfOk result (IsJustOpened D.Disk P.kind disk topology) }
+    ensures refused { IfErr result (λ refused.
+        IsNotOpened D.Disk disk refused.1 topology (Err refused.0)) }
 {
     // What is known of each image of the disk comes from the laws of stores.
     law_one_meaning(&topology);
-    let store = match Store::open(alloc, disk, topology) {
-        Ok(store) => store,
-        Err(refused) => return (Err(Fault::from(refused.0)), refused.1),
-    };
-    let Ok(table) = RowTable::of_all(alloc, store.book().topology()) else {
-        let closed = store.close();
-        return (Err(Fault::Memory), closed.1);
-    };
-    law_opened::<D, Decided>();
-    law_run::<D, Decided>();
-    law_closed::<D, Decided>();
-    let mut core = Core::new(alloc, store);
-    let served = answer_all(alloc, &mut core, lines, output, &mut TableRows::new(&table));
-    let closed = core.into_books().close();
-    (first_fault(served, closed.0), closed.1)
+    law_opened::<D, P>();
+    law_run::<D, P>();
+    law_closed::<D, P>();
+    match Store::open(alloc, disk, topology) {
+        Ok(store) => Ok(store),
+        Err(refused) => Err((Fault::from(refused.0), refused.1)),
+    }
 }
 
-/// What came of serving a journal and then closing it.
-pub fn first_fault(served: Result<(), Fault>, closing: Result<(), Failed>) -> Result<(), Fault>
-    ensures { result ≡ first_of served closing }
+/// The first fault of what was done with a journal and then of closing it.
+pub fn first_fault(done: Result<(), Fault>, closing: Result<(), Failed>) -> Result<(), Fault>
+    ensures { result ≡ first_of done closing }
 {
     match closing {
-        Ok(()) => served,
-        Err(_) => served.and(Err(Fault::Cabinet)),
+        Ok(()) => done,
+        Err(_) => done.and(Err(Fault::Cabinet)),
     }
 }

@@ -3,7 +3,8 @@
 //! sums up the script of a seed, `prove` writes a certificate of least cost, `check` judges one,
 //! and `price` prices hoses under all tariffs; `ship` writes the entries of a journal as packets,
 //! and `follow` takes packets into a journal that follows it. `hosed` chooses between them by the
-//! program's words, and reads topologies and tells books as they do where it serves customers:
+//! program's words; where it serves customers it reads topologies, opens journals and tells books
+//! as they do:
 //!
 //! ```
 //! let status = run(alloc, &OwnCosts, Some("orders.journal"), input, output, cabinet);
@@ -41,6 +42,7 @@ pub use checking::check;
 pub use fault::{Fault, end};
 pub use following::follow;
 pub use generating::run_generated;
+pub use journal::open_store;
 pub use json_text::JSON_LIMIT;
 pub use notation::{Notation, Refusal};
 pub use pricing::price;

@@ -13,14 +13,13 @@ use Rattle.hose_disk.specs.Cabinet.{CabinetFrame, object_of}
 use Rattle.hose_disk.specs.declared.cabinet.Cabinet.{Ghosts as CabinetGhosts}
 use Rattle.hose_disk.specs.declared.disk.Disk.{Ghosts as DiskGhosts}
 use Rattle.hose_store.specs.Recovery.{IsHistoryOf}
-use Rattle.hose_store.specs.declared.fault.StoreFault.{StoreFault}
 use Rattle.hose_offline.specs.CabinetText.{OnlyTextsRead}
-use Rattle.hose_offline.specs.Fault.{of_store}
+use Rattle.hose_offline.specs.declared.fault.Fault.{Fault}
 use Rattle.hose_offline.specs.OnDisk.{CabinetWorked}
 use Rattle.hose_offline.proofs.Audits.{has_before, held_before}
 use Rattle.hose_offline.proofs.PutBack.{IsPutBack, counts, held_as, left_in, not_served}
 use Rattle.hose_turn.specs.Faults.{end_of_count}
-use Rattle.hosed.specs.ServingDoor.{DoorSeen, HasKept, HasKeptIn, ServesByJournal, ServesConnectionsIn, StaysAsRead, StaysInCabinet, served_or_fault}
+use Rattle.hosed.specs.ServingDoor.{DoorSeen, HasKept, HasKeptIn, ServesByJournal, ServesConnectionsIn, StaysAsRead, StaysInCabinet}
 use Rattle.hosed.specs.declared.serving.Served.{Served}
 use Rattle.hosed.specs.declared.serving.Served.TheVariants as served
 
@@ -43,9 +42,9 @@ module _ {C E : Type 0} (cabinet : CabinetGhosts C E) (disk : DiskGhosts E) (nam
   stays_in is stays = record { since = stays.since; closing = stays.closing; kept = kept_in stays.since stays.since stays.closing is stays.kept }
 
   -- connections were served by the store
-  pub connections_in : {O : Type 0} (sink : SinkGhosts O) (count : ℕ) (output output' : O) (door door' : DoorSeen) (done : Result Served StoreFault) → IsNetwork network → ServesByJournal disk sink opened (Some left) network count output output' door door' done
-      → ServesConnectionsIn cabinet disk sink name old new network count output output' door door' (served_or_fault done)
-  connections_in sink count output output' door door' (Err why) is not = (not_served cabinet disk name old mid new network opened left back (Err (of_store why)) not.0, not.1, not.2)
+  pub connections_in : {O : Type 0} (sink : SinkGhosts O) (count : ℕ) (output output' : O) (door door' : DoorSeen) (done : Result Served Fault) → IsNetwork network → ServesByJournal disk sink opened (Some left) network count output output' door door' done
+      → ServesConnectionsIn cabinet disk sink name old new network count output output' door door' done
+  connections_in sink count output output' door door' (Err why) is not = (not_served cabinet disk name old mid new network opened left back (Err why) not.0, not.1, not.2)
   connections_in sink count output output' door door' (Ok served.Starved) is serves = (inl (stays_in is serves.0), serves.1, serves.2)
   connections_in sink count output output' door door' (Ok served.Shut) is serves = (stays_in is serves.0, serves.1, serves.2, serves.3)
   connections_in sink count output output' door door' (Ok served.Unheard) is serves = (stays_in is serves.0, serves.1, serves.2, serves.3)
@@ -61,7 +60,7 @@ module _ {C E : Type 0} (cabinet : CabinetGhosts C E) (disk : DiskGhosts E) (nam
             began = has.along.began;
             seen = has.along.seen;
             own = has.along.own;
-            met = subst (λ (n : ℕ). (has.pass.faults ≤ n) ⊎ (end_of_count ≤ n)) (sym (ap (λ (f : CabinetFrame). f.returned) back.after)) has.along.met;
+            met = subst (λ (n : ℕ). (has.pass.faults ≤ n) ⊎ (end_of_count ≤ n)) (sym (ap (λ (f : CabinetFrame). f.returned) back.in_place.call)) has.along.met;
           };
           served = has.served;
           is = has.is;
@@ -72,8 +71,8 @@ module _ {C E : Type 0} (cabinet : CabinetGhosts C E) (disk : DiskGhosts E) (nam
       )
 
 -- the disk is not back
-pub connections_lost : {C E O : Type 0} (cabinet : CabinetGhosts C E) (disk : DiskGhosts E) (name : List ℕ) (old new : C) (network : Network) (opened : E) (sink : SinkGhosts O) (count : ℕ) (output output' : O) (door door' : DoorSeen) (done : Result Served StoreFault)
-    → (cabinet.frame new).out ≡ Some name → ServesByJournal disk sink opened None network count output output' door door' done → ServesConnectionsIn cabinet disk sink name old new network count output output' door door' (served_or_fault done)
+pub connections_lost : {C E O : Type 0} (cabinet : CabinetGhosts C E) (disk : DiskGhosts E) (name : List ℕ) (old new : C) (network : Network) (opened : E) (sink : SinkGhosts O) (count : ℕ) (output output' : O) (door door' : DoorSeen) (done : Result Served Fault)
+    → (cabinet.frame new).out ≡ Some name → ServesByJournal disk sink opened None network count output output' door door' done → ServesConnectionsIn cabinet disk sink name old new network count output output' door door' done
 connections_lost cabinet disk name old new network opened sink count output output' door door' (Err why) out serves = absurd serves
 connections_lost cabinet disk name old new network opened sink count output output' door door' (Ok served.Starved) out serves = (inr out, serves.0, serves.1)
 connections_lost cabinet disk name old new network opened sink count output output' door door' (Ok served.Shut) out serves = absurd serves

@@ -1,5 +1,5 @@
 -- A store that was shared, from its opening to its closing.
-use Rattle.std.proofs.Common.{◌≡◌, ◌∙◌, ◌⊎◌, inl, inr, ⊎_elim, ℕ, ◌≤◌, ◌<◌, List, [], ◌∷◌, length, Bool, Option, Some, is_some, ◌↔◌, IfOk, IfErr, MatchResult, Result, Ok, Err, nat_lt, refl, sym, ap, subst, arith, append-nil, length-append}
+use Rattle.std.proofs.Common.{◌≡◌, ◌∙◌, ◌⊎◌, inl, inr, ⊎_elim, ℕ, ◌≤◌, ◌<◌, List, [], ◌∷◌, length, Bool, Option, Some, is_some, ◌↔◌, Result, Ok, Err, nat_lt, refl, sym, ap, subst, arith, append-nil, length-append}
 use Rattle.std.specs.Prelude.{⊤}
 use mathlib.Core.List.{IsPrefix}
 use Rattle.hose_crew.specs.Crew.{AreServed}
@@ -16,20 +16,12 @@ use Rattle.hose_disk.specs.declared.disk.Disk.{Ghosts as DiskGhosts}
 use Rattle.hose_shared.specs.Closing.{HasShared}
 use Rattle.hose_store.specs.Beginning.{Beginning, HasLeft, StandsFor}
 use Rattle.hose_store.specs.Commit.{Closes}
-use Rattle.hose_journal.specs.Image.{Meaning}
-use Rattle.hose_journal.specs.Moments.{LeavesOnly}
-use Rattle.hose_journal.specs.Opening.{KeepsDisk}
-use Rattle.hose_store.specs.Opening.{IsAtOpening, IsOpenedOn, IsRefusedStore}
-use Rattle.hose_store.specs.Recovery.{IsRecoveredAs}
 use Rattle.hose_store.specs.Store.{Kept}
-use Rattle.hose_store.specs.declared.fault.StoreFault.{StoreFault}
 use Rattle.hose_turn.specs.Faults.{end_of_count}
 use Rattle.hose_turn.specs.Known.{Known}
 use Rattle.hose_turn.specs.Places.{HasPlaces}
-use Rattle.hose_offline.specs.Fault.{of_store}
 use Rattle.hose_offline.specs.OnDisk.{opening_of}
-use Rattle.hose_offline.specs.ServingOnDisk.{IsNotOpened}
-use Rattle.hose_offline.proofs.Journals.{not_opened}
+use Rattle.hose_offline.specs.Journal.{IsJustOpened}
 use Rattle.hosed.specs.ServingDoor.{DoorSeen, HasKept, IsMadeAlong, IsOpening, OpensAt, ServesByStore, ServesOpened, StaysAsRead, ready_line, served_of}
 use Rattle.hosed.specs.declared.serving.Opened.{Opened}
 use Rattle.hosed.specs.declared.serving.Opened.TheVariants as opened
@@ -44,6 +36,10 @@ no_more since history (entry ∷ more, same) none = absurd (at (nat_lt (length s
 
     at : (one : Bool) → nat_lt (length since) (length history) ≡ one → ⊥
     at one is = let here = none (length since) in grind (arith, longer, here)
+
+-- a store that was just opened stands for the history for which its disk stood
+pub just_opened : {E : Type 0} (disk : DiskGhosts E) (was : E) (network : Network) (store : Kept E) (opens : IsJustOpened disk IsDecidedAt was network store) → IsOpening disk was network opens.opened.history store
+just_opened disk was network store opens = record { read = opens.opened.read; stands = opens.stands }
 
 -- a store stands for a history since any images that are no fewer
 stands_had : {E : Type 0} (disk : DiskGhosts E) (Had Has : List ℕ → Type 0) (beginning : Beginning) (history : List Entry) (store : Kept E) → ((image : List ℕ) → Had image → Has image) → StandsFor disk IsDecidedAt Had beginning history store
@@ -153,22 +149,3 @@ module _ {E : Type 0} (disk : DiskGhosts E) (was left : E) (network : Network) (
 pub opened_and_served : {O : Type 0} (sink : SinkGhosts O) (count : ℕ) (output output' : O) (door door' : DoorSeen) (old new : Known) (accepting : Result ⊤ Failed) → AreServed door.told door'.told count new accepting → Met door.frame door'.frame accepting
     → Grows (sink.content output) (sink.content output') ready_line → sink.frame output' ≡ sink.frame output → ServesOpened sink count output output' door door' old new (opened.Ended accepting)
 opened_and_served sink count output output' door door' old new accepting served met grows same = (served, met, grows, same)
-
--- ---- a store that is opened
-
-module _ {E : Type 0} (disk : DiskGhosts E) (old : E) (network : Network) where
-  pub opens_of : (result : Result (Kept E) (StoreFault × E)) → IfOk result (IsOpenedOn disk old network)
-      → MatchResult result (λ store. LeavesOnly disk old store.journal.disk (IsAtOpening disk old network)) (λ refused. LeavesOnly disk old refused.1 (IsAtOpening disk old network))
-      → MatchResult result (λ store. KeepsDisk disk old store.journal.disk) (λ refused. KeepsDisk disk old refused.1)
-      → ((store : Kept E) (opened : IsOpenedOn disk old network store) → LeavesOnly disk old store.journal.disk (IsAtOpening disk old network) → KeepsDisk disk old store.journal.disk
-      → StandsFor disk IsDecidedAt (disk.may_leave old) (opening_of disk network opened.history old) opened.history store)
-      → IfOk result (λ store. (since : List Entry) × IsOpening disk old network since store)
-  opens_of (Ok store) opened leaves keeps law = (opened.history, record { read = opened.read; stands = law store opened leaves keeps })
-  opens_of (Err refused) opened leaves keeps law = tt
-
-  pub refused_of : (result : Result (Kept E) (StoreFault × E)) → ((image : List ℕ) (one two : Meaning Entry) → IsRecoveredAs network image one → IsRecoveredAs network image two → one ≡ two)
-      → MatchResult result (λ store. LeavesOnly disk old store.journal.disk (IsAtOpening disk old network)) (λ refused. LeavesOnly disk old refused.1 (IsAtOpening disk old network))
-      → IfErr result (λ refused. IsRefusedStore disk old refused.1 network refused.0)
-      → IfErr result (λ refused. IsNotOpened disk old refused.1 network (Err (of_store refused.0)))
-  refused_of (Ok store) one leaves refused = tt
-  refused_of (Err why) one leaves refused = not_opened disk network old why.1 why.0 one leaves refused

@@ -25,8 +25,6 @@ use Rattle.hose_store.specs.Store.{Kept}
 use Rattle.hose_turn.specs.Faults.{end_of_count}
 use Rattle.hose_turn.specs.Known.{Known}
 use Rattle.hose_turn.specs.Places.{HasPlaces}
-use Rattle.hose_store.specs.declared.fault.StoreFault.{StoreFault}
-use Rattle.hose_offline.specs.Fault.{of_store}
 use Rattle.hose_offline.specs.OnDisk.{HadContent, opening_of}
 use Rattle.hose_offline.specs.ServingOnDisk.{IsNotOpened, IsNotServed}
 use Rattle.hose_offline.specs.declared.fault.Fault.{Fault}
@@ -153,17 +151,12 @@ served_of (opened.Ended accepting) ledger closing = served.Ended ledger acceptin
 
 -- No store was opened on the disk, and nothing was entered; or connections were served by one.
 abbrev pub ServesByJournal : {E O : Type 0} → DiskGhosts E → SinkGhosts O → E → Option E → Network
-    → ℕ → O → O → DoorSeen → DoorSeen → Result Served StoreFault → Type 0
+    → ℕ → O → O → DoorSeen → DoorSeen → Result Served Fault → Type 0
 ServesByJournal disk sink was None network count output output' door door' (Err why) = ⊥
 ServesByJournal disk sink was (Some left) network count output output' door door' (Err why) =
-    IsNotOpened disk was left network (Err (of_store why)) × (output' ≡ output) × (door' ≡ door)
+    IsNotOpened disk was left network (Err why) × (output' ≡ output) × (door' ≡ door)
 ServesByJournal disk sink was left network count output output' door door' (Ok served) =
     ServesByStore disk sink was left network count output output' door door' served
-
--- why no store was opened, as a fault of the program
-abbrev pub served_or_fault : Result Served StoreFault → Result Served Fault
-served_or_fault (Ok served) = Ok served
-served_or_fault (Err why) = Err (of_store why)
 
 -- ---- in a cabinet
 

@@ -1,15 +1,14 @@
 // Connections that are served: a door, a crew, and the book of a journal that they share.
-ghost use Rattle.std.specs.Prelude.{◌≡◌, ◌≢◌, ◌↔◌, ◌⊎◌, ◌<◌, ◌≤◌, ℕ, Err, IfErr, IfOk, List, [], None, Ok, Option};
+ghost use Rattle.std.specs.Prelude.{◌≡◌, ◌≢◌, ◌↔◌, ◌⊎◌, ◌<◌, ◌≤◌, ℕ, Err, IfOk, List, [], None, Ok, Option};
 ghost use mathlib.Core.List.{IsPrefix};
 ghost use Rattle.hose_io.specs.Frame.{Stays};
 ghost use Rattle.hose_graph.specs.Network.{Network};
-ghost use Rattle.hose_graph.specs.declared.entry.Entry.{Entry};
+ghost use Rattle.hose_law.specs.History.{IsDecidedAt};
 ghost use Rattle.hose_disk.specs.Cabinet.{object_of};
 ghost use Rattle.hose_shared.specs.Sharing.{IsPassOf, IsSamePass};
-ghost use Rattle.hose_offline.specs.Fault.{of_store};
 ghost use Rattle.hosed.specs.ServeOutcome.{EndsServed, ServeOutcome, first_failed};
-ghost use Rattle.hose_offline.specs.ServingOnDisk.{IsNotOpened};
-ghost use Rattle.hosed.specs.ServingDoor.{IsOpening, ServesByJournal, ServesByStore, ServesConnectionsIn, ServesOpened, seen_of, served_of, served_or_fault};
+ghost use Rattle.hose_offline.specs.Journal.{IsJustOpened};
+ghost use Rattle.hosed.specs.ServingDoor.{ServesByJournal, ServesByStore, ServesConnectionsIn, ServesOpened, seen_of, served_of};
 
 use crate::words::Service;
 use hose_book::{Book, Books};
@@ -17,11 +16,11 @@ use hose_crew::{Crew, Start, Work};
 use hose_disk::{Cabinet, Disk};
 use hose_graph::Topology;
 use hose_io::{Door, Failed, Sink, write_all};
-use hose_offline::{Fault, end, read_topology, tell};
+use hose_offline::{Fault, end, open_store, read_topology, tell};
 use hose_paths::RowTable;
 use hose_pool::{Gate, MOST_WORKERS, table_of_all};
 use hose_shared::{Begun, Shared, law_passes};
-use hose_store::{Decided, Store, StoreFault, law_closed, law_one_meaning, law_opened, law_run};
+use hose_store::{Decided, Store, law_closed};
 use hose_tariff::Prices;
 use hose_turn::Pass;
 use std::alloc::{AllocError, Global};
@@ -215,8 +214,8 @@ fn serve_store<
     requires content { N.content ≡ D.content opening.was.value }
     requires moment { N.moment ≡ D.moment opening.was.value }
     requires network { N.network ≡ opening.store.ledger.network }
-    requires opened { (since : List Entry)
-        × IsOpening D.Disk opening.was.value opening.store.ledger.network since opening.store }
+    requires opened { IsJustOpened D.Disk IsDecidedAt opening.was.value
+        opening.store.ledger.network opening.store }
     ensures serves { ServesByStore D.Disk O.Sink opening.was.value result.1
         opening.store.ledger.network
         service.entry.connections output.old output.new
@@ -225,7 +224,6 @@ fn serve_store<
     ensures output { Stays (O.frame output.old) (O.frame output.new) }
     ensures door { Stays (L.frame door) (L.frame result.2) }
 {
-    law_run::<D, Decided>();
     law_closed::<D, Decided>();
     // What the disk was is there for the clauses alone.
     let OpenedStore { store, was: _ } = opening;
@@ -279,23 +277,6 @@ fn served_of(opened: Opened, book: Book, closing: Result<(), Failed>) -> Served
     }
 }
 
-// Opens the store on a disk, or says why it is not opened.
-fn open_store<D: Disk>(
-    alloc: Global,
-    topology: Topology,
-    disk: D,
-) -> Result<Store<D>, (StoreFault, D)>
-    ensures network { IfOk result (λ store. store.ledger.network ≡ topology) }
-    ensures opens { IfOk result (λ store. (since : List Entry)
-        × IsOpening D.Disk disk topology since store) }
-    ensures refused { IfErr result (λ refused. IsNotOpened D.Disk disk refused.1 topology
-        (Err (of_store refused.0))) }
-{
-    law_one_meaning(&topology);
-    law_opened::<D, Decided>();
-    Store::open(alloc, disk, topology)
-}
-
 // Serves the connections of a door by the journal on a disk, which comes back but for want of
 // memory to share it.
 fn serve_on_disk<R: Threads + Wait + Sync, O: Sink, D: Disk + Send, L: Door + Send, G: Gate + Sync>(
@@ -305,7 +286,7 @@ fn serve_on_disk<R: Threads + Wait + Sync, O: Sink, D: Disk + Send, L: Door + Se
     service: Service<'_>,
     output: &mut O,
     door: L,
-) -> (Result<Served, StoreFault>, Option<D>, L)
+) -> (Result<Served, Fault>, Option<D>, L)
     requires workers { (1 ≤ service.workers) × (service.workers ≤ MOST_WORKERS) }
     ensures serves { ServesByJournal D.Disk O.Sink disk result.1 topology service.entry.connections
         output.old output.new
@@ -315,7 +296,7 @@ fn serve_on_disk<R: Threads + Wait + Sync, O: Sink, D: Disk + Send, L: Door + Se
     ensures door { Stays (L.frame door) (L.frame result.2) }
 {
     let was = Snapshot::of(&disk);
-    let store = match open_store(means.alloc, topology, disk) {
+    let store = match open_store::<D, Decided>(means.alloc, topology, disk) {
         Ok(store) => store,
         Err(refused) => return (Err(refused.0), Some(refused.1), door),
     };
@@ -353,23 +334,12 @@ fn serve_in_cabinet<R: Threads + Wait + Sync, O: Sink, C: Cabinet, L: Door + Sen
         return (Err(Fault::Cabinet), door);
     };
     let (served, disk, door) = serve_on_disk(means, topology, disk, service, output, door);
-    let served = served_or_fault(served);
     match disk {
         Some(disk) => {
             cabinet.back(disk);
             (served, door)
         }
         None => (served, door),
-    }
-}
-
-// Why no store was opened, as a fault of the program.
-fn served_or_fault(served: Result<Served, StoreFault>) -> Result<Served, Fault>
-    ensures { result ≡ served_or_fault served }
-{
-    match served {
-        Ok(served) => Ok(served),
-        Err(why) => Err(Fault::from(why)),
     }
 }
 

@@ -1,10 +1,16 @@
+use Rattle.std.proofs.Common.{◌≡◌, ◌∙◌, Err, ap}
+use Rattle.std.proofs.lemmas.Result.{err_from_is_err_and}
+use Rattle.hose_law.specs.History.{IsDecidedAt}
 use Rattle.hose_offline.proofs.Journals.{audits_in}
 use Rattle.hose_offline.proofs.auditing.read_book.Goals as goal
 
+pub returns-in_err-store-clause-reads : goal.returns-in_err-store-clause-reads
+returns-in_err-store-clause-reads g c =
+    let told = err_from_is_err_and c.from_residual.result c.from_residual.ensures.1 in
+    let is : c.from_residual.result ≡ Err c.in_err-store.field-0.0 = told.1 ∙ ap Err told.2 in
+    rw is c.in_err-store.ensures.refused
+
 pub returns-clause-reads : goal.returns-clause-reads
 returns-clause-reads g c =
-    let taken = c.in-Ok.ensures in
-    let back = c.back.ensures in
-    let read = c.read_book_on_disk-read in
-    audits_in g.C.Cabinet g.C.Disk.Disk c.args.name.now c.args.cabinet.now c.disk.new.self c.back.new.self c.args.topology c.in-Ok.disk read.result.1 (record { content = taken.content; images = taken.images; moment = taken.moment; taken = taken.call; held = back.held; never_falls = back.never_falls; after = back.call })
-    read.result.0 read.ensures
+    let closed = c.close_journal-closing in
+    audits_in g.C.Cabinet g.C.Disk.Disk c.args.name.now c.args.cabinet.now c.open_journal.new.cabinet closed.new.cabinet c.args.topology c.in_ok-store.store IsDecidedAt closed.result.0 c.in_ok-store.ensures.opens closed.ensures.closes closed.result.1 closed.ensures.book

@@ -1,10 +1,18 @@
-use Rattle.hose_offline.proofs.Followed.{follows_in}
+use Rattle.std.proofs.Common.{◌≡◌, ◌∙◌, inl, inr, Err, refl, ap}
+use Rattle.std.proofs.lemmas.Result.{err_from_is_err_and}
+use Rattle.hose_offline.proofs.Followed.{followed_in}
 use Rattle.hose_offline.proofs.following.follow_in_cabinet.Goals as goal
+
+pub returns-in_err-store-clause-follows : goal.returns-in_err-store-clause-follows
+returns-in_err-store-clause-follows g c =
+    let told = err_from_is_err_and c.from_residual.result c.from_residual.ensures.1 in
+    let is : c.from_residual.result ≡ Err c.in_err-store.field-0.0 = told.1 ∙ ap Err told.2 in
+    rw is (inl (c.in_err-store.ensures.refused, refl, refl))
 
 pub returns-clause-follows : goal.returns-clause-follows
 returns-clause-follows g c =
-    let taken = c.in-Ok.ensures in
-    let back = c.back.ensures in
-    let followed = c.follow_on_disk-followed in
-    follows_in g.I.Source g.O.Sink g.C.Cabinet g.C.Disk.Disk c.args.name.now c.args.input.now followed.new.input c.args.output.now followed.new.output c.args.cabinet.now c.disk.new.self c.back.new.self c.args.topology c.in-Ok.disk followed.result.1
-    (record { content = taken.content; images = taken.images; moment = taken.moment; taken = taken.call; held = back.held; never_falls = back.never_falls; after = back.call }) followed.result.0 followed.ensures.follows
+    let followed = c.follow-ended in
+    let closed = c.close_journal-closed in
+    let has = followed_in g.I.Source g.O.Sink g.C.Cabinet g.C.Disk.Disk c.args.name.now c.args.input.now followed.new.source c.args.output.now followed.new.sink c.args.cabinet.now c.open_journal.new.cabinet closed.new.cabinet c.args.topology c.in_ok-store.store followed.new.store followed.result closed.result.0
+    c.in_ok-store.ensures.opens followed.ensures.follows closed.ensures.closes in
+    inr (followed.result, closed.result.0, has, rw c.done_of_end.ensures at c.first_fault.ensures)

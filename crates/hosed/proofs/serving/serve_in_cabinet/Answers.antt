@@ -7,10 +7,10 @@ returns-in-Some-clause-serves g c =
     let taken = c.in-Ok.ensures in
     let back = c.back.ensures in
     let served = c.serve_on_disk-served in
-    rw c.served_or_fault-served.ensures (connections_in g.C.Cabinet g.C.Disk.Disk c.args.service.journal.now c.args.cabinet.now c.disk.new.self c.back.new.self c.args.topology c.in-Ok.disk c.in-Some.disk (record { content = taken.content; images = taken.images; moment = taken.moment; taken = taken.call; held = back.held; never_falls = back.never_falls; after = back.call })
-    g.O.Sink c.args.service.connections c.args.output.now served.new.output _ _ served.result.0 (search rules) (rw c.in-Some.is at served.ensures.serves))
+    connections_in g.C.Cabinet g.C.Disk.Disk c.args.service.journal.now c.args.cabinet.now c.disk.new.self c.back.new.self c.args.topology c.in-Ok.disk c.in-Some.disk (record { out = record { content = taken.content; images = taken.images; moment = taken.moment; call = taken.call }; in_place = record { held = back.held; never_falls = back.never_falls; call = back.call } })
+    g.O.Sink c.args.service.connections c.args.output.now served.new.output _ _ served.result.0 (search rules) (rw c.in-Some.is at served.ensures.serves)
 
 pub returns-in-None-clause-serves : goal.returns-in-None-clause-serves
 returns-in-None-clause-serves g c =
     let served = c.serve_on_disk-served in
-    rw c.served_or_fault-served.ensures (connections_lost g.C.Cabinet g.C.Disk.Disk c.args.service.journal.now c.args.cabinet.now c.disk.new.self c.args.topology c.in-Ok.disk g.O.Sink c.args.service.connections c.args.output.now served.new.output _ _ served.result.0 (search rules) (rw c.in-None.is at served.ensures.serves))
+    connections_lost g.C.Cabinet g.C.Disk.Disk c.args.service.journal.now c.args.cabinet.now c.disk.new.self c.args.topology c.in-Ok.disk g.O.Sink c.args.service.connections c.args.output.now served.new.output _ _ served.result.0 (search rules) (rw c.in-None.is at served.ensures.serves)

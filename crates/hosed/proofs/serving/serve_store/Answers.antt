@@ -2,7 +2,7 @@ use Rattle.std.proofs.Common.{subst, sym, rules, refl}
 use Rattle.hose_turn.specs.declared.view.Origin.{Origin}
 use Rattle.hosed.specs.ServingDoor.{OpensAt}
 use Rattle.hose_offline.specs.OnDisk.{opening_of}
-use Rattle.hosed.proofs.Sharing.{closed_at_once, is_opening, opens_at, served_by}
+use Rattle.hosed.proofs.Sharing.{closed_at_once, is_opening, just_opened, opens_at, served_by}
 use Rattle.hosed.proofs.serving.serve_store.Goals as goal
 
 pub returns-in_default-clause-serves : goal.returns-in_default-clause-serves
@@ -14,7 +14,7 @@ returns-in_default-clause-serves g c =
     let closing = c.close-disk.result.0 in (
       closed_at_once g.D.Disk was left network closing
           (λ since history store stands closes. c.law_closed.ensures (opening_of g.D.Disk network since was) was left history store closing stands closes)
-          asked.0 c.args.opening.store asked.1 c.close-disk.ensures.closes c.close-disk.ensures.call,
+          asked.opened.history c.args.opening.store (just_opened g.D.Disk was network c.args.opening.store asked) c.close-disk.ensures.closes c.close-disk.ensures.call,
       refl,
       refl,
     )
@@ -36,9 +36,11 @@ returns-clause-serves g c =
 pub new-requires : goal.new-requires
 new-requires g c =
     let asked = c.requires in
-    let opening = asked.opened in (
-      opening.0,
-      opens_at g.D.Disk c.args.opening.was.value _ _ _ _ c.args.opening.store.ledger.network asked.had asked.content asked.moment asked.network opening.0 c.args.opening.store opening.1,
-      opening.1.stands.has.book,
-      opening.1.stands.has.tracks,
+    let was = c.args.opening.was.value in
+    let store = c.args.opening.store in
+    let since = asked.opened.opened.history in (
+      since,
+      opens_at g.D.Disk was _ _ _ _ store.ledger.network asked.had asked.content asked.moment asked.network since store (just_opened g.D.Disk was store.ledger.network store asked.opened),
+      asked.opened.stands.has.book,
+      asked.opened.stands.has.tracks,
     )

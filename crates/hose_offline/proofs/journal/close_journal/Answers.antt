@@ -1,0 +1,12 @@
+use Rattle.hose_offline.proofs.journal.close_journal.Goals as goal
+
+pub returns-clause-closes : goal.returns-clause-closes
+returns-clause-closes g c =
+    let closed = c.close-closing in
+    let back = c.back.ensures in
+    record {
+      left = closed.result.1;
+      closes = closed.ensures.closes;
+      call = closed.ensures.call;
+      back = record { held = back.held; never_falls = back.never_falls; call = back.call };
+    }

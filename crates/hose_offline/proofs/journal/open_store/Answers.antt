@@ -1,0 +1,28 @@
+use Rattle.std.proofs.Common.{Err, refl, sym, subst, le_refl}
+use Rattle.hose_offline.specs.OnDisk.{opening_of}
+use Rattle.hose_offline.specs.ServingOnDisk.{IsNotOpened}
+use Rattle.hose_offline.specs.declared.fault.Fault.{Fault}
+use Rattle.hose_offline.proofs.Journals.{left_unused, not_opened}
+use Rattle.hose_offline.proofs.journal.open_store.Goals as goal
+
+pub returns-in-Ok-clause-opens : goal.returns-in-Ok-clause-opens
+returns-in-Ok-clause-opens g c =
+    let old = c.args.disk in
+    let store = c.in-Ok.store in
+    let found = c.in-Ok.ensures in
+    let since = found.opened.history in
+    let begins = opening_of g.D.Disk c.args.topology since old in
+    let stands = c.law_opened.ensures begins old old store found.opened refl found.any_moment found.keeps.tells refl (le_refl _) (g.met.D.Disk.only_now old) in
+    record {
+      opened = found.opened;
+      images = found.any_moment;
+      stands = stands;
+      unused = λ left closing closes. left_unused g.D.Disk c.args.topology old left store closing g.met.D.Disk.counts_now found.opened found.any_moment closes;
+      leaves = λ history last left closing goes closes. c.law_closed.ensures begins old left history last closing (c.law_run.ensures begins old since history store last stands goes) closes;
+    }
+
+pub returns-in-Err-clause-refused : goal.returns-in-Err-clause-refused
+returns-in-Err-clause-refused g c =
+    let left = c.in-Err.refused.1 in
+    subst (λ (why : Fault). IsNotOpened g.D.Disk c.args.disk left c.args.topology (Err why)) (sym c.from.ensures)
+    (not_opened g.D.Disk c.args.topology c.args.disk left c.in-Err.refused.0 c.law_one_meaning.ensures c.in-Err.ensures.any_moment c.in-Err.ensures.refused)
