@@ -23,43 +23,40 @@ use hose_io::Sink;
 use hose_paths::{RowMaker, RowTable, TableRows};
 use std::alloc::Global;
 
-/// Makes a network and a script of a seed, with so many nodes, links and hoses, answers the script
-/// by a book in memory, writes one line that sums up the replies, and gives the exit status.
-pub fn run_generated<O: Sink>(
-    alloc: Global,
-    seed: u64,
-    nodes: u32,
-    links: u32,
-    hoses: u32,
-    output: &mut O,
-) -> u8
-    requires { AreSizes nodes links hoses }
-    ensures outcome { GenOutcome seed nodes links hoses O.Sink output.old output.new result }
+/// What a network and a script are made of: a seed, and how many nodes, links and hoses there are.
+#[derive(Clone, Copy)]
+pub struct Sizes {
+    pub seed: u64,
+    pub nodes: u32,
+    pub links: u32,
+    pub hoses: u32,
+}
+
+/// Makes a network and a script, answers the script by a book in memory, writes one line that sums
+/// up the replies, and gives the exit status.
+pub fn run_generated<O: Sink>(alloc: Global, sizes: Sizes, output: &mut O) -> u8
+    requires { AreSizes sizes.nodes sizes.links sizes.hoses }
+    ensures outcome { GenOutcome sizes.seed sizes.nodes sizes.links sizes.hoses O.Sink
+        output.old output.new result }
     ensures not_words { result ≢ 1 }
     ensures output { Stays (O.frame output.old) (O.frame output.new) }
 {
-    let done = sum_up(alloc, seed, nodes, links, hoses, output);
+    let done = sum_up(alloc, sizes, output);
     end(done, output)
 }
 
 // What that comes to, before its last line.
-fn sum_up<O: Sink>(
-    alloc: Global,
-    seed: u64,
-    nodes: u32,
-    links: u32,
-    hoses: u32,
-    output: &mut O,
-) -> Result<(), Fault>
-    requires { AreSizes nodes links hoses }
-    ensures leaves { GenLeaves seed nodes links hoses O.Sink output.old output.new result }
+fn sum_up<O: Sink>(alloc: Global, sizes: Sizes, output: &mut O) -> Result<(), Fault>
+    requires { AreSizes sizes.nodes sizes.links sizes.hoses }
+    ensures leaves { GenLeaves sizes.seed sizes.nodes sizes.links sizes.hoses O.Sink
+        output.old output.new result }
     ensures output { Stays (O.frame output.old) (O.frame output.new) }
 {
-    let made = generate(alloc, seed, nodes, links, hoses)?;
+    let made = generate(alloc, sizes.seed, sizes.nodes, sizes.links, sizes.hoses)?;
     // That this is a network is told by the call that counts its nodes.
     let _nodes = made.top.nodes();
     let tally = tally_in_memory(alloc, made)?;
-    tally.put(seed, hoses, output)?;
+    tally.put(sizes.seed, sizes.hoses, output)?;
     Ok(())
 }
 

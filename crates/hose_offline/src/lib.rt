@@ -10,7 +10,8 @@
 //! let status = run(alloc, &OwnCosts, Some("orders.journal"), input, output, cabinet);
 //! let names = Names { topology: "star.txt", journal: "orders.journal" };
 //! let status = audit(alloc, &tariff, names, output, cabinet);
-//! let status = run_generated(alloc, 7, 200, 600, 300, output);
+//! let sizes = Sizes { seed: 7, nodes: 200, links: 600, hoses: 300 };
+//! let status = run_generated(alloc, sizes, output);
 //! let status = prove(alloc, &OwnCosts, "star.txt", ends, output, cabinet);
 //! let status = check(alloc, &OwnCosts, "star.txt", input, output, cabinet);
 //! let status = price(alloc, &tariffs, "star.txt", input, output, cabinet);
@@ -41,7 +42,7 @@ pub use auditing::{Names, audit, read_topology, tell};
 pub use checking::check;
 pub use fault::{Fault, end};
 pub use following::follow;
-pub use generating::run_generated;
+pub use generating::{Sizes, run_generated};
 pub use journal::open_store;
 pub use json_text::JSON_LIMIT;
 pub use notation::{Notation, Refusal};

@@ -158,9 +158,7 @@ pub fn offline<I: Source, O: Sink, C: Cabinet>(
             let by = costs_of(tariffs, of.tariff);
             audit(alloc, &by, of.names, output, cabinet)
         }
-        Ok(Request::Generate(of)) => {
-            run_generated(alloc, of.seed, of.nodes, of.links, of.hoses, output)
-        }
+        Ok(Request::Generate(sizes)) => run_generated(alloc, sizes, output),
         Ok(Request::Prove { of, ends, first }) => {
             let by = costs_of(tariffs, of.tariff);
             let ends = EndWords { words: ends, first };

@@ -11,7 +11,7 @@ ghost use Rattle.hosed.specs.ProgramWords.Verb.{audit, check, generate, price, p
 use crate::end_words::ends_at;
 use hose_gen::{LEAST_NODES, MOST_HOSES};
 use hose_graph::{MOST_EPOCH, MOST_LINKS, MOST_NODES};
-use hose_offline::Names;
+use hose_offline::{Names, Sizes};
 use hose_pool::MOST_WORKERS;
 use hose_price::MOST_TARIFFS;
 use hose_tariff::{Tariff, find};
@@ -66,15 +66,6 @@ pub struct OfTopology<'w> {
 pub struct OfJournal<'w> {
     pub tariff: Option<usize>,
     pub names: Names<'w>,
-}
-
-/// What a network and a script are made of: a seed, and how many nodes, links and hoses there are.
-#[derive(Clone, Copy)]
-pub struct Sizes {
-    pub seed: u64,
-    pub nodes: u32,
-    pub links: u32,
-    pub hoses: u32,
 }
 
 /// A server: the callers of a door are answered by the book of a journal.
