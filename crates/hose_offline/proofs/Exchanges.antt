@@ -46,6 +46,7 @@ use Rattle.hose_book.specs.declared.books.Committed.TheVariants.{Done, Disk as F
 use Rattle.hose_book.specs.declared.books.Books.{Ghosts as BooksGhosts}
 use Rattle.hose_core.specs.Holding.{State}
 use Rattle.hose_core.specs.Stepping.{FitsHistory, Goes, committed_for, committed_of, history_with}
+use Rattle.hose_offline.proofs.StillReading.{IsStillReading, source_held}
 use Rattle.hose_offline.specs.Serving.{Says, SaysNext, SaysOneThing, SaysRead, SayOneThingEach, none_said, line_more, TellsDisks, AnswersLine, AreAnswered, HasAnsweredLines, Serves, ServesLine, ServesUntil, ServesUpTo, AnswersNextLine}
 
 -- what a reader shows of a line says what the line says
@@ -302,37 +303,33 @@ module _ {S K R : Type 0} (source : Ghosts S) (books : BooksGhosts K R) (start n
 -- ---- what answering lines comes to
 
 module _ {S O K R : Type 0} (source : Ghosts S) (sink : SinkGhosts O) (books : BooksGhosts K R) (start now new : Reader S) (since : List Entry) (begun core next : State K) (first middle last : O)
-    (served : HasAnsweredLines source books start now since begun core (sink.content first) (sink.content middle)) (reads : ReadsOn source start now) (none : now.fault ≡ None) (held : sink.frame middle ≡ sink.frame first) where
+    (served : HasAnsweredLines source books start now since begun core (sink.content first) (sink.content middle)) (still : IsStillReading source sink start now first middle) where
   abbrev whole : Network
   whole = (books.ledger begun.books).network
-
-  -- no source that is read without a fault has failed
-  source_held : source.frame now.source ≡ source.frame start.source
-  source_held = reads.unfailed (λ read. absurd (cc (none, read)))
 
   -- the output is as it was
   until : (fault : LineFault) → StopsReading source now new fault → last ≡ middle → next ≡ core → ServesUntil source sink books start new first last whole since begun.books next.books fault
   until fault met same stays = record {
-    serves = served_broke source books start now new since begun core next (sink.content first) (sink.content middle) (sink.content last) fault served reads none met (ap sink.content same) stays;
-    before_end = reads.ended met.before_end;
+    serves = served_broke source books start now new since begun core next (sink.content first) (sink.content middle) (sink.content last) fault served still.reads still.none met (ap sink.content same) stays;
+    before_end = still.reads.ended met.before_end;
     kept = met.kept;
-    held = ap sink.frame same ∙ held;
+    held = ap sink.frame same ∙ still.held;
   }
 
   -- a fault ends it
   pub serves_fault : (T : Type 0) (fault : Fault) → ServesLine source sink books now new middle last core next (Err fault) → Serves {T = T} source sink books start new first last whole since begun.books next.books (Err fault)
-  serves_fault T fault.Read line = (until line_fault.Read line.0 line.2 line.3, rw source_held at line.1)
+  serves_fault T fault.Read line = (until line_fault.Read line.0 line.2 line.3, rw (source_held source sink start now first middle still) at line.1)
   serves_fault T fault.TooLong line = until line_fault.TooLong line.0 line.1 line.2
   serves_fault T fault.Write line =
-      (served_cut source books start now new since begun core next (sink.content first) (sink.content middle) (sink.content last) served reads line.0, line.1, rw held at line.2)
+      (served_cut source books start now new since begun core next (sink.content first) (sink.content middle) (sink.content last) served still.reads line.0, line.1, rw still.held at line.2)
   serves_fault T another line = absurd line
 
   -- no line is left
   pub serves_all : (T : Type 0) (value : T) → ServesLine source sink books now new middle last core next (Ok false) → Serves source sink books start new first last whole since begun.books next.books (Ok value)
   serves_all T value line = (
-    served_over source books start now new since begun core next (sink.content first) (sink.content middle) (sink.content last) served reads line.0 (ap sink.content line.2) line.3,
+    served_over source books start now new since begun core next (sink.content first) (sink.content middle) (sink.content last) served still.reads line.0 (ap sink.content line.2) line.3,
     line.1,
-    ap sink.frame line.2 ∙ held,
-    WhereTold-then (source.content start.source) (source.content now.source) (source.content new.source) reads.takes.0 _ _ _ reads.takes.1 served.alone line.0.ended
+    ap sink.frame line.2 ∙ still.held,
+    WhereTold-then (source.content start.source) (source.content now.source) (source.content new.source) still.reads.takes.0 _ _ _ still.reads.takes.1 served.alone line.0.ended
         (λ a b c each over. subst (SayOneThingEach whole (start.pending ++ a)) over.0 each),
   )

@@ -22,5 +22,6 @@ pub mod PutBack
 pub mod Running
 mod Sheets
 mod ShipEnds
+mod StillReading
 mod Taken
 pub mod Texts

@@ -25,6 +25,7 @@ use Rattle.hose_proto.specs.ReplyText.{line_of}
 use Rattle.hose_offline.specs.Fault.{of_line}
 use Rattle.std.specs.Borrow.{MutBor}
 use Rattle.hose_offline.proofs.Borrowed.{IsBehind, content_behind, held_behind, rose_behind}
+use Rattle.hose_offline.proofs.StillReading.{IsStillReading, source_held}
 use Rattle.hose_offline.specs.PriceOutcome.{AnswersInput, HasAnswered}
 use Rattle.hose_offline.specs.Pricing.{AllOut, AnswersNext, HasPriced, LastCut, PricesAll, PricesLine, PricesUntil, PricesUpTo, TakesAnswer}
 use Rattle.hose_offline.specs.SheetLine.{AnswersSheet, IsPricing, PricesHose, answer_text, answers_text, price_words, prices_words, sheet_form}
@@ -83,7 +84,7 @@ module _ (sheet : Sheet) (names : List (List ℕ)) {S O : Type 0} (source : Ghos
     out = Grows-nil (sink.content output);
   }
 
-  module _ (start now new : Reader S) (first middle last : O) (priced : HasPriced sheet names source sink start now first middle) (reads : ReadsOn source start now) where
+  module _ (start now new : Reader S) (first middle last : O) (priced : HasPriced sheet names source sink start now first middle) (still : IsStillReading source sink start now first middle) where
     abbrev Taken : (List ℕ → Type 0) → Type 0
     Taken puts = TakesAnswer sheet names source sink now new puts
 
@@ -91,7 +92,7 @@ module _ (sheet : Sheet) (names : List (List ℕ)) {S O : Type 0} (source : Ghos
     pub priced_more : Taken (Grows (sink.content middle) (sink.content last)) → HasPriced sheet names source sink start new first last
     priced_more taken = record {
       answers = priced.answers ++ taken.answer ∷ [];
-      said = said_more source (AnswersNext sheet) start now new priced.answers priced.said reads taken.answer (λ bytes. AnswersSheet sheet.network sheet bytes taken.answer) taken.line (λ bytes is. is);
+      said = said_more source (AnswersNext sheet) start now new priced.answers priced.said still.reads taken.answer (λ bytes. AnswersSheet sheet.network sheet bytes taken.answer) taken.line (λ bytes is. is);
       out = subst (Grows (sink.content first) (sink.content last)) (sym (flat_map-last (λ answer. line_of (answer_text names answer)) priced.answers taken.answer))
           (Grows-append (sink.content first) (sink.content middle) (sink.content last) (answers_text names priced.answers) (line_of (answer_text names taken.answer)) priced.out taken.out);
     }
@@ -101,7 +102,7 @@ module _ (sheet : Sheet) (names : List (List ℕ)) {S O : Type 0} (source : Ghos
     priced_cut taken = record {
       answers = priced.answers ++ taken.answer ∷ [];
       said = said_enough source (AnswersNext sheet) start new _
-          (said_more source (AnswersNext sheet) start now new priced.answers priced.said reads taken.answer (λ bytes. AnswersSheet sheet.network sheet bytes taken.answer) taken.line (λ bytes is. is));
+          (said_more source (AnswersNext sheet) start now new priced.answers priced.said still.reads taken.answer (λ bytes. AnswersSheet sheet.network sheet bytes taken.answer) taken.line (λ bytes is. is));
       out = (
         priced.answers,
         taken.answer,
@@ -120,33 +121,29 @@ module _ (sheet : Sheet) (names : List (List ℕ)) {S O : Type 0} (source : Ghos
       out = subst (λ (o : O). Grows (sink.content first) (sink.content o) (answers_text names priced.answers)) (sym same) priced.out;
     }
 
-    module _ (none : now.fault ≡ None) (held : sink.frame middle ≡ sink.frame first) where
-      -- no source that is read without a fault has failed
-      source_held : source.frame now.source ≡ source.frame start.source
-      source_held = reads.unfailed (λ read. absurd (cc (none, read)))
+    -- reading met a fault, and nothing more is out
+    until : (met : LineFault) → StopsReading source now new met → last ≡ middle → PricesUntil sheet names source sink start new first last met
+    until met stops same = record {
+      prices = priced_up_to (StopsAfterLines met) (said_until source (AnswersNext sheet) start now new priced.answers priced.said still.reads met still.none stops) same;
+      before_end = still.reads.ended stops.before_end;
+      kept = stops.kept;
+      held = ap sink.frame same ∙ still.held;
+    }
 
-      until : (met : LineFault) → StopsReading source now new met → last ≡ middle → PricesUntil sheet names source sink start new first last met
-      until met stops same = record {
-        prices = priced_up_to (StopsAfterLines met) (said_until source (AnswersNext sheet) start now new priced.answers priced.said reads met none stops) same;
-        before_end = reads.ended stops.before_end;
-        kept = stops.kept;
-        held = ap sink.frame same ∙ held;
-      }
+    -- a fault ends it
+    pub prices_fault : (T : Type 0) (why : Fault) → PricesLine sheet names source sink now new middle last (Err why) → PricesAll sheet names source sink {T = T} start new first last (Err why)
+    prices_fault T fault.Read line = (until line_fault.Read line.0 line.2, rw (source_held source sink start now first middle still) at line.1)
+    prices_fault T fault.TooLong line = until line_fault.TooLong line.0 line.1
+    prices_fault T fault.Write line = (priced_cut line.0, line.1, rw still.held at line.2)
+    prices_fault T another line = absurd line
 
-      -- a fault ends it
-      pub prices_fault : (T : Type 0) (why : Fault) → PricesLine sheet names source sink now new middle last (Err why) → PricesAll sheet names source sink {T = T} start new first last (Err why)
-      prices_fault T fault.Read line = (until line_fault.Read line.0 line.2, rw source_held at line.1)
-      prices_fault T fault.TooLong line = until line_fault.TooLong line.0 line.1
-      prices_fault T fault.Write line = (priced_cut line.0, line.1, rw held at line.2)
-      prices_fault T another line = absurd line
-
-      -- no line is left
-      pub prices_all : (T : Type 0) (value : T) → PricesLine sheet names source sink now new middle last (Ok false) → PricesAll sheet names source sink start new first last (Ok value)
-      prices_all T value line = (
-        priced_up_to IsAllTaken (said_all source (AnswersNext sheet) start now new priced.answers priced.said reads line.0) line.2,
-        line.1,
-        ap sink.frame line.2 ∙ held,
-      )
+    -- no line is left
+    pub prices_all : (T : Type 0) (value : T) → PricesLine sheet names source sink now new middle last (Ok false) → PricesAll sheet names source sink start new first last (Ok value)
+    prices_all T value line = (
+      priced_up_to IsAllTaken (said_all source (AnswersNext sheet) start now new priced.answers priced.said still.reads line.0) line.2,
+      line.1,
+      ap sink.frame line.2 ∙ still.held,
+    )
 
   -- ---- the input of a reader that has taken nothing
 
