@@ -10,7 +10,7 @@ use Rattle.hose_law.proofs.Fronts.{prefix_same}
 use Rattle.hose_session.specs.Accounts.{AccountFor}
 use Rattle.hose_turn.specs.Known.{HasOwnPlaces, Known}
 use Rattle.hose_crew.specs.Crew.{AreServed, ServesDoor}
-use Rattle.hose_crew.specs.Desk.{AreArrived, HasStopped, Started}
+use Rattle.hose_crew.specs.Desk.{AreArrived, HasStopped, started_at}
 use Rattle.hose_crew.specs.Hands.{AreBack, IsGathered}
 
 pub all_first : {A : Type 0} (P : A → Type 0) (first : A) (rest : List A) → All P (first ∷ rest) → P first
@@ -38,11 +38,8 @@ none_returned start (Some was) total count pass none account = ([], rw (append-n
 module _ {L In Out Done : Type 0} (door : DoorGhosts L In Out Done) (was mid now : L) (connections total count workers parts : ℕ) (old new : Known) (stopped : Result ⊤ Failed)
     (gathered : IsGathered workers old new parts) (whole : parts ≡ workers) (all : count ≡ total) (few : total ≤ connections)
     (frame : door.frame now ≡ door.frame mid) where
-  abbrev started : Started
-  started = record { frame = door.frame was; told = door.told was; connections = connections }
-
   -- all are back
-  pub serves : HasStopped started (door.frame mid) (door.told mid) total stopped → AreArrived (door.told was) (door.told mid) total → AreBack (door.told mid) (door.told now) count new → ServesDoor door was now connections old new stopped
+  pub serves : HasStopped (started_at door was connections) (door.frame mid) (door.told mid) total stopped → AreArrived (door.told was) (door.told mid) total → AreBack (door.told mid) (door.told now) count new → ServesDoor door was now connections old new stopped
   serves stops arrived back = record {
     met = subst (λ (f : Frame). Met (door.frame was) f stopped) (sym frame) stops.met;
     same = record {

@@ -14,6 +14,14 @@ pub record Started : Type 0 where
   pub told : Option Connections
   pub connections : ℕ
 
+-- so it is with a door that is to accept so many connections
+abbrev pub started_at : {L In Out Done : Type 0} → DoorGhosts L In Out Done → L → ℕ → Started
+started_at door was connections = record {
+  frame = door.frame was;
+  told = door.told was;
+  connections = connections;
+}
+
 -- So many connections were accepted since the start, and none came back.
 pub record HaveArrived (was now : Connections) (count : ℕ) : Type 0 where
   pub accepted : now.accepted ≡ was.accepted + count

@@ -4,7 +4,7 @@ ghost use mathlib.Core.List.{IsPrefix};
 ghost use Rattle.hose_io.specs.Connections.{AreAccounted};
 ghost use Rattle.hose_shared.specs.Sharing.{IsPassOf};
 ghost use Rattle.hose_crew.specs.Crew.{ServesDoor};
-ghost use Rattle.hose_crew.specs.Desk.{AreArrived, HasStopped};
+ghost use Rattle.hose_crew.specs.Desk.{AreArrived, HasStopped, started_at};
 ghost use Rattle.hose_crew.specs.Hands.{AreBack, HasWorked, HaveWorked, IsGathered, IsIdle, MayServe};
 
 use crate::desk::{Closed, Desk, Start};
@@ -79,11 +79,7 @@ impl<L: Door + Send, N: Start + Send + Sync> Crew<L, N> {
         requires since { IsPrefix pass.origin.since pass.seen }
         requires name { blank.name ≡ N.name }
         requires parts { (blank.parts ≡ N.parts) × (blank.parts ≡ self.workers) }
-        requires start { N.start ≡ record {
-          frame = L.frame door;
-          told = L.told door;
-          connections = self.connections;
-        } }
+        requires start { N.start ≡ started_at L.Door door self.connections }
         requires accounted { AreAccounted (L.told door) }
         ensures { ServesDoor L.Door door result.2 self.connections pass result.1 result.0 }
     {

@@ -1,6 +1,6 @@
 // The door under its lock.
 ghost use Rattle.std.specs.Prelude.{◌≡◌, ◌+◌, ◌<◌, ◌≤◌, IfNone, IfOk, IfSome, IsSome};
-ghost use Rattle.hose_crew.specs.Desk.{AreArrived, AreFresh, DeskState, HasStopped, Started};
+ghost use Rattle.hose_crew.specs.Desk.{AreArrived, AreFresh, DeskState, HasStopped, Started, started_at};
 
 use hose_io::{Door, Failed};
 use std::marker::{Brand, Model};
@@ -73,11 +73,7 @@ impl<L: Door, N: Start> Model for Desk<L, N> {
 impl<L: Door, N: Start> Desk<L, N> {
     /// A door that is to accept so many connections.
     pub fn new(door: L, connections: u32, tally: Tally<N>) -> Desk<L, N>
-        requires start { N.start ≡ record {
-          frame = L.frame door;
-          told = L.told door;
-          connections = connections;
-        } }
+        requires start { N.start ≡ started_at L.Door door connections }
         requires none { tally.total ≡ 0 }
     {
         Desk {
