@@ -1,6 +1,5 @@
 -- What becomes of an order to take a link out of service, or to put it back.
 use Rattle.std.proofs.Common.{◌≡◌, ◌+◌, ◌<◌, ◌∙◌, ℕ, Bool, true, false, not, List, Option, None, Some, refl, sym, ap, subst}
-use mathlib.Core.Bool.{beq}
 use Rattle.hose_graph.specs.Name.{operator}
 use Rattle.hose_graph.specs.Naming.{NamesPlaces}
 use Rattle.hose_graph.specs.Network.{IsLinkOf, Network}
@@ -35,19 +34,6 @@ pub as_ordered : (Is : Bool → ℕ → Type 0) (down other : Bool) (link more :
 as_ordered Is down other link more same is =
     let both = same_order down other link more same in
     subst (λ (b : Bool). Is b link) (sym both.0) (subst (Is other) (sym both.1) is)
-
--- two truth values are the same, or the one is not the other
-pub same_truth : (one other : Bool) → beq one other ≡ true → one ≡ other
-same_truth true true is = refl
-same_truth true false is = absurd (cc is)
-same_truth false true is = absurd (cc is)
-same_truth false false is = refl
-
-pub other_truth : (one other : Bool) → beq one other ≡ false → one ≡ not other
-other_truth true true is = absurd (cc is)
-other_truth true false is = refl
-other_truth false true is = refl
-other_truth false false is = absurd (cc is)
 
 -- it may want memory where the operator gives it
 pub order_wants : (book : Book) (customer : List ℕ) (held : Held) (down : Bool) (link : ℕ) → customer ≡ operator → MayWantMemory book customer held (service_command down link)

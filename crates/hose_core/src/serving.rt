@@ -4,14 +4,14 @@ ghost use Rattle.hose_graph.specs.Name.{operator};
 ghost use Rattle.hose_graph.specs.Network.{IsLinkOf};
 ghost use Rattle.hose_graph.specs.declared.entry.Entry.{Entry};
 ghost use Rattle.hose_graph.specs.declared.command.Reply.{Reply};
-ghost use Rattle.hose_law.specs.Service.{is_out, service_entry};
+ghost use Rattle.hose_law.specs.Service.{service_entry};
 ghost use Rattle.hose_core.specs.Claiming.{IsServiceClaim};
 ghost use Rattle.hose_core.specs.Serving.{service_command, service_reply};
 ghost use Rattle.hose_core.specs.Stepping.{HaveAnswered, StepsAtEach};
 
 use crate::claim::Claim;
 use crate::entering::enter;
-use hose_book::{Book, Books};
+use hose_book::Books;
 use hose_graph::{Entry, MOST_EPOCH, Reply};
 
 /// Takes the link of a claim out of service for the operator, or puts it back: `Down`, `Up`,
@@ -47,7 +47,7 @@ fn enter_order<K: Books>(
     ensures memory { result ≢ Reply.Memory }
 {
     let at = books.book().epoch();
-    let out = is_out(books.book(), link);
+    let out = books.book().is_out(link);
     if out == down {
         return Reply::Already {
             link: u64::from(link),
@@ -58,14 +58,6 @@ fn enter_order<K: Books>(
         return Reply::Spent { at };
     }
     enter(books, entry, ready, done(link, down, at + 1))
-}
-
-/// Whether a link of the network is out of service.
-pub fn is_out(book: &Book, link: u32) -> bool
-    requires { IsLinkOf book.now.network link }
-    ensures { result ≡ is_out book.now.book.out link }
-{
-    !book.service().has(link)
 }
 
 // The link that an entry takes out of service, with true, or puts back.

@@ -9,7 +9,6 @@ ghost use Rattle.hose_book.specs.declared.books.Committed.{Committed};
 ghost use Rattle.hose_core.specs.Stepping.{StepsAtEach, committed_of};
 ghost use Rattle.hose_core.specs.Telling.{IsShown};
 
-use crate::serving::is_out;
 use hose_book::{Book, Books};
 use hose_graph::{Name, Reply};
 use hose_tree::cost;
@@ -70,7 +69,7 @@ fn link_state(book: &Book, link: u32) -> Reply
     Reply::LinkState {
         link: u64::from(link),
         load: book.loads()[link as usize],
-        out: is_out(book, link),
+        out: book.is_out(link),
         at: book.epoch(),
     }
 }

@@ -5,7 +5,8 @@ use Rattle.hose_law.specs.History.{last_epoch}
 use Rattle.hose_law.specs.ReplyKind.{kind_of}
 use Rattle.hose_law.specs.Service.{is_out}
 use Rattle.hose_book.specs.Ledger.{Ledger}
-use Rattle.hose_core.proofs.ServiceEntries.{already_answers, done_answers, done_kind, done_names, other_truth, same_truth, service_step, sound_at, spent_answers}
+use Rattle.hose_book.proofs.Judging.{other_truth, same_truth}
+use Rattle.hose_core.proofs.ServiceEntries.{already_answers, done_answers, done_kind, done_names, service_step, sound_at, spent_answers}
 use Rattle.hose_core.proofs.serving.enter_order.Goals as goal
 
 pub returns-then-out-down-clause-step : goal.returns-then-out-down-clause-step
