@@ -21,8 +21,17 @@ if (($# == 0)); then scripts=("${all[@]/%/.sh}"); fi
 mkdir -p "$logs"
 rm -f "$logs"/*.sh "$logs"/*.sh.seconds
 
+# How many processors are at work, as the system counts it in three seconds.
+at_work=$({ head -n 1 /proc/stat && sleep 3 && head -n 1 /proc/stat; } | awk -v of="$(nproc)" '{
+    all = 0
+    for (i = 2; i <= 9; i++) all += $i
+    idle = $5 + $6
+    if (NR == 2) printf "%.2f", of * (1 - (idle - was_idle) / (all - was_all))
+    was_all = all
+    was_idle = idle
+}')
+
 failed=0
-read -r load _ </proc/loadavg
 for script in "${scripts[@]}"; do
     begun=$SECONDS
     "bench/$script" >"$logs/$script" </dev/null || {
@@ -33,18 +42,19 @@ for script in "${scripts[@]}"; do
     echo "all: $script took $((SECONDS - begun)) s" >&2
 done
 
-python3 - "$logs" "$load" "$#" "${scripts[@]}" <<'END'
+python3 - "$logs" "$at_work" "$#" "${scripts[@]}" <<'END'
 import datetime
 import os
 import re
 import subprocess
 import sys
 
-LOGS, LOAD, CHOSEN, SCRIPTS = sys.argv[1], float(sys.argv[2]), int(sys.argv[3]), sys.argv[4:]
+LOGS, AT_WORK, CHOSEN, SCRIPTS = sys.argv[1], float(sys.argv[2]), int(sys.argv[3]), sys.argv[4:]
 DOCUMENT, BEGIN, END = "docs/FIGURES.md", "<!-- figures -->\n", "<!-- end of figures -->\n"
 HEAD = ("| Figure | Reference in the same run | Ratio | Machine | Date | Script |\n"
         "|---|---|---|---|---|---|\n")
-IDLE = 0.3  # of the load, at most
+IDLE = 0.3  # processors at work, at most
+LEFT_OUT = re.compile(r"^files: |^load: ")  # where files lie, and lines of a table of their own
 BESIDE = re.compile(r"; (?:reference: |(?=echo |loop ))")
 
 
@@ -72,7 +82,7 @@ def groups(lines):
         if rest:
             yield [first], rest[0]
         elif line.startswith(("reference: ", "    echo ")):
-            yield figures, line.strip().replace("reference: ", "", 1)
+            yield figures or ["the same"], line.strip().replace("reference: ", "", 1)
             figures = []
         else:
             figures.append(line)
@@ -81,7 +91,7 @@ def groups(lines):
 
 
 def ratio_of(reference, figures):
-    found = re.search(r",? ratio ([\d.]+(?: to [\d.]+)?)", reference)
+    found = re.search(r",? ratio (-?[\d.]+(?: to [\d.]+)?)", reference)
     if found:
         return reference.replace(found[0], "", 1), found[1]
     told = re.findall(r"ratio ([\d.]+)", " ".join(figures))
@@ -91,7 +101,7 @@ def ratio_of(reference, figures):
 def machine():
     with open("/proc/cpuinfo", encoding="ascii", errors="replace") as told:
         model = re.search(r"(?m)^model name\s*: (.*)$", told.read())
-    idle = "idle" if LOAD <= IDLE else f"not idle, load {LOAD}"
+    idle = "idle" if AT_WORK <= IDLE else f"not idle, {AT_WORK} processors at work"
     return f"{os.cpu_count()} of {model[1] if model else 'an unknown processor'}, {idle}"
 
 
@@ -99,7 +109,7 @@ def rows():
     where, date = machine(), datetime.date.today().isoformat()
     for script in SCRIPTS:
         with open(os.path.join(LOGS, script), encoding="utf-8", errors="replace") as log:
-            lines = [line.rstrip() for line in log if line.strip()]
+            lines = [line.rstrip() for line in log if line.strip() and not LEFT_OUT.search(line)]
         for figures, reference in groups(lines):
             reference, ratio = ratio_of(reference, figures)
             cells = ("; ".join(figures), reference, ratio, where, date, f"`{script}`")

@@ -16,7 +16,7 @@ import subprocess
 import sys
 
 PROGRAM, DIGESTS = sys.argv[1:]
-BYTES, TIMES, RUNS = 39 + 82 * 20_000, 2_000, 3
+BYTES, TIMES, RUNS = 39 + 82 * 20_000, 500, 3
 RECORDS = 1_000_000
 
 

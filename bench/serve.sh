@@ -311,8 +311,8 @@ def tell_load(workers):
     server.end()
     if found.fault:
         sys.exit(found.fault)
-    print(f"{workers} workers and customers, all commands")
-    print(load.table(found))
+    print(f"load: {workers} workers and customers, all commands")
+    print("\n".join(f"load: {line}" for line in load.table(found).splitlines()))
 
 
 def main():

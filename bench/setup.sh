@@ -1,13 +1,13 @@
-# What the scripts beside this one begin with. Each takes a PROGRAM (./hosed), seen from the top of
+# What the scripts beside this one begin with. Each may be told a PROGRAM, as seen from the top of
 # the repository.
 set -euo pipefail
 export LC_ALL=C
 cd "$(dirname "${BASH_SOURCE[0]}")/.."
-program=${1:-./hosed}
+# The script ./hosed may build the program. The program itself is what is measured.
+program=${1:-crates/hosed_main/out/hosed_main}
+if (($# < 1)); then ./hosed --version >/dev/null; fi
 work=$(mktemp -d)
 trap 'rm -rf "$work"' EXIT
-# Where the program is not built yet, that is not part of a figure.
-printf 'node a\nend\n' | "$program" run
 
 # Runs the program on $work/input, RUNS times, and leaves its output in $work/replies; the least
 # seconds are then in `taken`, the most KiB in `peak`, the least of a processor in `processor`.
