@@ -11,6 +11,7 @@ pub mod Generating
 pub mod Journal
 pub mod JsonRead
 pub mod OnDisk
+pub mod Parts
 pub mod PriceOutcome
 pub mod Pricing
 pub mod ProveOutcome

@@ -1,0 +1,50 @@
+-- What is beside a command: what there is to read, what was written, and the files.
+use Rattle.std.specs.Prelude.{◌≡◌}
+use Rattle.hose_io.specs.Frame.{Stays}
+use Rattle.hose_io.specs.declared.source.Source.{Ghosts as SourceGhosts}
+use Rattle.hose_io.specs.declared.sink.Sink.{Ghosts as SinkGhosts}
+use Rattle.hose_disk.specs.Cabinet.{object_of}
+use Rattle.hose_disk.specs.declared.cabinet.Cabinet.{Ghosts as CabinetGhosts}
+use Rattle.hose_disk.specs.declared.disk.Disk.{Ghosts as DiskGhosts}
+use Rattle.hose_offline.specs.declared.outside.Outside.{Outside}
+
+-- the parts of what is beside a command
+pub record Parts (I O C : Type 0) : Type 0 where
+  pub input : I
+  pub output : O
+  pub cabinet : C
+
+abbrev pub parts : {I O C : Type 0} → I → O → C → Parts I O C
+parts input output cabinet = record { input = input; output = output; cabinet = cabinet }
+
+-- what each part tells, and the disks of the files
+pub record Tellings (I O C E : Type 0) : Type 1 where
+  pub source : SourceGhosts I
+  pub sink : SinkGhosts O
+  pub cabinet : CabinetGhosts C E
+  pub disk : DiskGhosts E
+
+abbrev pub tellings : {I O C E : Type 0} → SourceGhosts I → SinkGhosts O → CabinetGhosts C E
+    → DiskGhosts E → Tellings I O C E
+tellings source sink cabinet disk =
+    record { source = source; sink = sink; cabinet = cabinet; disk = disk }
+
+-- each part is the object that it was
+pub record AllStay {I O C E : Type 0} (tells : Tellings I O C E) (before after : Parts I O C) :
+    Type 0 where
+  pub input : Stays (tells.source.frame before.input) (tells.source.frame after.input)
+  pub output : Stays (tells.sink.frame before.output) (tells.sink.frame after.output)
+  pub cabinet : Stays (object_of (tells.cabinet.frame before.cabinet))
+      (object_of (tells.cabinet.frame after.cabinet))
+
+-- the parts that are lent to a command
+abbrev pub held : {I O C E : Type 0} → Outside I O C E → Parts I O C
+held outside = parts outside.input.now outside.output.now outside.cabinet.now
+
+-- Each part is the object that it was, and lent as it was.
+pub record KeepsAll {I O C E : Type 0} (tells : Tellings I O C E) (before after : Outside I O C E) :
+    Type 0 where
+  pub stay : AllStay tells (held before) (held after)
+  pub input : after.input.ghost_name ≡ before.input.ghost_name
+  pub output : after.output.ghost_name ≡ before.output.ghost_name
+  pub cabinet : after.cabinet.ghost_name ≡ before.cabinet.ghost_name
