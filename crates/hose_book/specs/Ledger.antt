@@ -1,7 +1,7 @@
 -- The ledger, as contracts see it: a network, its book and recent changes; and what a book keeps.
 use Rattle.std.specs.Prelude.{◌≡◌, ℕ, ◌<◌, ◌≤◌, List, [], ◌∷◌, ◌++◌, All, length, slice_index}
 use Rattle.hose_graph.specs.declared.entry.Vpn.{Vpn}
-use Rattle.hose_graph.specs.declared.limits.TheConstants.{MOST_AMOUNT, MOST_TREE_LINKS}
+use Rattle.hose_graph.specs.Limits.{most_amount, most_tree_links}
 use Rattle.hose_graph.specs.Amounts.{ReservedLink, amount_of}
 use Rattle.hose_graph.specs.Network.{Network}
 use Rattle.hose_law.specs.Walk.{capacity_of}
@@ -63,5 +63,5 @@ pub record AreKeptLoads (network : Network) (book : Book) (loads : List ℕ) : T
 pub record IsKept (network : Network) (vpn : Vpn) : Type 0 where
   pub nodes : AreNodes network vpn.hose
   pub links : AreOnLinks network vpn.amounts
-  pub few : length vpn.amounts ≤ MOST_TREE_LINKS
-  pub amounts : All (λ (pair : ReservedLink). amount_of pair ≤ MOST_AMOUNT) vpn.amounts
+  pub few : length vpn.amounts ≤ most_tree_links
+  pub amounts : All (λ (pair : ReservedLink). amount_of pair ≤ most_amount) vpn.amounts

@@ -3,13 +3,13 @@ use Rattle.std.specs.Prelude.{◌≡◌, ◌<◌, ◌≤◌, ◌-◌, ◌==◌, 
 use Rattle.std.specs.List.{slice_split}
 use Rattle.hose_words.specs.Form.{IsWithin}
 use Rattle.hose_words.specs.Words.{words_of}
-use Rattle.hose_words.specs.declared.lines.TheConstants.{LINE_LIMIT}
+use Rattle.hose_words.specs.Limits.{line_limit}
 use Rattle.hose_graph.specs.Amounts.{ReservedLink, amount_of, link_of}
 use Rattle.hose_graph.specs.Hose.{Endpoint}
 use Rattle.hose_graph.specs.Network.{Network, IsLinkOf, IsNodeOf}
-use Rattle.hose_graph.specs.declared.limits.TheConstants.{MOST_AMOUNT}
+use Rattle.hose_graph.specs.Limits.{most_amount}
 use Rattle.hose_proto.specs.Command.{AreEndsOf}
-use Rattle.hose_cert.specs.declared.statement.TheConstants.{LINE_NUMBERS, MOST_NUMBER}
+use Rattle.hose_cert.specs.Limits.{line_numbers, most_number}
 use Rattle.hose_cert.specs.declared.statement.Statement.{Statement}
 use Rattle.hose_cert.specs.declared.statement.Statement.TheVariants as statement
 
@@ -30,25 +30,25 @@ pub data CertLine : Type 0 where
 
 -- how many numbers stand in the line of a root that begins at a node
 abbrev pub numbers_from : Network → ℕ → ℕ
-numbers_from network from = min LINE_NUMBERS (length network.nodes - from)
+numbers_from network from = min line_numbers (length network.nodes - from)
 
 -- the words are those of a line: `cost C`, `hose NAME:RATE ..`, `use L R`, `without L`,
 -- `pot R F P ..` or `end`
 abbrev pub IsSpelled : Network → List (List ℕ) → CertLine → Type 0
 IsSpelled network words (cost_line cost) =
-    (words ≡ codes "cost" ∷ decimal cost ∷ []) × (cost ≤ MOST_NUMBER)
+    (words ≡ codes "cost" ∷ decimal cost ∷ []) × (cost ≤ most_number)
 IsSpelled network words (hose_line hose) =
     (ends : List (List ℕ)) × (words ≡ codes "hose" ∷ ends) × AreEndsOf network ends hose
 IsSpelled network words (use_line pair) =
     (words ≡ codes "use" ∷ decimal (link_of pair) ∷ decimal (amount_of pair) ∷ [])
-    × IsLinkOf network (link_of pair) × IsWithin 1 MOST_AMOUNT (amount_of pair)
+    × IsLinkOf network (link_of pair) × IsWithin 1 most_amount (amount_of pair)
 IsSpelled network words (without_line link) =
     (words ≡ codes "without" ∷ decimal link ∷ []) × IsLinkOf network link
 IsSpelled network words (pot_line root from numbers) =
     (words ≡ codes "pot" ∷ decimal root ∷ decimal from ∷ map decimal numbers)
     × IsNodeOf network root × IsNodeOf network from
     × (length numbers ≡ numbers_from network from)
-    × All (λ number. number ≤ MOST_NUMBER) numbers
+    × All (λ number. number ≤ most_number) numbers
 IsSpelled network words end_line = words ≡ codes "end" ∷ []
 
 -- One space stands between each two words, and none before the first or after the last: no part
@@ -63,7 +63,7 @@ pub record SaysLine (network : Network) (bytes : List ℕ) (line : CertLine) : T
 
 -- The bytes are a line that says this.
 pub record IsLine (network : Network) (bytes : List ℕ) (line : CertLine) : Type 0 where
-  pub short : length bytes ≤ LINE_LIMIT
+  pub short : length bytes ≤ line_limit
   pub says : SaysLine network bytes line
 
 -- what a statement that was read says

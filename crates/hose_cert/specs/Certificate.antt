@@ -5,9 +5,9 @@ use Rattle.hose_words.specs.Lines.{is_line_feed}
 use Rattle.hose_graph.specs.Amounts.{ReservedLink, link_of}
 use Rattle.hose_graph.specs.Ascending.{firsts}
 use Rattle.hose_graph.specs.Network.{Network}
-use Rattle.hose_graph.specs.declared.limits.TheConstants.{MOST_TREE_LINKS}
+use Rattle.hose_graph.specs.Limits.{most_tree_links}
 use Rattle.hose_cert.specs.CertLine.{CertLine, IsLine, cost_line, end_line, hose_line, pot_line, use_line, without_line}
-use Rattle.hose_cert.specs.declared.statement.TheConstants.{LINE_NUMBERS}
+use Rattle.hose_cert.specs.Limits.{line_numbers}
 
 -- The text is these lines. A line feed ends each of them, but for the last one, which may end with
 -- the text.
@@ -22,8 +22,8 @@ AreLines network text (line ∷ more) =
 -- the root and the first node of the numbers that come after a line, where numbers may come
 abbrev pub place_after : Network → CertLine → ℕ × ℕ
 place_after network (pot_line root from numbers) =
-    if nat_lt (from + LINE_NUMBERS) (length network.nodes)
-    then (root, from + LINE_NUMBERS) else (root + 1, 0)
+    if nat_lt (from + line_numbers) (length network.nodes)
+    then (root, from + line_numbers) else (root + 1, 0)
 place_after network line = (0, 0)
 
 -- A line may follow another one, or be the first: the cost, the hose, links of the plan, links that
@@ -89,7 +89,7 @@ numbers_in root lines = flat_map (numbers_by root) lines
 pub record IsCertificate (network : Network) (lines : List CertLine) : Type 0 where
   pub follow : FollowAll network None lines
   pub ends : last_of None lines ≡ Some end_line
-  pub few : length (used_in lines) ≤ MOST_TREE_LINKS
+  pub few : length (used_in lines) ≤ most_tree_links
   pub apart : (link : ℕ) → Contains (left_out_in lines) link
       → Contains (firsts (used_in lines)) link → ⊥
 

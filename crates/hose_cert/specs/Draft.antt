@@ -5,13 +5,13 @@ use Rattle.hose_graph.specs.Amounts.{ReservedLink, amount_of, link_of}
 use Rattle.hose_graph.specs.Ascending.{IsAscending, firsts}
 use Rattle.hose_graph.specs.Hose.{Endpoint}
 use Rattle.hose_graph.specs.Network.{Network, IsLinkOf}
-use Rattle.hose_graph.specs.declared.limits.TheConstants.{MOST_AMOUNT, MOST_TREE_LINKS}
+use Rattle.hose_graph.specs.Limits.{most_amount, most_tree_links}
 use Rattle.hose_proto.specs.Places.{IsHoseOf}
 use Rattle.hose_cert.specs.CertLine.{CertLine, IsSpelled, cost_line, end_line, hose_line, pot_line, use_line, without_line}
 use Rattle.hose_cert.specs.Certificate.{FollowAll, IsCertificate, last_of, left_out_in, numbers_in, place_after, used_in}
 use Rattle.hose_cert.specs.Judging.{AreUpToMost}
 use Rattle.hose_cert.specs.Rules.{DifferWithinCosts, HasNamed, others_of, weighed_by}
-use Rattle.hose_cert.specs.declared.statement.TheConstants.{MOST_NUMBER}
+use Rattle.hose_cert.specs.Limits.{most_number}
 use Rattle.hose_cert.specs.declared.draft.Body.{Body}
 use Rattle.hose_cert.specs.declared.draft.Draft.{Draft}
 use Rattle.hose_cert.specs.declared.draft.Draft.TheVariants as draft
@@ -70,7 +70,7 @@ IsLast network lines body last.End =
 -- a link of the plan, with its amount
 pub record IsUse (network : Network) (pair : ReservedLink) : Type 0 where
   pub link : IsLinkOf network (link_of pair)
-  pub amount : IsWithin 1 MOST_AMOUNT (amount_of pair)
+  pub amount : IsWithin 1 most_amount (amount_of pair)
 
 -- what was read after the lines of the cost and the hose, if anything was
 pub record IsBody (network : Network) (lines : List CertLine) (body : Body) : Type 0 where
@@ -78,12 +78,12 @@ pub record IsBody (network : Network) (lines : List CertLine) (body : Body) : Ty
   pub front : lines ≡ cost_line body.cost ∷ hose_line body.hose ∷ more
   pub follow : FollowAll network None lines
   pub last : IsLast network lines body body.last
-  pub cost : body.cost ≤ MOST_NUMBER
+  pub cost : body.cost ≤ most_number
   pub hose : IsHoseOf network body.hose
   pub pairs : body.pairs.items ≡ used_in lines
   pub uses : All (IsUse network) body.pairs.items
   pub ascending : IsAscending body.pairs.items
-  pub few : length body.pairs.items ≤ MOST_TREE_LINKS
+  pub few : length body.pairs.items ≤ most_tree_links
   pub without : HasNamed network (left_out_in lines) body.without
   pub apart : (link : ℕ) → Contains (left_out_in lines) link
       → Contains (firsts (used_in lines)) link → ⊥
@@ -95,7 +95,7 @@ pub record IsBody (network : Network) (lines : List CertLine) (body : Body) : Ty
 -- the lines that were read so far made this draft
 abbrev pub IsDraftOf : Network → List CertLine → Draft → Type 0
 IsDraftOf network lines draft.Start = lines ≡ []
-IsDraftOf network lines (draft.Cost cost) = (lines ≡ cost_line cost ∷ []) × (cost ≤ MOST_NUMBER)
+IsDraftOf network lines (draft.Cost cost) = (lines ≡ cost_line cost ∷ []) × (cost ≤ most_number)
 IsDraftOf network lines (draft.Body body) = IsBody network lines body
 
 -- some lines made it

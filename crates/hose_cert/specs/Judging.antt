@@ -4,12 +4,12 @@ use Rattle.hose_graph.specs.Hose.{Endpoint}
 use Rattle.hose_graph.specs.Network.{Network}
 use Rattle.hose_law.specs.Walk.{IsIn, Joins, cost_of}
 use Rattle.hose_cert.specs.Rules.{DifferWithinCosts, others_of, weighed_by}
-use Rattle.hose_cert.specs.declared.statement.TheConstants.{MOST_NUMBER}
+use Rattle.hose_cert.specs.Limits.{most_number}
 use Rattle.hose_cert.specs.declared.rows.Rows.{Rows}
 
 -- no number is above the limit
 abbrev pub AreUpToMost : List ℕ → Type 0
-AreUpToMost numbers = All (λ number. number ≤ MOST_NUMBER) numbers
+AreUpToMost numbers = All (λ number. number ≤ most_number) numbers
 
 -- the numbers at the two nodes of a link differ by no more than its cost
 abbrev pub ChangesWithin : Network → ℕ → List ℕ → Type 0

@@ -5,6 +5,7 @@ pub mod Draft
 pub mod Fault
 pub mod Following
 pub mod Judging
+pub mod Limits
 pub mod Reading
 pub mod Rules
 pub mod Statement

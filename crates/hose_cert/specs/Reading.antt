@@ -3,7 +3,7 @@ use Rattle.std.specs.Prelude.{◌≡◌, ◌<◌, ◌≤◌, ℕ, List, ◌∷�
 use Rattle.hose_graph.specs.Network.{Network}
 use Rattle.hose_cert.specs.CertLine.{CertLine, IsSpelled, statement_line}
 use Rattle.hose_cert.specs.Statement.{statement_word}
-use Rattle.hose_cert.specs.declared.statement.TheConstants.{MOST_NUMBER}
+use Rattle.hose_cert.specs.Limits.{most_number}
 use Rattle.hose_cert.specs.declared.statement.Kind.{Kind}
 use Rattle.hose_cert.specs.declared.statement.Statement.{Statement}
 
@@ -24,4 +24,4 @@ IsFrom least end number = (least ≤ number) × (number < end)
 -- so many numbers
 abbrev pub AreNumbers : ℕ → List (List ℕ) → List ℕ → Type 0
 AreNumbers count words numbers = (words ≡ map decimal numbers)
-    × (length numbers ≡ count) × All (λ number. number ≤ MOST_NUMBER) numbers
+    × (length numbers ≡ count) × All (λ number. number ≤ most_number) numbers

@@ -8,7 +8,7 @@ use Rattle.hose_words.specs.declared.lines.Line.{Line}
 use Rattle.hose_words.specs.declared.lines.Line.TheVariants.{Text, Long}
 use Rattle.hose_words.specs.declared.lines.LineFault.{LineFault}
 use Rattle.hose_words.specs.declared.lines.LineFault.TheVariants as line
-use Rattle.hose_words.specs.declared.lines.TheConstants.{INPUT_LIMIT}
+use Rattle.hose_words.specs.Limits.{input_limit}
 use Rattle.hose_graph.specs.Network.{Network}
 use Rattle.hose_cert.specs.CertLine.{CertLine, SaysLine}
 use Rattle.hose_cert.specs.Certificate.{AreLines, IsCertText, IsCertificate}
@@ -45,8 +45,8 @@ pub record ReadsUpTo {S : Type 0} (source : Ghosts S) (old new : Reader S)
   pub read : fault ≡ Some Read
       → (old.fault ≡ Some line.Read) ⊎ Rose (source.frame old.source) (source.frame new.source)
   -- exactly where the source gave more than 1 GiB
-  pub too_long : old.taken ≤ INPUT_LIMIT → (fault ≡ Some TooLong) ↔ (INPUT_LIMIT < new.taken)
-  pub limit : old.taken ≤ INPUT_LIMIT + 1 → new.taken ≤ INPUT_LIMIT + 1
+  pub too_long : old.taken ≤ input_limit → (fault ≡ Some TooLong) ↔ (input_limit < new.taken)
+  pub limit : old.taken ≤ input_limit + 1 → new.taken ≤ input_limit + 1
 
 -- nothing is left
 abbrev pub IsAllRead : {S : Type 0} → Ghosts S → Reader S → Reader S → Type 0

@@ -19,7 +19,7 @@ use Rattle.hose_cert.specs.Rules.{Claim}
 use Rattle.hose_cert.specs.Verdict.{IsValid}
 use Rattle.hose_cert.specs.declared.fault.ProveFault.{ProveFault}
 use Rattle.hose_cert.specs.declared.fault.ProveFault.TheVariants.{Write, Memory}
-use Rattle.hose_cert.specs.declared.statement.TheConstants.{LINE_NUMBERS}
+use Rattle.hose_cert.specs.Limits.{line_numbers}
 
 -- ---- texts
 
@@ -57,12 +57,12 @@ numbers_of most dist = map (λ distance. unwrap_or distance most) dist
 
 -- how many lines the numbers of a root take
 abbrev pub blocks_of : Network → ℕ
-blocks_of network = (length network.nodes + (LINE_NUMBERS - 1)) / LINE_NUMBERS
+blocks_of network = (length network.nodes + (line_numbers - 1)) / line_numbers
 
 -- a line of the numbers of a root
 abbrev pub block_line : Network → ℕ → List ℕ → ℕ → CertLine
 block_line network root numbers block =
-    let from = block * LINE_NUMBERS in
+    let from = block * line_numbers in
     pot_line root from (take (numbers_from network from) (drop from numbers))
 
 -- the lines of the numbers of a root, one after the other

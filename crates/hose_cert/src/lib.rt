@@ -63,7 +63,7 @@ use hose_plan::plan;
 use hose_words::LineReader;
 use judging::judge;
 use reading::{read_text, refuse};
-pub use statement::{LINE_NUMBERS, MOST_NUMBER};
+pub use statement::{LINE_NUMBERS, MOST_NUMBER, law_limits};
 use std::alloc::Global;
 use writing::{Linked, put_plan};
 

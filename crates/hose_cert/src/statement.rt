@@ -1,5 +1,7 @@
 // What a line of a certificate says, the words that begin it, and the limits of its numbers.
 ghost use Rattle.hose_cert.specs.Statement.{statement_word};
+ghost use Rattle.std.specs.Prelude.{◌≡◌};
+ghost use Rattle.hose_cert.specs.Limits.{line_numbers, most_number};
 
 use hose_graph::{Hose, ReservedLink};
 use hose_proto::{HasWord, with_word};
@@ -10,6 +12,12 @@ pub const MOST_NUMBER: u64 = 40_000_000_000_000_000;
 
 /// How many numbers of a root stand in a line at most.
 pub const LINE_NUMBERS: u32 = 64;
+
+/// Each of these constants is the literal that definitions cite.
+pub fn law_limits()
+    ensures most_number { MOST_NUMBER ≡ most_number }
+    ensures line_numbers { LINE_NUMBERS ≡ line_numbers }
+{}
 
 /// What a line of a certificate says.
 #[derive(Drop)]

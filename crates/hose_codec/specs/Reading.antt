@@ -3,7 +3,7 @@ use Rattle.std.specs.Prelude.{◌≡◌, ℕ, ◌+◌, ◌<◌, ◌≤◌, List,
 use Rattle.byteorder.specs.Endian.{big_number}
 use Rattle.hose_graph.specs.Limit.{IsUpTo}
 use Rattle.hose_codec.specs.Fields.{FitsPair, pair_field}
-use Rattle.hose_codec.specs.declared.limits.TheConstants.{PAIR_BYTES}
+use Rattle.hose_codec.specs.Limits.{pair_bytes}
 use Rattle.hose_codec.specs.declared.limits.CodecFault.{CodecFault}
 use Rattle.hose_codec.specs.declared.limits.CodecFault.TheVariants.{Bad}
 
@@ -61,7 +61,7 @@ pub record AreCountedPairs (bound most count : ℕ) (pairs : List (ℕ × ℕ)) 
 -- few bytes for one.
 abbrev pub TakesPair : List ℕ → List ℕ → Option (ℕ × ℕ) → Type 0
 TakesPair old new (Some pair) = Begins pair_field FitsPair pair old new
-TakesPair old new None = length old < PAIR_BYTES
+TakesPair old new None = length old < pair_bytes
 
 -- the pairs whose bytes these are
 abbrev pub pairs_of : List ℕ → List (ℕ × ℕ)

@@ -5,26 +5,26 @@ use Rattle.hose_graph.specs.Hose.{IsHose}
 use Rattle.hose_graph.specs.Name.{IsName}
 use Rattle.hose_graph.specs.declared.entry.Entry.{Entry}
 use Rattle.hose_graph.specs.declared.entry.Entry.TheVariants.{Admit, Release, Down, Up}
-use Rattle.hose_graph.specs.declared.limits.TheConstants.{MOST_EPOCH, MOST_LINKS}
+use Rattle.hose_graph.specs.Limits.{most_epoch, most_links}
 use Rattle.hose_codec.specs.Fields.{name_field, ends_field, amounts_field, id_field, link_field, AreFormatAmounts}
-use Rattle.hose_codec.specs.declared.limits.TheConstants.{ADMIT, RELEASE, DOWN, UP}
+use Rattle.hose_codec.specs.Limits.{admit_kind, release_kind, down_kind, up_kind}
 use Rattle.hose_codec.specs.declared.limits.CodecFault.{CodecFault}
 use Rattle.hose_codec.specs.declared.limits.CodecFault.TheVariants.{Bad, Memory}
 
 -- the bytes of an entry
 abbrev pub spelling : Entry → List ℕ
 spelling (Admit customer hose amounts) =
-    ADMIT ∷ (name_field customer ++ (ends_field hose ++ amounts_field amounts))
-spelling (Release customer id) = RELEASE ∷ (name_field customer ++ id_field id)
-spelling (Down link) = DOWN ∷ link_field link
-spelling (Up link) = UP ∷ link_field link
+    admit_kind ∷ (name_field customer ++ (ends_field hose ++ amounts_field amounts))
+spelling (Release customer id) = release_kind ∷ (name_field customer ++ id_field id)
+spelling (Down link) = down_kind ∷ link_field link
+spelling (Up link) = up_kind ∷ link_field link
 
 -- an entry that the format has
 abbrev pub IsEntry : Entry → Type 0
 IsEntry (Admit customer hose amounts) = IsName customer × IsHose hose × AreFormatAmounts amounts
-IsEntry (Release customer id) = IsName customer × (id ≤ MOST_EPOCH)
-IsEntry (Down link) = link < MOST_LINKS
-IsEntry (Up link) = link < MOST_LINKS
+IsEntry (Release customer id) = IsName customer × (id ≤ most_epoch)
+IsEntry (Down link) = link < most_links
+IsEntry (Up link) = link < most_links
 
 -- These bytes are the spelling of this entry, which is one that the format has.
 pub record IsSpelling (entry : Entry) (bytes : List ℕ) : Type 0 where

@@ -13,6 +13,6 @@ mod reading;
 mod writing;
 
 pub use fields::{number_of_four, number_of_two};
-pub use limits::{CodecFault, MOST_PAIRS, MOST_SPELLING};
+pub use limits::{CodecFault, MOST_PAIRS, MOST_SPELLING, law_limits};
 pub use reading::decode;
 pub use writing::encode;

@@ -2,6 +2,7 @@
 // are the entry of none.
 ghost use Rattle.std.specs.Prelude.{◌≡◌};
 ghost use Rattle.hose_codec.specs.declared.limits.CodecFault.TheVariants.{Memory};
+ghost use Rattle.hose_codec.specs.Limits.{admit_kind, down_kind, most_spelling, pair_bytes, release_kind, up_kind};
 
 use hose_graph::MOST_TREE_LINKS;
 use std::alloc::AllocError;
@@ -28,6 +29,16 @@ pub const UP: u8 = 4;
 
 /// The number of bytes of a pair: two of a node or link, and four of its rate or amount.
 pub const PAIR_BYTES: usize = 6;
+
+/// Each of these constants is the literal that definitions cite.
+pub fn law_limits()
+    ensures admit_kind { ADMIT ≡ admit_kind }
+    ensures release_kind { RELEASE ≡ release_kind }
+    ensures down_kind { DOWN ≡ down_kind }
+    ensures up_kind { UP ≡ up_kind }
+    ensures pair_bytes { PAIR_BYTES ≡ pair_bytes }
+    ensures most_spelling { MOST_SPELLING ≡ most_spelling }
+{}
 
 /// Why bytes are not read as an entry.
 #[derive(Clone, Copy, Debug, Error, PartialEq, Eq)]

@@ -1,6 +1,6 @@
 -- What becomes of an order to take a link out of service, or to put it back.
 use Rattle.std.proofs.Common.{◌≡◌, ◌+◌, ◌<◌, ◌∙◌, ℕ, Bool, true, false, not, List, Option, None, Some, refl, sym, ap, subst}
-use Rattle.hose_graph.specs.Name.{operator}
+use Rattle.hose_graph.specs.Limits.{operator}
 use Rattle.hose_graph.specs.Naming.{NamesPlaces}
 use Rattle.hose_graph.specs.Network.{IsLinkOf, Network}
 use Rattle.hose_graph.specs.declared.entry.Entry.{Entry}

@@ -6,7 +6,7 @@ use Rattle.std.specs.Map.{lookup}
 use Rattle.std.specs.Ordering.{nat_cmp}
 use Rattle.std.specs.Str.{bytes_eq}
 use Rattle.hose_graph.specs.declared.entry.Entry.{Entry}
-use Rattle.hose_graph.specs.declared.limits.TheConstants.{MOST_QUOTES}
+use Rattle.hose_graph.specs.Limits.{most_quotes}
 use Rattle.hose_graph.specs.Hose.{IsHose}
 use Rattle.hose_graph.specs.Network.{Network}
 use Rattle.hose_graph.specs.Ranges.{AreInRanges}
@@ -61,7 +61,7 @@ pub record WasMadeBefore (ledger : Ledger) (quote : Quote) : Type 0 where
 
 -- there are as many numbers as quotes can have, and what is held under them was made before
 pub record AreKept (ledger : Ledger) (quotes : List (Option Quote)) : Type 0 where
-  pub numbers : length quotes ≡ MOST_QUOTES
+  pub numbers : length quotes ≡ most_quotes
   pub made : (number : ℕ) (quote : Quote) → at_number quotes number ≡ Some quote
       → WasMadeBefore ledger quote
 

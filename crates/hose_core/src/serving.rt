@@ -1,6 +1,6 @@
 // Taking links out of service, and putting them back.
 ghost use Rattle.std.specs.Prelude.{◌≡◌, ◌≢◌, ℕ, Bool, List};
-ghost use Rattle.hose_graph.specs.Name.{operator};
+ghost use Rattle.hose_graph.specs.Limits.{operator};
 ghost use Rattle.hose_graph.specs.Network.{IsLinkOf};
 ghost use Rattle.hose_graph.specs.declared.entry.Entry.{Entry};
 ghost use Rattle.hose_graph.specs.declared.command.Reply.{Reply};

@@ -11,7 +11,7 @@ use Rattle.hose_follow.specs.Answers.{CutsLastAnswer, TellsDiskAnswers, offered_
 use Rattle.hose_follow.specs.Offering.{AreOffered}
 use Rattle.hose_follow.specs.Packet.{BeginsNoPacket, IsPacket, IsPartOfPacket, Packet, packets_bytes}
 use Rattle.hose_follow.specs.declared.answers.Offered.{Offered}
-use Rattle.hose_follow.specs.declared.following.TheConstants.{INPUT_LIMIT}
+use Rattle.hose_follow.specs.Layout.{follow_limit}
 use Rattle.hose_follow.specs.declared.following.FollowEnd.{FollowEnd}
 use Rattle.hose_follow.specs.declared.following.FollowEnd.TheVariants.{End, Packet as BadPacket, Read, Write, TooLong, Memory}
 
@@ -57,8 +57,8 @@ pub record FollowsInput {S O D : Type 0} (source : SourceGhosts S) (sink : SinkG
   pub answers : List Offered
   pub offered : AreOffered disk first packets answers last
   pub ends : EndsSo source sink old new before after packets answers rest end
-  pub limit : length bytes ≤ INPUT_LIMIT + 1
-  pub too_long : (end ≡ TooLong) ↔ (INPUT_LIMIT < length bytes)
+  pub limit : length bytes ≤ follow_limit + 1
+  pub too_long : (end ≡ TooLong) ↔ (follow_limit < length bytes)
   pub memory : end ≡ Memory → (bytes ≡ []) × (last ≡ first)
   -- failures of the disk were told no more often than its count rose
   pub stays : Stays (object_frame (disk.frame first.journal.disk))

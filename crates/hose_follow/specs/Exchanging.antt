@@ -13,7 +13,7 @@ use Rattle.hose_follow.specs.Arriving.{BeginsPacket}
 use Rattle.hose_follow.specs.Offering.{AreOffered, IsOffered}
 use Rattle.hose_follow.specs.Packet.{BeginsNoPacket, IsPacket, IsPartOfPacket, Packet, packets_bytes}
 use Rattle.hose_follow.specs.declared.answers.Offered.{Offered}
-use Rattle.hose_follow.specs.declared.following.TheConstants.{INPUT_LIMIT}
+use Rattle.hose_follow.specs.Layout.{follow_limit}
 use Rattle.hose_follow.specs.declared.following.FollowEnd.{FollowEnd}
 use Rattle.hose_follow.specs.declared.following.FollowEnd.TheVariants.{End, Packet as BadPacket, Read, Write, TooLong, Memory}
 
@@ -42,12 +42,12 @@ pub record TakesMoreBytes {S : Type 0} (source : SourceGhosts S) (old new : S)
   pub frame : source.frame new ≡ source.frame old
   pub pending_is : after ≡ pending ++ bytes
   pub taken_is : now ≡ taken + length bytes
-  pub limit : now ≤ INPUT_LIMIT
+  pub limit : now ≤ follow_limit
 
 -- the byte past the limit was taken
 pub record TakesTooMuch {S : Type 0} (source : SourceGhosts S) (old new : S) (taken : ℕ) :
     Type 0 where
-  pub limit : taken ≡ INPUT_LIMIT
+  pub limit : taken ≡ follow_limit
   pub byte : ℕ
   pub gives : Gives (source.content old) (source.content new) (byte ∷ [])
   pub frame : source.frame new ≡ source.frame old
@@ -142,7 +142,7 @@ module _ {S O D : Type 0} (source : SourceGhosts S) (sink : SinkGhosts O)
     pub answers : List Offered
     pub offered : AreOffered disk first.store packets answers now.store
     pub taken : now.taken ≡ length bytes
-    pub limit : now.taken ≤ INPUT_LIMIT
+    pub limit : now.taken ≤ follow_limit
     pub out : Grows (sink.content first.sink) (sink.content now.sink) (offered_texts answers)
     pub source_held : source.frame now.source ≡ source.frame first.source
     pub sink_held : sink.frame now.sink ≡ sink.frame first.sink

@@ -5,10 +5,10 @@ use Rattle.byteorder.specs.Endian.{big_bytes}
 use Rattle.hose_graph.specs.Network.{Network}
 use Rattle.hose_graph.specs.declared.entry.Entry.{Entry}
 use Rattle.hose_codec.specs.Spelling.{spelling}
-use Rattle.hose_codec.specs.declared.limits.TheConstants.{MOST_SPELLING}
+use Rattle.hose_codec.specs.Limits.{most_spelling}
 use Rattle.hose_journal.specs.Chain.{chain}
 use Rattle.hose_store.specs.Recovery.{digest_of}
-use Rattle.hose_follow.specs.declared.packet.TheConstants.{VALUE_BYTES, LENGTH_BYTES, EPOCH_BYTES, FRONT_BYTES}
+use Rattle.hose_follow.specs.Layout.{value_bytes, body_length_bytes, epoch_bytes, front_bytes}
 
 -- A packet: the epoch after its entry, the chain value before the entry, and a body. In a leader's
 -- packet the body is the entry's spelling.
@@ -22,14 +22,14 @@ pub record Packet : Type 0 where
 -- a packet that the format has
 pub record IsPacket (packet : Packet) : Type 0 where
   pub epoch : packet.epoch < 2 ^ 32
-  pub chain : length packet.chain ≡ VALUE_BYTES
+  pub chain : length packet.chain ≡ value_bytes
   pub some : 1 ≤ length packet.body
-  pub few : length packet.body ≤ MOST_SPELLING
+  pub few : length packet.body ≤ most_spelling
 
 -- the bytes of a packet: its body's length, its epoch, its chain value and its body
 abbrev pub packet_bytes : Packet → List ℕ
-packet_bytes packet = big_bytes LENGTH_BYTES (length packet.body)
-    ++ (big_bytes EPOCH_BYTES packet.epoch ++ (packet.chain ++ packet.body))
+packet_bytes packet = big_bytes body_length_bytes (length packet.body)
+    ++ (big_bytes epoch_bytes packet.epoch ++ (packet.chain ++ packet.body))
 
 -- packets, one after the other
 abbrev pub packets_bytes : List Packet → List ℕ
@@ -38,11 +38,11 @@ packets_bytes packets = flat_map packet_bytes packets
 -- the bytes begin with the length of a body, and this follows
 pub record HasLength (bytes : List ℕ) (len : ℕ) (rest : List ℕ) : Type 0 where
   pub fits : len < 2 ^ 16
-  pub is : bytes ≡ big_bytes LENGTH_BYTES len ++ rest
+  pub is : bytes ≡ big_bytes body_length_bytes len ++ rest
 
 -- no body has this length
 abbrev pub IsNoLength : ℕ → Type 0
-IsNoLength len = (len ≡ 0) ⊎ (MOST_SPELLING < len)
+IsNoLength len = (len ≡ 0) ⊎ (most_spelling < len)
 
 -- No packet begins so: the bytes begin with a length that no body has.
 abbrev pub BeginsNoPacket : List ℕ → Type 0
@@ -51,9 +51,9 @@ BeginsNoPacket bytes = (len : ℕ) × (rest : List ℕ) × HasLength bytes len r
 -- The front of a packet, and not all of it: too few bytes for a length, or for the packet of the
 -- body's length that they begin with.
 abbrev pub IsPartOfPacket : List ℕ → Type 0
-IsPartOfPacket bytes = (length bytes < LENGTH_BYTES)
+IsPartOfPacket bytes = (length bytes < body_length_bytes)
     ⊎ ((len : ℕ) × (rest : List ℕ) × HasLength bytes len rest × (¬ IsNoLength len)
-    × (length bytes < FRONT_BYTES + len))
+    × (length bytes < front_bytes + len))
 
 -- ---- the packets of entries
 

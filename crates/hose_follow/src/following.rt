@@ -6,6 +6,7 @@ ghost use Rattle.hose_follow.specs.Packet.{IsPartOfPacket};
 ghost use Rattle.hose_follow.specs.Exchanging.{TakesMore, TakesPart, AdvancesTo};
 ghost use Rattle.hose_follow.specs.declared.following.FollowEnd.TheVariants.{Write};
 ghost use Rattle.hose_follow.specs.declared.packet.TheConstants.{MOST_PACKET};
+ghost use Rattle.hose_follow.specs.Layout.{follow_limit};
 
 use crate::answers::put_answer;
 use crate::buffer::Buffer;
@@ -18,6 +19,11 @@ use std::alloc::Global;
 
 /// The greatest number of bytes of an input that is followed: 1 GiB.
 pub const INPUT_LIMIT: u64 = 1 << 30;
+
+/// The limit is the literal that definitions cite.
+pub fn law_limit()
+    ensures follow_limit { INPUT_LIMIT ≡ follow_limit }
+{}
 
 /// How following an input ends.
 #[derive(Clone, Copy, Debug, PartialEq, Eq)]

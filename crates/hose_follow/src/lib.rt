@@ -23,7 +23,8 @@ mod packet;
 mod shipping;
 
 pub use answers::{Offered, put_answer};
-pub use following::{FollowEnd, INPUT_LIMIT, follow};
+pub use following::{FollowEnd, INPUT_LIMIT, follow, law_limit};
 pub use laws::{Sound, law_following, law_offered, law_one_split};
 pub use offering::offer;
+pub use packet::law_layout;
 pub use shipping::{ShipFault, ship};

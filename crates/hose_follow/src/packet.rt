@@ -5,6 +5,7 @@ ghost use Rattle.hose_io.specs.Gather.{IsAdded};
 ghost use Rattle.hose_codec.specs.declared.limits.TheConstants.{MOST_SPELLING};
 ghost use Rattle.hose_follow.specs.Arriving.{IsFrontOf};
 ghost use Rattle.hose_follow.specs.Packet.{packet_bytes};
+ghost use Rattle.hose_follow.specs.Layout.{body_length_bytes, epoch_bytes, front_bytes, value_bytes};
 
 use byteorder::{BigEndian, ByteOrder};
 use hose_codec::{MOST_SPELLING, number_of_four, number_of_two};
@@ -24,6 +25,14 @@ pub const FRONT_BYTES: usize = LENGTH_BYTES + EPOCH_BYTES + VALUE_BYTES;
 
 /// The greatest number of bytes of a packet.
 pub const MOST_PACKET: usize = FRONT_BYTES + MOST_SPELLING;
+
+/// Each of these constants is the literal that definitions cite.
+pub fn law_layout()
+    ensures body_length_bytes { LENGTH_BYTES ≡ body_length_bytes }
+    ensures epoch_bytes { EPOCH_BYTES ≡ epoch_bytes }
+    ensures value_bytes { VALUE_BYTES ≡ value_bytes }
+    ensures front_bytes { FRONT_BYTES ≡ front_bytes }
+{}
 
 /// What stands at the front of bytes that were taken of an input.
 #[derive(Clone, Copy)]

@@ -20,7 +20,7 @@ use draws::Draws;
 use hose_graph::{Command, MOST_LINKS, MOST_NODES, Name, Topology};
 use links::{add_links, add_nodes};
 use orders::orders;
-pub use orders::{LEAST_NODES, MOST_HOSES};
+pub use orders::{LEAST_NODES, MOST_HOSES, law_limits};
 use std::alloc::{AllocError, Global};
 
 /// What was generated.

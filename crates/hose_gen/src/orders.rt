@@ -6,6 +6,7 @@ ghost use Rattle.hose_graph.specs.Naming.{AsksOf};
 ghost use Rattle.hose_graph.specs.Network.{Network};
 ghost use Rattle.hose_gen.specs.Draws.{next_state};
 ghost use Rattle.hose_gen.specs.Generated.{admission_at, after_admission, after_ends, after_orders, after_hoses, customer_at, end_at, first_ends, first_orders, free_node, has_node, orders_at, release_at};
+ghost use Rattle.hose_gen.specs.Limits.{least_nodes, most_hoses};
 
 use crate::draws::{Draws, numbered};
 use hose_graph::{Command, Endpoint, Hose, LEAST_ENDS, MOST_NODES, Name};
@@ -16,6 +17,12 @@ pub const LEAST_NODES: u32 = 6;
 
 /// The greatest number of hoses.
 pub const MOST_HOSES: u32 = 20_000;
+
+/// Each of these constants is the literal that definitions cite.
+pub fn law_limits()
+    ensures least_nodes { LEAST_NODES ≡ least_nodes }
+    ensures most_hoses { MOST_HOSES ≡ most_hoses }
+{}
 
 /// What is ordered for so many hoses on a network of so many nodes.
 pub fn orders(

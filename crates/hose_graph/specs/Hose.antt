@@ -3,7 +3,7 @@
 use Rattle.std.specs.Prelude.{◌≢◌, ℕ, ◌<◌, ◌≤◌, List, length, All, AllPairs, sum_by}
 use Rattle.hose_graph.specs.Limit.{IsUpTo}
 use Rattle.hose_graph.specs.Ascending.{IsAscending}
-use Rattle.hose_graph.specs.declared.limits.TheConstants.{MOST_NODES, LEAST_ENDS, MOST_ENDS, MOST_RATE}
+use Rattle.hose_graph.specs.Limits.{most_nodes, least_ends, most_ends, most_rate}
 
 -- an endpoint is a node and a rate
 abbrev pub Endpoint : Type 0
@@ -17,13 +17,13 @@ rate_of end = end.1
 
 -- an endpoint's node is below the greatest number of nodes, and its rate is within the limit
 pub record IsEnd (end : Endpoint) : Type 0 where
-  pub node : node_of end < MOST_NODES
-  pub rate : IsUpTo MOST_RATE (rate_of end)
+  pub node : node_of end < most_nodes
+  pub rate : IsUpTo most_rate (rate_of end)
 
 -- how many endpoints there are is within the limits
 pub record IsCounted (ends : List Endpoint) : Type 0 where
-  pub enough : LEAST_ENDS ≤ length ends
-  pub few : length ends ≤ MOST_ENDS
+  pub enough : least_ends ≤ length ends
+  pub few : length ends ≤ most_ends
 
 -- A hose has as many endpoints as the limits allow, in ascending order of nodes, no node twice.
 pub record IsHose (ends : List Endpoint) : Type 0 where

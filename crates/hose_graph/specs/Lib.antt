@@ -2,6 +2,7 @@ pub mod Amounts
 pub mod Ascending
 pub mod Hose
 pub mod Limit
+pub mod Limits
 pub mod Name
 pub mod Naming
 pub mod Network

@@ -2,8 +2,7 @@
 use Rattle.std.specs.Prelude.{ℕ, ◌-◌, ◌≤◌, ◌==◌, ◌||◌, Bool, List, ◌++◌, length, replicate}
 use Rattle.std.specs.Char.{is_ascii_digit, is_ascii_lowercase}
 use Rattle.std.specs.List.{AllPass}
-use Rattle.hose_graph.specs.declared.limits.TheConstants.{MOST_NAME_BYTES}
-use Rattle.hose_graph.specs.declared.name.TheConstants.{OPERATOR}
+use Rattle.hose_graph.specs.Limits.{most_name_bytes}
 
 -- a byte that a name may have: `a` to `z`, `0` to `9` or `-`
 abbrev pub is_name_byte : ℕ → Bool
@@ -12,13 +11,9 @@ is_name_byte byte = is_ascii_lowercase byte || is_ascii_digit byte || byte == 45
 -- These bytes are a name: at least one and no more than the limit, each one that a name may have.
 pub record IsName (bytes : List ℕ) : Type 0 where
   pub some : 1 ≤ length bytes
-  pub short : length bytes ≤ MOST_NAME_BYTES
+  pub short : length bytes ≤ most_name_bytes
   pub allowed : AllPass is_name_byte bytes
 
 -- a name's bytes, and then zeros up to the greatest length
 abbrev pub padded : List ℕ → List ℕ
-padded bytes = bytes ++ replicate (MOST_NAME_BYTES - length bytes) 0
-
--- the operator's name
-abbrev pub operator : List ℕ
-operator = OPERATOR.now
+padded bytes = bytes ++ replicate (most_name_bytes - length bytes) 0

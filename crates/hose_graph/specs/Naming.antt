@@ -4,7 +4,7 @@ use Rattle.hose_graph.specs.declared.command.Command.{Command}
 use Rattle.hose_graph.specs.declared.command.Command.TheVariants as command
 use Rattle.hose_graph.specs.declared.command.Reply.{Reply}
 use Rattle.hose_graph.specs.declared.command.Reply.TheVariants as reply
-use Rattle.hose_graph.specs.declared.limits.TheConstants.{MOST_EPOCH}
+use Rattle.hose_graph.specs.Limits.{most_epoch}
 use Rattle.hose_graph.specs.Hose.{node_of}
 use Rattle.hose_graph.specs.Network.{Network, IsLinkOf, IsNodeOf}
 
@@ -14,7 +14,7 @@ abbrev pub AsksOf : Network → Command → Type 0
 AsksOf network (command.Admit hose) = All (λ end. IsNodeOf network (node_of end)) hose
 AsksOf network (command.Quote hose) = All (λ end. IsNodeOf network (node_of end)) hose
 AsksOf network (command.Take number) = ⊤
-AsksOf network (command.Release id) = id ≤ MOST_EPOCH
+AsksOf network (command.Release id) = id ≤ most_epoch
 AsksOf network (command.Show id) = ⊤
 AsksOf network (command.Link link) = IsLinkOf network link
 AsksOf network (command.Down link) = IsLinkOf network link

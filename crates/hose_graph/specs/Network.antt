@@ -4,7 +4,7 @@ use Rattle.std.specs.Prelude.{◌≢◌, ℕ, ◌<◌, ◌≤◌, List, [], leng
 use Rattle.hose_graph.specs.Limit.{IsUpTo}
 use Rattle.hose_graph.specs.Name.{IsName}
 use Rattle.hose_graph.specs.declared.topology.Link.{Link}
-use Rattle.hose_graph.specs.declared.limits.TheConstants.{MOST_NODES, MOST_LINKS, MOST_CAPACITY, MOST_LENGTH, MOST_COST}
+use Rattle.hose_graph.specs.Limits.{most_nodes, most_links, most_capacity, most_length, most_cost}
 
 -- the names of the nodes, and the links; nodes and links are numbered by their places
 pub record Network : Type 0 where
@@ -15,9 +15,9 @@ pub record Network : Type 0 where
 pub record IsInRange (network : Network) (link : Link) : Type 0 where
   pub a : link.a < length network.nodes
   pub b : link.b < length network.nodes
-  pub capacity : IsUpTo MOST_CAPACITY link.capacity
-  pub distance : IsUpTo MOST_LENGTH link.length
-  pub cost : IsUpTo MOST_COST link.cost
+  pub capacity : IsUpTo most_capacity link.capacity
+  pub distance : IsUpTo most_length link.length
+  pub cost : IsUpTo most_cost link.cost
 
 -- The network can have this link: its nodes and numbers are in range, and it joins two different
 -- nodes.
@@ -28,18 +28,18 @@ pub record IsLink (network : Network) (link : Link) : Type 0 where
 -- There are no more nodes and links than the limits, no two nodes have one name, and each link is
 -- one that the network can have.
 pub record IsNetwork (network : Network) : Type 0 where
-  pub few_nodes : length network.nodes ≤ MOST_NODES
-  pub few_links : length network.links ≤ MOST_LINKS
+  pub few_nodes : length network.nodes ≤ most_nodes
+  pub few_links : length network.links ≤ most_links
   pub names : All IsName network.nodes
   pub differ : AllPairs ◌≢◌ network.nodes
   pub links : All (IsLink network) network.links
 
 -- the network has room for a node, and for a link
 abbrev pub HasNodeRoom : Network → Type 0
-HasNodeRoom network = length network.nodes < MOST_NODES
+HasNodeRoom network = length network.nodes < most_nodes
 
 abbrev pub HasLinkRoom : Network → Type 0
-HasLinkRoom network = length network.links < MOST_LINKS
+HasLinkRoom network = length network.links < most_links
 
 -- a node of the network, and a link, by their numbers
 abbrev pub IsNodeOf : Network → ℕ → Type 0

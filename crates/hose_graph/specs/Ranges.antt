@@ -2,24 +2,24 @@
 use Rattle.std.specs.Prelude.{◌<◌, ◌≤◌, List, All, length}
 use Rattle.hose_graph.specs.declared.entry.Entry.{Entry}
 use Rattle.hose_graph.specs.declared.entry.Entry.TheVariants.{Admit, Release, Down, Up}
-use Rattle.hose_graph.specs.declared.limits.TheConstants.{MOST_AMOUNT, MOST_EPOCH, MOST_LINKS, MOST_TREE_LINKS}
+use Rattle.hose_graph.specs.Limits.{most_amount, most_epoch, most_links, most_tree_links}
 use Rattle.hose_graph.specs.Amounts.{ReservedLink, amount_of, link_of}
 use Rattle.hose_graph.specs.Limit.{IsUpTo}
 
 -- an amount is on a link that a network can have, and within the limit
 pub record IsAmount (pair : ReservedLink) : Type 0 where
-  pub link : link_of pair < MOST_LINKS
-  pub amount : IsUpTo MOST_AMOUNT (amount_of pair)
+  pub link : link_of pair < most_links
+  pub amount : IsUpTo most_amount (amount_of pair)
 
 -- there are some amounts, no more than a tree has links, and each is within the limits
 pub record AreInRanges (amounts : List ReservedLink) : Type 0 where
   pub some : 1 ≤ length amounts
-  pub few : length amounts ≤ MOST_TREE_LINKS
+  pub few : length amounts ≤ most_tree_links
   pub within : All IsAmount amounts
 
 -- the entry's numbers are in their ranges
 abbrev pub IsInRanges : Entry → Type 0
 IsInRanges (Admit customer hose amounts) = AreInRanges amounts
-IsInRanges (Release customer id) = id ≤ MOST_EPOCH
-IsInRanges (Down link) = link < MOST_LINKS
-IsInRanges (Up link) = link < MOST_LINKS
+IsInRanges (Release customer id) = id ≤ most_epoch
+IsInRanges (Down link) = link < most_links
+IsInRanges (Up link) = link < most_links

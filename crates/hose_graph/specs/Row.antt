@@ -1,6 +1,6 @@
 -- What contracts see of a row.
 use Rattle.std.specs.Prelude.{ℕ, ◌≤◌, List, Option, None, IfSome, All, slice_index_or}
-use Rattle.hose_graph.specs.declared.limits.TheConstants.{MOST_DISTANCE}
+use Rattle.hose_graph.specs.Limits.{most_distance}
 
 -- the distances of all nodes from a root, and their tight links, each with a place for every node
 pub record Distances : Type 0 where
@@ -18,7 +18,7 @@ tight_link_of row v = slice_index_or row.tight v None
 
 -- a distance, if there is one, is at most the greatest
 abbrev pub IsWithinReach : Option ℕ → Type 0
-IsWithinReach distance = IfSome distance (λ d. d ≤ MOST_DISTANCE)
+IsWithinReach distance = IfSome distance (λ d. d ≤ most_distance)
 
 -- so is each of a row
 abbrev pub HasBoundedDistances : Distances → Type 0

@@ -28,7 +28,7 @@ pub use hose::{Endpoint, Hose, HoseFault};
 pub use limits::{
     LEAST_ENDS, MOST_AMOUNT, MOST_CAPACITY, MOST_COST, MOST_DISTANCE, MOST_ENDS, MOST_EPOCH,
     MOST_LENGTH, MOST_LINKS, MOST_LIVE, MOST_NAME_BYTES, MOST_NODES, MOST_QUOTES, MOST_RATE,
-    MOST_TREE_LINKS,
+    MOST_TREE_LINKS, law_limits,
 };
 pub use name::{Name, OPERATOR};
 pub use node_list::NodeList;

@@ -1,4 +1,10 @@
 // The limits of networks and hoses. The least capacity, length, cost and rate is 1.
+ghost use Rattle.std.specs.Prelude.{◌≡◌};
+ghost use Rattle.hose_graph.specs.Limits.{least_ends, most_amount, most_capacity, most_cost, most_distance, most_ends, most_epoch};
+ghost use Rattle.hose_graph.specs.Limits.{most_length, most_links, most_live, most_name_bytes, most_nodes, most_quotes, most_rate, most_tree_links};
+ghost use Rattle.hose_graph.specs.Limits.{operator};
+
+use crate::name::OPERATOR;
 
 /// The greatest number of nodes of a network.
 pub const MOST_NODES: u32 = 512;
@@ -44,3 +50,23 @@ pub const MOST_DISTANCE: u64 = MOST_TREE_LINKS as u64 * MOST_COST;
 
 /// The greatest number of quotes that a customer can hold at once, and so of a quote's number.
 pub const MOST_QUOTES: usize = 16;
+
+/// Each of these constants is the literal that definitions cite.
+pub fn law_limits()
+    ensures most_nodes { MOST_NODES ≡ most_nodes }
+    ensures most_links { MOST_LINKS ≡ most_links }
+    ensures most_name_bytes { MOST_NAME_BYTES ≡ most_name_bytes }
+    ensures most_capacity { MOST_CAPACITY ≡ most_capacity }
+    ensures most_length { MOST_LENGTH ≡ most_length }
+    ensures most_cost { MOST_COST ≡ most_cost }
+    ensures least_ends { LEAST_ENDS ≡ least_ends }
+    ensures most_ends { MOST_ENDS ≡ most_ends }
+    ensures most_rate { MOST_RATE ≡ most_rate }
+    ensures most_epoch { MOST_EPOCH ≡ most_epoch }
+    ensures most_live { MOST_LIVE ≡ most_live }
+    ensures most_quotes { MOST_QUOTES ≡ most_quotes }
+    ensures most_tree_links { MOST_TREE_LINKS ≡ most_tree_links }
+    ensures most_amount { MOST_AMOUNT ≡ most_amount }
+    ensures most_distance { MOST_DISTANCE ≡ most_distance }
+    ensures operator { OPERATOR.now ≡ operator }
+{}

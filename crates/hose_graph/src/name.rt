@@ -6,7 +6,8 @@ ghost use Rattle.std.specs.Cmp.{partial_equiv_from_equiv, unsigned_ties};
 ghost use Rattle.std.specs.Cmp.Lexicographic.{lists_ties, nat_list_cmp_total, nat_list_eq_equiv};
 ghost use Rattle.std.specs.Cmp.Lexicographic.{slice_cmp, texts_po};
 ghost use Rattle.std.specs.Ordering.{as_partial_cmp, nat_cmp};
-ghost use Rattle.hose_graph.specs.Name.{IsName, is_name_byte, operator};
+ghost use Rattle.hose_graph.specs.Limits.{operator};
+ghost use Rattle.hose_graph.specs.Name.{IsName, is_name_byte};
 
 use crate::limits::MOST_NAME_BYTES;
 use std::cmp::Ordering;

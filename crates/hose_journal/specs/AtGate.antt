@@ -3,10 +3,10 @@ use Rattle.std.specs.Prelude.{◌≡◌, ◌≢◌, ◌⊎◌, ℕ, ◌+◌, ◌
 use Rattle.byteorder.specs.Endian.{big_bytes}
 use Rattle.hose_graph.specs.declared.entry.Entry.{Entry}
 use Rattle.hose_codec.specs.Spelling.{IsEntry}
-use Rattle.hose_codec.specs.declared.limits.TheConstants.{MOST_SPELLING}
+use Rattle.hose_codec.specs.Limits.{most_spelling}
 use Rattle.hose_codec.specs.declared.limits.CodecFault.{CodecFault}
 use Rattle.hose_codec.specs.declared.limits.CodecFault.TheVariants.{Bad, Memory}
-use Rattle.hose_journal.specs.declared.layout.TheConstants.{OPEN, LENGTH_BYTES}
+use Rattle.hose_journal.specs.Layout.{open_gate, length_bytes}
 use Rattle.hose_journal.specs.declared.part.Found.{Found}
 use Rattle.hose_journal.specs.Chain.{chain}
 use Rattle.hose_journal.specs.Entries.{entry_bytes, seal_bytes}
@@ -16,8 +16,8 @@ use Rattle.hose_journal.specs.Entries.{entry_bytes, seal_bytes}
 pub record HasFields (bytes value body : List ℕ) : Type 0 where
   pub gate : ℕ
   pub rest : List ℕ
-  pub short : length body ≤ MOST_SPELLING
-  pub is : bytes ≡ big_bytes LENGTH_BYTES (length body) ++ (value ++ (body ++ gate ∷ rest))
+  pub short : length body ≤ most_spelling
+  pub is : bytes ≡ big_bytes length_bytes (length body) ++ (value ++ (body ++ gate ∷ rest))
 
 -- no such fields, with a value of this length
 abbrev pub HasNoFields : List ℕ → ℕ → Type 0
@@ -41,7 +41,7 @@ BeginsNoEntry chained digest entries bytes = (entry : Entry) →
 pub record BeginsSeal (value bytes : List ℕ) : Type 0 where
   pub gate : ℕ
   pub rest : List ℕ
-  pub is : bytes ≡ OPEN ∷ (seal_bytes value ++ gate ∷ rest)
+  pub is : bytes ≡ open_gate ∷ (seal_bytes value ++ gate ∷ rest)
 
 -- the entry whose record begins these bytes, the chain value with it, and how far on the next gate
 -- is from the one before
@@ -61,14 +61,14 @@ IsFoundIn chained digest entries bytes (Err Memory) =
 -- an open gate, and these bytes after it
 pub record IsOpenBefore (P : List ℕ → Type 0) (bytes : List ℕ) : Type 0 where
   pub rest : List ℕ
-  pub is : bytes ≡ OPEN ∷ rest
+  pub is : bytes ≡ open_gate ∷ rest
   pub holds : P rest
 
 -- a gate that is not open
 pub record IsShut (bytes : List ℕ) : Type 0 where
   pub gate : ℕ
   pub rest : List ℕ
-  pub shut : gate ≢ OPEN
+  pub shut : gate ≢ open_gate
   pub is : bytes ≡ gate ∷ rest
 
 -- What is read of a gate and the bytes after it.

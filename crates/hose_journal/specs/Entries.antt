@@ -4,7 +4,7 @@ use Rattle.std.specs.List.{list_any}
 use Rattle.byteorder.specs.Endian.{big_bytes}
 use Rattle.hose_graph.specs.declared.entry.Entry.{Entry}
 use Rattle.hose_codec.specs.Spelling.{spelling, IsEntry}
-use Rattle.hose_journal.specs.declared.layout.TheConstants.{CHAINED, CLOSED, LENGTH_BYTES, SEAL, SEAL_BYTES}
+use Rattle.hose_journal.specs.Layout.{chained_version, closed_gate, length_bytes, seal_kind, seal_body_bytes}
 use Rattle.hose_journal.specs.Chain.{chain}
 use Rattle.hose_journal.specs.Image.{Format, RecordReader, Meaning, HasMeaning, front, listed}
 
@@ -27,7 +27,7 @@ entries_in (sealed ∷ items) = entries_in items
 
 -- whether a record after these items has a chain value: by a seal among them, or by the version
 abbrev pub is_chained : ℕ → List Item → Bool
-is_chained version items = list_any is_seal items || (version == CHAINED)
+is_chained version items = list_any is_seal items || (version == chained_version)
 
 -- ---- records
 
@@ -39,7 +39,7 @@ value_in true value = value
 -- the record of a body: its length, the chain value where there is one, and the body
 abbrev pub record_bytes : Bool → List ℕ → List ℕ → List ℕ
 record_bytes chained value body =
-    big_bytes LENGTH_BYTES (length body) ++ (value_in chained value ++ body)
+    big_bytes length_bytes (length body) ++ (value_in chained value ++ body)
 
 -- The record of an entry after these entries, with or without a chain value. Its body is the
 -- entry's spelling, and its value that of the list with the entry.
@@ -49,7 +49,7 @@ entry_bytes chained digest entries entry =
 
 -- the record of a seal, by the chain value of the entries before it
 abbrev pub seal_bytes : List ℕ → List ℕ
-seal_bytes value = big_bytes LENGTH_BYTES SEAL_BYTES ++ SEAL ∷ value
+seal_bytes value = big_bytes length_bytes seal_body_bytes ++ seal_kind ∷ value
 
 abbrev pub item_bytes : ℕ → List ℕ → List Item → Item → List ℕ
 item_bytes version digest before (entered entry) =
@@ -73,7 +73,7 @@ front_of version digest items = front (entries_format version digest) version di
 
 -- a record with a closed gate after it
 abbrev pub closed_record : ℕ → List ℕ → List Item → Item → List ℕ
-closed_record version digest before item = item_bytes version digest before item ++ CLOSED ∷ []
+closed_record version digest before item = item_bytes version digest before item ++ closed_gate ∷ []
 
 -- ---- lists of entries
 

@@ -1,13 +1,13 @@
 -- What an image of a disk stands for: a list, the journal of another topology, or damage at a
 -- place. The format of the records is a parameter, and so is the list that they say.
 use Rattle.std.specs.Prelude.{◌≡◌, ◌≢◌, ◌⊎◌, ℕ, ◌<◌, ◌≤◌, List, [], ◌∷◌, ◌++◌, length, take, drop, slice_index, ⊤}
-use Rattle.hose_journal.specs.declared.layout.TheConstants.{OPEN, CLOSED, MARK, VERSION_AT, PLAIN, CHAINED, DIGEST_BYTES, EMPTY_BYTES}
+use Rattle.hose_journal.specs.Layout.{open_gate, closed_gate, head_mark, version_place, plain_version, chained_version, digest_bytes, empty_bytes}
 
 -- ---- the layout
 
 -- the versions that there are
 abbrev pub IsVersion : ℕ → Type 0
-IsVersion version = (version ≡ PLAIN) ⊎ (version ≡ CHAINED)
+IsVersion version = (version ≡ plain_version) ⊎ (version ≡ chained_version)
 
 -- A format of records: the bytes of an item's record, from after its gate up to the next gate, and
 -- which items there may be. Both may depend on the items before it.
@@ -19,7 +19,7 @@ pub record Format (X : Type 0) : Type 1 where
 abbrev pub records : {X : Type 0} → Format X → List X → List X → List ℕ
 records format before [] = []
 records format before (item ∷ items) =
-    OPEN ∷ (format.bytes before item ++ records format (before ++ item ∷ []) items)
+    open_gate ∷ (format.bytes before item ++ records format (before ++ item ∷ []) items)
 
 -- each of these items may come after those before it
 abbrev pub AreItems : {X : Type 0} → Format X → List X → List X → Type 0
@@ -29,7 +29,7 @@ AreItems format before (item ∷ items) =
 
 -- the head: an open gate, the mark, the version and the digest of the topology
 abbrev pub head : ℕ → List ℕ → List ℕ
-head version digest = OPEN ∷ (MARK ++ version ∷ digest)
+head version digest = open_gate ∷ (head_mark ++ version ∷ digest)
 
 -- what stands before the gate that follows these items
 abbrev pub front : {X : Type 0} → Format X → ℕ → List ℕ → List X → List ℕ
@@ -37,7 +37,7 @@ front format version digest items = head version digest ++ records format [] ite
 
 -- the journal of these items
 abbrev pub journal_of : {X : Type 0} → Format X → ℕ → List ℕ → List X → List ℕ
-journal_of format version digest items = front format version digest items ++ CLOSED ∷ []
+journal_of format version digest items = front format version digest items ++ closed_gate ∷ []
 
 -- ---- reading an image
 
@@ -50,20 +50,20 @@ pub data Meaning (X : Type 0) : Type 0 where
 -- A journal that was not begun: it has too few bytes, or it has no record and its first gate is
 -- not open.
 abbrev pub IsUnbegun : List ℕ → Type 0
-IsUnbegun image = (length image < EMPTY_BYTES)
-    ⊎ ((length image ≡ EMPTY_BYTES) × (slice_index image 0 ≢ OPEN))
+IsUnbegun image = (length image < empty_bytes)
+    ⊎ ((length image ≡ empty_bytes) × (slice_index image 0 ≢ open_gate))
 
 -- Records, but no open gate before them.
 pub record IsHeadless (image : List ℕ) : Type 0 where
-  pub long : EMPTY_BYTES < length image
-  pub shut : slice_index image 0 ≢ OPEN
+  pub long : empty_bytes < length image
+  pub shut : slice_index image 0 ≢ open_gate
 
 -- Its first gate is open, and another mark follows, or no version that there is.
 pub record IsUnmarked (image : List ℕ) : Type 0 where
-  pub long : EMPTY_BYTES ≤ length image
-  pub begun : slice_index image 0 ≡ OPEN
-  pub differs : (take (length MARK) (drop 1 image) ≢ MARK)
-      ⊎ (¬ IsVersion (slice_index image VERSION_AT))
+  pub long : empty_bytes ≤ length image
+  pub begun : slice_index image 0 ≡ open_gate
+  pub differs : (take (length head_mark) (drop 1 image) ≢ head_mark)
+      ⊎ (¬ IsVersion (slice_index image version_place))
 
 -- a head with another digest
 pub record IsOther (digest kept image : List ℕ) : Type 0 where
@@ -71,7 +71,7 @@ pub record IsOther (digest kept image : List ℕ) : Type 0 where
   pub is_version : IsVersion version
   pub rest : List ℕ
   pub some : 1 ≤ length rest
-  pub size : length kept ≡ DIGEST_BYTES
+  pub size : length kept ≡ digest_bytes
   pub is : image ≡ head version kept ++ rest
   pub differs : kept ≢ digest
 
@@ -79,7 +79,7 @@ pub record IsOther (digest kept image : List ℕ) : Type 0 where
 pub record IsClosed (before image : List ℕ) : Type 0 where
   pub gate : ℕ
   pub rest : List ℕ
-  pub shut : gate ≢ OPEN
+  pub shut : gate ≢ open_gate
   pub is : image ≡ before ++ gate ∷ rest
 
 -- No whole record begins these bytes. A record is whole where the next gate is there too.
@@ -102,7 +102,7 @@ pub record IsDamaged {X Y : Type 0} (reader : RecordReader X Y) (digest : List �
   pub rest : List ℕ
   pub are : AreItems (reader.format version digest) [] items
   pub here : place ≡ length (front (reader.format version digest) version digest items)
-  pub is : image ≡ front (reader.format version digest) version digest items ++ OPEN ∷ rest
+  pub is : image ≡ front (reader.format version digest) version digest items ++ open_gate ∷ rest
   pub none : BeginsNoRecord (reader.format version digest) items rest
 
 -- Items that say this list, each after an open gate, and then a gate that is not open.

@@ -8,7 +8,8 @@ use Rattle.hose_journal.specs.Entries.{Item, entered, entries_format, entries_in
 use Rattle.hose_journal.specs.Gates.{IsDoubtful}
 use Rattle.hose_journal.specs.Image.{AreItems, IsClosed, IsVersion}
 use Rattle.hose_journal.specs.Moments.{Images}
-use Rattle.hose_journal.specs.declared.layout.TheConstants.{BUFFER_BYTES, DIGEST_BYTES}
+use Rattle.hose_journal.specs.declared.layout.TheConstants.{BUFFER_BYTES}
+use Rattle.hose_journal.specs.Layout.{digest_bytes}
 use Rattle.hose_journal.specs.declared.journal.Journal.{Journal}
 use Rattle.hose_journal.specs.declared.prepared.Ready.{Ready}
 
@@ -44,7 +45,7 @@ pub record Stands {D : Type 0} (disk : Ghosts D) (journal : Journal D) (account 
   pub items : List Item
   pub is_version : IsVersion version
   pub entries : entries_in items ≡ account.entries
-  pub size : length account.digest ≡ DIGEST_BYTES
+  pub size : length account.digest ≡ digest_bytes
   pub are : AreItems (entries_format version account.digest) [] items
   pub doubt_is : IfSome account.doubt IsEntry
   pub place : length (front_of version account.digest items) ≡ journal.gate

@@ -13,7 +13,8 @@ use Rattle.hose_journal.specs.Image.{AreItems, IsDamaged, IsClosed, IsVersion}
 use Rattle.hose_journal.specs.Moments.{LeavesOnly, ReadsItsImages}
 use Rattle.hose_journal.specs.declared.fault.JournalFault.{JournalFault}
 use Rattle.hose_journal.specs.declared.fault.JournalFault.TheVariants.{Disk, Other, Damaged, Memory}
-use Rattle.hose_journal.specs.declared.layout.TheConstants.{BUFFER_BYTES, DIGEST_BYTES, HEAD_BYTES, MOST_PART, PIECE_BYTES}
+use Rattle.hose_journal.specs.declared.layout.TheConstants.{BUFFER_BYTES, MOST_PART, PIECE_BYTES}
+use Rattle.hose_journal.specs.Layout.{digest_bytes, head_bytes}
 use Rattle.hose_journal.specs.declared.opening.Begun.{Begun}
 use Rattle.hose_journal.specs.declared.part.Found.{Found}
 use Rattle.hose_journal.specs.declared.piece.Piece.{Piece}
@@ -65,7 +66,7 @@ pub record Reads {D : Type 0} (disk : Ghosts D) (reading : Reading D) (digest : 
   pub items : List Item
   pub is_version : IsVersion version
   pub entries_are : entries_in items ≡ entries
-  pub size : length digest ≡ DIGEST_BYTES
+  pub size : length digest ≡ digest_bytes
   pub are : AreItems (entries_format version digest) [] items
   pub place : length (front_of version digest items) ≡ reading.gate
   pub within : reading.gate < reading.end
@@ -157,8 +158,8 @@ pub record IsOpen {D : Type 0} (disk : Ghosts D) (now : D) (piece : Piece) (begu
   pub version : ℕ
   pub is_version : IsVersion version
   pub chained : is_chained version [] ≡ begun.chained
-  pub size : length digest ≡ DIGEST_BYTES
-  pub within : HEAD_BYTES < begun.end
+  pub size : length digest ≡ digest_bytes
+  pub within : head_bytes < begun.end
   pub small : begun.end < 2 ^ 62
   pub is_piece : IsPiece (disk.content now) begun.end piece
   pub only : ReadsItsImages disk now

@@ -1,6 +1,8 @@
 // The layout: a head, and records between gates. A gate is open where it has one value and closed
 // where it has any other. In the first version a record is a length and a body; in the second one a
 // chain value stands between them.
+ghost use Rattle.std.specs.Prelude.{◌≡◌};
+ghost use Rattle.hose_journal.specs.Layout.{chained_version, closed_gate, digest_bytes, empty_bytes, head_bytes, head_mark, length_bytes, open_gate, plain_version, seal_body_bytes, seal_kind, version_place};
 
 use hose_codec::MOST_SPELLING;
 
@@ -51,3 +53,19 @@ pub const MOST_PART: usize = 1 + BUFFER_BYTES;
 
 /// The number of bytes that a reading asks the disk for at once.
 pub const PIECE_BYTES: usize = 65_536;
+
+/// Each of these constants is the literal that definitions cite.
+pub fn law_layout()
+    ensures open_gate { OPEN ≡ open_gate }
+    ensures closed_gate { CLOSED ≡ closed_gate }
+    ensures head_mark { MARK ≡ head_mark }
+    ensures version_place { VERSION_AT ≡ version_place }
+    ensures plain_version { PLAIN ≡ plain_version }
+    ensures chained_version { CHAINED ≡ chained_version }
+    ensures digest_bytes { DIGEST_BYTES ≡ digest_bytes }
+    ensures seal_kind { SEAL ≡ seal_kind }
+    ensures seal_body_bytes { SEAL_BYTES ≡ seal_body_bytes }
+    ensures empty_bytes { EMPTY_BYTES ≡ empty_bytes }
+    ensures head_bytes { HEAD_BYTES ≡ head_bytes }
+    ensures length_bytes { LENGTH_BYTES ≡ length_bytes }
+{}

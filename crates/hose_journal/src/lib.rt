@@ -38,6 +38,7 @@ mod steps;
 pub use chaining::law_chain;
 pub use fault::JournalFault;
 pub use journal::{Journal, ready};
+pub use layout::law_layout;
 pub use opening::open;
 pub use prepared::Ready;
 pub use reading::{Reading, law_one_list};

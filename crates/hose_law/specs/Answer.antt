@@ -9,7 +9,7 @@ use Rattle.hose_graph.specs.declared.command.Reply.TheVariants.{Admitted, Quoted
 use Rattle.hose_graph.specs.declared.entry.Vpn.{Vpn}
 use Rattle.hose_graph.specs.Amounts.{ReservedLink}
 use Rattle.hose_graph.specs.Hose.{Endpoint}
-use Rattle.hose_graph.specs.Name.{operator}
+use Rattle.hose_graph.specs.Limits.{operator}
 use Rattle.hose_graph.specs.Network.{Network}
 use Rattle.hose_law.specs.Plan.{plan_cost}
 use Rattle.hose_law.specs.Room.{room_of}

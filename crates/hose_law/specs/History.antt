@@ -5,7 +5,7 @@ use Rattle.std.specs.Str.{bytes_eq}
 use Rattle.hose_graph.specs.declared.entry.Entry.{Entry}
 use Rattle.hose_graph.specs.declared.entry.Entry.TheVariants.{Admit, Release, Down, Up}
 use Rattle.hose_graph.specs.declared.entry.Vpn.{Vpn}
-use Rattle.hose_graph.specs.declared.limits.TheConstants.{MOST_EPOCH, MOST_LIVE}
+use Rattle.hose_graph.specs.Limits as limits
 use Rattle.hose_graph.specs.Network.{Network}
 use Rattle.hose_law.specs.Book.{Book, HasVpn}
 use Rattle.hose_law.specs.Decision.{CanBeReserved, IsPlanned}
@@ -51,10 +51,10 @@ book_of epoch history = book_after (opening_book epoch) history
 
 -- the greatest epoch, and the most VPNs that may be live
 abbrev pub last_epoch : ℕ
-last_epoch = MOST_EPOCH
+last_epoch = limits.most_epoch
 
 abbrev pub most_live : ℕ
-most_live = MOST_LIVE
+most_live = limits.most_live
 
 -- An entry is sound at a book: an epoch is left; an admission has room among the live, and its
 -- amounts can be reserved; a release has a VPN of its customer to give up; a link that is taken out

@@ -2,7 +2,7 @@
 use Rattle.std.specs.Prelude.{ℕ, zero, suc, ◌+◌, List, Option, None, is_none, option_map, position, replicate, set, slice_index_or, if◌then◌else◌}
 use Rattle.std.specs.Str.{bytes_eq}
 use Rattle.hose_graph.specs.Hose.{Endpoint}
-use Rattle.hose_graph.specs.declared.limits.TheConstants.{MOST_QUOTES}
+use Rattle.hose_graph.specs.Limits.{most_quotes}
 
 -- a quote: the hose that was planned, and the place of the history at which it was
 pub record HeldQuote : Type 0 where
@@ -15,7 +15,7 @@ Held = List (Option HeldQuote)
 
 -- nothing stands at any number that a quote can have
 abbrev pub none_held : {X : Type 0} → List (Option X)
-none_held = replicate MOST_QUOTES None
+none_held = replicate most_quotes None
 
 -- what stands at a number, where they begin with 1
 abbrev pub at_number : {X : Type 0} → List (Option X) → ℕ → Option X

@@ -1,6 +1,6 @@
 -- What some endpoints cost from each node, and the root.
 use Rattle.std.specs.Prelude.{◌≡◌, ℕ, ◌+◌, ◌*◌, ◌<◌, ◌≤◌, Bool, List, length, All, Option, None, Some, IfSome, MatchOption}
-use Rattle.hose_graph.specs.declared.limits.TheConstants.{MOST_DISTANCE, MOST_RATE}
+use Rattle.hose_graph.specs.Limits.{most_distance, most_rate}
 use Rattle.hose_graph.specs.Amounts.{ReservedLink}
 use Rattle.hose_graph.specs.Hose.{Endpoint}
 use Rattle.hose_graph.specs.Network.{Network}
@@ -23,7 +23,7 @@ heavier (Some weight) rate (Some distance) = Some (weight + rate * distance)
 
 -- the most that an endpoint weighs: the greatest rate at the greatest distance
 abbrev pub most_share : ℕ
-most_share = MOST_RATE * MOST_DISTANCE
+most_share = most_rate * most_distance
 
 -- no weight is more than that of this many endpoints
 abbrev pub AreLight : ℕ → List (Option ℕ) → Type 0

@@ -14,7 +14,7 @@ mod pool;
 mod rows;
 
 pub use pool::PoolRows;
-pub use rows::{MOST_WORKERS, all_rows, table_of_all};
+pub use rows::{MOST_WORKERS, all_rows, law_limit, table_of_all};
 
 /// A point that a session passes, with the session's number.
 #[derive(Debug, Clone, Copy, PartialEq, Eq)]

@@ -4,6 +4,7 @@ ghost use Rattle.hose_graph.specs.Row.{Distances};
 ghost use Rattle.hose_law.specs.Walk.{all_links};
 ghost use Rattle.hose_paths.specs.Rows.{AreRows};
 ghost use Rattle.hose_pool.specs.Rows.{IsMadeRow};
+ghost use Rattle.hose_pool.specs.Limits.{most_workers};
 
 use hose_graph::{Row, Topology};
 use hose_links::LinkSet;
@@ -14,6 +15,11 @@ use std::thread::Threads;
 
 /// The most workers.
 pub const MOST_WORKERS: u32 = 16;
+
+/// The limit is the literal that definitions cite.
+pub fn law_limit()
+    ensures most_workers { MOST_WORKERS ≡ most_workers }
+{}
 
 /// The rows of all nodes over a set of the topology's links, in order of nodes. They are made by 1
 /// to 16 workers at once, or by fewer where the system has no thread left.

@@ -1,10 +1,10 @@
 -- A network under the costs of several tariffs, and what bounds are made of.
 use Rattle.std.specs.Prelude.{◌≡◌, ℕ, ◌≤◌, List, length, All, ⊤}
 use Rattle.hose_graph.specs.Network.{Network}
-use Rattle.hose_graph.specs.declared.limits.TheConstants.{MOST_COST}
+use Rattle.hose_graph.specs.Limits.{most_cost}
 use Rattle.hose_tariff.specs.Fact.{IsPrice, IsPricedBy}
 use Rattle.hose_price.specs.declared.sheet.Column.{Column}
-use Rattle.hose_price.specs.declared.sheet.TheConstants.{MOST_TARIFFS}
+use Rattle.hose_price.specs.Limits.{most_tariffs}
 
 -- a link costs 1, whatever its length
 abbrev pub costs_one : ℕ → ℕ → Type 0
@@ -35,8 +35,8 @@ pub record IsColumnBy (prices : Network → Network → Type 0) (base per : ℕ)
 
 -- the column is of the network, each link of which costs what the column's bounds allow
 pub record IsColumn (network : Network) (column : Column) : Type 0 where
-  pub base : column.base ≤ MOST_COST
-  pub per : column.per ≤ MOST_COST
+  pub base : column.base ≤ most_cost
+  pub per : column.per ≤ most_cost
   pub top : IsPricedBy (IsPrice column.base column.per) network column.top
 
 -- each part is of the network, with the costs that its name says
@@ -45,4 +45,4 @@ pub record IsSheet (sheet : Sheet) : Type 0 where
   pub lengths : IsPricedBy costs_length sheet.network sheet.lengths
   pub columns : All (IsColumn sheet.network) sheet.columns
   pub some : 1 ≤ length sheet.columns
-  pub few : length sheet.columns ≤ MOST_TARIFFS
+  pub few : length sheet.columns ≤ most_tariffs

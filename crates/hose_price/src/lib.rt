@@ -19,4 +19,4 @@ mod sheet;
 
 pub use priced::{Price, Priced};
 pub use rows::TablesRows;
-pub use sheet::{MOST_TARIFFS, PriceSheet};
+pub use sheet::{MOST_TARIFFS, PriceSheet, law_limit};

@@ -4,6 +4,7 @@ ghost use Rattle.hose_graph.specs.Limit.{IsUpTo};
 ghost use Rattle.hose_graph.specs.declared.limits.TheConstants.{MOST_LENGTH};
 ghost use Rattle.hose_tariff.specs.Fact.{IsPricedBy};
 ghost use Rattle.hose_price.specs.Sheet.{IsColumn, IsColumnBy, IsSheet, costs_length, costs_one};
+ghost use Rattle.hose_price.specs.Limits.{most_tariffs};
 
 use hose_graph::{Name, Topology};
 use hose_tariff::{Prices, Rule, Tariff, price};
@@ -12,6 +13,11 @@ use std::marker::Model;
 
 /// The greatest number of tariffs of a table.
 pub const MOST_TARIFFS: usize = 16;
+
+/// The limit is the literal that definitions cite.
+pub fn law_limit()
+    ensures most_tariffs { MOST_TARIFFS ≡ most_tariffs }
+{}
 
 // A network by the costs of a tariff, with the tariff's bounds.
 #[derive(Drop)]

@@ -7,14 +7,14 @@ use Rattle.hose_graph.specs.Hose.{IsEnd, HasDistinctNodes, Endpoint, node_of}
 use Rattle.hose_graph.specs.Network.{Network, IsLinkOf, IsNodeOf}
 use Rattle.hose_graph.specs.declared.command.Command.{Command}
 use Rattle.hose_graph.specs.declared.command.Command.TheVariants.{Admit, Quote, Take, Release, Show, Link, Down, Up}
-use Rattle.hose_graph.specs.declared.limits.TheConstants.{LEAST_ENDS, MOST_ENDS, MOST_EPOCH}
+use Rattle.hose_graph.specs.Limits.{least_ends, most_ends, most_epoch}
 use Rattle.hose_proto.specs.Places.{IsHoseOf, end_word}
 use Rattle.hose_proto.specs.declared.verb.Verb.{Verb}
 use Rattle.hose_proto.specs.declared.verb.Verb.TheVariants as verb
 
 -- the number of a VPN or of a quote, whether there is one or not
 abbrev pub IsId : ℕ → Type 0
-IsId id = IsWithin 0 MOST_EPOCH id
+IsId id = IsWithin 0 most_epoch id
 
 -- the words are the endpoints of a hose, in any order
 pub record AreEndsOf (network : Network) (words : List (List ℕ)) (hose : List Endpoint)
@@ -45,14 +45,14 @@ IsCommand network words (Up link) =
 
 -- endpoints of a hose that may have more of them, in any order
 pub record AreNewEnds (network : Network) (ends : List Endpoint) : Type 0 where
-  pub few : length ends ≤ MOST_ENDS
+  pub few : length ends ≤ most_ends
   pub within : All IsEnd ends
   pub distinct : HasDistinctNodes ends
   pub nodes : All (λ end. IsNodeOf network (node_of end)) ends
 
 -- `NAME:RATE ..`, two endpoints at least, each at a node that no earlier word names
 abbrev pub ends_form : Network → Form
-ends_form network = list (end_word network) (AreNewEnds network) LEAST_ENDS
+ends_form network = list (end_word network) (AreNewEnds network) least_ends
 
 -- `ID` or `Q`
 abbrev pub sole_id_form : Form

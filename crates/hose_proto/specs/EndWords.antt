@@ -5,7 +5,7 @@ use Rattle.hose_words.specs.Form.{Form, list}
 use Rattle.hose_graph.specs.Limit.{IsUpTo}
 use Rattle.hose_graph.specs.Name.{IsName}
 use Rattle.hose_graph.specs.Network.{Network, IsNodeOf, name_of}
-use Rattle.hose_graph.specs.declared.limits.TheConstants.{LEAST_ENDS, MOST_ENDS, MOST_RATE}
+use Rattle.hose_graph.specs.Limits.{least_ends, most_ends, most_rate}
 
 -- a name and a rate: `NAME:RATE`
 abbrev pub named_rate : List ℕ → ℕ → List ℕ
@@ -18,28 +18,28 @@ name_in word = before_first (λ byte. byte == 58) word
 -- a word has the form of an endpoint
 abbrev pub IsEndWord : List ℕ → Type 0
 IsEndWord word = (name : List ℕ) × (rate : ℕ) × (word ≡ named_rate name rate) × IsName name
-    × IsUpTo MOST_RATE rate
+    × IsUpTo most_rate rate
 
 -- a word may come after others, as one more endpoint of a hose: no earlier word has its name
 pub record IsNewEndWord (words : List (List ℕ)) (word : List ℕ) : Type 0 where
   pub is_end : IsEndWord word
   pub is_new : ¬ Any (λ earlier. name_in earlier ≡ name_in word) words
-  pub room : length words < MOST_ENDS
+  pub room : length words < most_ends
 
 -- words of the endpoints of a hose that may have more of them
 pub record AreNewEndWords (words : List (List ℕ)) : Type 0 where
-  pub few : length words ≤ MOST_ENDS
+  pub few : length words ≤ most_ends
   pub ends : All IsEndWord words
   pub distinct : AllPairs (λ one other. name_in one ≢ name_in other) words
 
 -- words of all endpoints of a hose
 pub record AreEndWords (words : List (List ℕ)) : Type 0 where
-  pub enough : LEAST_ENDS ≤ length words
+  pub enough : least_ends ≤ length words
   pub are : AreNewEndWords words
 
 -- `NAME:RATE ..`, two endpoints at least, each with a name that no earlier word has
 abbrev pub end_words_form : Form
-end_words_form = list (λ word. word) AreNewEndWords LEAST_ENDS
+end_words_form = list (λ word. word) AreNewEndWords least_ends
 
 -- ---- nodes
 

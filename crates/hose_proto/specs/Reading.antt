@@ -8,7 +8,7 @@ use Rattle.hose_graph.specs.Amounts.{ReservedLink, amount_of, link_of}
 use Rattle.hose_graph.specs.Ascending.{firsts}
 use Rattle.hose_graph.specs.Hose.{IsEnd, Endpoint, node_of}
 use Rattle.hose_graph.specs.Network.{Network, IsLinkOf, IsNodeOf}
-use Rattle.hose_graph.specs.declared.limits.TheConstants.{LEAST_ENDS, MOST_ENDS}
+use Rattle.hose_graph.specs.Limits.{least_ends, most_ends}
 use Rattle.hose_proto.specs.Places.{end_word}
 use Rattle.hose_proto.specs.declared.fault.ReadFault.{ReadFault}
 use Rattle.hose_proto.specs.declared.fault.ReadFault.TheVariants.{Bad}
@@ -54,13 +54,13 @@ pub record TellsMore {A : Type 0} (word_of : A → List ℕ) (fine : List A → 
 pub record IsNewEnd (network : Network) (ends : List Endpoint) (end : Endpoint) : Type 0 where
   pub is_end : IsEndOf network end
   pub is_new : ¬ Any (λ earlier. node_of earlier ≡ node_of end) ends
-  pub room : length ends < MOST_ENDS
+  pub room : length ends < most_ends
 
 -- an endpoint may come after others, in order
 pub record IsNextEnd (network : Network) (ends : List Endpoint) (end : Endpoint) : Type 0 where
   pub is_end : IsEndOf network end
   pub ascending : IsStrictlyIncreasing (firsts ends ++ node_of end ∷ [])
-  pub room : length ends < MOST_ENDS
+  pub room : length ends < most_ends
 
 -- an amount may come after others
 pub record IsNextPair (network : Network) (pairs : List ReservedLink) (pair : ReservedLink)
@@ -81,5 +81,5 @@ pub record MissesEnd (network : Network) (ends : List Endpoint) (old : Position)
       (λ word. (end : Endpoint) × (word ≡ end_word network end) × IsNextEnd network ends end)
       old.left
   pub no_last : ¬ IsFirst
-      (λ word. (word ≡ codes "links") × (LEAST_ENDS ≤ length ends)) old.left
+      (λ word. (word ≡ codes "links") × (least_ends ≤ length ends)) old.left
   pub at : number ≡ old.read + 1

@@ -5,7 +5,7 @@ use Rattle.hose_words.specs.Grammar.{Grammar}
 use Rattle.hose_graph.specs.Ascending.{IsAscending}
 use Rattle.hose_graph.specs.Hose.{IsEnd, Endpoint, node_of}
 use Rattle.hose_graph.specs.Network.{Network, IsLinkOf, IsNodeOf, name_of}
-use Rattle.hose_graph.specs.declared.limits.TheConstants.{LEAST_ENDS, MOST_ENDS}
+use Rattle.hose_graph.specs.Limits.{least_ends, most_ends}
 use Rattle.hose_proto.specs.Places.{end_word}
 use Rattle.hose_proto.specs.ReplyWords.{AreAmounts, IsSide, pair_word, words_of_link}
 use Rattle.hose_proto.specs.declared.head.Head.{Head}
@@ -47,7 +47,7 @@ side_form network = this (codes "at") (number (this (codes "side") (names_form n
 
 -- endpoints of a hose that may have more of them: nodes in ascending order
 pub record AreEnds (network : Network) (ends : List Endpoint) : Type 0 where
-  pub few : length ends ≤ MOST_ENDS
+  pub few : length ends ≤ most_ends
   pub within : All IsEnd ends
   pub ascending : IsAscending ends
   pub nodes : All (λ end. IsNodeOf network (node_of end)) ends
@@ -55,7 +55,7 @@ pub record AreEnds (network : Network) (ends : List Endpoint) : Type 0 where
 -- `NAME:RATE .. links L:R ..`, two endpoints at least
 abbrev pub hose_form : Network → Form
 hose_form network =
-    until (end_word network) (AreEnds network) LEAST_ENDS (codes "links") (amounts_form network)
+    until (end_word network) (AreEnds network) least_ends (codes "links") (amounts_form network)
 
 -- `ID cost C at N ends NAME:RATE .. links L:R ..`
 abbrev pub shown_form : Network → Form

@@ -3,7 +3,7 @@ use Rattle.std.specs.Prelude.{◌≡◌, ◌↔◌, ℕ, ◌+◌, ◌<◌, ◌�
 use Rattle.hose_io.specs.Connections.{Connection}
 use Rattle.hose_io.specs.declared.source.Source.{Ghosts as SourceGhosts}
 use Rattle.hose_io.specs.declared.sink.Sink.{Ghosts as SinkGhosts}
-use Rattle.hose_words.specs.declared.lines.TheConstants.{INPUT_LIMIT}
+use Rattle.hose_words.specs.Limits.{input_limit}
 use Rattle.hose_graph.specs.Network.{Network}
 use Rattle.hose_graph.specs.declared.entry.Entry.{Entry}
 use Rattle.hose_graph.specs.declared.command.Reply.{Reply}
@@ -43,7 +43,7 @@ pub record IsServedAlong (network : Network) (history : List Entry) (since : ℕ
       (Some (record { taken = connection.taken; left = connection.left })))
       (Some []) (Some connection.given) (0 < connection.reading) (0 < connection.writing) end
       replies own
-  pub too_long : (end ≡ TooLong) ↔ (INPUT_LIMIT < length connection.taken)
+  pub too_long : (end ≡ TooLong) ↔ (input_limit < length connection.taken)
 
 -- The connections are those of such sessions, whose own entries stand at these places, one after
 -- the other, and whose replies tell so many failures of the disk.

@@ -8,7 +8,7 @@ use Rattle.hose_io.specs.declared.sink.Sink.{Ghosts as SinkGhosts}
 use Rattle.hose_words.specs.Lines.{Reader, Shows}
 use Rattle.hose_words.specs.Reading.{ReadsOn, WhereTold}
 use Rattle.hose_words.specs.Saying.{IsOver, SayLines, SaysUpTo, StopsReading, TakesLine}
-use Rattle.hose_words.specs.declared.lines.TheConstants.{INPUT_LIMIT}
+use Rattle.hose_words.specs.Limits.{input_limit}
 use Rattle.hose_words.specs.declared.lines.Line.{Line}
 use Rattle.hose_words.specs.declared.lines.LineFault.TheVariants as line_fault
 use Rattle.hose_graph.specs.Network.{Network}
@@ -118,9 +118,9 @@ module _ {S O : Type 0} (source : SourceGhosts S) (sink : SinkGhosts O) (network
 pub record AsksForLine {S O T : Type 0} (source : SourceGhosts S) (sink : SinkGhosts O)
     (shared : SharedBook) (lines lines' : Reader S) (output output' : O) (pass : Known)
     (result : Result T SessionEnd) : Type 0 where
-  pub too_long : (result ≡ Err session_end.TooLong) ↔ (INPUT_LIMIT < lines'.taken)
+  pub too_long : (result ≡ Err session_end.TooLong) ↔ (input_limit < lines'.taken)
   pub reads_on : ReadsOn source lines lines'
-  pub limit : lines'.taken ≤ INPUT_LIMIT + 1
+  pub limit : lines'.taken ≤ input_limit + 1
   pub of : IsPassOf shared pass
   pub stays : Stays (sink.frame output) (sink.frame output')
 

@@ -8,7 +8,7 @@ use Rattle.hose_io.specs.declared.sink.Sink.{Ghosts as SinkGhosts}
 use Rattle.hose_words.specs.Lines.{StopsAfterLines, is_line_feed}
 use Rattle.hose_words.specs.Reading.{WhereTold}
 use Rattle.hose_words.specs.Saying.{IsAllTaken, IsLeftOver, SayLines}
-use Rattle.hose_words.specs.declared.lines.TheConstants.{INPUT_LIMIT}
+use Rattle.hose_words.specs.Limits.{input_limit}
 use Rattle.hose_words.specs.declared.lines.LineFault.TheVariants as line_fault
 use Rattle.hose_graph.specs.Network.{Network}
 use Rattle.hose_graph.specs.declared.entry.Entry.{Entry}
@@ -127,6 +127,6 @@ ServesSession source sink network input input' output output' =
 
 -- The input is told: its first line is a greeting, and it is not too long.
 abbrev pub IsGreeted : Option Stream → Type 0
-IsGreeted (Some stream) = (name : List ℕ) × (length stream.left ≤ INPUT_LIMIT)
+IsGreeted (Some stream) = (name : List ℕ) × (length stream.left ≤ input_limit)
     × SaysFirst (before_first is_line_feed stream.left) (Greets name)
 IsGreeted content = ⊥

@@ -3,7 +3,7 @@ use Rattle.std.specs.Prelude.{◌≡◌, ℕ, ◌<◌, ◌≤◌, List, [], ◌�
 use Rattle.hose_words.specs.Form.{Form, IsChoice, finish, grammar_of, place, this}
 use Rattle.hose_words.specs.Grammar.{Grammar, IsFirst, IsFirstNotAllowed}
 use Rattle.hose_words.specs.Words.{words_of}
-use Rattle.hose_words.specs.declared.lines.TheConstants.{LINE_LIMIT}
+use Rattle.hose_words.specs.Limits.{line_limit}
 use Rattle.hose_graph.specs.Name.{IsName}
 use Rattle.hose_graph.specs.Network.{Network}
 use Rattle.hose_law.specs.Transcript.{SessionLine}
@@ -29,24 +29,24 @@ IsBye line = words_of line ≡ codes "bye" ∷ []
 -- What the first line of a session says: it is a greeting, or it has a first word that is not
 -- allowed there, or it is too long.
 abbrev pub SaysFirst : List ℕ → SessionLine → Type 0
-SaysFirst bytes (Greets name) = (length bytes ≤ LINE_LIMIT) × IsGreeting bytes name
-SaysFirst bytes (IsBad word) = (length bytes ≤ LINE_LIMIT)
+SaysFirst bytes (Greets name) = (length bytes ≤ line_limit) × IsGreeting bytes name
+SaysFirst bytes (IsBad word) = (length bytes ≤ line_limit)
     × IsFirstNotAllowed greeting_grammar [] (words_of bytes) word
-SaysFirst bytes IsLong = LINE_LIMIT < length bytes
+SaysFirst bytes IsLong = line_limit < length bytes
 SaysFirst bytes line = ⊥
 
 -- What a later line says: its only word is `bye`, or it asks for a command, or it has a first word
 -- that is not allowed, or it is too long; or it is left unread for want of memory, which its
 -- command may take.
 abbrev pub SaysLater : Network → List ℕ → SessionLine → Type 0
-SaysLater network bytes Leaves = (length bytes ≤ LINE_LIMIT) × IsBye bytes
+SaysLater network bytes Leaves = (length bytes ≤ line_limit) × IsBye bytes
 SaysLater network bytes (Asks command) =
-    (length bytes ≤ LINE_LIMIT) × IsCommand network (words_of bytes) command
-SaysLater network bytes (IsBad word) = (length bytes ≤ LINE_LIMIT) × (¬ IsBye bytes)
+    (length bytes ≤ line_limit) × IsCommand network (words_of bytes) command
+SaysLater network bytes (IsBad word) = (length bytes ≤ line_limit) × (¬ IsBye bytes)
     × IsFirstNotAllowed (command_grammar network) [] (words_of bytes) word
-SaysLater network bytes IsLong = LINE_LIMIT < length bytes
+SaysLater network bytes IsLong = line_limit < length bytes
 SaysLater network bytes Unread =
-    (length bytes ≤ LINE_LIMIT) × IsFirst (IsChoice TakesMemory verb_word) (words_of bytes)
+    (length bytes ≤ line_limit) × IsFirst (IsChoice TakesMemory verb_word) (words_of bytes)
 SaysLater network bytes (Greets name) = ⊥
 
 -- what a line says after these lines

@@ -6,12 +6,12 @@ use Rattle.hose_words.specs.Words.{words_of}
 use Rattle.hose_words.specs.Lines.{is_line_feed}
 use Rattle.hose_words.specs.Form.{Form, finish, place, branch, maybe, TellsNumber, grammar_of}
 use Rattle.hose_words.specs.Grammar.{Grammar, IsFirstNotAllowed}
-use Rattle.hose_words.specs.declared.lines.TheConstants.{LINE_LIMIT}
+use Rattle.hose_words.specs.Limits.{line_limit}
 use Rattle.hose_graph.specs.Name.{IsName}
 use Rattle.hose_graph.specs.Limit.{IsUpTo}
 use Rattle.hose_graph.specs.Network.{Network, IsLink, IsNodeOf, HasNodeRoom, HasLinkRoom, name_of}
 use Rattle.hose_graph.specs.declared.topology.Link.{Link}
-use Rattle.hose_graph.specs.declared.limits.TheConstants.{MOST_CAPACITY, MOST_LENGTH, MOST_COST}
+use Rattle.hose_graph.specs.Limits.{most_capacity, most_length, most_cost}
 use Rattle.hose_topo.specs.declared.line.Kind.{Kind}
 use Rattle.hose_topo.specs.declared.line.Kind.TheVariants as kind
 
@@ -72,7 +72,7 @@ TellsLine network kind.End words next = EndsText network words × (next ≡ netw
 -- the words of the first line of a text, if it has a line and that is not too long
 pub record HasLine (text : List ℕ) (words : List (List ℕ)) : Type 0 where
   pub some : text ≢ []
-  pub short : length (before_first is_line_feed text) ≤ LINE_LIMIT
+  pub short : length (before_first is_line_feed text) ≤ line_limit
   pub is_split : words ≡ words_of (before_first is_line_feed text)
 
 -- This many lines at the front of a text add to a network, one after the other, and the rest of the
@@ -132,7 +132,7 @@ IsOtherNode network a b = IsNodeOf network b × (b ≢ a)
 -- `CAPACITY LENGTH`, and `COST` where it is told
 abbrev pub numbers_form : Form
 numbers_form =
-    number_form MOST_CAPACITY (number_form MOST_LENGTH (maybe (number_form MOST_COST finish)))
+    number_form most_capacity (number_form most_length (maybe (number_form most_cost finish)))
 
 -- `A B CAPACITY LENGTH`, and `COST` where it is told
 abbrev pub link_form : Network → Form
@@ -159,7 +159,7 @@ line_grammar network = grammar_of (line_form network)
 abbrev pub IsWrongLine : Network → List ℕ → ℕ → Type 0
 IsWrongLine network text word =
     ((text ≡ []) × (word ≡ 1))
-    ⊎ (((LINE_LIMIT < length (before_first is_line_feed text)) × (word ≡ 0))
+    ⊎ (((line_limit < length (before_first is_line_feed text)) × (word ≡ 0))
     ⊎ ((words : List (List ℕ)) × HasLine text words × (¬ IsPassedOver words)
     × IsFirstNotAllowed (line_grammar network) [] words word))
 

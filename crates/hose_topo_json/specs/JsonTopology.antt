@@ -7,19 +7,19 @@ use Rattle.serde_json.specs.Find.{as_str, get}
 use Rattle.hose_graph.specs.Name.{IsName}
 use Rattle.hose_graph.specs.Network.{Network, IsLink, name_of}
 use Rattle.hose_graph.specs.declared.topology.Link.{Link}
-use Rattle.hose_graph.specs.declared.limits.TheConstants.{MOST_NODES, MOST_LINKS}
+use Rattle.hose_graph.specs.Limits.{most_nodes, most_links}
 use Rattle.hose_topo_json.specs.JsonValue.{ReadsObject, list_at, number_at, text_at}
 
 -- the member `nodes` of a value is an array of 1 to 512 values
 pub record HasNodes (value : Data) (values : List Data) : Type 0 where
   pub here : list_at (codes "nodes") value ≡ Some values
   pub some : 1 ≤ length values
-  pub few : length values ≤ MOST_NODES
+  pub few : length values ≤ most_nodes
 
 -- the member `links` of a value is an array of at most 2,048 values
 pub record HasLinks (value : Data) (values : List Data) : Type 0 where
   pub here : list_at (codes "links") value ≡ Some values
-  pub few : length values ≤ MOST_LINKS
+  pub few : length values ≤ most_links
 
 -- a value is this text
 abbrev pub IsText : Data → List ℕ → Type 0

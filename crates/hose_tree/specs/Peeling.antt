@@ -6,7 +6,7 @@ use Rattle.hose_graph.specs.Amounts.{ReservedLink, link_of, amount_of}
 use Rattle.hose_graph.specs.Ascending.{firsts}
 use Rattle.hose_graph.specs.Hose.{Endpoint, node_of, rate_of, total_rate}
 use Rattle.hose_graph.specs.Network.{Network, IsNetwork}
-use Rattle.hose_graph.specs.declared.limits.TheConstants.{MOST_NODES}
+use Rattle.hose_graph.specs.Limits.{most_nodes}
 use Rattle.hose_graph.specs.declared.topology.Link.{Link}
 use Rattle.hose_graph.specs.declared.topology.Step.{Step}
 use Rattle.hose_law.specs.Tree.{Grow, IsOn, step_links, links_up, goes_along}
@@ -117,8 +117,8 @@ pub record IsLinked (link : Link) (number amount : ℕ) (before after : Forest) 
 
 -- both nodes of a link have a place
 pub record HasNodePlaces (link : Link) : Type 0 where
-  pub a : link.a < MOST_NODES
-  pub b : link.b < MOST_NODES
+  pub a : link.a < most_nodes
+  pub b : link.b < most_nodes
 
 -- a number can be added at both
 abbrev pub HasRoom : ℕ → List ℕ → Type 0

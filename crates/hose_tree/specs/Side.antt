@@ -1,6 +1,6 @@
 -- The sides of a link of a tree, and what goes from one to the other.
 use Rattle.std.specs.Prelude.{◌≡◌, ℕ, Bool, false, List, length, nat_lt, slice_index_or, if◌then◌else◌}
-use Rattle.hose_graph.specs.declared.limits.TheConstants.{MOST_NODES}
+use Rattle.hose_graph.specs.Limits.{most_nodes}
 use Rattle.hose_graph.specs.Hose.{Endpoint}
 use Rattle.hose_law.specs.Heaviest.{common}
 use Rattle.hose_law.specs.Matrix.{sum_below, demand, node_at, rate_at}
@@ -10,7 +10,7 @@ use Rattle.hose_law.specs.Tree.{Growth, goes_along, way_up}
 -- A mark for each node that a network can have says whether the node lies beyond the link: whether
 -- its way up goes along it.
 pub record AreBeyond (tree : Growth) (link : ℕ) (marks : List Bool) : Type 0 where
-  pub places : length marks ≡ MOST_NODES
+  pub places : length marks ≡ most_nodes
   pub each : (v : ℕ) → slice_index_or marks v false ≡ goes_along (way_up tree v) link
 
 -- endpoint i is at a marked node

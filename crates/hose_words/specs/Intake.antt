@@ -7,7 +7,7 @@ use Rattle.hose_io.specs.Stream.{Gives, IsAtEnd}
 use Rattle.hose_io.specs.declared.source.Source.{Ghosts}
 use Rattle.hose_words.specs.declared.intake.Found.{Found}
 use Rattle.hose_words.specs.declared.intake.Found.TheVariants as found
-use Rattle.hose_words.specs.declared.lines.TheConstants.{INPUT_LIMIT, LINE_LIMIT}
+use Rattle.hose_words.specs.Limits.{input_limit, line_limit}
 use Rattle.hose_words.specs.declared.lines.Line.{Line}
 use Rattle.hose_words.specs.declared.lines.Line.TheVariants.{Text, Long}
 use Rattle.hose_words.specs.declared.lines.LineFault.{LineFault}
@@ -28,7 +28,7 @@ reader_of source kept = record {
 -- how a line is found, where its front was dropped already or not
 abbrev pub found_of : Bool → List ℕ → Found
 found_of is_long line =
-    if is_long || nat_lt LINE_LIMIT (length line) then found.Long else found.Text
+    if is_long || nat_lt line_limit (length line) then found.Long else found.Text
 
 -- how a line is found at the end of the text, where no bytes are no line
 abbrev pub found_at_end : Bool → List ℕ → Found
@@ -55,7 +55,7 @@ FindsNext source old new line (Err fault) = IsNext source old new (Err fault)
 
 -- what is pending was dropped, where it is more than a line shows
 abbrev pub DropsLong : Bool → Bool → List ℕ → List ℕ → Type 0
-DropsLong was is_long old new = MatchBool (nat_lt LINE_LIMIT (length old))
+DropsLong was is_long old new = MatchBool (nat_lt line_limit (length old))
     ((is_long ≡ true) × (new ≡ [])) ((is_long ≡ was) × (new ≡ old))
 
 module _ {S : Type 0} (source : Ghosts S) (old new : Reader S) where
@@ -70,7 +70,7 @@ module _ {S : Type 0} (source : Ghosts S) (old new : Reader S) where
     pub gives : Gives (source.content old.source) (source.content new.source) bytes
     pub pending : new.pending ≡ old.pending ++ bytes
     pub taken : new.taken ≡ old.taken + length bytes
-    pub limit : new.taken ≤ INPUT_LIMIT
+    pub limit : new.taken ≤ input_limit
     pub fault : new.fault ≡ None
     pub before_end : IsBeforeEnd
     pub frame : source.frame new.source ≡ source.frame old.source
@@ -97,7 +97,7 @@ module _ {S : Type 0} (source : Ghosts S) (old new : Reader S) where
       × source.went old.source new.source
   MeetsFault TooLong =
       ((byte : ℕ) × Gives (source.content old.source) (source.content new.source) (byte ∷ []))
-      × (old.taken ≡ INPUT_LIMIT) × (new.taken ≡ INPUT_LIMIT + 1) × (new.fault ≡ Some TooLong)
+      × (old.taken ≡ input_limit) × (new.taken ≡ input_limit + 1) × (new.fault ≡ Some TooLong)
       × (new.pending ≡ old.pending) × (source.frame new.source ≡ source.frame old.source)
       × IsBeforeEnd × source.went old.source new.source
 

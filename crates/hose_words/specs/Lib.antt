@@ -5,6 +5,7 @@ pub mod Form
 pub mod Grammar
 pub mod Intake
 pub mod Kept
+pub mod Limits
 pub mod Lines
 pub mod Number
 pub mod Reading

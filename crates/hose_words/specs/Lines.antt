@@ -5,7 +5,7 @@ use Rattle.hose_io.specs.Calls.{HasGone}
 use Rattle.hose_io.specs.Frame.{Rose, Stays}
 use Rattle.hose_io.specs.Stream.{Gives}
 use Rattle.hose_io.specs.declared.source.Source.{Ghosts}
-use Rattle.hose_words.specs.declared.lines.TheConstants.{INPUT_LIMIT, LINE_LIMIT}
+use Rattle.hose_words.specs.Limits.{input_limit, line_limit}
 use Rattle.hose_words.specs.declared.lines.Line.{Line}
 use Rattle.hose_words.specs.declared.lines.Line.TheVariants.{Text, Long}
 use Rattle.hose_words.specs.declared.lines.LineFault.{LineFault}
@@ -25,8 +25,8 @@ is_line_feed byte = byte == 10
 
 -- a line is shown by its bytes, where it is not too long for that
 abbrev pub Shows : Line → List ℕ → Type 0
-Shows (Text shown) line = (length line ≤ LINE_LIMIT) × (shown.now ≡ line)
-Shows Long line = LINE_LIMIT < length line
+Shows (Text shown) line = (length line ≤ line_limit) × (shown.now ≡ line)
+Shows Long line = line_limit < length line
 
 -- the next line of a text, and the text that is left; none comes exactly at the end
 abbrev pub GivesLine : Option Line → List ℕ → List ℕ → Type 0
@@ -55,7 +55,7 @@ StopsAfterLines fault text partial rest = IsAfterLines text partial × StopsAt f
 
 -- a front of a line that was dropped, since the line is too long to be shown; or nothing
 abbrev pub IsDropped : List ℕ → Type 0
-IsDropped front = (front ≡ []) ⊎ (LINE_LIMIT < length front)
+IsDropped front = (front ≡ []) ⊎ (line_limit < length front)
 
 -- What is pending after a fault is the line that was being read, but for a front that was dropped.
 -- The byte past the limit is not pending.
@@ -91,9 +91,9 @@ pub record IsNext {S : Type 0} (source : Ghosts S) (old new : Reader S)
   -- a source is asked only where no whole line is pending, and not again after its end
   pub whole_pending : Contains old.pending 10 → new.source ≡ old.source
   pub after_end : IsTrue old.ended → new.source ≡ old.source
-  pub limit : new.taken ≤ INPUT_LIMIT + 1
+  pub limit : new.taken ≤ input_limit + 1
   -- exactly where the source gave more than 1 GiB
-  pub too_long : (result ≡ Err TooLong) ↔ (INPUT_LIMIT < new.taken)
+  pub too_long : (result ≡ Err TooLong) ↔ (input_limit < new.taken)
   -- only where a call failed, now or before
   pub read : result ≡ Err Read
       → (old.fault ≡ Some Read) ⊎ Rose (source.frame old.source) (source.frame new.source)

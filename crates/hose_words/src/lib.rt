@@ -25,5 +25,5 @@ mod lines;
 mod words;
 
 pub use cursor::{Cursor, Keyword, WrongWord};
-pub use lines::{INPUT_LIMIT, LINE_LIMIT, Line, LineFault, LineReader, PENDING_LIMIT};
+pub use lines::{INPUT_LIMIT, LINE_LIMIT, Line, LineFault, LineReader, PENDING_LIMIT, law_limits};
 pub use words::{Words, number, split};

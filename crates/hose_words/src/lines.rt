@@ -2,6 +2,7 @@
 ghost use Rattle.std.specs.Prelude.{◌≡◌, ◌≤◌, [], None, false, length};
 ghost use Rattle.std.specs.Borrow.{sem};
 ghost use Rattle.std.specs.Io.BufRead.{Rests};
+ghost use Rattle.hose_words.specs.Limits.{input_limit, line_limit};
 
 use crate::intake::Intake;
 use hose_io::Source;
@@ -16,6 +17,12 @@ pub const INPUT_LIMIT: u64 = 1 << 30;
 /// How many bytes may be pending in a reader of lines at most: two of the longest lines that are
 /// shown, so that bytes are moved seldom.
 pub const PENDING_LIMIT: usize = 8_192;
+
+/// Each of these constants is the literal that definitions cite.
+pub fn law_limits()
+    ensures line_limit { LINE_LIMIT ≡ line_limit }
+    ensures input_limit { INPUT_LIMIT ≡ input_limit }
+{}
 
 /// A line, without its line feed.
 #[derive(Clone, Copy, Debug, PartialEq, Eq)]

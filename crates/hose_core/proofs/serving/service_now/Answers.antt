@@ -1,5 +1,5 @@
 use Rattle.std.proofs.Common.{◌∙◌, Bool, ℕ, sym}
-use Rattle.hose_graph.specs.Name.{operator}
+use Rattle.hose_graph.specs.Limits.{operator}
 use Rattle.hose_graph.specs.Network.{IsLinkOf}
 use Rattle.hose_core.specs.Serving.{service_command}
 use Rattle.hose_core.specs.Stepping.{StepsAtEach}

@@ -1,0 +1,26 @@
+-- The numbers of the spelling of entries, which definitions cite in place of the code's constants.
+use Rattle.std.specs.Prelude.{ℕ}
+
+-- what an admission begins with
+abbrev pub admit_kind : ℕ
+admit_kind = 1
+
+-- a release
+abbrev pub release_kind : ℕ
+release_kind = 2
+
+-- a link that is taken out of service
+abbrev pub down_kind : ℕ
+down_kind = 3
+
+-- a link that is put back
+abbrev pub up_kind : ℕ
+up_kind = 4
+
+-- the bytes of a link and its amount
+abbrev pub pair_bytes : ℕ
+pair_bytes = 6
+
+-- the greatest number of bytes of an entry
+abbrev pub most_spelling : ℕ
+most_spelling = 3471
