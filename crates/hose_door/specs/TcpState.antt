@@ -6,9 +6,10 @@ use Rattle.hose_io.specs.StdState.{StdSinkState, StdSourceState, sink_frame, sou
 use Rattle.hose_io.specs.declared.sink.Sink.{Ghosts as SinkGhosts}
 use Rattle.hose_io.specs.declared.source.Source.{Ghosts as SourceGhosts}
 
--- how often it has failed, and whether it was opened
+-- how often it has failed, the port at which it was opened last, if it was, and whether it listens
 pub record TcpState : Type 0 where
   pub faults : ℕ
+  pub port : Option ℕ
   pub listens : Bool
 
 -- its frame

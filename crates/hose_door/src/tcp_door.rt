@@ -1,5 +1,5 @@
 // A door over a port of the network.
-ghost use Rattle.std.specs.Prelude.{◌≡◌, ◌≤◌, false, true, IfOk, IsErr, IsFalse, IsSome, MatchOption, MatchResult};
+ghost use Rattle.std.specs.Prelude.{◌≡◌, ◌≤◌, false, true, None, Some, IfOk, IsErr, IsFalse, IsSome, MatchOption, MatchResult};
 ghost use Rattle.hose_io.specs.Connections.{Accepts, AreAccounted, AreUsedUp, IsConnection};
 ghost use Rattle.hose_io.specs.Count.{one_more};
 ghost use Rattle.hose_io.specs.Frame.{Met, Rose};
@@ -35,6 +35,7 @@ pub struct TcpDoor<N> {
     rt: N,
     read_timeout: Duration,
     write_timeout: Duration,
+    port: Option<u16>,
     listener: Option<TcpListener>,
     faults: u64,
 }
@@ -45,13 +46,17 @@ impl<N> Model for TcpDoor<N> {
 
     ghost Value = { TcpState };
 
-    ghost view = { λ door. record { faults = door.faults; listens = is_some door.listener } };
+    ghost view = { λ door. record {
+      faults = door.faults;
+      port = door.port;
+      listens = is_some door.listener;
+    } };
 }
 
 impl<N: Net<Listener = TcpListener, Stream = TcpStream> + Send + Drop> TcpDoor<N> {
     /// It listens once it is opened. Its peers have `READ_SECONDS` and `WRITE_SECONDS`.
     pub fn new(rt: N) -> TcpDoor<N>
-        ensures { result ≡ record { faults = 0; listens = false } }
+        ensures { result ≡ record { faults = 0; port = None; listens = false } }
     {
         let read_timeout = Duration::from_secs(READ_SECONDS);
         let write_timeout = Duration::from_secs(WRITE_SECONDS);
@@ -60,12 +65,13 @@ impl<N: Net<Listener = TcpListener, Stream = TcpStream> + Send + Drop> TcpDoor<N
 
     /// A door as `new` makes it, but with these timeouts, of which neither may be zero.
     pub fn with_timeouts(rt: N, read_timeout: Duration, write_timeout: Duration) -> TcpDoor<N>
-        ensures { result ≡ record { faults = 0; listens = false } }
+        ensures { result ≡ record { faults = 0; port = None; listens = false } }
     {
         TcpDoor {
             rt,
             read_timeout,
             write_timeout,
+            port: None,
             listener: None,
             faults: 0,
         }
@@ -114,6 +120,8 @@ impl<N: Net<Listener = TcpListener, Stream = TcpStream> + Clock + Drop> Door for
 
     ghost frame = { tcp_frame };
 
+    ghost opened_at = { λ door. door.port };
+
     ghost told = { λ _. untold_connections };
 
     ghost came_to = { λ _. untold_connection };
@@ -122,6 +130,9 @@ impl<N: Net<Listener = TcpListener, Stream = TcpStream> + Clock + Drop> Door for
         ensures told { untold_connections ≡ untold_connections }
         ensures accounted { AreAccounted untold_connections }
         ensures met { Met (tcp_frame self.old) (tcp_frame self.new) result }
+        ensures port { MatchResult result
+            (λ _. self.new.port ≡ Some port)
+            (λ _. self.new.port ≡ self.old.port) }
 
         ensures listens { MatchResult result
             (λ _. self.new.listens ≡ true)
@@ -130,6 +141,7 @@ impl<N: Net<Listener = TcpListener, Stream = TcpStream> + Clock + Drop> Door for
         let Ok(listener) = listen(&self.rt, port) else {
             return Err(self.fault());
         };
+        self.port = Some(port);
         self.listener = Some(listener);
         Ok(())
     }
@@ -143,6 +155,7 @@ impl<N: Net<Listener = TcpListener, Stream = TcpStream> + Clock + Drop> Door for
             (λ _. untold_connections ≡ untold_connections) }
         ensures accounted { AreAccounted untold_connections }
         ensures met { Met (tcp_frame self.old) (tcp_frame self.new) result }
+        ensures port { self.new.port ≡ self.old.port }
 
         ensures never_ends { IfOk result (λ found. IsSome found) }
         ensures unopened { IsFalse self.old.listens → IsErr result }
@@ -158,6 +171,7 @@ impl<N: Net<Listener = TcpListener, Stream = TcpStream> + Clock + Drop> Door for
     fn close(&mut self)
         ensures told { untold_connections ≡ untold_connections }
         ensures frame { tcp_frame self.new ≡ tcp_frame self.old }
+        ensures port { self.new.port ≡ self.old.port }
 
         ensures after { self.new ≡ record self.old { listens = false } }
     {

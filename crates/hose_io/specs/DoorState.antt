@@ -1,5 +1,5 @@
 -- What contracts see of a door in memory, and what each of its calls does to that.
-use Rattle.std.specs.Prelude.{◌≡◌, ℕ, ◌+◌, List, [], ◌∷◌, ◌++◌, map, Some, ⊤}
+use Rattle.std.specs.Prelude.{◌≡◌, ℕ, ◌+◌, List, [], ◌∷◌, ◌++◌, map, Option, Some, ⊤}
 use Rattle.hose_io.specs.Connections.{Connection, Connections}
 use Rattle.hose_io.specs.FailingCalls.{later_calls}
 use Rattle.hose_io.specs.Faults.{faults_frame, no_faults, one_fault}
@@ -16,9 +16,11 @@ pub record DoneState : Type 0 where
   pub input : SourceState
   pub output : SinkState
 
--- its connections that are still to come, each as its input; how many it has accepted, those that
--- ended and came back, its faults, and its calls that are to fail
+-- the port at which it was opened last, if it was; its connections that are still to come, each as
+-- its input; how many it has accepted, those that ended and came back, its faults, and its calls
+-- that are to fail
 pub record DoorState : Type 0 where
+  pub port : Option ℕ
   pub coming : List SourceState
   pub accepted : ℕ
   pub ended : List DoneState
@@ -72,9 +74,13 @@ connections_of door = record {
 
 -- ---- what its calls do
 
--- after a call of `open` or `accept` that succeeded and gave no connection
+-- after a call of `accept` that succeeded and gave no connection
 abbrev pub door_after_call : DoorState → DoorState
 door_after_call door = record door { failing = later_calls door.failing }
+
+-- after it was opened at a port
+abbrev pub door_after_open : ℕ → DoorState → DoorState
+door_after_open port door = record (door_after_call door) { port = Some port }
 
 -- after a call that failed
 abbrev pub door_after_fault : DoorState → DoorState

@@ -1,5 +1,5 @@
 // Where connections arrive: the contract of a door, which a borrow of one meets too.
-ghost use Rattle.std.specs.Prelude.{◌≡◌, Option, ◌∷◌, MatchOption, MatchResult};
+ghost use Rattle.std.specs.Prelude.{◌≡◌, ℕ, Option, Some, ◌∷◌, MatchOption, MatchResult};
 ghost use Rattle.hose_io.specs.Connections.{Accepts, AreAccounted, AreUsedUp, ComesBack, Connection, Connections, IsConnection, MayComeBack, connection_of};
 ghost use Rattle.hose_io.specs.Frame.{Frame, Met};
 
@@ -19,6 +19,9 @@ pub trait Door {
     /// How often opening it or accepting has failed, its number, and the borrows that lead to it.
     ghost frame: { Self → Frame };
 
+    /// The port at which it was opened last; none before.
+    ghost opened_at: { Self → Option ℕ };
+
     /// Its connections, where it tells.
     ghost told: { Self → Option Connections };
 
@@ -29,7 +32,10 @@ pub trait Door {
     fn open(&mut self, port: u16) -> Result<(), Failed>
         ensures told { told self.new ≡ told self.old }
         ensures accounted { AreAccounted (told self.new) }
-        ensures met { Met (frame self.old) (frame self.new) result };
+        ensures met { Met (frame self.old) (frame self.new) result }
+        ensures port { MatchResult result
+            (λ _. opened_at self.new ≡ Some port)
+            (λ _. opened_at self.new ≡ opened_at self.old) };
 
     /// Waits for the next connection, and gives its input and its output. None means that no more
     /// will come.
@@ -42,12 +48,14 @@ pub trait Door {
             (Self.Out.content ends.1) (Self.In.frame ends.0).number))
             (λ _. told self.new ≡ told self.old) }
         ensures accounted { AreAccounted (told self.new) }
-        ensures met { Met (frame self.old) (frame self.new) result };
+        ensures met { Met (frame self.old) (frame self.new) result }
+        ensures port { opened_at self.new ≡ opened_at self.old };
 
     /// No more are to be accepted. Connections that come later may be refused.
     fn close(&mut self)
         ensures told { told self.new ≡ told self.old }
         ensures frame { frame self.new ≡ frame self.old }
+        ensures port { opened_at self.new ≡ opened_at self.old }
     {}
 
     /// Ends a connection.
@@ -61,7 +69,8 @@ pub trait Door {
     fn back(&mut self, done: Self::Done)
         requires { MayComeBack (told self.old) (came_to done) }
         ensures back { ComesBack (told self.old) (told self.new) (came_to done) }
-        ensures frame { frame self.new ≡ frame self.old };
+        ensures frame { frame self.new ≡ frame self.old }
+        ensures port { opened_at self.new ≡ opened_at self.old };
 }
 
 impl<L: Door> Door for &mut L {
@@ -72,6 +81,8 @@ impl<L: Door> Door for &mut L {
     type Done = L::Done;
 
     ghost frame = { λ d. record (L.frame d.now) { loan = d.ghost_name ∷ (L.frame d.now).loan } };
+
+    ghost opened_at = { λ d. L.opened_at d.now };
 
     ghost told = { λ d. L.told d.now };
 

@@ -1,7 +1,7 @@
 // Connections in memory.
-ghost use Rattle.std.specs.Prelude.{◌≡◌, ◌↔◌, ◌<◌, ◌+◌, Option, Some, List, [], ◌∷◌, ◌++◌, All, IfOk, IsErr, OnOk, OnErr, MatchOption, MatchResult, Contains, length};
+ghost use Rattle.std.specs.Prelude.{◌≡◌, ◌↔◌, ◌<◌, ◌+◌, Option, None, Some, List, [], ◌∷◌, ◌++◌, All, IfOk, IsErr, OnOk, OnErr, MatchOption, MatchResult, Contains, length};
 ghost use Rattle.hose_io.specs.Connections.{Accepts, AreAccounted, AreUsedUp, ComesBack, IsConnection, MayComeBack, connection_of};
-ghost use Rattle.hose_io.specs.DoorState.{IsFresh, IsHandedOut, door_after_return, door_after_call, door_after_fault, connections_of, mem_door_frame, mem_sink, mem_source, outcome};
+ghost use Rattle.hose_io.specs.DoorState.{IsFresh, IsHandedOut, door_after_call, door_after_fault, door_after_open, door_after_return, connections_of, mem_door_frame, mem_sink, mem_source, outcome};
 ghost use Rattle.hose_io.specs.Faults.{no_faults};
 ghost use Rattle.hose_io.specs.Frame.{Met};
 ghost use Rattle.hose_io.specs.SinkState.{fresh_sink};
@@ -80,6 +80,7 @@ impl Coming {
 /// exactly where it was told to, and no call of the trait takes memory.
 #[derive(Debug, Drop)]
 pub struct MemDoor {
+    port: Option<u16>,
     coming: VecDeque<Coming>,
     accepted: u64,
     ended: Vec<MemDone>,
@@ -94,6 +95,7 @@ impl Model for MemDoor {
     ghost Value = { DoorState };
 
     ghost view = { λ door. record {
+      port = door.port;
       coming = door.coming.items;
       accepted = door.accepted;
       ended = door.ended.items;
@@ -112,6 +114,7 @@ impl MemDoor {
     pub fn new(alloc: Global, inputs: Vec<MemSource>) -> Result<MemDoor, AllocError>
         requires { All IsFresh inputs.items }
         ensures { IfOk result (λ door. door ≡ record {
+          port = None;
           coming = inputs.items;
           accepted = 0;
           ended = [];
@@ -125,6 +128,7 @@ impl MemDoor {
             coming.push_back(Coming::new(alloc, input)?)?;
         }
         Ok(MemDoor {
+            port: None,
             coming,
             accepted: 0,
             ended,
@@ -169,23 +173,29 @@ impl Door for MemDoor {
 
     ghost frame = { mem_door_frame };
 
+    ghost opened_at = { λ door. door.port };
+
     ghost told = { λ door. Some (connections_of door) };
 
     ghost came_to = { λ done. Some (outcome done) };
 
-    fn open(&mut self, _port: u16) -> Result<(), Failed>
+    fn open(&mut self, port: u16) -> Result<(), Failed>
         ensures told { Some (connections_of self.new) ≡ Some (connections_of self.old) }
         ensures accounted { AreAccounted (Some (connections_of self.new)) }
         ensures met { Met (mem_door_frame self.old) (mem_door_frame self.new) result }
+        ensures port { MatchResult result
+            (λ _. self.new.port ≡ Some port)
+            (λ _. self.new.port ≡ self.old.port) }
 
         ensures fails { IsErr result ↔ Contains self.old.failing 1 }
         ensures after { MatchResult result
-            (λ _. self.new ≡ door_after_call self.old)
+            (λ _. self.new ≡ door_after_open port self.old)
             (λ _. self.new ≡ door_after_fault self.old) }
     {
         if self.failing.next() {
             Err(self.faults.fail())
         } else {
+            self.port = Some(port);
             Ok(())
         }
     }
@@ -201,6 +211,7 @@ impl Door for MemDoor {
             (λ _. Some (connections_of self.new) ≡ Some (connections_of self.old)) }
         ensures accounted { AreAccounted (Some (connections_of self.new)) }
         ensures met { Met (mem_door_frame self.old) (mem_door_frame self.new) result }
+        ensures port { self.new.port ≡ self.old.port }
 
         ensures fails { IsErr result ↔ Contains self.old.failing 1 }
         ensures after { MatchResult result
@@ -243,6 +254,7 @@ impl Door for MemDoor {
         ensures back { ComesBack (Some (connections_of self.old))
             (Some (connections_of self.new)) (Some (outcome done)) }
         ensures frame { mem_door_frame self.new ≡ mem_door_frame self.old }
+        ensures port { self.new.port ≡ self.old.port }
 
         ensures after { self.new ≡ door_after_return done self.old }
     {
