@@ -1,5 +1,5 @@
 // The shared book and its passes.
-ghost use Rattle.std.specs.Prelude.{◌≡◌, ◌⊎◌, ◌+◌, ◌-◌, ◌++◌, ◌≤◌, [], IfOk, List, length};
+ghost use Rattle.std.specs.Prelude.{◌≡◌, ◌⊎◌, ◌+◌, ◌-◌, ◌++◌, ◌≤◌, [], IfErr, IfOk, List, length};
 ghost use mathlib.Core.List.{IsPrefix};
 ghost use Rattle.hose_graph.specs.Network.{IsNetwork};
 ghost use Rattle.hose_graph.specs.declared.entry.Entry.{Entry};
@@ -44,7 +44,7 @@ impl<D: Disk, B: Begun<D>> Model for Shared<D, B> {
 
 impl<D: Disk, B: Begun<D>> Shared<D, B> {
     /// Shares a store. The first pass has all shares, and has seen the list for which the store
-    /// stands. Where memory is wanting the store is dropped, and nothing was done to its disk.
+    /// stands. Where memory is wanting the store that `share` gives back is dropped.
     pub fn new(alloc: Global, store: Store<D>) -> Result<(Shared<D, B>, Pass), AllocError>
         requires { (since : List Entry) × B.begins since store
             × HasBookOf 0 since store.ledger × Tracks 0 since store.ledger.recent }
@@ -54,13 +54,35 @@ impl<D: Disk, B: Begun<D>> Shared<D, B> {
         ensures pass { IfOk result (λ made. IsPassOf made.0 made.1) }
         ensures network { IfOk result (λ made. made.0.network ≡ store.ledger.network) }
     {
-        let topology = store.book().topology().copy(alloc)?;
+        match Shared::share(alloc, store) {
+            Ok(made) => Ok(made),
+            Err(_store) => Err(AllocError),
+        }
+    }
+
+    /// Shares a store, as `new` does. Where memory is wanting the store comes back, and nothing was
+    /// done to its disk.
+    pub fn share(alloc: Global, store: Store<D>) -> Result<(Shared<D, B>, Pass), Store<D>>
+        requires { (since : List Entry) × B.begins since store
+            × HasBookOf 0 since store.ledger × Tracks 0 since store.ledger.recent }
+        ensures first { IfOk result (λ made. made.1 ≡ first_known made.0.turn made.1.origin) }
+        ensures stands { IfOk result (λ made. StandsShared D.Disk B.begins made.1.origin
+            made.1.origin.since store) }
+        ensures pass { IfOk result (λ made. IsPassOf made.0 made.1) }
+        ensures network { IfOk result (λ made. made.0.network ≡ store.ledger.network) }
+        ensures back { IfErr result (λ back. back ≡ store) }
+    {
+        let Ok(topology) = store.book().topology().copy(alloc) else {
+            return Err(store);
+        };
         let kept = Kept {
             store,
             begun: PhantomData,
         };
-        let (turn, pass) = Turn::new(alloc, kept)?;
-        Ok((Shared { turn, topology }, pass))
+        match Turn::from_ticket(alloc, kept, 0) {
+            Ok((turn, pass)) => Ok((Shared { turn, topology }, pass)),
+            Err(kept) => Err(kept.store),
+        }
     }
 
     /// The network of the book.

@@ -90,6 +90,13 @@ impl<D: Disk> Store<D> {
         self.journal.chain()
     }
 
+    /// Hands back the disk as it is, without a call of it.
+    pub fn stop(self) -> D
+        ensures { result ≡ self.journal.disk }
+    {
+        self.journal.stop()
+    }
+
     /// Revokes the entry in doubt, or syncs once where none is, and hands back the disk and the
     /// book.
     pub fn close(self) -> (Result<(), Failed>, D, Book)

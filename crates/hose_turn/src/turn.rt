@@ -1,5 +1,5 @@
 //! The lock and its calls.
-ghost use Rattle.std.specs.Prelude.{◌≡◌, ◌⊎◌, ℕ, ◌+◌, ◌-◌, ◌<◌, ◌≤◌, ◌∷◌, [], ◌++◌, List, length, IfOk};
+ghost use Rattle.std.specs.Prelude.{◌≡◌, ◌⊎◌, ℕ, ◌+◌, ◌-◌, ◌<◌, ◌≤◌, ◌∷◌, [], ◌++◌, List, length, IfErr, IfOk};
 ghost use mathlib.Core.List.{IsPrefix};
 ghost use Rattle.hose_graph.specs.declared.entry.Entry.{Entry};
 ghost use Rattle.hose_turn.specs.declared.view.Origin.{Origin};
@@ -64,19 +64,28 @@ impl<S: Stands + Drop> Turn<S> {
         ensures first { IfOk result (λ made. made.1 ≡ first_known made.0 made.1.origin) }
         ensures stands { IfOk result (λ made. S.stands made.1.origin made.1.origin.since value) }
     {
-        Turn::from_ticket(alloc, value, 0)
+        match Turn::from_ticket(alloc, value, 0) {
+            Ok(made) => Ok(made),
+            Err(_value) => Err(AllocError),
+        }
     }
 
     /// A lock and its first pass, as `new` makes them, with the number of the first ticket. Tickets
-    /// are counted modulo 2^64, so that number makes no difference.
-    pub fn from_ticket(alloc: Global, value: S, ticket: u64) -> Result<(Turn<S>, Pass), AllocError>
+    /// are counted modulo 2^64, so that number makes no difference. Where memory is wanting the
+    /// value comes back.
+    pub fn from_ticket(alloc: Global, value: S, ticket: u64) -> Result<(Turn<S>, Pass), S>
         requires { (origin : Origin) × S.stands origin origin.since value }
         ensures first { IfOk result (λ made. made.1 ≡ first_known made.0 made.1.origin) }
         ensures stands { IfOk result (λ made. S.stands made.1.origin made.1.origin.since value) }
+        ensures back { IfErr result (λ back. back ≡ value) }
     {
-        let bells = Bells::new(alloc)?;
+        let Ok(bells) = Bells::new(alloc) else {
+            return Err(value);
+        };
         let words = [0, ticket.wrapping_add(1), ticket];
-        let (board, mut place) = Table::vacant(alloc, &words, 1, &())?;
+        let Ok((board, mut place)) = Table::vacant(alloc, &words, 1, &()) else {
+            return Err(value);
+        };
         Turn::begin(&board, &mut place, value);
         board.shared.fetch_add::<Open>(&mut place, SERVING, 1);
         Ok((Turn { board, bells }, Pass::of(place)))

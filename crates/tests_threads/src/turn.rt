@@ -43,7 +43,10 @@ fn locked(alloc: Global, log: Log, ticket: u64) -> Result<(Turn<Log>, Pass), All
     ensures share { IfOk result (λ made. made.1.share ≡ ALL_SHARES) }
     ensures seen { IfOk result (λ made. made.1.seen ≡ log.entries.items) }
 {
-    Turn::from_ticket(alloc, log, ticket)
+    match Turn::from_ticket(alloc, log, ticket) {
+        Ok(made) => Ok(made),
+        Err(_log) => Err(AllocError),
+    }
 }
 
 /// The entry is added in one turn of the pass, and is its own.

@@ -32,9 +32,9 @@ returns-clause-first g c =
     let begun = c.begin.ensures.begun in
     let passed = c.fetch_add.ensures.2 c.args.value (ap (λ me. me.1) begun.3) in
     let view = ap (λ me. me.0) passed ∙ ap (λ me. passed_on me.0 0) begun.3 in
-    let table : c.fetch_add.new.seat.table_id ≡ c.in_ok-board.board.shared.table_id = search rules in
-    let is : c.of.result ≡ first_known c.in_ok-board.board.shared.table_id begun.0 = c.of.ensures ∙ (λ i. known_of (table i) (view i)) in
-    is ∙ ap (λ known. first_known c.in_ok-board.board.shared.table_id known.origin) (sym is)
+    let table : c.fetch_add.new.seat.table_id ≡ c.in-Ok-vacant.board.shared.table_id = search rules in
+    let is : c.of.result ≡ first_known c.in-Ok-vacant.board.shared.table_id begun.0 = c.of.ensures ∙ (λ i. known_of (table i) (view i)) in
+    is ∙ ap (λ known. first_known c.in-Ok-vacant.board.shared.table_id known.origin) (sym is)
 
 pub returns-clause-stands : goal.returns-clause-stands
 returns-clause-stands g c =
