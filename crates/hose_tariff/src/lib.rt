@@ -12,5 +12,5 @@
 mod prices;
 mod tariff;
 
-pub use prices::{OwnCosts, Prices, price};
+pub use prices::{OwnCosts, Prices, law_one_network, price};
 pub use tariff::{Rule, Tariff, find};

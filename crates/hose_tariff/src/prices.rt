@@ -1,7 +1,8 @@
 // Which costs a network is planned by, and the network with those of a tariff.
-ghost use Rattle.std.specs.Prelude.{◌≡◌, ◌≤◌, IfOk, OnOk, length, vec_capacity};
+ghost use Rattle.std.specs.Prelude.{◌≡◌, ◌≤◌, ℕ, IfOk, OnOk, length, vec_capacity};
 ghost use Rattle.hose_graph.specs.Network.{IsNetwork, Network};
 ghost use Rattle.hose_tariff.specs.Fact.{IsPricedBy};
+ghost use Rattle.hose_tariff.specs.Rules.{AnswersBy, with_costs};
 
 use crate::tariff::{Rule, Tariff};
 use hose_graph::{Link, Topology};
@@ -58,4 +59,13 @@ pub fn price(alloc: Global, top: &Topology, tariff: &Tariff) -> Result<Topology,
         priced.push_link(Link { cost, ..link });
     }
     Ok(priced)
+}
+
+/// Where the tariff's rule answers one cost for each length, a network is priced in one way.
+pub fn law_one_network(tariff: &Tariff)
+    ensures { (cost : ℕ → ℕ) → AnswersBy (Rule.post tariff.now.rule) cost
+        → (network priced : Network) → IsPricedBy (Rule.post tariff.now.rule) network priced
+        → priced ≡ with_costs cost network }
+{
+    let _name = tariff.name();
 }
