@@ -1,7 +1,8 @@
 -- Changes with those of an entry more: they track the history with the entry, and stand in order.
-use Rattle.std.proofs.Common.{◌≡◌, ◌∙◌, ℕ, ◌+◌, ◌<◌, ◌≤◌, Bool, true, false, List, [], ◌∷◌, ◌++◌, Contains, drop, get_or, length, nat_lt, take, inl, inr, sym, ap, subst, arith, cond}
-use Rattle.std.proofs.lemmas.Bool.{cases_eq}
-use Rattle.std.proofs.lemmas.List.{append-nil, append_assoc, get_or-take, get_or_default, length-take-le, take-append-drop}
+use Rattle.std.proofs.Common.{◌≡◌, ◌⊎◌, ◌∙◌, ℕ, ◌+◌, ◌-◌, ◌<◌, ◌≤◌, Bool, true, false, List, [], ◌∷◌, ◌++◌, Contains, drop, get_or, length, nat_lt, take, inl, inr, refl, sym, ap, subst, arith, cond}
+use Rattle.std.proofs.lemmas.Bool.{cases_eq, cases_lt}
+use Rattle.std.proofs.lemmas.List.{append-nil, append_assoc, get_or-append_right, get_or-map, get_or-take, get_or_append_left, get_or_default, length-append, length-map, length-take-le, take-append-drop}
+use Rattle.std.proofs.lemmas.List.Kept.{AllPairs-from_increasing}
 use Rattle.std.proofs.lemmas.List.Elements.{Contains-append_cases, All-get_or, All-push, All-weaker, All-nil}
 use Rattle.std.proofs.lemmas.List.Quantifiers.{all_pairs_push}
 use Rattle.hose_graph.specs.declared.entry.Entry.{Entry}
@@ -9,7 +10,8 @@ use Rattle.hose_law.specs.Book.{Book}
 use Rattle.hose_law.specs.History.{book_of}
 use Rattle.hose_law.specs.Tracks.{Change, Recent, Tracks, changes_of, touched_links}
 use Rattle.hose_law.proofs.Tracked.{tracks_anew, tracks_more}
-use Rattle.hose_book.specs.Changes.{AreInOrder, AreUpTo, with_changes}
+use Rattle.std.specs.List.Sorted.{IsStrictlyIncreasing}
+use Rattle.hose_book.specs.Changes.{AreInOrder, AreUpTo, AscendByLinks, with_changes}
 use Rattle.hose_book.specs.Ledger.{HasBookOf, Ledger, TracksOn, next_ledger}
 use Rattle.hose_book.specs.declared.recent.TheConstants.{MOST_CHANGES}
 
@@ -80,6 +82,39 @@ module _ (recent : Recent) (epoch : ℕ) (links : List ℕ) where
 -- changes of the next epoch stand in order behind those of no later one than this
 pub in_order_next : (changes : List Change) (epoch : ℕ) (links : List ℕ) → AreInOrder changes → AreUpTo epoch changes → AreInOrder (changes ++ changes_of (epoch + 1) links)
 in_order_next changes epoch links order up_to = in_order_with changes (epoch + 1) links order (up_to_next changes epoch up_to)
+
+-- a change of links that stand behind others
+behind : (changes : List Change) (epoch : ℕ) (links : List ℕ) (i : ℕ) (d : Change) → length changes ≤ i → i < length (changes ++ changes_of epoch links)
+    → get_or (changes ++ changes_of epoch links) i d ≡ (epoch, get_or links (i - length changes) 0)
+behind changes epoch links i d late within =
+    let short : i - length changes < length links = omega (arith, late, within, length-append changes (changes_of epoch links), length-map {B = Change} links (λ (link : ℕ). (epoch, link))) in
+    get_or-append_right changes (changes_of epoch links) (length changes) i d refl late
+    ∙ get_or-map (λ (link : ℕ). (epoch, link)) links (i - length changes) 0 d short
+
+-- changes of the next epoch, whose links ascend, keep that those of one epoch do
+ascending_at : (changes : List Change) (epoch : ℕ) (links : List ℕ) → AscendByLinks changes → AreUpTo epoch changes → IsStrictlyIncreasing links → (i j : ℕ) (d : Change) → i < j → j < length (changes ++ changes_of (epoch + 1) links)
+    → (get_or (changes ++ changes_of (epoch + 1) links) i d).0 ≡ (get_or (changes ++ changes_of (epoch + 1) links) j d).0 → (i < length changes) ⊎ (length changes ≤ i) → (j < length changes) ⊎ (length changes ≤ j)
+    → (get_or (changes ++ changes_of (epoch + 1) links) i d).1 < (get_or (changes ++ changes_of (epoch + 1) links) j d).1
+ascending_at changes epoch links ascend up_to rising i j d before within same first (inl early) =
+    let one = get_or_append_left changes (changes_of (epoch + 1) links) d i (omega (arith, before, early)) in
+    let other = get_or_append_left changes (changes_of (epoch + 1) links) d j early in
+    let alike = ap (λ (change : Change). change.0) (sym one) ∙ same ∙ ap (λ (change : Change). change.0) other in
+    omega (arith, ascend i j d before early alike, ap (λ (change : Change). change.1) one, ap (λ (change : Change). change.1) other)
+ascending_at changes epoch links ascend up_to rising i j d before within same (inl early) (inr late) =
+    let one = get_or_append_left changes (changes_of (epoch + 1) links) d i early in
+    let other = behind changes (epoch + 1) links j d late within in
+    let below = All-get_or (λ (change : Change). change.0 ≤ epoch) changes i d early up_to in
+    absurd (omega (arith, below, same, ap (λ (change : Change). change.0) one, ap (λ (change : Change). change.0) other))
+ascending_at changes epoch links ascend up_to rising i j d before within same (inr after) (inr late) =
+    let one = behind changes (epoch + 1) links i d after (omega (arith, before, within)) in
+    let other = behind changes (epoch + 1) links j d late within in
+    let short : j - length changes < length links = omega (arith, late, within, length-append changes (changes_of (epoch + 1) links), length-map {B = Change} links (λ (link : ℕ). (epoch + 1, link))) in
+    let rises = AllPairs-from_increasing links rising (i - length changes) (j - length changes) 0 (omega (arith, before, after, late)) short in
+    omega (arith, rises, ap (λ (change : Change). change.1) one, ap (λ (change : Change). change.1) other)
+
+pub ascend_next : (changes : List Change) (epoch : ℕ) (links : List ℕ) → AscendByLinks changes → AreUpTo epoch changes → IsStrictlyIncreasing links → AscendByLinks (changes ++ changes_of (epoch + 1) links)
+ascend_next changes epoch links ascend up_to rising i j d before within same =
+    ascending_at changes epoch links ascend up_to rising i j d before within same (cases_lt i (length changes)) (cases_lt j (length changes))
 
 -- where changes stand in order, none before one of an epoch is of a later one
 pub up_to_last : (changes : List Change) (seen last : ℕ) (d : Change) → AreInOrder changes → last < length changes → (get_or changes last d).0 ≤ seen → AreUpTo seen (take (last + 1) changes)

@@ -2,5 +2,6 @@ pub mod Changes
 pub mod Commit
 pub mod GoingOn
 pub mod Ledger
+pub mod Limits
 pub mod Refusal
 pub mod Serving

@@ -17,7 +17,7 @@
 #![tactic(auto)]
 
 ghost use Rattle.std.specs.Prelude.{◌≡◌, ◌<◌, ◌≤◌, ℕ, [], All, Contains, IfOk, length};
-ghost use Rattle.hose_book.specs.Changes.{AreInOrder, AreUpTo};
+ghost use Rattle.hose_book.specs.Changes.{AreInOrder, AreSince, AreUpTo, AscendByLinks};
 ghost use Rattle.hose_book.specs.Ledger.{IsKept, opening_ledger};
 ghost use Rattle.hose_book.specs.declared.recent.TheConstants.{MOST_CHANGES};
 ghost use Rattle.hose_graph.specs.Network.{IsNetwork};
@@ -44,7 +44,7 @@ pub use books::{Books, Committed, Plain};
 pub use checking::BookRefusal;
 use hose_graph::{MOST_EPOCH, Topology, Vpn};
 use hose_links::LinkSet;
-pub use recent::MOST_CHANGES;
+pub use recent::{MOST_CHANGES, law_limit};
 use std::alloc::{AllocError, Global};
 use std::marker::Model;
 
@@ -180,6 +180,7 @@ impl Book {
         ensures value { result.now ≡ self.now.recent.changes }
         ensures few { length result.now ≤ MOST_CHANGES }
         ensures order { AreInOrder result.now }
+        ensures links { AscendByLinks result.now }
         ensures bound { AreUpTo self.now.book.epoch result.now }
     {
         self.recent.as_slice()
@@ -193,10 +194,11 @@ impl Book {
         self.recent.floor()
     }
 
-    /// The last of the changes, with all that are of a later epoch than this.
+    /// The changes that are of a later epoch than this.
     pub fn changes_since(&self, seen: u64) -> &[(u64, u32)]
-        ensures { (epoch link : ℕ) → seen < epoch → Contains self.now.recent.changes (epoch, link)
-            → Contains result.now (epoch, link) }
+        ensures all { (epoch link : ℕ) → seen < epoch
+            → Contains self.now.recent.changes (epoch, link) → Contains result.now (epoch, link) }
+        ensures alone { AreSince seen result.now }
     {
         self.recent.since(seen)
     }

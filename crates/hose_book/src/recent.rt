@@ -1,9 +1,10 @@
 // Which links recent entries touched.
-ghost use Rattle.std.specs.Prelude.{[], ◌≡◌, ◌+◌, ◌<◌, ◌≤◌, ◌^◌, ◌∷◌, ◌++◌, ℕ, Contains, IfOk, length, take, vec_capacity};
-ghost use Rattle.hose_book.specs.Changes.{AreInOrder, AreUpTo, opening_recent, with_changes};
+ghost use Rattle.std.specs.Prelude.{[], ◌≡◌, ◌+◌, ◌<◌, ◌≤◌, ◌^◌, ◌∷◌, ◌++◌, ℕ, Contains, IfOk, length, slice_index_or, take, vec_capacity};
+ghost use Rattle.hose_book.specs.Changes.{AreInOrder, AreSince, AreUpTo, AscendByLinks, opening_recent, with_changes};
 ghost use Rattle.hose_book.specs.declared.recent.TheConstants.{MOST_CHANGES};
-ghost use Rattle.hose_graph.specs.Ascending.{firsts};
+ghost use Rattle.hose_graph.specs.Ascending.{IsAscending, firsts};
 ghost use Rattle.hose_law.specs.Tracks.{changes_of};
+ghost use Rattle.hose_book.specs.Limits.{most_changes};
 
 use hose_graph::{MOST_TREE_LINKS, ReservedLink};
 use std::alloc::{AllocError, Global};
@@ -11,6 +12,11 @@ use std::marker::Model;
 
 /// How many changes a book keeps.
 pub const MOST_CHANGES: usize = 65_536;
+
+/// The limit is the literal that definitions cite.
+pub fn law_limit()
+    ensures most_changes { MOST_CHANGES ≡ most_changes }
+{}
 
 // The changes of each epoch above a floor, each an epoch and a link, with room for all that are
 // kept.
@@ -25,7 +31,7 @@ pub(crate) struct RecentChanges {
 impl Model for RecentChanges {
     ghost use Rattle.std.specs.Prelude.{◌≤◌, length, vec_capacity};
     ghost use Rattle.hose_law.specs.Tracks.{Recent};
-    ghost use Rattle.hose_book.specs.Changes.{AreInOrder};
+    ghost use Rattle.hose_book.specs.Changes.{AreInOrder, AscendByLinks};
     ghost use Rattle.hose_book.specs.declared.recent.TheConstants.{MOST_CHANGES};
 
     ghost Value = { Recent };
@@ -34,7 +40,7 @@ impl Model for RecentChanges {
 
     ghost invariant = { λ r. (length r.changes.items ≤ MOST_CHANGES)
         × (MOST_CHANGES ≤ vec_capacity r.changes)
-        × AreInOrder r.changes.items };
+        × AreInOrder r.changes.items × AscendByLinks r.changes.items };
 }
 
 impl RecentChanges {
@@ -61,14 +67,16 @@ impl RecentChanges {
         ensures value { result.now ≡ self.now.changes }
         ensures few { length result.now ≤ MOST_CHANGES }
         ensures order { AreInOrder result.now }
+        ensures links { AscendByLinks result.now }
     {
         &self.changes
     }
 
-    // The last changes, with all that are of a later epoch than this.
+    // The changes of a later epoch than this, and no others.
     pub(crate) fn since(&self, seen: u64) -> &[(u64, u32)]
-        ensures { (epoch link : ℕ) → seen < epoch → Contains self.now.changes (epoch, link)
+        ensures all { (epoch link : ℕ) → seen < epoch → Contains self.now.changes (epoch, link)
             → Contains result.now (epoch, link) }
+        ensures alone { AreSince seen result.now }
     {
         let changes = self.as_slice();
         &changes[first_since(changes, seen)..]
@@ -80,6 +88,7 @@ impl RecentChanges {
         requires epochs { AreUpTo epoch self.old.changes }
         requires epoch { epoch + 1 < 2 ^ 64 }
         requires few { length amounts.now ≤ MOST_TREE_LINKS }
+        requires ascending { IsAscending amounts.now }
         ensures { self.new ≡ with_changes self.old epoch (firsts amounts.now) }
     {
         if self.changes.len() + amounts.len() > MOST_CHANGES {
@@ -100,11 +109,13 @@ impl RecentChanges {
     }
 }
 
-// A place before which no change is of a later epoch than this.
+// The place before which no change is of a later epoch than this, and from which on each is.
 fn first_since(changes: &[(u64, u32)], seen: u64) -> usize
     requires { AreInOrder changes.now }
     ensures inside { result ≤ length changes.now }
     ensures before { AreUpTo seen (take result changes.now) }
+    ensures after { (k : ℕ) (d : _) → result ≤ k → k < length changes.now
+        → seen < (slice_index_or changes.now k d).0 }
 {
     let mut from = changes.len();
     while from > 0 {
@@ -123,9 +134,12 @@ fn push_changes(changes: &mut Vec<(u64, u32)>, epoch: u64, amounts: &[ReservedLi
     requires epoch { epoch + 1 < 2 ^ 64 }
     requires epochs { AreUpTo epoch changes.old.items }
     requires order { AreInOrder changes.old.items }
+    requires links { AscendByLinks changes.old.items }
+    requires ascending { IsAscending amounts.now }
     ensures items { changes.new.items
         ≡ changes.old.items ++ changes_of (epoch + 1) (firsts amounts.now) }
     ensures order { AreInOrder changes.new.items }
+    ensures links { AscendByLinks changes.new.items }
     ensures capacity { vec_capacity changes.new ≡ vec_capacity changes.old }
 {
     for (link, _) in amounts {

@@ -10,4 +10,4 @@ returns-then-changes-last-clause-before c =
     let last : ℕ = from - 1 in
     let whole : last + 1 ≡ from = omega (arith, c.loop-from-test.true) in
     subst (λ (n : ℕ). AreUpTo c.args.seen (take n changes)) whole
-    (up_to_last changes c.args.seen last (0, 0) c.requires (omega (arith, c.loop-from-test.true, c.loop-from.invariant)) c.if-changes-last.true)
+    (up_to_last changes c.args.seen last (0, 0) c.requires (omega (arith, c.loop-from-test.true, c.loop-from.invariant.0)) c.if-changes-last.true)

@@ -20,7 +20,7 @@ grounds_hold_since-requires-clause-made c =
     let served = subst (λ (s : List Bool). AreMadeSince ledger.network s (loads_of ledger.network ledger.book) quote.grounds changes quote.seen) (sym c.service-service.ensures.value) (c.requires.since above) in
     let beside = subst (λ (l : List ℕ). AreMadeSince ledger.network service l quote.grounds changes quote.seen) (sym c.loads-loads.ensures.value) served in
     let here = subst (λ (n : Network). AreMadeSince n service loads quote.grounds changes quote.seen) (sym c.topology-top.ensures.value) beside in
-    grounds_by_last top service loads quote.grounds changes c.changes_since-changes.result.now quote.seen c.changes_since-changes.ensures here
+    grounds_by_last top service loads quote.grounds changes c.changes_since-changes.result.now quote.seen c.changes_since-changes.ensures.all here
 
 pub returns-then-seen-floor-clause-holds : goal.returns-then-seen-floor-clause-holds
 returns-then-seen-floor-clause-holds c =

@@ -3,8 +3,8 @@ use Rattle.std.proofs.lemmas.List.{take_all}
 use Rattle.hose_book.proofs.Tracking.{contains_since}
 use Rattle.hose_book.proofs.recent.RecentChanges.since.Goals as goal
 
-pub returns : goal.returns
-returns c = λ epoch link above there.
+pub returns-clause-all : goal.returns-clause-all
+returns-clause-all c = λ epoch link above there.
     let changes = c.as_slice-changes.result.now in
     let from = c.first_since.result in
     let rest = drop from changes in
