@@ -3,8 +3,9 @@ use Rattle.std.specs.Prelude.{◌≡◌, ◌⊎◌, ℕ, ◌<◌, ◌≤◌, ◌
 use Rattle.hose_io.specs.Frame.{Stays}
 use Rattle.hose_disk.specs.Disk.{object_frame}
 use Rattle.hose_disk.specs.declared.disk.Disk.{Ghosts}
-use Rattle.hose_journal.specs.Entries.{IsListOf, Means, is_chained}
-use Rattle.hose_journal.specs.Image.{IsUnbegun, IsVersion, IsHeadless, IsUnmarked, IsOther, head, other}
+use Rattle.hose_journal.specs.Entries.{IsListOf, Means, front_of, is_chained}
+use Rattle.hose_journal.specs.Image.{IsClosed, IsUnbegun, IsVersion, IsHeadless, IsUnmarked, IsOther, head, other}
+use Rattle.hose_journal.specs.Layout.{chained_version}
 use Rattle.hose_journal.specs.Moments.{TellsAsBefore}
 use Rattle.hose_journal.specs.Reading.{IsPiece, HasFailed}
 use Rattle.hose_journal.specs.declared.fault.JournalFault.{JournalFault}
@@ -21,6 +22,12 @@ IsOpened disk old digest image =
 abbrev pub KeepsList : Option (List ℕ) → Option (List ℕ) → List ℕ → Type 0
 KeepsList old new digest = (new ≡ old)
     ⊎ (IfSome old IsUnbegun × IfSome new (IsListOf digest []))
+
+-- What is read is as before, or it is a journal of the version whose records have chain values, and
+-- no record stands in it.
+abbrev pub KeepsOrBegins : Option (List ℕ) → Option (List ℕ) → List ℕ → Type 0
+KeepsOrBegins old new digest = (new ≡ old)
+    ⊎ IfSome new (IsClosed (front_of chained_version digest []))
 
 -- the first piece of a disk of this length
 pub record IsFront {D : Type 0} (disk : Ghosts D) (now : D) (piece : Piece) (end : ℕ) :

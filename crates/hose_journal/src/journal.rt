@@ -6,7 +6,7 @@ ghost use Rattle.hose_disk.specs.Disk.{IsCalled};
 ghost use Rattle.hose_journal.specs.Chain.{chain};
 ghost use Rattle.hose_journal.specs.Entries.{IsListOf};
 ghost use Rattle.hose_journal.specs.Journal.{Account, IsListAmid, IsReady, Stands, with_doubt, account_with};
-ghost use Rattle.hose_journal.specs.Moments.{Images, Lands, LeavesOnly, TellsAsBefore};
+ghost use Rattle.hose_journal.specs.Moments.{Images, IsTornFrom, Lands, LeavesOnly, TellsAsBefore};
 ghost use Rattle.hose_journal.specs.declared.layout.TheConstants.{CLOSED};
 
 use crate::chaining::chain_after;
@@ -94,6 +94,9 @@ impl<D: Disk> Journal<D> {
         // Its gate is closed by the byte that a new journal's has.
         ensures closed { IsTrue self.old.doubt → OnOk result
             (Lands D.Disk self.old.disk self.new.disk self.old.gate (CLOSED ∷ [])) }
+        // Whatever it answers, it wrote nothing but that gate.
+        ensures torn { IsTrue self.old.doubt →
+            Images D.Disk self.new.disk (IsTornFrom D.Disk self.old.disk self.old.gate 1) }
         ensures failed { OnErr result ((account : Account) → Stands D.Disk self.old account →
             Stands D.Disk self.new account) }
 

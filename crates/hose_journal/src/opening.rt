@@ -2,7 +2,7 @@
 ghost use Rattle.std.specs.Prelude.{◌≡◌, ◌⊎◌, ◌↔◌, [], ◌++◌, List, ℕ, IfErr, IfOk, IfSome, IsErr, IsTrue, MatchResult, OnOk, length};
 ghost use Rattle.hose_journal.specs.Image.{IsUnbegun};
 ghost use Rattle.hose_journal.specs.Moments.{KeepsCount, LeavesOnly};
-ghost use Rattle.hose_journal.specs.Opening.{HasHead, IsFront, IsOpened, IsRefusedJournal, KeepsDisk, KeepsList};
+ghost use Rattle.hose_journal.specs.Opening.{HasHead, IsFront, IsOpened, IsRefusedJournal, KeepsDisk, KeepsList, KeepsOrBegins};
 ghost use Rattle.hose_journal.specs.Reading.{HasFailed, IsOpen, OnlyRead, Reads};
 
 use crate::beginning::begin;
@@ -39,6 +39,8 @@ pub fn open<D: Disk>(
     ensures reads { IfOk result (λ reading. Reads D.Disk reading digest []) }
     ensures list { IfOk result (λ reading.
         KeepsList (D.content disk) (D.content reading.disk) digest) }
+    ensures version { IfOk result (λ reading.
+        KeepsOrBegins (D.content disk) (D.content reading.disk) digest) }
     ensures fault { IfOk result (λ reading. reading.fault ≡ None) }
     ensures count { IfOk result (λ reading. KeepsCount D.Disk disk reading.disk) }
     ensures refused { IfErr result (λ refused.
@@ -71,6 +73,8 @@ fn prepare<D: Disk>(
     ensures open { IfOk result (λ begun. IsOpen D.Disk disk.new piece.new begun digest.now) }
     ensures list { OnOk result
         (KeepsList (D.content disk.old) (D.content disk.new) digest.now) }
+    ensures version { OnOk result
+        (KeepsOrBegins (D.content disk.old) (D.content disk.new) digest.now) }
     ensures count { OnOk result (KeepsCount D.Disk disk.old disk.new) }
     ensures refused { IfErr result (IsRefusedJournal D.Disk disk.old disk.new digest.now) }
     ensures keeps { KeepsDisk D.Disk disk.old disk.new }

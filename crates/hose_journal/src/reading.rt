@@ -1,5 +1,5 @@
 // A journal whose entries are read, one after another, and that it is read as one list.
-ghost use Rattle.std.specs.Prelude.{◌≡◌, ◌≤◌, ◌++◌, [], List, ℕ, None, Some, IfSome, IsErr, IsFalse, IsTrue, OnOk, true, vec_capacity};
+ghost use Rattle.std.specs.Prelude.{◌≡◌, ◌≤◌, ◌++◌, [], List, ℕ, None, Some, IfSome, IsErr, IsFalse, IsTrue, OnErr, OnOk, true, vec_capacity};
 ghost use Rattle.hose_graph.specs.declared.entry.Entry.{Entry};
 ghost use Rattle.hose_journal.specs.AtGate.{BeginsSeal};
 ghost use Rattle.hose_journal.specs.Chain.{chain};
@@ -82,6 +82,8 @@ impl<D: Disk> Reading<D> {
         ensures fault { self.old.fault ≡ None → KeepsJournalFault result self.new.fault }
         ensures again { IfSome self.old.fault (λ fault.
             (result ≡ Err fault) × (self.new ≡ self.old)) }
+        // After a fault it is still that of the entries that were given.
+        ensures chain { OnErr result (self.new.chain ≡ self.old.chain) }
         ensures only { OnlyRead D.Disk self.old.disk self.new.disk }
         ensures count { OnOk result (KeepsCount D.Disk self.old.disk self.new.disk) }
     {
@@ -142,6 +144,7 @@ impl<D: Disk> Reading<D> {
             Reads D.Disk self.old digest entries →
             HasRead D.Disk self.old self.new digest entries result }
         ensures fault { self.new.fault ≡ self.old.fault }
+        ensures chain { OnErr result (self.new.chain ≡ self.old.chain) }
         ensures only { OnlyRead D.Disk self.old.disk self.new.disk }
         ensures count { OnOk result (KeepsCount D.Disk self.old.disk self.new.disk) }
     {

@@ -54,6 +54,7 @@ pub fn set_gate<D: Disk>(disk: &mut D, gate: u64, value: u8) -> Result<(), Faile
         Images D.Disk disk.old (IsDoubtful before bytes) →
         Images D.Disk disk.new (Starts (before ++ value ∷ bytes))) }
     ensures landed { OnOk result (Lands D.Disk disk.old disk.new gate (value ∷ [])) }
+    ensures torn { Images D.Disk disk.new (IsTornFrom D.Disk disk.old gate 1) }
     ensures tells { TellsAsBefore D.Disk disk.old disk.new }
     ensures call { IsCalled (D.frame disk.old) (D.frame disk.new) result }
 {

@@ -1,4 +1,4 @@
-use Rattle.std.proofs.Common.{◌≡◌, ◌∙◌, rules, length, subst, arith, List, ℕ, [], IfSome, IsTrue}
+use Rattle.std.proofs.Common.{◌≡◌, ◌∙◌, inl, inr, rules, length, subst, sym, arith, List, Option, ℕ, [], IfSome, IsTrue}
 use Rattle.std.specs.Prelude.{Err}
 use Rattle.hose_journal.specs.declared.layout.TheConstants.{CHAINED, DIGEST_BYTES}
 use Rattle.hose_journal.specs.Entries.{front_of}
@@ -38,6 +38,9 @@ returns-in-Ok-clause-open g c =
     let size : length c.args.digest.now ≡ DIGEST_BYTES = search rules in
     open_begun g.D.Disk c.load_front.new.disk c.load_front.new.piece c.in_ok-end.end c.in-Ok.chained c.args.digest.now size (reads g (goal.at.returns-in-Ok-clause-open g c).After-load_front) c.in_ok-end.ensures.front
     (subst (λ (held : List ℕ). IsHeadOf c.args.digest.now held c.in-Ok.chained) c.rest-then-not-is_unbegun.ensures c.in-Ok.ensures)
+
+pub returns-in-Ok-clause-version : goal.returns-in-Ok-clause-version
+returns-in-Ok-clause-version g c = inl (c.load_front.ensures.only.same ∙ c.sync.ensures.same)
 
 pub returns-in-Err-clause-refused : goal.returns-in-Err-clause-refused
 returns-in-Err-clause-refused g c =
@@ -80,3 +83,7 @@ returns-clause-list g c =
     let at = goal.at.returns-clause-list g c in
     list_new g.D.Disk c.args.disk.now c.load_front.new.disk c.begin.new.disk c.load_front-2.new.disk c.args.digest.now (c.load_front.ensures.only.same ∙ c.sync.ensures.same) c.load_front-2.ensures.only
     (unbegun g at.After-is_unbegun c.if-not-is_unbegun.false) (begun g at.After-load_front-2)
+
+pub returns-clause-version : goal.returns-clause-version
+returns-clause-version g c = inr (subst (λ (content : Option (List ℕ)). IfSome content (IsClosed (front_of CHAINED c.args.digest.now []))) (sym c.load_front-2.ensures.only.same)
+    (begun g (goal.at.returns-clause-version g c).After-load_front-2))
