@@ -1,7 +1,7 @@
 -- Changes with those of an entry more: they track the history with the entry, and stand in order.
 use Rattle.std.proofs.Common.{◌≡◌, ◌⊎◌, ◌∙◌, ℕ, ◌+◌, ◌-◌, ◌<◌, ◌≤◌, Bool, true, false, List, [], ◌∷◌, ◌++◌, Contains, drop, get_or, length, nat_lt, take, inl, inr, refl, sym, ap, subst, arith, cond}
 use Rattle.std.proofs.lemmas.Bool.{cases_eq, cases_lt}
-use Rattle.std.proofs.lemmas.List.{append-nil, append_assoc, get_or-append_right, get_or-map, get_or-take, get_or_append_left, get_or_default, length-append, length-map, length-take-le, take-append-drop}
+use Rattle.std.proofs.lemmas.List.{append-nil, append_assoc, get_or-append_right, get_or-map, get_or-take, get_or_append_left, length-append, length-map, length-take-le, take-append-drop}
 use Rattle.std.proofs.lemmas.List.Kept.{AllPairs-from_increasing}
 use Rattle.std.proofs.lemmas.List.Elements.{Contains-append_cases, All-get_or, All-push, All-weaker, All-nil}
 use Rattle.std.proofs.lemmas.List.Quantifiers.{all_pairs_push}
@@ -116,16 +116,19 @@ pub ascend_next : (changes : List Change) (epoch : ℕ) (links : List ℕ) → A
 ascend_next changes epoch links ascend up_to rising i j d before within same =
     ascending_at changes epoch links ascend up_to rising i j d before within same (cases_lt i (length changes)) (cases_lt j (length changes))
 
--- where changes stand in order, none before one of an epoch is of a later one
-pub up_to_last : (changes : List Change) (seen last : ℕ) (d : Change) → AreInOrder changes → last < length changes → (get_or changes last d).0 ≤ seen → AreUpTo seen (take (last + 1) changes)
-up_to_last changes seen last d order inside below k e within =
-    let long : k < last + 1 = omega (arith, within, length-take-le (last + 1) changes (omega (arith, inside))) in
-    let there : get_or (take (last + 1) changes) k e ≡ get_or changes k d = get_or-take (last + 1) changes k e long ∙ get_or_default changes k e d (omega (arith, long, inside)) in
-    let at : (get_or changes k d).0 ≤ seen = elim (cases_eq k last) [
-      | inl same ↦ subst (λ (n : ℕ). (get_or changes n d).0 ≤ seen) (sym same) below
-      | inr other ↦ omega (arith, order k last d (omega (arith, long, other)) inside, below)
-    ] in
-    omega (arith, at, ap (λ (change : Change). change.0) there)
+-- changes in order rise by their epochs
+pub rise_in_order : (changes : List Change) → AreInOrder changes → (i j : ℕ) (d : Change) → i ≤ j → j < length changes → (get_or changes i d).0 ≤ (get_or changes j d).0
+rise_in_order changes order i j d up_to within = elim (cases_eq i j) [
+  | inl same ↦ omega (arith, ap (λ (n : ℕ). (get_or changes n d).0) same)
+  | inr other ↦ order i j d (omega (arith, up_to, other)) within
+]
+
+-- changes before a place are up to an epoch where each of them is
+pub up_to_front : (changes : List Change) (seen from : ℕ) → from ≤ length changes → ((k : ℕ) (d : Change) → k < from → (get_or changes k d).0 ≤ seen)
+    → AreUpTo seen (take from changes)
+up_to_front changes seen from inside each k d within =
+    let long : k < from = omega (arith, within, length-take-le from changes inside) in
+    omega (arith, each k d long, ap (λ (change : Change). change.0) (get_or-take from changes k d long))
 
 -- what is of a later epoch than those before a place is among the others
 pub contains_since : (changes : List Change) (seen from epoch link : ℕ) → from ≤ length changes → AreUpTo seen (take from changes) → seen < epoch → Contains changes (epoch, link) → Contains (drop from changes) (epoch, link)

@@ -194,7 +194,7 @@ impl Book {
         self.recent.floor()
     }
 
-    /// The changes that are of a later epoch than this.
+    /// The changes that are of a later epoch than this, the first of which is found by halving.
     pub fn changes_since(&self, seen: u64) -> &[(u64, u32)]
         ensures all { (epoch link : ℕ) → seen < epoch
             → Contains self.now.recent.changes (epoch, link) → Contains result.now (epoch, link) }

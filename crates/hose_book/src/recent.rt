@@ -117,15 +117,7 @@ fn first_since(changes: &[(u64, u32)], seen: u64) -> usize
     ensures after { (k : ℕ) (d : _) → result ≤ k → k < length changes.now
         → seen < (slice_index_or changes.now k d).0 }
 {
-    let mut from = changes.len();
-    while from > 0 {
-        let last = from - 1;
-        if changes[last].0 <= seen {
-            return from;
-        }
-        from = last;
-    }
-    0
+    changes.partition_point(|change| change.0 <= seen)
 }
 
 // Puts the links of an entry behind changes of no later epoch than this, as changes of the next.

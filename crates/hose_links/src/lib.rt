@@ -89,6 +89,14 @@ impl LinkSet {
         }
     }
 
+    /// Makes this the set of the links of another one, of as many links.
+    pub fn copy_from(&mut self, other: &LinkSet)
+        requires { length self.old ≡ length other.now }
+        ensures { self.new ≡ other.now }
+    {
+        self.places.copy_from_slice(&other.places);
+    }
+
     /// A second set with the same links.
     pub fn copy(&self, alloc: Global) -> Result<LinkSet, AllocError>
         ensures { IfOk result (λ copy. copy ≡ self.now) }

@@ -57,7 +57,7 @@ pub(crate) fn fits_as_before(
 
 // Whether the links in service that have half of the hose's rates free are the safe ones of the
 // grounds.
-fn are_safe(top: &Topology, service: &LinkSet, loads: &[u64], grounds: &Grounds) -> bool
+pub(crate) fn are_safe(top: &Topology, service: &LinkSet, loads: &[u64], grounds: &Grounds) -> bool
     requires service { length service.now ≡ length top.now.links }
     requires loads { AreCarried top.now loads.now }
     requires places { length grounds.now.safe ≡ length top.now.links }

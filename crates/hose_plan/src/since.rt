@@ -7,16 +7,21 @@ ghost use Rattle.hose_plan.specs.Planning.{AreMadeSince, AreServedSince, IsSafeS
 ghost use Rattle.hose_tree.specs.Amounts.{AreCarried};
 
 use crate::decision::Grounds;
-use crate::holding::{fits_as_before, is_safe_as_before};
+use crate::holding::{are_safe, fits_as_before, is_safe_as_before};
 use hose_graph::Topology;
 use hose_links::LinkSet;
+
+// More changes than that cost more to look at than the links in service, which are compared as
+// bytes.
+const FEW_CHANGES: usize = 32;
 
 /// Whether the grounds of the hose over these links in service and beside these loads equal the
 /// given ones, as `grounds_hold` tells it, by the links alone that moved. `seen` is the epoch at
 /// which the grounds were made, and a change is an epoch and the link that it touched: each link
 /// whose load is another by now, or that was taken out of service or put back, stands in a change
 /// of an epoch above `seen`. The changes may stand in any order; those of other epochs are passed
-/// over, and so is a number that is no link's. There is a place in service and a load for each link
+/// over, and so is a number that is no link's. Where they are so many that a look at all links costs
+/// less, that is done. There is a place in service and a load for each link
 /// of the topology, the load at most the link's capacity. It takes no memory.
 pub fn grounds_hold_since(
     top: &Topology,
@@ -58,6 +63,9 @@ fn is_service_since(
     requires others { AreServedSince top.now changes.now seen served.now service.now }
     ensures { IsTrue result ↔ (served.now ≡ service.now) }
 {
+    if changes.len() > FEW_CHANGES {
+        return served.same(service);
+    }
     for &(at, touched) in changes {
         let is_later = seen < at && touched < top.links();
         if is_later && served.has(touched) != service.has(touched) {
@@ -86,6 +94,10 @@ fn are_safe_since(
         → (IsTrue result
         ↔ (grounds.now.safe ≡ safe_links (room_beside top.now service.now loads.now) hose)) }
 {
+    // A change costs about as much as two links, which stand one behind the other.
+    if changes.len() > top.links() as usize / 2 {
+        return are_safe(top, service, loads, grounds);
+    }
     for &(epoch, link) in changes {
         let is_named = epoch > seen && link < top.links();
         if is_named && !is_safe_as_before(top, service, loads, grounds, link) {

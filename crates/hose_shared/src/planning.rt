@@ -72,17 +72,9 @@ impl<D: Disk, B: Begun<D>> Shared<D, B> {
     {
         let held = self.turn.lock(rt, pass);
         let book = held.value().store.book();
-        copy_links(service, book.service());
+        service.copy_from(book.service());
         loads.copy_from_slice(book.loads());
         let epoch = book.epoch();
         (epoch, self.turn.unlock(held))
     }
-}
-
-// Makes the one set equal to the other, which has as many links.
-fn copy_links(links: &mut LinkSet, from: &LinkSet)
-    requires { length links.old ≡ length from.now }
-    ensures { links.new ≡ from.now }
-{
-    links.fill_where(|link| from.has(link));
 }
