@@ -18,6 +18,7 @@ ghost use Rattle.hose_graph.specs.Row.{HasBoundedDistances};
 ghost use Rattle.hose_law.specs.Row.{IsRow};
 ghost use Rattle.hose_paths.specs.Rows.{AreRows};
 
+mod ahead;
 mod chains;
 mod entries;
 mod heap;
@@ -56,5 +57,16 @@ pub trait RowMaker {
         let _ = top;
         let _ = links;
         None
+    }
+
+    /// Tells that rows over a set of the topology's links will be asked for again and again, as
+    /// those over the links in service are. A maker may make some of them ahead and keep them;
+    /// where memory is wanting, it keeps none.
+    fn expect(&mut self, alloc: Global, top: &Topology, links: &LinkSet)
+        requires places { length links.now ≡ length top.now.links }
+    {
+        let _ = alloc;
+        let _ = top;
+        let _ = links;
     }
 }

@@ -4,6 +4,7 @@ ghost use Rattle.hose_graph.specs.Row.{HasBoundedDistances};
 ghost use Rattle.hose_law.specs.Row.{IsRow};
 ghost use Rattle.hose_paths.specs.Rows.{AreRows, IsRowOf};
 
+use crate::ahead::RowsAhead;
 use crate::heap::HeapRows;
 use crate::{MadeRow, RowMaker};
 use hose_graph::{Row, Topology};
@@ -62,6 +63,13 @@ impl RowTable {
         self.links.same(links) && self.top.same(top)
     }
 
+    /// Whether its rows are over this set of its network's links.
+    pub fn has_links(&self, links: &LinkSet) -> bool
+        ensures { IsTrue result ↔ (self.now.links ≡ links.now) }
+    {
+        self.links.same(links)
+    }
+
     /// Its rows, where they are over this set of this network's links.
     pub fn over(&self, top: &Topology, links: &LinkSet) -> Option<&[Row]>
         ensures { IfSome result (λ rows. AreRows top.now links.now rows.now) }
@@ -93,10 +101,13 @@ pub fn row_of<'a>(top: &Topology, links: &LinkSet, rows: &'a [Row], root: u32) -
 }
 
 /// Lends the rows of a table or gives copies of them, where they are over the set that is asked
-/// for, and makes others by a heap.
-#[derive(Clone, Copy)]
+/// for, and makes others by a heap. Of the last set that it was told to expect, where that is
+/// another one, it makes one row more each time that it is told so, and lends them once all are
+/// there.
+#[derive(Drop)]
 pub struct TableRows<'a> {
     table: &'a RowTable,
+    ahead: Option<RowsAhead>,
 }
 
 impl<'a> TableRows<'a> {
@@ -104,7 +115,7 @@ impl<'a> TableRows<'a> {
     pub fn new(table: &'a RowTable) -> TableRows<'a>
         ensures { result.table.now ≡ table.now }
     {
-        TableRows { table }
+        TableRows { table, ahead: None }
     }
 }
 
@@ -117,6 +128,30 @@ impl RowMaker for TableRows<'_> {
     }
 
     fn kept(&self, top: &Topology, links: &LinkSet) -> Option<&[Row]> {
-        self.table.over(top, links)
+        let rows = self.table.over(top, links);
+        if rows.is_some() {
+            return rows;
+        }
+        self.ahead.as_ref()?.over(top, links)
     }
+
+    fn expect(&mut self, alloc: Global, top: &Topology, links: &LinkSet) {
+        if !self.table.has_links(links) {
+            make_ahead(alloc, top, links, &mut self.ahead);
+        }
+    }
+}
+
+// Makes one row more over a set, or begins with it.
+fn make_ahead(alloc: Global, top: &Topology, links: &LinkSet, ahead: &mut Option<RowsAhead>)
+    requires { length links.now ≡ length top.now.links }
+{
+    if let Some(rows) = ahead {
+        if rows.has_links(links) {
+            // A row for which there is no memory now is made another time.
+            let _ = rows.add(alloc);
+            return;
+        }
+    }
+    *ahead = RowsAhead::new(alloc, top, links).ok();
 }

@@ -80,6 +80,7 @@ pub fn decide<R: RowMaker>(
     ensures names { IfOk result (NamesNodes top.now) }
     ensures hose { IfOk result (λ _. IsHose hose.now) }
 {
+    rows.expect(alloc, top, service);
     let first = plan(alloc, top, service, hose, rows)?;
     let grounds = grounds_of(alloc, top, service, loads, hose, first)?;
     let Some(amounts) = allowed_plan(alloc, top, hose, &grounds, rows)? else {
