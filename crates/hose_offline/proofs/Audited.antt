@@ -1,31 +1,34 @@
--- What an audit stands for, from what was read and what was told.
-use Rattle.std.proofs.Common.{◌≡◌, ◌≢◌, ◌∙◌, ◌⊎◌, inl, inr, ℕ, ◌<◌, List, ◌++◌, length, Option, IsErr, Result, Ok, Err, refl, sym, ap, subst, arith}
+-- What a command that names a topology and a journal stands for, from what was read and what was
+-- told; and what an audit does.
+use Rattle.std.proofs.Common.{◌≡◌, ◌≢◌, ◌∙◌, ◌⊎◌, ◌↔◌, inl, inr, ℕ, ◌+◌, ◌<◌, ◌≤◌, List, ◌++◌, length, Option, None, Some, IsErr, IsSome, IsTrue, Result, Ok, Err, refl, sym, ap, subst, arith}
 use Rattle.std.specs.Prelude.{⊤}
-use Rattle.hose_io.specs.Frame.{Frame, Rose}
-use Rattle.hose_io.specs.Stream.{Grows, Stream}
+use Rattle.hose_io.specs.Frame.{Frame, Met, Rose}
+use Rattle.hose_io.specs.Stream.{Gives, Grows, Stream}
 use Rattle.hose_io.specs.declared.Failed.{Failed}
 use Rattle.hose_io.specs.declared.sink.Sink.{Ghosts as SinkGhosts}
 use Rattle.hose_io.proofs.Streams.{Grows-append, GrowsInPart-after}
 use Rattle.hose_graph.specs.Network.{Network}
 use Rattle.hose_graph.specs.declared.entry.Entry.{Entry}
-use Rattle.hose_law.specs.Book.{Book}
-use Rattle.hose_law.specs.History.{book_of}
-use Rattle.hose_book.specs.Ledger.{Ledger}
+use Rattle.hose_law.specs.History.{EntryKind, book_of}
 use Rattle.hose_audit.specs.Audit.{audit_text}
-use Rattle.hose_disk.specs.declared.cabinet.Cabinet.{Ghosts as CabinetGhosts}
-use Rattle.hose_disk.specs.declared.disk.Disk.{Ghosts as DiskGhosts}
+use Rattle.hose_book.specs.Ledger.{Ledger}
+use Rattle.hose_disk.specs.Cabinet.{object_of}
 use Rattle.hose_store.specs.Recovery.{IsHistoryOf}
-use Rattle.hose_offline.specs.AuditOutcome.{AuditOutcome, EndsNamed, EndsRefused, EndsTold, JournalIs, NamedOutcome, NoneFailed}
-use Rattle.hose_offline.specs.Auditing.{IsNotAudited, ReadsNamed}
-use Rattle.hose_offline.specs.CabinetText.{whole_text}
+use Rattle.hose_store.specs.Store.{Kept}
+use Rattle.hose_offline.specs.AuditOutcome.{AuditOutcome, AuditsJournal, EndsNamed, EndsRefused, EndsTold, IsAudited, JournalIs, NamedOutcome, NamesOutcome, NoneFailed, Purpose, to_audit}
+use Rattle.hose_offline.specs.Auditing.{HasAudited, IsNotRead, IsTextServable, PricedNames, ReadsTopology, named_text}
 use Rattle.hose_offline.specs.Ending.{IsOut}
 use Rattle.hose_offline.specs.Fault.{last_line, status_of}
-use Rattle.hose_offline.specs.OnDisk.{CabinetFailed}
-use Rattle.hose_offline.specs.Run.{IsRefusedText, IsServable}
-use Rattle.hose_offline.specs.ServingOnDisk.{first_of}
+use Rattle.hose_offline.specs.Journal.{ClosesJournal, OpensJournal}
+use Rattle.hose_offline.specs.OnDisk.{CabinetFailed, JournalIsTold}
+use Rattle.hose_offline.specs.Parts.{Parts, Tellings}
+use Rattle.hose_offline.specs.Run.{IsRefusedText}
+use Rattle.hose_offline.specs.ServingOnDisk.{IsNotServed, first_of}
 use Rattle.hose_offline.specs.TopologyTold.{limit_of, notation_of}
 use Rattle.hose_offline.specs.declared.fault.Fault.{Fault}
 use Rattle.hose_offline.specs.declared.fault.Fault.TheVariants.{Words, Topology, Other, Damaged, Cabinet, Memory, TooLong}
+use Rattle.hose_offline.proofs.Audits.{has_before, held_before, not_served_before}
+use Rattle.hose_offline.proofs.Journals.{audit_text_of, audits_in, not_too_long}
 use Rattle.hose_offline.proofs.Outcomes.{clash, no_network_read, no_text, not_long, not_refused, of_read}
 
 -- ---- what is out
@@ -55,135 +58,190 @@ too_long_8 : (why : Fault) → status_of why ≡ 8 → why ≡ TooLong
 too_long_8 TooLong is = refl
 too_long_8 another is = absurd (omega (arith, is))
 
-module _ (prices : Network → Network → Type 0) {O C E : Type 0} (sink : SinkGhosts O) (cabinet : CabinetGhosts C E) (disk : DiskGhosts E) (topology journal : List ℕ) (output output' : O) (place place' : C) where
-  abbrev Outcome : ℕ → Type 0
-  Outcome status = AuditOutcome prices sink cabinet disk topology journal output output' place place' status
+-- ---- a command that names a topology and a journal
 
-  abbrev Failing : Type 0 → Type 0
-  Failing OthersHeld = NoneFailed prices sink cabinet disk topology journal output output' place place' OthersHeld
+-- Nothing was read but a text, of which these bytes were taken: no topology was read of it, or no
+-- store was opened.
+pub record ReadsNothing {I O C E : Type 0} (tells : Tellings I O C E) (names : PricedNames) (before after : Parts I O C) (why : Fault) : Type 0 where
+  pub taken : List ℕ
+  pub left : Option Stream
+  pub gives : Gives (named_text tells names before) left taken
+  pub limit : length taken ≤ limit_of (notation_of names.topology) + 1
+  pub too_long : (why ≡ TooLong) ↔ (limit_of (notation_of names.topology) < length taken)
+  pub not_read : IsNotRead tells names before after left why
+  pub absent : IsTrue (tells.cabinet.frame before.cabinet).tells → IsSome (tells.cabinet.text before.cabinet names.topology) → (tells.cabinet.frame after.cabinet).absent ≡ (tells.cabinet.frame before.cabinet).absent
+  pub not_there : IsTrue (tells.cabinet.frame before.cabinet).tells → tells.cabinet.text before.cabinet names.topology ≡ None → why ≡ Cabinet
 
-  abbrev Is : (Network → List ℕ → Type 0) → Type 0
-  Is P = JournalIs prices sink cabinet disk topology journal output output' place place' P
+module _ {I O C E : Type 0} (tells : Tellings I O C E) (names : PricedNames) (before after : Parts I O C) where
+  -- ---- nothing was read
 
-  abbrev Refused : Option Stream → ℕ → Type 0
-  Refused left status = EndsRefused prices sink cabinet disk topology journal output output' place place' left status
-
-  -- ---- the book was read, and is told
-  pub is_told : (read : Ledger × Result ⊤ Failed) (status : ℕ) → ReadsNamed prices cabinet disk topology journal place place' (Ok read) → EndsTold sink output output' status (first_of (Ok tt) read.1) (audit_text read.0.network read.0.book) → Outcome status
-  is_told read status reads ends = record {
+  pub no_topology : (why : Fault) → ReadsTopology tells.cabinet before.cabinet after.cabinet names.prices names.topology (Err why) → ReadsNothing tells names before after why
+  no_topology why reads = record {
+    taken = reads.taken;
     left = reads.left;
-    takes = (
-      reads.taken,
-      reads.gives,
-      reads.limit,
-      ((λ is. absurd (not_here 8 (λ e. absurd (cc e)) (λ e. absurd (cc e)) (λ e. absurd (cc e)) is)), λ more. absurd (cc (reads.too_long.1 more))),
-    );
-    ends = inl (record {
-      network = reads.book.network;
-      text = reads.book.text;
-      is = (
-        reads.book.is.history,
-        read.1,
-        reads.book.is.audited,
-        subst (λ (n : Network). EndsTold sink output output' status (first_of (Ok tt) read.1) (audit_text n (book_of 0 reads.book.is.history))) reads.book.is.is.is_network
-            (subst (λ (b : Book). EndsTold sink output output' status (first_of (Ok tt) read.1) (audit_text read.0.network b)) reads.book.is.is.is_book ends),
-      );
-    });
-    refused = λ refused. absurd (no_network_read (notation_of topology) prices _ _ reads.book.network refused reads.book.text);
+    gives = reads.gives;
+    limit = reads.limit;
+    too_long = ((λ is. reads.too_long.0 (ap Err is)), λ more. cc (reads.too_long.1 more));
+    not_read = inl (reads.text, reads.only_texts.disks);
+    absent = reads.absent;
+    not_there = λ told none. cc (reads.not_there told none);
+  }
+
+  pub no_store : (read : C) (network : Network) (why : Fault) → ReadsTopology tells.cabinet before.cabinet read names.prices names.topology (Ok network) → (tells.cabinet.frame after.cabinet).absent ≡ (tells.cabinet.frame read).absent
+      → IsNotServed tells.cabinet tells.disk names.journal read after.cabinet network (Err why) → ReadsNothing tells names before after why
+  no_store read network why reads same not = record {
+    taken = reads.taken;
+    left = reads.left;
+    gives = reads.gives;
+    limit = reads.limit;
+    too_long = ((λ is. absurd (not_too_long tells.cabinet tells.disk names.journal read after.cabinet network why not is)), λ more. absurd (cc (reads.too_long.1 more)));
+    not_read = inr (record { network = network; text = reads.text.2; is = not_served_before tells.cabinet tells.disk before.cabinet read after.cabinet reads.only_texts reads.text.1 names.journal network why not });
+    absent = λ told some. same ∙ reads.absent told some;
     not_there = λ told none. absurd (cc (reads.not_there told none));
-    absent = reads.absent;
-    complete = λ servable told held. at read.1 reads.book.is.audited.met.failed held ends;
-    refused_journal = λ servable told held. absurd (clash cabinet disk place place' journal _ _ (λ image history none. none reads.book.is.history history) reads.book.is.audited.begun
-        (of_read (notation_of topology) prices _ _ reads.taken reads.book.network _ reads.gives reads.book.text told));
   }
-    where
-      not_here : (other : ℕ) → other ≢ 0 → other ≢ 4 → other ≢ 6 → status ≡ other → ⊥
-      not_here other = told_not sink output output' status read.1 (audit_text read.0.network read.0.book) other ends
 
-      at : (closing : Result ⊤ Failed) → (IsErr closing → CabinetFailed cabinet place place') → Failing ⊤ → EndsTold sink output output' status (first_of (Ok tt) closing) (audit_text read.0.network read.0.book) → (status ≡ 0) ⊎ (status ≡ 7)
-      at (Ok done) rose held (inl whole) = inl whole.0
-      at (Ok done) rose held (inr part) = absurd (held.writing part.1)
-      at (Err failed) rose held one = absurd (held.keeping_it (rose refl))
+  module _ (purpose : Purpose) where
+    abbrev Failing : Type 0
+    Failing = NoneFailed tells before after purpose.OthersHeld
 
-  -- ---- it was not read
-  pub is_not_told : (Tells : ℕ → Network → Type 0) (Untouched OthersHeld : Type 0) (why : Fault) (status : ℕ) → ReadsNamed prices cabinet disk topology journal place place' (Err why) → status ≡ status_of why → IsOut sink output output' (last_line why) → Untouched
-      → NamedOutcome prices sink cabinet disk topology journal output output' place place' Tells Untouched OthersHeld status
-  is_not_told Tells Untouched OthersHeld why status reads is out untouched = record {
-    left = reads.left;
-    takes = (
-      reads.taken,
-      reads.gives,
-      reads.limit,
-      (
-        (λ at_8. reads.too_long.0 (ap Err (too_long_8 why (sym is ∙ at_8)))),
-        λ more.
-            let long : why ≡ TooLong = cc (reads.too_long.1 more) in
-            is ∙ ap status_of long,
-      ),
-    );
-    ends = inr (why, is, reads.book, out, untouched);
-    refused = λ refused. rw is (refused_by why refused reads.book);
-    not_there = λ told none.
-        let failed : why ≡ Cabinet = cc (reads.not_there told none) in
-        is ∙ ap status_of failed;
-    absent = reads.absent;
-    complete = λ servable told held. rw is (complete_by why servable told held reads.book (λ long. reads.too_long.0 (ap Err long)));
-    refused_journal = λ servable told held. rw is (journal_by why servable held reads.book (λ long. reads.too_long.0 (ap Err long)));
-  }
-    where
-      refused_by : (one : Fault) → IsRefusedText (notation_of topology) (whole_text cabinet place topology) reads.left → IsNotAudited prices cabinet disk topology journal place place' reads.left one → Refused reads.left (status_of one)
-      refused_by one refused (inr served) = absurd (no_network_read (notation_of topology) prices _ _ served.network refused served.text)
-      refused_by (Topology refusal) refused (inl text) = inl refl
-      refused_by Memory refused (inl ((inl starved, held), disks)) = inr (inl (refl, starved))
-      refused_by Memory refused (inl ((inr read, held), disks)) = absurd (no_text (notation_of topology) _ _ refused read)
-      refused_by Cabinet refused (inl text) = inr (inr (inl (refl, text.0)))
-      refused_by TooLong refused (inl text) = inr (inr (inr (refl, text.0.0)))
-      refused_by another refused (inl text) = absurd text.0
+    -- what was read of the journal of a network, and what it was told to be
+    abbrev Told : Network → (List ℕ → Type 0) → Type 0
+    Told network Is = JournalIsTold tells.cabinet tells.disk before.cabinet after.cabinet (Some names.journal) Is
 
-      complete_by : (one : Fault) → IsServable (notation_of topology) (whole_text cabinet place topology) → Is (λ network bytes. (history : List Entry) × IsHistoryOf network history bytes) → Failing OthersHeld
-          → IsNotAudited prices cabinet disk topology journal place place' reads.left one → (one ≡ TooLong → limit_of (notation_of topology) < length reads.taken) → (status_of one ≡ 0) ⊎ (status_of one ≡ 7)
-      complete_by (Topology refusal) servable told held (inl text) long = absurd (not_refused (notation_of topology) refusal _ _ reads.taken reads.gives servable text.0.0)
-      complete_by Memory servable told held (inl text) long = inr refl
-      complete_by Cabinet servable told held (inl text) long = absurd (held.keeping_it text.0)
-      complete_by TooLong servable told held (inl text) long = absurd (not_long (notation_of topology) _ _ reads.taken reads.gives servable (long refl))
-      complete_by Memory servable told held (inr served) long = inr refl
-      complete_by Cabinet servable told held (inr served) long = absurd (held.keeping_it served.is.1)
-      complete_by (Other kept given) servable told held (inr served) long = absurd (clash cabinet disk place place' journal _ _ (λ image none history. none history.0 history.1) served.is.1.none
-          (of_read (notation_of topology) prices _ _ reads.taken served.network _ reads.gives served.text told))
-      complete_by (Damaged at) servable told held (inr served) long = absurd (clash cabinet disk place place' journal _ _ (λ image none history. none history.0 history.1) served.is.none
-          (of_read (notation_of topology) prices _ _ reads.taken served.network _ reads.gives served.text told))
-      complete_by another servable told held (inl text) long = absurd text.0
-      complete_by another servable told held (inr served) long = absurd served.is
+    pub named_not_read : (why : Fault) (status : ℕ) → ReadsNothing tells names before after why → status ≡ status_of why → IsOut tells.sink before.output after.output (last_line why) → purpose.Untouched → after.input ≡ before.input → NamedOutcome tells names before after purpose status
+    named_not_read why status reads is out untouched input = record {
+      left = reads.left;
+      takes = (
+        reads.taken,
+        reads.gives,
+        reads.limit,
+        (
+          (λ at_8. reads.too_long.0 (too_long_8 why (sym is ∙ at_8))),
+          λ more. is ∙ ap status_of (reads.too_long.1 more),
+        ),
+      );
+      named = record {
+        ends = inr (why, is, reads.not_read, out, untouched);
+        refused = λ refused. rw is (refused_by why refused reads.not_read);
+        not_there = λ told none. is ∙ ap status_of (reads.not_there told none);
+        absent = reads.absent;
+        refused_journal = λ servable told held. rw is (journal_by why servable held reads.not_read reads.too_long.0);
+      };
+      complete = λ servable told held. rw is (complete_by why servable told held reads.not_read reads.too_long.0);
+      input = input;
+    }
+      where
+        refused_by : (one : Fault) → IsRefusedText (notation_of names.topology) (named_text tells names before) reads.left → IsNotRead tells names before after reads.left one → EndsRefused tells names before after reads.left (status_of one)
+        refused_by one refused (inr served) = absurd (no_network_read (notation_of names.topology) names.prices _ _ served.network refused served.text)
+        refused_by (Topology refusal) refused (inl text) = inl refl
+        refused_by Memory refused (inl ((inl starved, held), disks)) = inr (inl (refl, starved))
+        refused_by Memory refused (inl ((inr read, held), disks)) = absurd (no_text (notation_of names.topology) _ _ refused read)
+        refused_by Cabinet refused (inl text) = inr (inr (inl (refl, text.0)))
+        refused_by TooLong refused (inl text) = inr (inr (inr (refl, text.0.0)))
+        refused_by another refused (inl text) = absurd text.0
 
-      journal_by : (one : Fault) → IsServable (notation_of topology) (whole_text cabinet place topology) → Failing OthersHeld
-          → IsNotAudited prices cabinet disk topology journal place place' reads.left one → (one ≡ TooLong → limit_of (notation_of topology) < length reads.taken) → (status_of one ≡ 5) ⊎ (status_of one ≡ 7)
-      journal_by (Topology refusal) servable held (inl text) long = absurd (not_refused (notation_of topology) refusal _ _ reads.taken reads.gives servable text.0.0)
-      journal_by Memory servable held (inl text) long = inr refl
-      journal_by Cabinet servable held (inl text) long = absurd (held.keeping_it text.0)
-      journal_by TooLong servable held (inl text) long = absurd (not_long (notation_of topology) _ _ reads.taken reads.gives servable (long refl))
-      journal_by (Other kept given) servable held (inl text) long = inl refl
-      journal_by (Damaged at) servable held (inl text) long = inl refl
-      journal_by Memory servable held (inr served) long = inr refl
-      journal_by Cabinet servable held (inr served) long = absurd (held.keeping_it served.is.1)
-      journal_by (Other kept given) servable held (inr served) long = inl refl
-      journal_by (Damaged at) servable held (inr served) long = inl refl
-      journal_by another servable held (inl text) long = absurd text.0
-      journal_by another servable held (inr served) long = absurd served.is
+        complete_by : (one : Fault) → IsTextServable tells names before → JournalIs tells names before after (λ network bytes. (history : List Entry) × IsHistoryOf network history bytes) → Failing
+            → IsNotRead tells names before after reads.left one → (one ≡ TooLong → limit_of (notation_of names.topology) < length reads.taken) → (status_of one ≡ 0) ⊎ (status_of one ≡ 7)
+        complete_by (Topology refusal) servable told held (inl text) long = absurd (not_refused (notation_of names.topology) refusal _ _ reads.taken reads.gives servable text.0.0)
+        complete_by Memory servable told held (inl text) long = inr refl
+        complete_by Cabinet servable told held (inl text) long = absurd (held.keeping_it text.0)
+        complete_by TooLong servable told held (inl text) long = absurd (not_long (notation_of names.topology) _ _ reads.taken reads.gives servable (long refl))
+        complete_by Memory servable told held (inr served) long = inr refl
+        complete_by Cabinet servable told held (inr served) long = absurd (held.keeping_it served.is.1)
+        complete_by (Other kept given) servable told held (inr served) long = absurd (clash tells.cabinet tells.disk before.cabinet after.cabinet names.journal _ _ (λ image none history. none history.0 history.1) served.is.1.none
+            (of_read (notation_of names.topology) names.prices _ _ reads.taken served.network _ reads.gives served.text told))
+        complete_by (Damaged at) servable told held (inr served) long = absurd (clash tells.cabinet tells.disk before.cabinet after.cabinet names.journal _ _ (λ image none history. none history.0 history.1) served.is.none
+            (of_read (notation_of names.topology) names.prices _ _ reads.taken served.network _ reads.gives served.text told))
+        complete_by another servable told held (inl text) long = absurd text.0
+        complete_by another servable told held (inr served) long = absurd served.is
 
-  -- the words are not what is wrong
-  pub named_not_1 : (Tells : ℕ → Network → Type 0) (Untouched OthersHeld : Type 0) (status : ℕ) → ((network : Network) → Tells status network → status ≡ 1 → ⊥) → NamedOutcome prices sink cabinet disk topology journal output output' place place' Tells Untouched OthersHeld status
-      → status ≡ 1 → ⊥
-  named_not_1 Tells Untouched OthersHeld status never outcome is = at outcome.ends
-    where
-      by : (why : Fault) → IsNotAudited prices cabinet disk topology journal place place' outcome.left why → status_of why ≡ 1 → ⊥
-      by (Words word) (inl text) one = text.0
-      by (Words word) (inr served) one = served.is
-      by another not one = omega (arith, one)
+        journal_by : (one : Fault) → IsTextServable tells names before → Failing → IsNotRead tells names before after reads.left one → (one ≡ TooLong → limit_of (notation_of names.topology) < length reads.taken) → (status_of one ≡ 5) ⊎ (status_of one ≡ 7)
+        journal_by (Topology refusal) servable held (inl text) long = absurd (not_refused (notation_of names.topology) refusal _ _ reads.taken reads.gives servable text.0.0)
+        journal_by Memory servable held (inl text) long = inr refl
+        journal_by Cabinet servable held (inl text) long = absurd (held.keeping_it text.0)
+        journal_by TooLong servable held (inl text) long = absurd (not_long (notation_of names.topology) _ _ reads.taken reads.gives servable (long refl))
+        journal_by (Other kept given) servable held (inl text) long = inl refl
+        journal_by (Damaged at) servable held (inl text) long = inl refl
+        journal_by Memory servable held (inr served) long = inr refl
+        journal_by Cabinet servable held (inr served) long = absurd (held.keeping_it served.is.1)
+        journal_by (Other kept given) servable held (inr served) long = inl refl
+        journal_by (Damaged at) servable held (inr served) long = inl refl
+        journal_by another servable held (inl text) long = absurd text.0
+        journal_by another servable held (inr served) long = absurd served.is
 
-      at : EndsNamed prices sink cabinet disk topology journal output output' place place' (Tells status) Untouched outcome.left status → ⊥
-      at (inl told) = never told.network told.is is
-      at (inr not) = by not.0 not.2 (sym not.1 ∙ is)
+    -- ---- a topology was read, and this was told of its network
+    module _ (read : C) (network : Network) (status : ℕ) (reads : ReadsTopology tells.cabinet before.cabinet read names.prices names.topology (Ok network)) (same : (tells.cabinet.frame after.cabinet).absent ≡ (tells.cabinet.frame read).absent) where
+      pub names_read : purpose.Tells status network → (Told network (λ bytes. (history : List Entry) → ¬ IsHistoryOf network history bytes) → Failing → (status ≡ 5) ⊎ (status ≡ 7)) → NamesOutcome tells names before after purpose reads.left status
+      names_read tells_so refuses = record {
+        ends = inl (record { network = network; text = reads.text.2; is = tells_so });
+        refused = λ refused. absurd (no_network_read (notation_of names.topology) names.prices _ _ network refused reads.text.2);
+        not_there = λ told none. absurd (cc (reads.not_there told none));
+        absent = λ told some. same ∙ reads.absent told some;
+        refused_journal = λ servable told held. refuses (of_read (notation_of names.topology) names.prices _ _ reads.taken network _ reads.gives reads.text.2 told) held;
+      }
 
-  pub audit_not_1 : (status : ℕ) → Outcome status → status ≡ 1 → ⊥
-  audit_not_1 status outcome is = named_not_1 _ _ _ status
-      (λ network told one. told_not sink output output' status told.1 _ 1 told.3 (λ e. absurd (cc e)) (λ e. absurd (cc e)) (λ e. absurd (cc e)) one) outcome is
+      pub named_read : after.input ≡ before.input → purpose.Tells status network → status ≢ 8 → (Told network (λ bytes. (history : List Entry) × IsHistoryOf network history bytes) → Failing → (status ≡ 0) ⊎ (status ≡ 7))
+          → (Told network (λ bytes. (history : List Entry) → ¬ IsHistoryOf network history bytes) → Failing → (status ≡ 5) ⊎ (status ≡ 7)) → NamedOutcome tells names before after purpose status
+      named_read input tells_so never_8 completes refuses = record {
+        left = reads.left;
+        takes = (reads.taken, reads.gives, reads.limit, ((λ at_8. absurd (never_8 at_8)), λ more. absurd (cc (reads.too_long.1 more))));
+        named = names_read tells_so refuses;
+        complete = λ servable told held. completes (of_read (notation_of names.topology) names.prices _ _ reads.taken network _ reads.gives reads.text.2 told) held;
+        input = input;
+      }
+
+    -- ---- the words are not what is wrong
+    pub named_not_1 : (left : Option Stream) (status : ℕ) → ((network : Network) → purpose.Tells status network → status ≢ 1) → EndsNamed tells names before after purpose left status → status ≢ 1
+    named_not_1 left status never (inl told) is = never told.network told.is is
+    named_not_1 left status never (inr not) is = by not.0 not.2 (sym not.1 ∙ is)
+      where
+        by : (why : Fault) → IsNotRead tells names before after left why → status_of why ≡ 1 → ⊥
+        by (Words word) (inl text) one = text.0
+        by (Words word) (inr served) one = served.is
+        by another not one = omega (arith, one)
+
+-- ---- an audit
+
+module _ {I O C E : Type 0} (tells : Tellings I O C E) (journal : List ℕ) (before after : Parts I O C) (network : Network) where
+  -- the book of the journal was read, and is told
+  pub book_told : (Kind : EntryKind) (mid : C) (store : Kept E) (closing : Result ⊤ Failed) (ledger : Ledger) (status : ℕ) → OpensJournal tells.cabinet tells.disk Kind journal before.cabinet mid network store → ClosesJournal tells.cabinet tells.disk mid after.cabinet store closing
+      → ledger ≡ store.ledger → EndsTold tells.sink before.output after.output status (first_of (Ok tt) closing) (audit_text ledger.network ledger.book) → AuditsJournal tells journal before after status network
+  book_told Kind mid store closing ledger status opens closes is ends = inl (
+    opens.opens.opened.history,
+    closing,
+    audits_in tells journal before after mid network store Kind closing opens closes,
+    subst (EndsTold tells.sink before.output after.output status (first_of (Ok tt) closing)) (audit_text_of tells journal before after mid network store Kind closing opens closes ledger is) ends,
+  )
+
+  audited_not : (status : ℕ) → IsAudited tells journal before after status network → (other : ℕ) → other ≢ 0 → other ≢ 4 → other ≢ 6 → status ≢ other
+  audited_not status told other no_0 no_4 no_6 is = told_not tells.sink before.output after.output status told.1 (audit_text network (book_of 0 told.0)) other told.3 no_0 no_4 no_6 is
+
+module _ {I O C E : Type 0} (tells : Tellings I O C E) (names : PricedNames) (before after : Parts I O C) where
+  module _ (read : C) (network : Network) (reads : ReadsTopology tells.cabinet before.cabinet read names.prices names.topology (Ok network)) where
+    audited_before : (history : List Entry) (closing : Result ⊤ Failed) → HasAudited tells names.journal (record before { cabinet = read }) after network history closing → HasAudited tells names.journal before after network history closing
+    audited_before history closing has = record {
+      begun = held_before tells.cabinet tells.disk before.cabinet read after.cabinet reads.only_texts names.journal _ has.begun;
+      sound = has.sound;
+      met = subst (λ (f : Frame). Met f (object_of (tells.cabinet.frame after.cabinet)) closing) reads.text.1 has.met;
+      left = has_before tells.cabinet tells.disk before.cabinet read after.cabinet reads.only_texts names.journal _ has.left;
+    }
+
+    pub is_audited : (status : ℕ) → AuditsJournal tells names.journal (record before { cabinet = read }) after status network → (tells.cabinet.frame after.cabinet).absent ≡ (tells.cabinet.frame read).absent → after.input ≡ before.input → AuditOutcome tells names before after status
+    is_audited status (inr (why, is, not, out)) same input = named_not_read tells names before after _ why status (no_store tells names before after read network why reads same not) is out tt input
+    is_audited status (inl (history, closing, after_read, ends)) same input =
+        named_read tells names before after _ read network status reads same input (history, closing, has, ends)
+        (audited_not tells names.journal before after network status (history, closing, has, ends) 8 (λ e. absurd (cc e)) (λ e. absurd (cc e)) (λ e. absurd (cc e)))
+        (λ told held. at closing has.met.failed held ends)
+        (λ told held. absurd (clash tells.cabinet tells.disk before.cabinet after.cabinet names.journal _ _ (λ image is none. none history is) has.begun told))
+      where
+        has : HasAudited tells names.journal before after network history closing
+        has = audited_before history closing after_read
+
+        at : (one : Result ⊤ Failed) → (IsErr one → CabinetFailed tells.cabinet before.cabinet after.cabinet) → NoneFailed tells before after ⊤ → EndsTold tells.sink before.output after.output status (first_of (Ok tt) one) (audit_text network (book_of 0 history)) → (status ≡ 0) ⊎ (status ≡ 7)
+        at (Ok done) rose held (inl whole) = inl whole.0
+        at (Ok done) rose held (inr part) = absurd (held.writing part.1)
+        at (Err failed) rose held one = absurd (held.keeping_it (rose refl))
+
+  pub audit_not_1 : (status : ℕ) → AuditOutcome tells names before after status → status ≢ 1
+  audit_not_1 status outcome = named_not_1 tells names before after (to_audit tells names.journal before after) outcome.left status
+      (λ network told one. audited_not tells names.journal before after network status told 1 (λ e. absurd (cc e)) (λ e. absurd (cc e)) (λ e. absurd (cc e)) one) outcome.named.ends

@@ -1,8 +1,7 @@
--- An audit: the text of a topology in a cabinet, and the book of its journal.
+-- The text of a topology in a cabinet, and what is done with a journal after it was read.
 use Rattle.std.proofs.Common.{◌≡◌, ◌≢◌, ◌∙◌, length, ◌⊎◌, ◌↔◌, inl, inr, ℕ, ◌+◌, ◌<◌, ◌≤◌, List, [], Bool, Option, None, Some, IfSome, IsSome, IsTrue, Result, Ok, Err, refl, sym, ap, subst, arith, append-nil, ◌++◌, false}
-use Rattle.std.specs.Prelude.{⊤}
 use Rattle.hose_io.specs.Calls.{HasGone}
-use Rattle.hose_io.specs.Frame.{Frame, Met, Rose}
+use Rattle.hose_io.specs.Frame.{Frame, Rose}
 use Rattle.hose_io.specs.Stream.{Stream, Gives}
 use Rattle.hose_io.specs.declared.Failed.{Failed}
 use Rattle.hose_io.specs.declared.source.Source.{Ghosts as SourceGhosts}
@@ -15,23 +14,15 @@ use Rattle.hose_words.specs.declared.lines.LineFault.{LineFault}
 use Rattle.hose_words.specs.declared.lines.LineFault.TheVariants as line
 use Rattle.hose_graph.specs.Network.{IsNetwork, Network}
 use Rattle.hose_graph.specs.declared.entry.Entry.{Entry}
-use Rattle.hose_law.specs.History.{IsSound}
-use Rattle.hose_book.specs.Ledger.{IsLedgerOf, Ledger}
 use Rattle.hose_disk.specs.Cabinet.{Has, IsTextCall, absent_after, object_of}
-use Rattle.hose_disk.specs.Disk.{IsCalled}
 use Rattle.hose_disk.specs.declared.cabinet.Cabinet.{Ghosts as CabinetGhosts}
 use Rattle.hose_disk.specs.declared.disk.Disk.{Ghosts as DiskGhosts}
 use Rattle.hose_journal.specs.Image.{Meaning, damaged, other}
-use Rattle.hose_journal.specs.Moments.{LeavesOnly}
-use Rattle.hose_store.specs.Commit.{Closes}
-use Rattle.hose_store.specs.Opening.{IsAtOpening, IsOpenedOn}
-use Rattle.hose_store.specs.Recovery.{IsHistoryOf}
-use Rattle.hose_store.specs.Store.{IsAmid, Kept}
 use Rattle.hose_topo.specs.Reading.{KeepsFault, StopsInTopology, fault_of}
 use Rattle.hose_topo.specs.TopologyText.{IsTopologyText, IsWrongAt}
 use Rattle.hose_topo.specs.declared.fault.TopoFault.{TopoFault}
 use Rattle.hose_topo.specs.declared.fault.TopoFault.TheVariants as topo
-use Rattle.hose_offline.specs.Auditing.{HasAudited, IsBookOf, IsLongAt, IsStarvedAt, IsTextFault, TextComesTo, ReadsBook, ReadsNamed, ReadsText, ReadsTopology}
+use Rattle.hose_offline.specs.Auditing.{IsLongAt, IsStarvedAt, IsTextFault, TextComesTo, ReadsText}
 use Rattle.hose_offline.specs.CabinetText.{HasAsked, OnlyTextsRead, TextState, reading_frame, stream_at, text_at, text_source, text_stream, whole_text}
 use Rattle.hose_offline.specs.Fault.{of_topology}
 use Rattle.hose_offline.specs.OnDisk.{CabinetFailed, CabinetWorked, HadContent, IsRefusedOnDisk, IsUnopened}
@@ -45,7 +36,6 @@ use Rattle.hose_offline.specs.declared.notation.Refusal.TheVariants.{Word}
 use Rattle.hose_words.proofs.OnReading.{WhereTold-map}
 use Rattle.hose_words.proofs.Saying.{rose_now}
 use Rattle.hose_offline.proofs.Running.{not_read, stopped_told, text_told, wrong_told}
-use Rattle.hose_offline.proofs.Journals.{alone}
 use Rattle.hose_offline.proofs.Texts.{HasAsked-next, HasAsked-none}
 use Rattle.hose_offline.specs.ServingOnDisk.{IsNotServed}
 use Rattle.hose_offline.specs.declared.fault.Fault.{Fault}
@@ -279,16 +269,7 @@ module _ {C E : Type 0} (cabinet : CabinetGhosts C E) (old mid : C) (name : List
       not_there = λ told none. absurd (there told none);
     }
 
--- ---- both
-
--- no store that is not opened is too long a text
-never_long : {C E : Type 0} (cabinet : CabinetGhosts C E) (disk : DiskGhosts E) (name : List ℕ) (old new : C) (network : Network) (done : Result (Ledger × Result ⊤ Failed) Fault) → ReadsBook cabinet disk name old new network done → done ≡ Err fault.TooLong → ⊥
-never_long cabinet disk name old new network (Ok read) reads long = cc long
-never_long cabinet disk name old new network (Err fault.Cabinet) reads long = cc long
-never_long cabinet disk name old new network (Err fault.Memory) reads long = cc long
-never_long cabinet disk name old new network (Err (fault.Other kept digest)) reads long = cc long
-never_long cabinet disk name old new network (Err (fault.Damaged at)) reads long = cc long
-never_long cabinet disk name old new network (Err another) reads long = reads
+-- ---- what follows the text
 
 module _ {C E : Type 0} (cabinet : CabinetGhosts C E) (disk : DiskGhosts E) (old mid new : C) (only : OnlyTextsRead cabinet old mid) where
   pub has_before : (name : List ℕ) (P : E → Type 0) → Has (cabinet.frame mid).tells (cabinet.held mid name) P → Has (cabinet.frame old).tells (cabinet.held old name) P
@@ -311,54 +292,9 @@ module _ {C E : Type 0} (cabinet : CabinetGhosts C E) (disk : DiskGhosts E) (old
   }
 
   -- where no call of the cabinet failed before
-  module _ (same : CabinetWorked cabinet old mid) (name : List ℕ) (network : Network) where
-    audited_before : (history : List Entry) (closing : Result ⊤ Failed) → HasAudited cabinet disk name mid new network history closing → HasAudited cabinet disk name old new network history closing
-    audited_before history closing has = record {
-      begun = held_before name _ has.begun;
-      sound = has.sound;
-      met = subst (λ (f : Frame). Met f (object_of (cabinet.frame new)) closing) same has.met;
-      left = has_before name _ has.left;
-    }
-
-    pub not_served_before : (why : Fault) → IsNotServed cabinet disk name mid new network (Err why) → IsNotServed cabinet disk name old new network (Err why)
-    not_served_before fault.Cabinet not = (unopened_before network name not.0, subst (λ (f : Frame). Rose f (object_of (cabinet.frame new))) same not.1)
-    not_served_before (fault.Other kept given) not = (not.0, refused_before network name (other kept) not.1)
-    not_served_before (fault.Damaged at) not = refused_before network name (damaged at) not
-    not_served_before fault.Memory not = unopened_before network name not
-    not_served_before another not = absurd not
-
-module _ (prices : Network → Network → Type 0) {C E : Type 0} (cabinet : CabinetGhosts C E) (disk : DiskGhosts E) (topology journal : List ℕ) (old : C) where
-  -- no topology was read
-  pub named_none : (new : C) (why : Fault) → ReadsTopology cabinet old new prices topology (Err why) → ReadsNamed prices cabinet disk topology journal old new (Err why)
-  named_none new why reads = record {
-    taken = reads.taken;
-    left = reads.left;
-    gives = reads.gives;
-    limit = reads.limit;
-    too_long = ((λ is. reads.too_long.0 (cc is)), λ more. cc (reads.too_long.1 more));
-    book = inl (reads.text, reads.only_texts.disks);
-    absent = reads.absent;
-    not_there = λ told none. cc (reads.not_there told none);
-  }
-
-  -- and then the book
-  pub named_then : (mid new : C) (network : Network) (done : Result (Ledger × Result ⊤ Failed) Fault) → ReadsTopology cabinet old mid prices topology (Ok network) → ReadsBook cabinet disk journal mid new network done
-      → (cabinet.frame new).absent ≡ (cabinet.frame mid).absent → ReadsNamed prices cabinet disk topology journal old new done
-  named_then mid new network done reads book absent = record {
-    taken = reads.taken;
-    left = reads.left;
-    gives = reads.gives;
-    limit = reads.limit;
-    too_long = ((λ is. absurd (never_long cabinet disk journal mid new network done book is)), λ more. absurd (cc (reads.too_long.1 more)));
-    book = at done book;
-    absent = λ told some. absent ∙ reads.absent told some;
-    not_there = λ told none. absurd (cc (reads.not_there told none));
-  }
-    where
-      at : (one : Result (Ledger × Result ⊤ Failed) Fault) → ReadsBook cabinet disk journal mid new network one → IsBookOf prices cabinet disk topology journal old new reads.left one
-      at (Ok read) has = record {
-        network = network;
-        text = reads.text.2;
-        is = record { history = has.history; is = has.is; audited = audited_before cabinet disk old mid new reads.only_texts reads.text.1 journal network has.history read.1 has.audited };
-      }
-      at (Err why) not = inr (record { network = network; text = reads.text.2; is = not_served_before cabinet disk old mid new reads.only_texts reads.text.1 journal network why not })
+  pub not_served_before : CabinetWorked cabinet old mid → (name : List ℕ) (network : Network) (why : Fault) → IsNotServed cabinet disk name mid new network (Err why) → IsNotServed cabinet disk name old new network (Err why)
+  not_served_before same name network fault.Cabinet not = (unopened_before network name not.0, subst (λ (f : Frame). Rose f (object_of (cabinet.frame new))) same not.1)
+  not_served_before same name network (fault.Other kept given) not = (not.0, refused_before network name (other kept) not.1)
+  not_served_before same name network (fault.Damaged at) not = refused_before network name (damaged at) not
+  not_served_before same name network fault.Memory not = unopened_before network name not
+  not_served_before same name network another not = absurd not

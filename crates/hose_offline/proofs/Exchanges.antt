@@ -7,7 +7,6 @@ use Rattle.hose_io.proofs.Streams.{Grows-nil, Grows-append}
 use Rattle.hose_io.specs.Writing.{GrowsInPart}
 use Rattle.hose_words.proofs.OnReading.{WhereTold-same, WhereTold-then}
 use Rattle.hose_io.specs.declared.source.Source.{Ghosts}
-use Rattle.hose_io.specs.declared.sink.Sink.{Ghosts as SinkGhosts}
 use Rattle.hose_words.specs.declared.lines.LineFault.TheVariants as line_fault
 use Rattle.hose_offline.specs.declared.fault.Fault.{Fault}
 use Rattle.hose_offline.specs.declared.fault.Fault.TheVariants as fault
@@ -32,7 +31,7 @@ use Rattle.hose_law.specs.Script.{ReadLine, IsLineStep, one_if_disk}
 use Rattle.hose_law.specs.Script.ReadLine.{Asks, IsBad, IsLong, Unread}
 use Rattle.hose_offline.specs.ScriptLine.{IsAsking, WantsMemory, script_grammar}
 use Rattle.hose_words.specs.Reading.{WhereTold, ReadsOn}
-use Rattle.hose_words.specs.Saying.{IsAllTaken, IsLeftOver, IsOver, SayLines, SaysUpTo, StopsReading}
+use Rattle.hose_words.specs.Saying.{IsAllTaken, IsLeftOver, SayLines, SaysUpTo, StopsReading}
 use Rattle.hose_words.proofs.Saying.{flat_map-last, met_fault, rose_now, said_all, said_enough, said_more, said_none, said_until, takes_line}
 use Rattle.hose_proto.specs.Replies.{CutsLast, texts_of}
 use Rattle.hose_proto.specs.ReplyText.{line_of, reply_text}
@@ -47,7 +46,8 @@ use Rattle.hose_book.specs.declared.books.Books.{Ghosts as BooksGhosts}
 use Rattle.hose_core.specs.Holding.{State}
 use Rattle.hose_core.specs.Stepping.{FitsHistory, Goes, committed_for, committed_of, history_with}
 use Rattle.hose_offline.proofs.StillReading.{IsStillReading, source_held}
-use Rattle.hose_offline.specs.Serving.{Says, SaysNext, SaysOneThing, SaysRead, SayOneThingEach, none_said, line_more, TellsDisks, AnswersLine, AreAnswered, HasAnsweredLines, Serves, ServesLine, ServesUntil, ServesUpTo, AnswersNextLine}
+use Rattle.hose_offline.specs.Talk.{Talk, talk}
+use Rattle.hose_offline.specs.Talking.{AnswersLine, AnswersNextLine, AnswersOne, AreAnswered, HasTalked, RepliesOut, Says, SaysNext, SaysOneThing, SaysRead, SayOneThingEach, Talks, TalksOnce, TalksUntil, TalksUpTo, TalkTellings, TellsDisks, line_more, none_said, talk_network}
 
 -- what a reader shows of a line says what the line says
 pub says_shown : (network : Network) (shown : Line) (bytes : List ℕ) (said : ReadLine) → Shows shown bytes → SaysRead network shown said → Says network bytes said
@@ -75,10 +75,9 @@ exchange_of source old new network other shown reply Answers puts next answers a
 }
 
 -- reading met a fault
-pub serves_read : {S O K R : Type 0} (source : Ghosts S) (sink : SinkGhosts O) (books : BooksGhosts K R) (old new : Reader S) (output : O) (core : State K) (met : LineFault) → old.fault ≡ None → IsNext source old new (Err met)
-    → ServesLine source sink books old new output output core core (Err (of_line met))
-serves_read source sink books old new output core line_fault.Read none next = (met_fault source old new line_fault.Read none next, rose_now source old new none (next.read refl), refl, refl)
-serves_read source sink books old new output core line_fault.TooLong none next = (met_fault source old new line_fault.TooLong none next, refl, refl)
+pub talk_read : {S O K R : Type 0} (tells : TalkTellings S O K R) (old new : Reader S) (output : O) (core : State K) (met : LineFault) → old.fault ≡ None → IsNext tells.source old new (Err met) → TalksOnce tells (talk old output core) (talk new output core) (Err (of_line met))
+talk_read tells old new output core line_fault.Read none next = (met_fault tells.source old new line_fault.Read none next, rose_now tells.source old new none (next.read refl), refl, refl)
+talk_read tells old new output core line_fault.TooLong none next = (met_fault tells.source old new line_fault.TooLong none next, refl, refl)
 
 -- ---- histories that exchanges lead to
 
@@ -196,140 +195,136 @@ module _ {K R : Type 0} (books : BooksGhosts K R) (since : List Entry) (first ol
   answered_more IsLong reply answers = fixed_more IsLong reply (answers.0, refl, refl) (ap one_if_disk answers.0) answers.1
   answered_more Unread reply answers = fixed_more Unread reply (answers.0, refl, refl) (ap one_if_disk answers.0) answers.1
 
-pub nothing_served : {S K R : Type 0} (source : Ghosts S) (books : BooksGhosts K R) (reader : Reader S) (since : List Entry) (core : State K) (content : Option (List ℕ)) → IsSound (books.ledger core.books).network 0 since → FitsHistory books core 0 since nothing_held
-    → HasAnsweredLines source books reader reader since core core content content
-nothing_served source books reader since core content sound fits = record {
+pub talk_begun : {S O K R : Type 0} (tells : TalkTellings S O K R) (start : Talk (Reader S) O (State K)) (since : List Entry) → IsSound (talk_network tells start) 0 since → FitsHistory tells.books start.by 0 since nothing_held → HasTalked tells start start since
+talk_begun tells start since sound fits = record {
   lines = [];
   replies = [];
-  said = said_none (SaysNext (books.ledger core.books).network) reader.pending (source.content reader.source);
-  alone = WhereTold-same (source.content reader.source) _ (λ left. none_said);
+  said = said_none (SaysNext (talk_network tells start)) start.lines.pending (tells.source.content start.lines.source);
+  alone = WhereTold-same (tells.source.content start.lines.source) _ (λ left. none_said);
   answered = record {
     history = since;
     left = nothing_held;
     script = (refl, refl);
-    decided = decided_end (books.ledger core.books).network 0 since sound;
+    decided = decided_end (talk_network tells start) 0 since sound;
     begins = ([], append-nil since);
     goes_on = none_yet;
-    stays = Stays-none (books.frame core.books);
+    stays = Stays-none (tells.books.frame start.by.books);
     disks = inl (omega arith);
   };
   fits = fits;
   network = refl;
-  out = Grows-nil content;
+  out = Grows-nil (tells.sink.content start.output);
 }
 
-module _ {S K R : Type 0} (source : Ghosts S) (books : BooksGhosts K R) (start now new : Reader S) (since : List Entry) (begun core next : State K) (first middle last : Option (List ℕ)) where
-  abbrev top : Network
-  top = (books.ledger begun.books).network
+-- a talk by a core as one by its books
+abbrev pub by_books : {S O K : Type 0} → Talk (Reader S) O (State K) → Talk (Reader S) O K
+by_books state = talk state.lines state.output state.by.books
 
-  abbrev Served : Type 0
-  Served = HasAnsweredLines source books start now since begun core first middle
+module _ {S O K R : Type 0} (tells : TalkTellings S O K R) (since : List Entry) (start now new : Talk (Reader S) O (State K)) (talked : HasTalked tells start now since) (reads : ReadsOn tells.source start.lines now.lines) where
+  abbrev top : Network
+  top = talk_network tells start
+
+  -- what is out at each of the three
+  abbrev first : Option (List ℕ)
+  first = tells.sink.content start.output
+
+  abbrev middle : Option (List ℕ)
+  middle = tells.sink.content now.output
+
+  abbrev last : Option (List ℕ)
+  last = tells.sink.content new.output
 
   abbrev Exchange : (List ℕ → Type 0) → Type 0
-  Exchange puts = AnswersNextLine source now new (books.ledger core.books).network (AnswersLine books core next) puts
+  Exchange puts = AnswersNextLine tells.source now.lines new.lines top (AnswersLine tells.books now.by new.by) puts
 
   -- an exchange of the network that there is now is one of the first network
-  here : (puts : List ℕ → Type 0) → Served → Exchange puts → AnswersNextLine source now new top (AnswersLine books core next) puts
-  here puts served exchange = subst (λ (n : Network). AnswersNextLine source now new n (AnswersLine books core next) puts) served.network exchange
+  here : (puts : List ℕ → Type 0) → AnswersOne tells now new puts → Exchange puts
+  here puts exchange = subst (λ (n : Network). AnswersNextLine tells.source now.lines new.lines n (AnswersLine tells.books now.by new.by) puts) talked.network exchange
 
   -- the line of an exchange stands after those that were said
-  said_after : (puts : List ℕ → Type 0) (served : Served) → ReadsOn source start now → (exchange : AnswersNextLine source now new top (AnswersLine books core next) puts)
-      → WhereTold (source.content start.source) (source.content new.source) (λ was left. SayLines (SaysNext top) (start.pending ++ was) (served.lines ++ exchange.said ∷ []) (new.pending ++ left))
-  said_after puts served reads exchange = said_more source (SaysNext top) start now new served.lines served.said reads exchange.said (λ bytes. Says top bytes exchange.said × SaysOneThing top bytes) exchange.line (λ bytes is. is.0)
+  said_after : (puts : List ℕ → Type 0) (exchange : Exchange puts)
+      → WhereTold (tells.source.content start.lines.source) (tells.source.content new.lines.source) (λ was left. SayLines (SaysNext top) (start.lines.pending ++ was) (talked.lines ++ exchange.said ∷ []) (new.lines.pending ++ left))
+  said_after puts exchange = said_more tells.source (SaysNext top) start.lines now.lines new.lines talked.lines talked.said reads exchange.said (λ bytes. Says top bytes exchange.said × SaysOneThing top bytes) exchange.line (λ bytes is. is.0)
 
-  goes_on : (served : Served) → (puts : List ℕ → Type 0) (exchange : AnswersNextLine source now new top (AnswersLine books core next) puts) → Answered books since begun next (served.lines ++ exchange.said ∷ []) (served.replies ++ exchange.reply ∷ [])
-  goes_on served puts exchange = answered_more books since begun core next served.lines served.replies (record { answered = served.answered; fits = served.fits; network = served.network }) exchange.said exchange.reply exchange.answers
+  goes_on : (puts : List ℕ → Type 0) (exchange : Exchange puts) → Answered tells.books since start.by new.by (talked.lines ++ exchange.said ∷ []) (talked.replies ++ exchange.reply ∷ [])
+  goes_on puts exchange = answered_more tells.books since start.by now.by new.by talked.lines talked.replies (record { answered = talked.answered; fits = talked.fits; network = talked.network }) exchange.said exchange.reply exchange.answers
 
-  -- an exchange more is served
-  pub served_more : Served → ReadsOn source start now → Exchange (Grows middle last) → HasAnsweredLines source books start new since begun next first last
-  served_more served reads taken =
-      let exchange = here (Grows middle last) served taken in
-      let more = goes_on served (Grows middle last) exchange in record {
-        lines = served.lines ++ exchange.said ∷ [];
-        replies = served.replies ++ exchange.reply ∷ [];
-        said = said_after (Grows middle last) served reads exchange;
-        alone = WhereTold-then (source.content start.source) (source.content now.source) (source.content new.source) reads.takes.0 _ _ _ reads.takes.1 served.alone exchange.line
-            (λ a b c before here. subst (SayOneThingEach top (start.pending ++ a)) (sym here.2) (line_more before here.0 here.1.1));
+  -- an exchange more
+  pub talked_more : AnswersOne tells now new (Grows middle last) → HasTalked tells start new since
+  talked_more taken =
+      let exchange = here (Grows middle last) taken in
+      let more = goes_on (Grows middle last) exchange in record {
+        lines = talked.lines ++ exchange.said ∷ [];
+        replies = talked.replies ++ exchange.reply ∷ [];
+        said = said_after (Grows middle last) exchange;
+        alone = WhereTold-then (tells.source.content start.lines.source) (tells.source.content now.lines.source) (tells.source.content new.lines.source) reads.takes.0 _ _ _ reads.takes.1 talked.alone exchange.line
+            (λ a b c before here. subst (SayOneThingEach top (start.lines.pending ++ a)) (sym here.2) (line_more before here.0 here.1.1));
         answered = more.answered;
         fits = more.fits;
         network = more.network;
-        out = subst (Grows first last) (sym (flat_map-last (λ reply. line_of (reply_text top reply)) served.replies exchange.reply))
-            (Grows-append first middle last (texts_of top served.replies) (line_of (reply_text top exchange.reply)) served.out exchange.out);
+        out = subst (Grows first last) (sym (flat_map-last (λ reply. line_of (reply_text top reply)) talked.replies exchange.reply))
+            (Grows-append first middle last (texts_of top talked.replies) (line_of (reply_text top exchange.reply)) talked.out exchange.out);
       }
 
   abbrev UpTo : (List ℕ → List ℕ → List ℕ → Type 0) → (List Reply → Type 0) → Type 0
-  UpTo stops puts = ServesUpTo source books start new top since begun.books next.books stops puts
+  UpTo stops puts = TalksUpTo tells top since (by_books start) (by_books new) stops puts
 
   -- an exchange more is taken, and its reply is cut off
-  pub served_cut : Served → ReadsOn source start now → Exchange (GrowsInPart middle last) → UpTo IsLeftOver (CutsLast top first last)
-  served_cut served reads taken =
-      let exchange = here (GrowsInPart middle last) served taken in
-      let more = goes_on served (GrowsInPart middle last) exchange in record {
-        lines = served.lines ++ exchange.said ∷ [];
-        replies = served.replies ++ exchange.reply ∷ [];
-        said = said_enough source (SaysNext top) start new _ (said_after (GrowsInPart middle last) served reads exchange);
+  talk_cut : AnswersOne tells now new (GrowsInPart middle last) → UpTo IsLeftOver (CutsLast top first last)
+  talk_cut taken =
+      let exchange = here (GrowsInPart middle last) taken in
+      let more = goes_on (GrowsInPart middle last) exchange in record {
+        lines = talked.lines ++ exchange.said ∷ [];
+        replies = talked.replies ++ exchange.reply ∷ [];
+        said = said_enough tells.source (SaysNext top) start.lines new.lines _ (said_after (GrowsInPart middle last) exchange);
         answered = more.answered;
         out = (
-          served.replies,
+          talked.replies,
           exchange.reply,
           refl,
           (
             exchange.out.0,
             exchange.out.1,
-            Grows-append first middle last (texts_of top served.replies) (take exchange.out.0 (line_of (reply_text top exchange.reply))) served.out exchange.out.2,
+            Grows-append first middle last (texts_of top talked.replies) (take exchange.out.0 (line_of (reply_text top exchange.reply))) talked.out exchange.out.2,
           ),
         );
       }
 
   -- no exchange more is taken
-  served_up_to : (stops : List ℕ → List ℕ → List ℕ → Type 0) (served : Served) → SaysUpTo source start new (SaysNext top) served.lines stops → last ≡ middle → next ≡ core → UpTo stops (λ replies. Grows first last (texts_of top replies))
-  served_up_to stops served said same stays = record {
-    lines = served.lines;
-    replies = served.replies;
+  talk_up_to : (stops : List ℕ → List ℕ → List ℕ → Type 0) → SaysUpTo tells.source start.lines new.lines (SaysNext top) talked.lines stops → new.output ≡ now.output → new.by ≡ now.by → UpTo stops (RepliesOut tells top since (by_books start) (by_books new))
+  talk_up_to stops said same stays = record {
+    lines = talked.lines;
+    replies = talked.replies;
     said = said;
-    answered = subst (λ (s : State K). AreAnswered books top since begun.books s.books served.lines served.replies) (sym stays) served.answered;
-    out = subst (λ (content : Option (List ℕ)). Grows first content (texts_of top served.replies)) (sym same) served.out;
+    answered = subst (λ (s : State K). AreAnswered tells.books top since start.by.books s.books talked.lines talked.replies) (sym stays) talked.answered;
+    out = subst (λ (o : O). Grows first (tells.sink.content o) (texts_of top talked.replies)) (sym same) talked.out;
   }
 
-  -- reading ended
-  served_over : Served → ReadsOn source start now → IsOver source now new → last ≡ middle → next ≡ core → UpTo IsAllTaken (λ replies. Grows first last (texts_of top replies))
-  served_over served reads over = served_up_to IsAllTaken served (said_all source (SaysNext top) start now new served.lines served.said reads over)
+  -- ---- what answering lines comes to
 
-  -- reading met a fault
-  served_broke : (fault : LineFault) → Served → ReadsOn source start now → now.fault ≡ None → StopsReading source now new fault → last ≡ middle → next ≡ core
-      → UpTo (StopsAfterLines fault) (λ replies. Grows first last (texts_of top replies))
-  served_broke fault served reads none met = served_up_to (StopsAfterLines fault) served (said_until source (SaysNext top) start now new served.lines served.said reads fault none met)
+  module _ (still : IsStillReading tells.source tells.sink start.lines now.lines start.output now.output) where
+    -- the output is as it was
+    until : (fault : LineFault) → StopsReading tells.source now.lines new.lines fault → new.output ≡ now.output → new.by ≡ now.by → TalksUntil tells top since (by_books start) (by_books new) fault
+    until fault met same stays = record {
+      talks = talk_up_to (StopsAfterLines fault) (said_until tells.source (SaysNext top) start.lines now.lines new.lines talked.lines talked.said reads fault still.none met) same stays;
+      before_end = reads.ended met.before_end;
+      kept = met.kept;
+      held = ap tells.sink.frame same ∙ still.held;
+    }
 
--- ---- what answering lines comes to
+    -- a fault ends it
+    pub talk_fault : (T : Type 0) (fault : Fault) → TalksOnce tells now new (Err fault) → Talks tells top since (by_books start) (by_books new) {T = T} (Err fault)
+    talk_fault T fault.Read line = (until line_fault.Read line.0 line.2 line.3, rw (source_held tells.source tells.sink start.lines now.lines start.output now.output still) at line.1)
+    talk_fault T fault.TooLong line = until line_fault.TooLong line.0 line.1 line.2
+    talk_fault T fault.Write line = (talk_cut line.0, line.1, rw still.held at line.2)
+    talk_fault T another line = absurd line
 
-module _ {S O K R : Type 0} (source : Ghosts S) (sink : SinkGhosts O) (books : BooksGhosts K R) (start now new : Reader S) (since : List Entry) (begun core next : State K) (first middle last : O)
-    (served : HasAnsweredLines source books start now since begun core (sink.content first) (sink.content middle)) (still : IsStillReading source sink start now first middle) where
-  abbrev whole : Network
-  whole = (books.ledger begun.books).network
-
-  -- the output is as it was
-  until : (fault : LineFault) → StopsReading source now new fault → last ≡ middle → next ≡ core → ServesUntil source sink books start new first last whole since begun.books next.books fault
-  until fault met same stays = record {
-    serves = served_broke source books start now new since begun core next (sink.content first) (sink.content middle) (sink.content last) fault served still.reads still.none met (ap sink.content same) stays;
-    before_end = still.reads.ended met.before_end;
-    kept = met.kept;
-    held = ap sink.frame same ∙ still.held;
-  }
-
-  -- a fault ends it
-  pub serves_fault : (T : Type 0) (fault : Fault) → ServesLine source sink books now new middle last core next (Err fault) → Serves {T = T} source sink books start new first last whole since begun.books next.books (Err fault)
-  serves_fault T fault.Read line = (until line_fault.Read line.0 line.2 line.3, rw (source_held source sink start now first middle still) at line.1)
-  serves_fault T fault.TooLong line = until line_fault.TooLong line.0 line.1 line.2
-  serves_fault T fault.Write line =
-      (served_cut source books start now new since begun core next (sink.content first) (sink.content middle) (sink.content last) served still.reads line.0, line.1, rw still.held at line.2)
-  serves_fault T another line = absurd line
-
-  -- no line is left
-  pub serves_all : (T : Type 0) (value : T) → ServesLine source sink books now new middle last core next (Ok false) → Serves source sink books start new first last whole since begun.books next.books (Ok value)
-  serves_all T value line = (
-    served_over source books start now new since begun core next (sink.content first) (sink.content middle) (sink.content last) served still.reads line.0 (ap sink.content line.2) line.3,
-    line.1,
-    ap sink.frame line.2 ∙ still.held,
-    WhereTold-then (source.content start.source) (source.content now.source) (source.content new.source) still.reads.takes.0 _ _ _ still.reads.takes.1 served.alone line.0.ended
-        (λ a b c each over. subst (SayOneThingEach whole (start.pending ++ a)) over.0 each),
-  )
+    -- no line is left
+    pub talk_all : (T : Type 0) (value : T) → TalksOnce tells now new (Ok false) → Talks tells top since (by_books start) (by_books new) (Ok value)
+    talk_all T value line = (
+      talk_up_to IsAllTaken (said_all tells.source (SaysNext top) start.lines now.lines new.lines talked.lines talked.said reads line.0) line.2 line.3,
+      line.1,
+      ap tells.sink.frame line.2 ∙ still.held,
+      WhereTold-then (tells.source.content start.lines.source) (tells.source.content now.lines.source) (tells.source.content new.lines.source) reads.takes.0 _ _ _ reads.takes.1 talked.alone line.0.ended
+          (λ a b c each over. subst (SayOneThingEach top (start.lines.pending ++ a)) over.0 each),
+    )

@@ -1,5 +1,5 @@
 -- A journal that is opened and closed: its store on a disk, and what a run and an audit make of it.
-use Rattle.std.proofs.Common.{◌≡◌, ◌↔◌, ◌⊎◌, inl, inr, ℕ, ◌≤◌, List, Option, Some, None, IfSome, Result, Ok, Err, sym, ap, subst, arith}
+use Rattle.std.proofs.Common.{◌≡◌, ◌∙◌, ◌↔◌, ◌⊎◌, inl, inr, ℕ, ◌≤◌, List, Option, Some, None, IfSome, Result, Ok, Err, sym, ap, subst, arith}
 use Rattle.std.specs.Prelude.{⊤}
 use Rattle.hose_io.specs.declared.Failed.{Failed}
 use Rattle.hose_io.specs.declared.source.Source.{Ghosts as SourceGhosts}
@@ -8,25 +8,30 @@ use Rattle.hose_words.specs.Lines.{Reader}
 use Rattle.hose_graph.specs.Network.{Network}
 use Rattle.hose_graph.specs.declared.entry.Entry.{Entry}
 use Rattle.hose_graph.specs.declared.command.Reply.{Reply}
-use Rattle.hose_law.specs.History.{EntryKind, IsDecidedAt, IsSound}
-use Rattle.hose_book.specs.Ledger.{IsLedgerOf, Ledger}
+use Rattle.hose_law.specs.History.{EntryKind, IsDecidedAt, IsSound, book_of}
+use Rattle.hose_audit.specs.Audit.{audit_text}
+use Rattle.hose_book.specs.Ledger.{Ledger}
 use Rattle.hose_disk.specs.Cabinet.{CabinetFrame}
 use Rattle.hose_disk.specs.declared.cabinet.Cabinet.{Ghosts as CabinetGhosts}
 use Rattle.hose_disk.specs.declared.disk.Disk.{Ghosts as DiskGhosts}
 use Rattle.hose_journal.specs.Image.{Meaning, listed, damaged, other}
 use Rattle.hose_journal.specs.Moments.{LeavesOnly}
 use Rattle.hose_journal.proofs.Runs.{joined, weaker}
+use Rattle.hose_journal.specs.declared.prepared.Ready.{Ready}
 use Rattle.hose_store.specs.Commit.{Closes, store_books}
 use Rattle.hose_store.specs.Opening.{IsAtOpening, IsOpenedOn, IsRefusedStore}
 use Rattle.hose_store.specs.Recovery.{IsHistoryOf, IsRecoveredAs}
 use Rattle.hose_store.specs.Store.{IsAmid, Kept}
 use Rattle.hose_store.specs.declared.fault.StoreFault.{StoreFault}
 use Rattle.hose_store.specs.declared.fault.StoreFault.TheVariants as store
-use Rattle.hose_offline.specs.Auditing.{AuditsBook}
+use Rattle.hose_offline.specs.Auditing.{HasAudited}
 use Rattle.hose_offline.specs.Fault.{of_store}
 use Rattle.hose_offline.specs.Journal.{ClosesJournal, IsJustOpened, IsLeftWith, OpensJournal}
-use Rattle.hose_offline.specs.Serving.{Serves, TellsDisks}
-use Rattle.hose_offline.specs.ServingOnDisk.{HasServedInCabinet, IsNotOpened, IsNotServed, first_of}
+use Rattle.hose_offline.specs.Parts.{Parts, Tellings, parts, tellings}
+use Rattle.hose_offline.specs.Talk.{talk}
+use Rattle.hose_offline.specs.Talking.{Talks, TalkTellings, TellsDisks, talk_tellings}
+use Rattle.hose_offline.specs.TalkingOnDisk.{HasTalkedInCabinet}
+use Rattle.hose_offline.specs.ServingOnDisk.{IsNotOpened, IsNotServed, first_of}
 use Rattle.hose_offline.specs.declared.fault.Fault.{Fault}
 use Rattle.hose_offline.specs.declared.fault.Fault.TheVariants.{Memory, TooLong}
 use Rattle.hose_offline.proofs.PutBack.{IsPutBack, TakenFrom, at_opening, counts, held_as, left_as, left_in, not_served}
@@ -122,6 +127,9 @@ module _ {C E : Type 0} (cabinet : CabinetGhosts C E) (disk : DiskGhosts E) (nam
 
   module _ {S O : Type 0} (source : SourceGhosts S) (sink : SinkGhosts O) (start now : Reader S) (output output' : O) (first last : Kept E) (served : Result ⊤ Fault) (closing : Result ⊤ Failed)
       (opens : OpensJournal cabinet disk IsDecidedAt name old mid network store) (closes : ClosesJournal cabinet disk mid new last closing) where
+    abbrev tells : TalkTellings S O (Kept E) Ready
+    tells = talk_tellings source sink (store_books disk)
+
     back : IsPutBack cabinet disk name old mid new opens.was closes.left
     back = put_back IsDecidedAt opens last closing closes
 
@@ -132,13 +140,14 @@ module _ {C E : Type 0} (cabinet : CabinetGhosts C E) (disk : DiskGhosts E) (nam
     told_back before after replies more (inl told) = inl (omega (arith, told, more, returned))
     told_back before after replies more (inr most) = inr (omega (arith, most, more, returned))
 
-    serves_in : Serves source sink (store_books disk) start now output output' network opens.opens.opened.history store last served → HasServedInCabinet source sink cabinet disk name start now output output' old new network served closing
-    serves_in serves = record {
+    talks_in : Talks tells network opens.opens.opened.history (talk start output store) (talk now output' last) served
+        → HasTalkedInCabinet (tellings source sink cabinet disk) name (parts start output old) (parts now output' new) network served closing
+    talks_in talks = record {
       since = opens.opens.opened.history;
       first = store;
       last = last;
       begun = held_as cabinet disk name old mid new network opens.was closes.left back (IsHistoryOf network opens.opens.opened.history) opens.opens.opened.read;
-      serves = serves;
+      talks = talks;
       keeps = λ history replies goes told. record {
         told = told_back _ _ replies closes.call.met.stays.never_falls told;
         met = counts cabinet disk name old mid new network opens.was closes.left back closing closes.call.told;
@@ -147,38 +156,41 @@ module _ {C E : Type 0} (cabinet : CabinetGhosts C E) (disk : DiskGhosts E) (nam
     }
 
     -- lines were answered by a core that began with the store
-    pub served_in : first ≡ store → Serves source sink (store_books disk) start now output output' first.ledger.network opens.opens.opened.history first last served
-        → HasServedInCabinet source sink cabinet disk name start now output output' old new network served closing
-    served_in same serves = serves_in
-        (subst (λ (n : Network). Serves source sink (store_books disk) start now output output' n opens.opens.opened.history store last served) opens.opens.opened.network
-        (subst (λ (kept : Kept E). Serves source sink (store_books disk) start now output output' kept.ledger.network opens.opens.opened.history kept last served) same serves))
+    pub talked_in : first ≡ store → Talks tells first.ledger.network opens.opens.opened.history (talk start output first) (talk now output' last) served
+        → HasTalkedInCabinet (tellings source sink cabinet disk) name (parts start output old) (parts now output' new) network served closing
+    talked_in same talks = talks_in
+        (subst (λ (n : Network). Talks tells n opens.opens.opened.history (talk start output store) (talk now output' last) served) opens.opens.opened.network
+        (subst (λ (kept : Kept E). Talks tells kept.ledger.network opens.opens.opened.history (talk start output kept) (talk now output' last) served) same talks))
 
-  -- ---- an audit
+-- ---- an audit
 
-  module _ (Kind : EntryKind) (closing : Result ⊤ Failed) (opens : OpensJournal cabinet disk Kind name old mid network store) (closes : ClosesJournal cabinet disk mid new store closing) where
-    abbrev opened : IsOpenedOn disk opens.was network store
-    opened = opens.opens.opened
+module _ {I O C E : Type 0} (tells : Tellings I O C E) (name : List ℕ) (before after : Parts I O C) (mid : C) (network : Network) (store : Kept E) (Kind : EntryKind) (closing : Result ⊤ Failed)
+    (opens : OpensJournal tells.cabinet tells.disk Kind name before.cabinet mid network store) (closes : ClosesJournal tells.cabinet tells.disk mid after.cabinet store closing) where
+  abbrev opened : IsOpenedOn tells.disk opens.was network store
+  opened = opens.opens.opened
 
-    unused_back : IsPutBack cabinet disk name old mid new opens.was closes.left
-    unused_back = put_back Kind opens store closing closes
+  unused_back : IsPutBack tells.cabinet tells.disk name before.cabinet mid after.cabinet opens.was closes.left
+  unused_back = put_back tells.cabinet tells.disk name before.cabinet mid after.cabinet network store Kind opens store closing closes
 
-    left_before : (was : E) → TakenFrom cabinet disk name old mid new network opens.was closes.left unused_back was → IsLeftWith disk was network opened.history closes.left
-    left_before was is =
-        let images = opens.opens.unused closes.left closing closes.closes in
-        record {
-          now = images.now;
-          moments = λ image since. at_opening cabinet disk name old mid new network opens.was closes.left unused_back was image is.0 is.1.0 (images.moments image (subst (λ (t : ℕ). disk.left_since closes.left t image) (sym is.1.1) since));
-        }
+  left_before : (was : E) → TakenFrom tells.cabinet tells.disk name before.cabinet mid after.cabinet network opens.was closes.left unused_back was → IsLeftWith tells.disk was network opened.history closes.left
+  left_before was is =
+      let images = opens.opens.unused closes.left closing closes.closes in
+      record {
+        now = images.now;
+        moments = λ image since. at_opening tells.cabinet tells.disk name before.cabinet mid after.cabinet network opens.was closes.left unused_back was image is.0 is.1.0
+            (images.moments image (subst (λ (t : ℕ). tells.disk.left_since closes.left t image) (sym is.1.1) since));
+      }
 
-    -- the book of the store was read
-    pub audits_in : (ledger : Ledger) → ledger ≡ store.ledger → AuditsBook cabinet disk name old new network ledger closing
-    audits_in ledger is = record {
-      history = opened.history;
-      is = subst (IsLedgerOf network 0 opened.history) (sym is) (record { is_network = opened.network; is_book = opened.has.book; tracks = opened.has.tracks });
-      audited = record {
-        begun = held_as cabinet disk name old mid new network opens.was closes.left unused_back (IsHistoryOf network opened.history) opened.read;
-        sound = subst (λ (n : Network). IsSound n 0 opened.history) opened.network opened.has.sound;
-        met = counts cabinet disk name old mid new network opens.was closes.left unused_back closing closes.call.told;
-        left = left_as cabinet disk name old mid new network opens.was closes.left unused_back (λ was now. IsLeftWith disk was network opened.history now) left_before;
-      };
-    }
+  -- the journal was opened and closed, and nothing was entered
+  pub audits_in : HasAudited tells name before after network opened.history closing
+  audits_in = record {
+    begun = held_as tells.cabinet tells.disk name before.cabinet mid after.cabinet network opens.was closes.left unused_back (IsHistoryOf network opened.history) opened.read;
+    sound = subst (λ (n : Network). IsSound n 0 opened.history) opened.network opened.has.sound;
+    met = counts tells.cabinet tells.disk name before.cabinet mid after.cabinet network opens.was closes.left unused_back closing closes.call.told;
+    left = left_as tells.cabinet tells.disk name before.cabinet mid after.cabinet network opens.was closes.left unused_back (λ was now. IsLeftWith tells.disk was network opened.history now) left_before;
+  }
+
+  -- the text of the book that comes back is that of the history's
+  pub audit_text_of : (ledger : Ledger) → ledger ≡ store.ledger → audit_text ledger.network ledger.book ≡ audit_text network (book_of 0 opened.history)
+  audit_text_of ledger is =
+      ap (λ (l : Ledger). audit_text l.network l.book) is ∙ (ap (λ (n : Network). audit_text n store.ledger.book) opened.network ∙ ap (audit_text network) opened.has.book)

@@ -14,9 +14,9 @@ use Rattle.hose_cert.specs.declared.fault.CertFault.TheVariants as certificate
 use Rattle.hose_io.specs.declared.source.Source.{Ghosts as SourceGhosts}
 use Rattle.hose_graph.specs.Network.{Network}
 use Rattle.hose_cert.specs.declared.Verdict.{Verdict}
-use Rattle.hose_disk.specs.declared.cabinet.Cabinet.{Ghosts as CabinetGhosts}
 use Rattle.hose_offline.specs.Auditing.{ReadsTopology}
-use Rattle.hose_offline.specs.CheckOutcome.{IsVerdictOf, JudgesInput, JudgesNamed, JudgedAs}
+use Rattle.hose_offline.specs.CheckOutcome.{CheckOutcome, EndsChecked, IsVerdictOf, JudgesInput, JudgesNamed, JudgedAs}
+use Rattle.hose_offline.specs.Parts.{Parts, Tellings}
 use Rattle.hose_offline.specs.declared.fault.Fault.{Fault}
 use Rattle.hose_offline.proofs.Taken.{both_failed, both_then}
 
@@ -47,16 +47,25 @@ long_told (Err certificate.Memory) told = ((λ is. absurd (cc is)), λ long. abs
 
 -- ---- a topology and an input
 
-module _ (prices : Network → Network → Type 0) {I C E : Type 0} (source : SourceGhosts I) (cabinet : CabinetGhosts C E) (topology : List ℕ) (input : I) (old new : C) where
+module _ {I O C E : Type 0} (tells : Tellings I O C E) (prices : Network → Network → Type 0) (topology : List ℕ) (before after : Parts I O C) where
   -- no topology was read, and so nothing of the input
-  pub judged_none : (why : Fault) → ReadsTopology cabinet old new prices topology (Err why) → JudgesNamed prices source cabinet topology input input old new (Err why)
-  judged_none why reads = both_failed cabinet old new topology _ _ source input why reads (inl (reads.text, refl))
+  pub judged_none : (why : Fault) → ReadsTopology tells.cabinet before.cabinet after.cabinet prices topology (Err why) → after.input ≡ before.input → JudgesNamed tells prices topology before after (Err why)
+  judged_none why reads same = both_failed tells topology before after _ _ why reads same (inl (reads.text, same))
 
   -- one was read, and then the input was judged, or not
-  pub judged_then : (input' : I) (network : Network) (result : Result Verdict Fault) → ReadsTopology cabinet old new prices topology (Ok network) → JudgesInput source input input' network result → JudgesNamed prices source cabinet topology input input' old new result
-  judged_then input' network result reads judges =
-      both_then cabinet old new topology _ _ source input input' network result reads judges.taken judges.gives judges.limit judges.too_long (at result judges.judged)
+  pub judged_then : (network : Network) (result : Result Verdict Fault) → ReadsTopology tells.cabinet before.cabinet after.cabinet prices topology (Ok network) → JudgesInput tells.source before.input after.input network result → JudgesNamed tells prices topology before after result
+  judged_then network result reads judges =
+      both_then tells topology before after _ _ network result reads judges.taken judges.gives judges.limit judges.too_long (at result judges.judged)
     where
-      at : (one : Result Verdict Fault) → JudgedAs source input input' network one → IsVerdictOf prices source cabinet topology input input' old new reads.left one
+      at : (one : Result Verdict Fault) → JudgedAs tells.source before.input after.input network one → IsVerdictOf tells prices topology before after reads.left one
       at (Ok verdict) is = (record { network = network; text = reads.text.2; is = is }, reads.text.1)
       at (Err why) is = inr (record { network = network; text = reads.text.2; is = is }, reads.text.1)
+
+  -- the output was left alone until that was told
+  pub checked : (output : O) (status : ℕ) (result : Result Verdict Fault) → after.output ≡ before.output → JudgesNamed tells prices topology before after result → EndsChecked tells.sink after.output output status result
+      → CheckOutcome tells prices topology before (record after { output = output }) status
+  checked output status result same judges ends = record {
+    result = result;
+    judges = subst (λ (left : O). JudgesNamed tells prices topology before (record after { output = left }) result) same judges;
+    ends = subst (λ (left : O). EndsChecked tells.sink left output status result) same ends;
+  }

@@ -1,32 +1,31 @@
 -- What a run leaves, by what answering its lines comes to.
 use Rattle.std.proofs.Common.{◌≡◌, ◌∙◌, ℕ, List, [], ◌++◌, MutBor, Option, Some, None, Result, Ok, Err, inl, inr, refl, sym, ap, subst}
 use Rattle.std.specs.Prelude.{⊤}
-use Rattle.hose_io.specs.Frame.{Rose}
-use Rattle.hose_io.specs.Stream.{Stream}
+use Rattle.hose_io.specs.Borrowed.{borrowed}
 use Rattle.hose_io.specs.declared.Failed.{Failed}
 use Rattle.hose_io.specs.declared.source.Source.{Ghosts}
 use Rattle.hose_io.specs.declared.sink.Sink.{Ghosts as SinkGhosts}
 use Rattle.hose_words.specs.Lines.{Reader}
 use Rattle.hose_words.specs.Reading.{WhereTold, ReadsOn}
-use Rattle.hose_words.specs.declared.lines.LineFault.{LineFault}
-use Rattle.hose_words.specs.declared.lines.LineFault.TheVariants as line
 use Rattle.hose_graph.specs.Network.{Network, IsNetwork}
 use Rattle.hose_disk.specs.declared.cabinet.Cabinet.{Ghosts as CabinetGhosts}
 use Rattle.hose_disk.specs.declared.disk.Disk.{Ghosts as DiskGhosts}
 use Rattle.hose_store.specs.Commit.{store_books}
-use Rattle.hose_topo.specs.Reading.{StopsInTopology}
 use Rattle.hose_topo.specs.TopologyText.{IsTopologyText}
-use Rattle.hose_offline.specs.OnDisk.{keeping_of, on_disk}
-use Rattle.hose_offline.specs.Run.{HasNetwork, HasText, in_memory, IsCutOff, IsRun, IsRunUpTo, TellsNoNetwork}
-use Rattle.hose_offline.specs.RunOutcome.{IsInterrupted, IsStarved, RunLeaves}
-use Rattle.hose_offline.specs.Serving.{ServesInMemory, plain_books}
+use Rattle.hose_offline.specs.OnDisk.{on_disk}
+use Rattle.hose_offline.specs.Parts.{Parts, Tellings, parts, tellings}
+use Rattle.hose_offline.specs.Run.{HasNetwork, HasText, in_memory}
+use Rattle.hose_offline.specs.RunOutcome.{InputWorked, RunLeaves}
+use Rattle.hose_offline.specs.Talk.{talk}
+use Rattle.hose_offline.specs.Talking.{TalksInMemory, plain_books, talk_tellings}
+use Rattle.hose_offline.specs.TalkingOnDisk.{HasTalkedInCabinet, TalksInCabinet}
 use Rattle.hose_offline.specs.TopologyTold.{TellsPriced}
 use Rattle.hose_offline.specs.declared.notation.Notation.TheVariants.{Lines}
 use Rattle.hose_words.proofs.OnReading.{WhereTold-map}
-use Rattle.hose_offline.specs.ServingOnDisk.{HasServedInCabinet, IsNotServed, ServesInCabinet, first_of}
+use Rattle.hose_offline.specs.ServingOnDisk.{IsNotServed, first_of}
 use Rattle.hose_offline.specs.declared.fault.Fault.{Fault}
 use Rattle.hose_offline.specs.declared.fault.Fault.TheVariants as fault
-use Rattle.hose_offline.proofs.Borrowed.{IsBehind, content_behind, held_behind, rose_behind}
+use Rattle.hose_offline.proofs.Borrowed.{held_behind, rose_behind}
 use Rattle.hose_offline.proofs.OneRun.{OneText}
 use Rattle.hose_offline.proofs.Running.{never_told, ran, text_read}
 
@@ -35,7 +34,7 @@ module _ (prices : Network → Network → Type 0) {S O C E : Type 0} (source : 
     (one : WhereTold (source.content start.source) (source.content middle.source) (λ input left. OneText (start.pending ++ input) told (middle.pending ++ left)))
     (reads : ReadsOn source start middle) (none : middle.fault ≡ None) where
   abbrev Leaves : Option (List ℕ) → C → Result ⊤ Fault → Type 0
-  Leaves journal after done = RunLeaves prices source sink cabinet disk journal start.source last.source output output' place after done
+  Leaves journal after done = RunLeaves (tellings source sink cabinet disk) prices journal (parts start.source output place) (parts last.source output' after) done
 
   -- nothing was done after the topology
   has_read : (Is : Network → Type 0) → last ≡ middle → Is network → HasNetwork Lines prices (source.content start.source) (source.content last.source) Is
@@ -54,7 +53,7 @@ module _ (prices : Network → Network → Type 0) {S O C E : Type 0} (source : 
   input_held stays = ap (λ (reader : Reader S). source.frame reader.source) stays ∙ reads.unfailed (λ read. absurd (cc (none, read)))
 
   -- lines were answered by a book in memory
-  pub leaves_in_memory : (done : Result ⊤ Fault) → ReadsOn source middle last → ServesInMemory source sink middle last output output' network done → Leaves None place done
+  pub leaves_in_memory : (done : Result ⊤ Fault) → ReadsOn source middle last → TalksInMemory (talk_tellings source sink plain_books) network (talk middle output tt) (talk last output' tt) done → Leaves None place done
   leaves_in_memory done more (inl (is_memory, stays, same)) =
       subst (Leaves None place) (sym is_memory) (inr (inl (has_text stays, refl)), input_held stays, same)
   leaves_in_memory done more (inr (first, now, serves)) =
@@ -67,77 +66,68 @@ module _ (prices : Network → Network → Type 0) {S O C E : Type 0} (source : 
 
   -- lines were answered by the book of a journal
   module _ (name : List ℕ) where
-    served_leaves : (served : Result ⊤ Fault) (closing : Result ⊤ Failed) → ReadsOn source middle last → HasServedInCabinet source sink cabinet disk name middle last output output' place place' network served closing → Leaves (Some name) place' (first_of served closing)
+    served_leaves : (served : Result ⊤ Fault) (closing : Result ⊤ Failed) → ReadsOn source middle last → HasTalkedInCabinet (tellings source sink cabinet disk) name (parts middle output place) (parts last output' place') network served closing → Leaves (Some name) place' (first_of served closing)
     served_leaves served (Ok done) more has =
         ran prices source sink start middle last told network priced output output' is empty text one reads none (store_books disk) (on_disk cabinet disk place place' name (Ok done)) has.since has.first has.last has.begun has.keeps more
         (λ done. Leaves (Some name) place' done)
         (λ run held out. (run, held, out))
         (λ run out rose. (inr (Ok done, run, out), rose))
         (λ run out held. (inr (Ok done, run, out), held))
-        (λ run held rose. ((Ok done, run), held, rose)) served has.serves
+        (λ run held rose. ((Ok done, run), held, rose)) served has.talks
     served_leaves served (Err failed) more has =
         ran prices source sink start middle last told network priced output output' is empty text one reads none (store_books disk) (on_disk cabinet disk place place' name (Err failed)) has.since has.first has.last has.begun has.keeps more
         (λ done. Leaves (Some name) place' (first_of done (Err failed)))
         (λ run held out. (inr (refl, failed, run, held, out), run.run.keeps.met.failed refl))
         (λ run out rose. (inr (Err failed, run, out), rose))
         (λ run out held. (inr (Err failed, run, out), held))
-        (λ run held rose. ((Err failed, run), held, rose)) served has.serves
+        (λ run held rose. ((Err failed, run), held, rose)) served has.talks
 
     not_served : (done : Result ⊤ Fault) → last ≡ middle → output' ≡ output → IsNotServed cabinet disk name place place' network done → Leaves (Some name) place' done
     not_served (Ok tt) stays same why = absurd why
     not_served (Err (fault.Other kept given)) stays same why = (has_read _ stays why, input_held stays, same)
-    not_served (Err (fault.Damaged at)) stays same why = (has_read _ stays why, input_held stays, same)
+    not_served (Err (fault.Damaged at)) stays same why = (has_read _ stays (tt, why), input_held stays, same)
     not_served (Err fault.Cabinet) stays same why = (inl (has_read _ stays why.0, input_held stays, same), why.1)
     not_served (Err fault.Memory) stays same why = (inr (inr (has_read _ stays why)), input_held stays, same)
     not_served (Err another) stays same why = absurd why
 
-    pub leaves_in_cabinet : (done : Result ⊤ Fault) → ReadsOn source middle last → ServesInCabinet source sink cabinet disk name middle last output output' place place' network done → Leaves (Some name) place' done
+    pub leaves_in_cabinet : (done : Result ⊤ Fault) → ReadsOn source middle last → TalksInCabinet (tellings source sink cabinet disk) name (parts middle output place) (parts last output' place') network done → Leaves (Some name) place' done
     leaves_in_cabinet done more (inl (why, stays, same)) = not_served done stays same why
     leaves_in_cabinet done more (inr (served, closing, has, told)) = subst (Leaves (Some name) place') (sym told) (served_leaves served closing more has)
 
 -- ---- an input behind a borrow
 
-module _ (prices : Network → Network → Type 0) {T O C E : Type 0} (other : Ghosts T) (source : Ghosts (MutBor T)) (sink : SinkGhosts O) (cabinet : CabinetGhosts C E) (disk : DiskGhosts E) (journal : Option (List ℕ)) (input input' : MutBor T) (behind : T) (output output' : O) (place place' : C)
-    (is : IsBehind other source input' behind) where
-  moved : (P : Option Stream → Option Stream → Type 0) → P (source.content input) (source.content input') → P (other.content input.now) (other.content behind)
-  moved P holds = content_behind other source input input' behind is P holds
+module _ {T O C E : Type 0} (tells : Tellings T O C E) (prices : Network → Network → Type 0) (journal : Option (List ℕ)) where
+  -- what is told of the borrow
+  abbrev lent : Tellings (MutBor T) O C E
+  lent = tellings (borrowed tells.source) tells.sink tells.cabinet tells.disk
 
-  held : source.frame input' ≡ source.frame input → other.frame behind ≡ other.frame input.now
-  held same = held_behind other source input input' behind is same
+  module _ (before after : Parts (MutBor T) O C) where
+    abbrev from : Parts T O C
+    from = parts before.input.now before.output before.cabinet
 
-  rose : Rose (source.frame input) (source.frame input') → Rose (other.frame input.now) (other.frame behind)
-  rose more = rose_behind other source input input' behind is more
+    abbrev to : Parts T O C
+    to = parts after.input.now after.output after.cabinet
 
-  moved_read : (Is : Network → Type 0) → HasNetwork Lines prices (source.content input) (source.content input') Is → HasNetwork Lines prices (other.content input.now) (other.content behind) Is
-  moved_read Is read = moved (λ was now. HasNetwork Lines prices was now Is) read
+    held : InputWorked lent before after → InputWorked tells from to
+    held same = held_behind tells.source before.input after.input same
 
-  moved_broken : (why : LineFault) → IsInterrupted prices source sink cabinet disk journal input input' output output' place place' why → IsInterrupted prices other sink cabinet disk journal input.now behind output output' place place' why
-  moved_broken why (inl stops) = inl (moved (λ was now. WhereTold was now (StopsInTopology why)) stops.0, stops.1, stops.2)
-  moved_broken why (inr run) = inr (run.0, moved (λ was now. IsRunUpTo prices (keeping_of cabinet disk place place' journal run.0) why was now (sink.content output) (sink.content output')) run.1, run.2)
-
-  moved_starved : IsStarved prices source sink cabinet disk journal input input' output output' place place' → IsStarved prices other sink cabinet disk journal input.now behind output output' place place'
-  moved_starved (inl none) = inl (sym is.back ∙ ap (λ (b : MutBor T). b.now) none.0, none.1, none.2)
-  moved_starved (inr (inl text)) = inr (inl (moved (HasText Lines) text.0, text.1))
-  moved_starved (inr (inr read)) = inr (inr (moved_read _ read))
-
-  moved_run : (closing : Result ⊤ Failed) → IsRun prices (keeping_of cabinet disk place place' journal closing) (source.content input) (source.content input') (sink.content output) (sink.content output')
-      → IsRun prices (keeping_of cabinet disk place place' journal closing) (other.content input.now) (other.content behind) (sink.content output) (sink.content output')
-  moved_run closing run = moved (λ was now. IsRun prices (keeping_of cabinet disk place place' journal closing) was now (sink.content output) (sink.content output')) run
-
-  left_behind : (done : Result ⊤ Fault) → RunLeaves prices source sink cabinet disk journal input input' output output' place place' done → RunLeaves prices other sink cabinet disk journal input.now behind output output' place place' done
-  left_behind (Ok done) leaves = (moved_run (Ok tt) leaves.0, held leaves.1, leaves.2)
-  left_behind (Err (fault.Topology refusal)) leaves = (moved (λ was now. TellsNoNetwork Lines refusal was now) leaves.0, held leaves.1, leaves.2, leaves.3)
-  left_behind (Err fault.Read) leaves = (moved_broken line.Read leaves.0, rose leaves.1)
-  left_behind (Err fault.Write) leaves =
-      ((leaves.0.0, moved (λ was now. IsCutOff prices (keeping_of cabinet disk place place' journal leaves.0.0) was now (sink.content output) (sink.content output')) leaves.0.1), held leaves.1, leaves.2)
-  left_behind (Err (fault.Other kept given)) leaves = (moved_read _ leaves.0, held leaves.1, leaves.2)
-  left_behind (Err (fault.Damaged at)) leaves = (moved_read _ leaves.0, held leaves.1, leaves.2)
-  left_behind (Err fault.Cabinet) (inl read, failed) = (inl (moved_read _ read.0, held read.1, read.2), failed)
-  left_behind (Err fault.Cabinet) (inr run, failed) = (inr (run.0, run.1, moved_run (Err run.1) run.2, held run.3, run.4), failed)
-  left_behind (Err fault.Memory) leaves = (moved_starved leaves.0, held leaves.1, leaves.2)
-  left_behind (Err fault.TooLong) leaves = (moved_broken line.TooLong leaves.0, held leaves.1)
-  left_behind (Err another) leaves = absurd leaves
+    left_behind : (done : Result ⊤ Fault) → RunLeaves lent prices journal before after done → RunLeaves tells prices journal from to done
+    left_behind (Ok done) leaves = (leaves.0, held leaves.1, leaves.2)
+    left_behind (Err (fault.Topology refusal)) leaves = (leaves.0, held leaves.1, leaves.2, leaves.3)
+    left_behind (Err fault.Read) leaves = (leaves.0, rose_behind tells.source before.input after.input leaves.1)
+    left_behind (Err fault.Write) leaves = (leaves.0, held leaves.1, leaves.2)
+    left_behind (Err (fault.Other kept given)) leaves = (leaves.0, held leaves.1, leaves.2)
+    left_behind (Err (fault.Damaged at)) leaves = (leaves.0, held leaves.1, leaves.2)
+    left_behind (Err fault.Cabinet) (inl read, failed) = (inl (read.0, held read.1, read.2), failed)
+    left_behind (Err fault.Cabinet) (inr run, failed) = (inr (run.0, run.1, run.2, held run.3, run.4), failed)
+    left_behind (Err fault.Memory) (inl none, worked, same) = (inl (ap (λ (b : MutBor T). b.now) none.0, none.1, none.2), held worked, same)
+    left_behind (Err fault.Memory) (inr read, worked, same) = (inr read, held worked, same)
+    left_behind (Err fault.TooLong) leaves = (leaves.0, held leaves.1)
+    left_behind (Err another) leaves = absurd leaves
 
   -- what is left of the borrow is left of what is behind it
-  pub leaves_behind : (before : T) → input.now ≡ before → (done : Result ⊤ Fault) → RunLeaves prices source sink cabinet disk journal input input' output output' place place' done → RunLeaves prices other sink cabinet disk journal before behind output output' place place' done
-  leaves_behind before begun done leaves = subst (λ (was : T). RunLeaves prices other sink cabinet disk journal was behind output output' place place' done) begun (left_behind done leaves)
+  pub leaves_behind : (before after : Parts (MutBor T) O C) (first last : T) → before.input.now ≡ first → after.input.now ≡ last → (done : Result ⊤ Fault) → RunLeaves lent prices journal before after done
+      → RunLeaves tells prices journal (parts first before.output before.cabinet) (parts last after.output after.cabinet) done
+  leaves_behind before after first last begun ended done leaves =
+      subst (λ (now : T). RunLeaves tells prices journal (parts first before.output before.cabinet) (parts now after.output after.cabinet) done) ended
+      (subst (λ (was : T). RunLeaves tells prices journal (parts was before.output before.cabinet) (to before after) done) begun (left_behind before after done leaves))

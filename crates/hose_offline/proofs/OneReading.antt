@@ -16,7 +16,7 @@ use Rattle.hose_law.specs.Script.ReadLine.{Asks, IsBad, IsLong, Unread}
 use Rattle.hose_proto.specs.Command.{IsCommand, command_form, command_grammar}
 use Rattle.hose_offline.specs.ScriptLine.{IsAsking, script_grammar}
 use Rattle.hose_words.specs.Saying.{SayLines, no_line, one_more as one_line}
-use Rattle.hose_offline.specs.Serving.{Says, SaysNext, IsRead, SaysOneThing, SayOneThingEach, none_said, line_more}
+use Rattle.hose_offline.specs.Talking.{Says, SaysNext, IsRead, SaysOneThing, SayOneThingEach, none_said, line_more}
 
 -- ---- one line
 

@@ -9,7 +9,6 @@ use Rattle.hose_graph.specs.declared.entry.Entry.{Entry}
 use Rattle.hose_graph.specs.declared.command.Reply.{Reply}
 use Rattle.hose_graph.specs.Naming.{AsksOf}
 use Rattle.hose_graph.specs.Network.{IsNetwork, Network}
-use Rattle.hose_law.specs.History.{book_of}
 use Rattle.hose_law.specs.Quotes.{nothing_held}
 use Rattle.hose_law.specs.Script.{ReadLine, IsForMemory}
 use Rattle.hose_law.specs.Script.ReadLine.{Asks}
@@ -20,11 +19,12 @@ use Rattle.hose_book.specs.declared.books.Books.{Ghosts as BooksGhosts}
 use Rattle.hose_book.specs.declared.books.Plain.{Plain}
 use Rattle.hose_core.specs.Holding.{State}
 use Rattle.hose_core.specs.Stepping.{FitsHistory}
-use Rattle.hose_gen.specs.Generated.{Order, generated_network, generated_script}
-use Rattle.hose_offline.specs.GenOutcome.{IsSummary}
+use Rattle.hose_gen.specs.Generated.{Order}
+use Rattle.hose_offline.specs.GenOutcome.{IsSummary, network_of_sizes, script_of_sizes, summary_of_replies}
 use Rattle.hose_offline.specs.Generating.{HaveBeenAnswered, IsScriptOf, IsTallyOf, asked}
-use Rattle.hose_offline.specs.Serving.{AnswersLine, plain_books}
+use Rattle.hose_offline.specs.Talking.{AnswersLine, plain_books}
 use Rattle.hose_offline.specs.Tally.{IsOfUpTo, admitted_cost, one_if_admitted, one_if_refused, one_if_released, tally_line, tally_of, with_reply}
+use Rattle.hose_offline.specs.declared.generating.Sizes.{Sizes}
 use Rattle.hose_offline.specs.declared.tally.Tally.{Tally}
 use Rattle.hose_offline.proofs.Running.{never_told}
 use Rattle.hose_offline.proofs.Exchanges.{Answered, answered_more}
@@ -94,20 +94,19 @@ tally_told network first last orders tally epoch was same is =
     }
 
 -- the line of the tally is the summary, and the only one
-pub summary_of : (seed nodes links hoses : ℕ) (tally : Tally) → IsNetwork (generated_network seed nodes links)
-    → IsTallyOf (generated_network seed nodes links) (generated_script seed nodes links hoses) tally → IsSummary seed nodes links hoses (tally_line seed hoses tally)
-summary_of seed nodes links hoses tally network was =
-    let line : tally_line seed hoses tally ≡ tally_line seed hoses (tally_of was.replies (book_of 0 was.history).epoch) = ap (tally_line seed hoses) was.is_tally in
+pub summary_of : (sizes : Sizes) (tally : Tally) → IsNetwork (network_of_sizes sizes) → IsTallyOf (network_of_sizes sizes) (script_of_sizes sizes) tally → IsSummary sizes (tally_line sizes.seed sizes.hoses tally)
+summary_of sizes tally network was =
+    let line : tally_line sizes.seed sizes.hoses tally ≡ summary_of_replies sizes was.replies was.history = ap (tally_line sizes.seed sizes.hoses) was.is_tally in
     record {
       replies = was.replies;
       history = was.history;
       script = was.script;
       tells = line;
       alone = λ others other is.
-          let same = script_unique (generated_network seed nodes links) network 0 [] nothing_held (asked (generated_script seed nodes links hoses)) was.replies others was.history other was.script.left is.left was.script.script is.script
+          let same = script_unique (network_of_sizes sizes) network 0 [] nothing_held (asked (script_of_sizes sizes)) was.replies others was.history other was.script.left is.left was.script.script is.script
           (record { memory = was.script.memory; disk = was.script.disk }) (record { memory = is.memory; disk = is.disk }) in
-          line ∙ ap (λ (replies : List Reply). tally_line seed hoses (tally_of replies (book_of 0 was.history).epoch)) same.0
-          ∙ ap (λ (history : List Entry). tally_line seed hoses (tally_of others (book_of 0 history).epoch)) same.1;
+          line ∙ ap (λ (replies : List Reply). summary_of_replies sizes replies was.history) same.0
+          ∙ ap (λ (history : List Entry). summary_of_replies sizes others history) same.1;
     }
 
 -- Of orders those before these were answered.
@@ -152,8 +151,7 @@ module _ {K R : Type 0} (books : BooksGhosts K R) (first : State K) (orders : Li
       (length was.done, omega (arith, long, small), was.counted)
 
 -- where a network and a script are the generated ones, their tally makes the summary
-pub summary_made : (seed nodes links hoses : ℕ) (top : Network) (script : List Order) (tally : Tally) → top ≡ generated_network seed nodes links → script ≡ generated_script seed nodes links hoses → IsNetwork top
-    → IsTallyOf top script tally → IsSummary seed nodes links hoses (tally_line seed hoses tally)
-summary_made seed nodes links hoses top script tally is_top is_script network was =
-    summary_of seed nodes links hoses tally (subst IsNetwork is_top network)
-    (subst (λ (s : List Order). IsTallyOf (generated_network seed nodes links) s tally) is_script (subst (λ (n : Network). IsTallyOf n script tally) is_top was))
+pub summary_made : (sizes : Sizes) (top : Network) (script : List Order) (tally : Tally) → top ≡ network_of_sizes sizes → script ≡ script_of_sizes sizes → IsNetwork top → IsTallyOf top script tally → IsSummary sizes (tally_line sizes.seed sizes.hoses tally)
+summary_made sizes top script tally is_top is_script network was =
+    summary_of sizes tally (subst IsNetwork is_top network)
+    (subst (λ (s : List Order). IsTallyOf (network_of_sizes sizes) s tally) is_script (subst (λ (n : Network). IsTallyOf n script tally) is_top was))

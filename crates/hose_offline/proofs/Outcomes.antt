@@ -1,11 +1,9 @@
 -- What the top call makes of a run.
 use Rattle.std.proofs.Common.{◌≡◌, ◌⊎◌, ℕ, ◌<◌, ◌≤◌, List, ◌∷◌, [], ◌++◌, Option, None, Some, IfSome, IsSome, MatchOption, Result, Ok, Err, inl, inr, refl, ap, subst, arith, length, length-append}
-use Rattle.std.specs.Prelude.{⊤}
+use Rattle.std.specs.Prelude.{option_map, ⊤}
 use Rattle.hose_io.specs.Frame.{Stays}
 use Rattle.hose_io.specs.Stream.{Stream, Gives}
 use Rattle.hose_io.specs.declared.Failed.{Failed}
-use Rattle.hose_io.specs.declared.source.Source.{Ghosts as SourceGhosts}
-use Rattle.hose_io.specs.declared.sink.Sink.{Ghosts as SinkGhosts}
 use Rattle.hose_io.proofs.Frames.{Rose-before}
 use Rattle.hose_words.specs.Lines.{StopsAfterLines}
 use Rattle.hose_words.specs.declared.lines.TheConstants.{INPUT_LIMIT}
@@ -22,8 +20,9 @@ use Rattle.hose_store.specs.Recovery.{IsHistoryOf, digest_of}
 use Rattle.hose_law.specs.Script.{ReadLine}
 use Rattle.hose_offline.specs.Ending.{status_of_done}
 use Rattle.hose_offline.specs.OnDisk.{HadContent, IsRefusedOnDisk, JournalIsTold, keeping_of}
+use Rattle.hose_offline.specs.Parts.{Parts, Tellings}
 use Rattle.hose_offline.specs.Run.{HasNetwork, HasRun, HasText, IsFor, IsRefusedText, IsRun, IsServable, Keeping, TellsNoNetwork}
-use Rattle.hose_offline.specs.RunOutcome.{EndsInputRefused, InputStops, IsInterrupted, AnyJournalIs, NothingFailed, RunLeaves}
+use Rattle.hose_offline.specs.RunOutcome.{EndsInputRefused, InputStops, IsInterrupted, AnyJournalIs, JournalRefused, NothingFailed, OfText, RunLeaves, keeping}
 use Rattle.hose_words.specs.Saying.{IsAllTaken, IsLeftOver}
 use Rattle.hose_offline.specs.TopologyTold.{TellsPriced, limit_of}
 use Rattle.hose_offline.specs.declared.fault.Fault.{Fault}
@@ -38,13 +37,17 @@ too_long_at_8 (Ok _) is = absurd (omega (arith, is))
 too_long_at_8 (Err TooLong) is = refl
 too_long_at_8 (Err another) is = absurd (omega (arith, is))
 
+-- a journal that has no name is none
+pub none_named : {A B : Type 0} (view : A → B) (name : Option A) → option_map view name ≡ None → name ≡ None
+none_named view None none = refl
+none_named view (Some name) none = absurd (cc none)
+
 -- ---- a command is not refused for its words
 
-pub run_not_1 : {I O C E : Type 0} (prices : Network → Network → Type 0) (source : SourceGhosts I) (sink : SinkGhosts O) (cabinet : CabinetGhosts C E) (disk : DiskGhosts E) (journal : Option (List ℕ)) (input input' : I) (output left : O) (place place' : C)
-    (done : Result ⊤ Fault) → RunLeaves prices source sink cabinet disk journal input input' output left place place' done → status_of_done done ≡ 1 → ⊥
-run_not_1 prices source sink cabinet disk journal input input' output left place place' (Ok _) leaves is = omega (arith, is)
-run_not_1 prices source sink cabinet disk journal input input' output left place place' (Err (Words word)) leaves is = leaves
-run_not_1 prices source sink cabinet disk journal input input' output left place place' (Err another) leaves is = omega (arith, is)
+pub run_not_1 : {I O C E : Type 0} (tells : Tellings I O C E) (prices : Network → Network → Type 0) (journal : Option (List ℕ)) (before after : Parts I O C) (done : Result ⊤ Fault) → RunLeaves tells prices journal before after done → status_of_done done ≡ 1 → ⊥
+run_not_1 tells prices journal before after (Ok _) leaves is = omega (arith, is)
+run_not_1 tells prices journal before after (Err (Words word)) leaves is = leaves
+run_not_1 tells prices journal before after (Err another) leaves is = omega (arith, is)
 
 -- ---- an input that can be served
 
@@ -105,27 +108,36 @@ module _ {C E : Type 0} (cabinet : CabinetGhosts C E) (disk : DiskGhosts E) (old
       let bytes = subst (λ (content : Option (List ℕ)). IfSome content P) told.4 is in
       apart told.3 bytes told.5
 
-module _ (prices : Network → Network → Type 0) {I O C E : Type 0} (source : SourceGhosts I) (sink : SinkGhosts O) (cabinet : CabinetGhosts C E) (disk : DiskGhosts E) (journal : Option (List ℕ)) (input input' : I) (output left output' : O) (place place' : C) where
-  stops_refused : (fault : LineFault) → IsRefusedText Lines (source.content input) (source.content input') → IsInterrupted prices source sink cabinet disk journal input input' output left place place' fault
-      → InputStops prices source sink cabinet disk journal input input' output output' place place' fault
+-- The run left the outside so before its last line, and after it with this output.
+module _ {I O C E : Type 0} (tells : Tellings I O C E) (prices : Network → Network → Type 0) (journal : Option (List ℕ)) (before left : Parts I O C) (output : O) where
+  abbrev after : Parts I O C
+  after = record left { output = output }
+
+  -- what the input told
+  abbrev old : Option Stream
+  old = tells.source.content before.input
+
+  abbrev new : Option Stream
+  new = tells.source.content left.input
+
+  stops_refused : (fault : LineFault) → IsRefusedText Lines old new → IsInterrupted tells prices journal before left fault → InputStops tells before after fault
   stops_refused fault refused (inl stops) = stops.0
   stops_refused fault refused (inr run) = absurd (no_run prices _ _ _ run.1.network run.1.lines run.1.replies (StopsAfterLines fault) refused run.1.run)
 
   abbrev Leaves : {T : Type 0} → Result T Fault → Type 0
-  Leaves done = RunLeaves prices source sink cabinet disk journal input input' output left place place' done
+  Leaves done = RunLeaves tells prices journal before left done
 
-  nothing_read : (Is : Network → Type 0) → IsRefusedText Lines (source.content input) (source.content input') → HasNetwork Lines prices (source.content input) (source.content input') Is → ⊥
+  nothing_read : (Is : Network → Type 0) → IsRefusedText Lines old new → HasNetwork Lines prices old new Is → ⊥
   nothing_read Is refused read = no_network_read Lines prices _ _ read.network refused read.text
 
-  pub refused_ends : (done : Result ⊤ Fault) → Leaves done → IsRefusedText Lines (source.content input) (source.content input')
-      → EndsInputRefused prices source sink cabinet disk journal input input' output output' place place' (status_of_done done)
+  pub refused_ends : (done : Result ⊤ Fault) → Leaves done → IsRefusedText Lines old new → EndsInputRefused tells before after (status_of_done done)
   refused_ends (Ok _) leaves refused = absurd (no_run prices _ _ _ leaves.0.network leaves.0.lines leaves.0.replies IsAllTaken refused leaves.0.run)
   refused_ends (Err (Topology refusal)) leaves refused = inl refl
   refused_ends (Err Memory) (inl none, held, same) refused = inr (inl (refl, none.0))
   refused_ends (Err Memory) (inr (inl text), held, same) refused = absurd (no_text Lines _ _ refused text.0)
   refused_ends (Err Memory) (inr (inr read), held, same) refused = absurd (nothing_read _ refused read)
   refused_ends (Err Write) leaves refused = absurd (no_run prices _ _ _ leaves.0.1.network leaves.0.1.lines (leaves.0.1.replies ++ leaves.0.1.reply ∷ []) IsLeftOver refused leaves.0.1.run)
-  refused_ends (Err (Other old given)) leaves refused = absurd (nothing_read _ refused leaves.0)
+  refused_ends (Err (Other kept given)) leaves refused = absurd (nothing_read _ refused leaves.0)
   refused_ends (Err (Damaged at)) leaves refused = absurd (nothing_read _ refused leaves.0)
   refused_ends (Err Cabinet) (inl read, rose) refused = absurd (nothing_read _ refused read.0)
   refused_ends (Err Cabinet) (inr run, rose) refused = absurd (no_run prices _ _ _ run.2.network run.2.lines run.2.replies IsAllTaken refused run.2.run)
@@ -133,20 +145,18 @@ module _ (prices : Network → Network → Type 0) {I O C E : Type 0} (source : 
   refused_ends (Err TooLong) leaves refused = inr (inr (inr (refl, stops_refused line.TooLong refused leaves.0)))
   refused_ends (Err another) leaves refused = absurd leaves
 
-  module _ (stays : Stays (sink.frame left) (sink.frame output')) (bytes : List ℕ) (gives : Gives (source.content input) (source.content input') bytes)
-      (servable : IsServable Lines (source.content input)) (held : NothingFailed prices source sink cabinet disk journal input input' output output' place place') where
+  module _ (stays : Stays (tells.sink.frame left.output) (tells.sink.frame output)) (bytes : List ℕ) (gives : Gives old new bytes) (servable : IsServable Lines old) (held : NothingFailed tells before after) where
     abbrev Told : (Network → List ℕ → Type 0) → Type 0
-    Told Is = AnyJournalIs prices source sink cabinet disk journal input input' output output' place place' Is
+    Told Is = AnyJournalIs tells prices journal before after Is
 
     -- a refused journal is none of the network's
-    other_journal : (given : Network → Type 0) (meaning : Meaning Entry)
-        → HasNetwork Lines prices (source.content input) (source.content input') (λ network. given network × MatchOption journal ⊥ (λ name. IsRefusedOnDisk cabinet disk place place' network name meaning))
-        → Told (λ network image. (history : List Entry) × IsHistoryOf network history image) → ⊥
-    other_journal given meaning read told = at journal read.is.1 (of_read Lines prices (source.content input) (source.content input') bytes read.network _ gives read.text told)
+    other_journal : (Given : Network → Type 0) (meaning : Meaning Entry) → JournalRefused tells prices journal before left Given meaning → Told (λ network image. (history : List Entry) × IsHistoryOf network history image) → ⊥
+    other_journal Given meaning read told = at journal read.is (of_read Lines prices old new bytes read.network _ gives read.text told)
       where
-        at : (one : Option (List ℕ)) → MatchOption one ⊥ (λ name. IsRefusedOnDisk cabinet disk place place' read.network name meaning) → JournalIsTold cabinet disk place place' one (λ image. (history : List Entry) × IsHistoryOf read.network history image) → ⊥
+        at : (one : Option (List ℕ)) → MatchOption one ⊥ (λ name. Given read.network × IsRefusedOnDisk tells.cabinet tells.disk before.cabinet left.cabinet read.network name meaning)
+            → JournalIsTold tells.cabinet tells.disk before.cabinet left.cabinet one (λ image. (history : List Entry) × IsHistoryOf read.network history image) → ⊥
         at None refused is = refused
-        at (Some name) refused is = clash cabinet disk place place' name _ _ (λ image none history. none history.0 history.1) refused.none is
+        at (Some name) refused is = clash tells.cabinet tells.disk before.cabinet left.cabinet name _ _ (λ image none history. none history.0 history.1) refused.1.none is
 
     pub completes : (done : Result ⊤ Fault) → Leaves done → (done ≡ Err TooLong → INPUT_LIMIT < length bytes) → Told (λ network image. (history : List Entry) × IsHistoryOf network history image)
         → (status_of_done done ≡ 0) ⊎ (status_of_done done ≡ 7)
@@ -154,21 +164,21 @@ module _ (prices : Network → Network → Type 0) {I O C E : Type 0} (source : 
     completes (Err (Topology refusal)) leaves long told = absurd (not_refused Lines refusal _ _ bytes gives servable leaves.0)
     completes (Err Read) leaves long told = absurd (held.reading leaves.1)
     completes (Err Write) leaves long told = absurd (held.writing (Rose-before _ _ _ leaves.2 stays))
-    completes (Err (Other old given)) leaves long told = absurd (other_journal (λ network. given ≡ digest_of network) (other old) leaves.0 told)
-    completes (Err (Damaged at)) leaves long told = absurd (other_journal (λ network. ⊤) (damaged at) (record { network = leaves.0.network; text = leaves.0.text; is = (tt, leaves.0.is) }) told)
+    completes (Err (Other kept given)) leaves long told = absurd (other_journal (λ network. given ≡ digest_of network) (other kept) leaves.0 told)
+    completes (Err (Damaged at)) leaves long told = absurd (other_journal (λ network. ⊤) (damaged at) leaves.0 told)
     completes (Err Cabinet) leaves long told = absurd (held.keeping_it leaves.1)
     completes (Err Memory) leaves long told = inr refl
     completes (Err TooLong) leaves long told = absurd (not_long Lines _ _ bytes gives servable (long refl))
     completes (Err another) leaves long told = absurd leaves
 
     -- no run is over a journal that stands for no history
-    no_such_run : (closing : Result ⊤ Failed) → IsSome journal → IsRun prices (keeping_of cabinet disk place place' journal closing) (source.content input) (source.content input') (sink.content output) (sink.content left)
+    no_such_run : (closing : Result ⊤ Failed) → IsSome journal → OfText tells before left (IsRun prices (keeping tells prices journal before left closing))
         → Told (λ network image. (history : List Entry) → ¬ IsHistoryOf network history image) → ⊥
-    no_such_run closing some run told = at journal some run.run.begun (of_run prices (keeping_of cabinet disk place place' journal closing) (source.content input) (source.content input') bytes run.network run.lines run.replies IsAllTaken _ gives run.run told)
+    no_such_run closing some run told = at journal some run.run.begun (of_run prices (keeping tells prices journal before left closing) old new bytes run.network run.lines run.replies IsAllTaken _ gives run.run told)
       where
-        at : (one : Option (List ℕ)) → IsSome one → (keeping_of cabinet disk place place' one closing).Begins run.network run.run.since → JournalIsTold cabinet disk place place' one (λ image. (history : List Entry) → ¬ IsHistoryOf run.network history image) → ⊥
+        at : (one : Option (List ℕ)) → IsSome one → (keeping_of tells.cabinet tells.disk before.cabinet left.cabinet one closing).Begins run.network run.run.since → JournalIsTold tells.cabinet tells.disk before.cabinet left.cabinet one (λ image. (history : List Entry) → ¬ IsHistoryOf run.network history image) → ⊥
         at None is begun told_as = absurd (cc is)
-        at (Some name) is begun told_as = clash cabinet disk place place' name _ _ (λ image history none. none run.run.since history) begun told_as
+        at (Some name) is begun told_as = clash tells.cabinet tells.disk before.cabinet left.cabinet name _ _ (λ image history none. none run.run.since history) begun told_as
 
     pub refuses : (done : Result ⊤ Fault) → Leaves done → (done ≡ Err TooLong → INPUT_LIMIT < length bytes) → IsSome journal → Told (λ network image. (history : List Entry) → ¬ IsHistoryOf network history image)
         → (status_of_done done ≡ 5) ⊎ (status_of_done done ≡ 7)
@@ -176,7 +186,7 @@ module _ (prices : Network → Network → Type 0) {I O C E : Type 0} (source : 
     refuses (Err (Topology refusal)) leaves long some told = absurd (not_refused Lines refusal _ _ bytes gives servable leaves.0)
     refuses (Err Read) leaves long some told = absurd (held.reading leaves.1)
     refuses (Err Write) leaves long some told = absurd (held.writing (Rose-before _ _ _ leaves.2 stays))
-    refuses (Err (Other old given)) leaves long some told = inl refl
+    refuses (Err (Other kept given)) leaves long some told = inl refl
     refuses (Err (Damaged at)) leaves long some told = inl refl
     refuses (Err Cabinet) leaves long some told = absurd (held.keeping_it leaves.1)
     refuses (Err Memory) leaves long some told = inr refl

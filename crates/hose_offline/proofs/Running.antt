@@ -22,18 +22,18 @@ use Rattle.hose_law.proofs.Sold.{sold}
 use Rattle.hose_io.specs.Frame.{Rose}
 use Rattle.hose_book.specs.GoingOn.{GoesOn}
 use Rattle.hose_book.specs.declared.books.Books.{Ghosts as BooksGhosts}
-use Rattle.hose_disk.specs.declared.cabinet.Cabinet.{Ghosts as CabinetGhosts}
-use Rattle.hose_disk.specs.declared.disk.Disk.{Ghosts as DiskGhosts}
 use Rattle.hose_io.specs.declared.sink.Sink.{Ghosts as SinkGhosts}
 use Rattle.hose_offline.specs.RunOutcome.{RunLeaves}
 use Rattle.hose_offline.specs.Fault.{of_topology}
+use Rattle.hose_offline.specs.Parts.{Tellings, parts}
 use Rattle.hose_offline.specs.Run.{HasRun, IsCutOff, IsRun, IsRunUpTo, Keeping, TellsNoNetwork}
 use Rattle.hose_words.specs.Saying.{IsAllTaken, IsLeftOver, SayLines}
 use Rattle.hose_proto.specs.Replies.{CutsLast, texts_of}
 use Rattle.hose_offline.specs.TopologyTold.{TellsPriced}
 use Rattle.hose_offline.specs.declared.notation.Notation.TheVariants.{Lines}
 use Rattle.hose_offline.specs.declared.notation.Refusal.TheVariants.{Word}
-use Rattle.hose_offline.specs.Serving.{SayOneThingEach, Serves, ServesUntil, ServesUpTo, TellsDisks, SaysNext}
+use Rattle.hose_offline.specs.Talk.{Talk, talk}
+use Rattle.hose_offline.specs.Talking.{SayOneThingEach, Talks, TalksUntil, TalksUpTo, TalkTellings, TellsDisks, SaysNext, talk_tellings}
 use Rattle.hose_topo.specs.Reading.{fault_of, KeepsFault, StopsInTopology}
 use Rattle.hose_topo.specs.TopologyText.{IsTopologyText, IsWrongAt}
 use Rattle.hose_offline.specs.declared.fault.Fault.{Fault}
@@ -70,29 +70,29 @@ wrong_told source start last line word empty wrong none =
     ))
 
 -- a network was read, and then lines were answered; what `stops` says behind the topology it says of the whole input
-abbrev pub has_run : {S K R : Type 0} (prices : Network → Network → Type 0) (source : Ghosts S) (books : BooksGhosts K R) (keeping : Keeping) (start middle last : Reader S) (told network : Network) (priced : prices told network) (since : List Entry) (first now : K) → keeping.Begins network since
-    → ((history : List Entry) (replies : List Reply) → GoesOn books IsDecidedAt network since first history now → TellsDisks (books.frame first).faults replies (books.frame now).faults → keeping.Keeps network since history replies)
+abbrev pub has_run : {S O K R : Type 0} (prices : Network → Network → Type 0) (tells : TalkTellings S O K R) (keeping : Keeping) (start : Reader S) (before after : Talk (Reader S) O K) (told network : Network) (priced : prices told network) (since : List Entry) → keeping.Begins network since
+    → ((history : List Entry) (replies : List Reply) → GoesOn tells.books IsDecidedAt network since before.by history after.by → TellsDisks (tells.books.frame before.by).faults replies (tells.books.frame after.by).faults → keeping.Keeps network since history replies)
     → IsNetwork network → (stops : List ℕ → List ℕ → List ℕ → Type 0) (puts : List Reply → Type 0) → start.pending ≡ []
-    → WhereTold (source.content start.source) (source.content middle.source) (λ input left. IsTopologyText (start.pending ++ input) told (middle.pending ++ left))
-    → ReadsOn source start middle
-    → WhereTold (source.content start.source) (source.content middle.source) (λ input left. (behind rest : List ℕ) → stops (middle.pending ++ left) behind rest → stops (start.pending ++ input) behind rest)
-    → (served : ServesUpTo source books middle last network since first now stops puts)
-    → HasRun prices keeping (source.content start.source) (source.content last.source) network served.lines served.replies stops
-has_run prices source books keeping start middle last told network priced since first now begun keeps is stops puts empty text reads joins served = record {
+    → WhereTold (tells.source.content start.source) (tells.source.content before.lines.source) (λ input left. IsTopologyText (start.pending ++ input) told (before.lines.pending ++ left))
+    → ReadsOn tells.source start before.lines
+    → WhereTold (tells.source.content start.source) (tells.source.content before.lines.source) (λ input left. (behind rest : List ℕ) → stops (before.lines.pending ++ left) behind rest → stops (start.pending ++ input) behind rest)
+    → (served : TalksUpTo tells network since before after stops puts)
+    → HasRun prices keeping (tells.source.content start.source) (tells.source.content after.lines.source) network served.lines served.replies stops
+has_run prices tells keeping start before after told network priced since begun keeps is stops puts empty text reads joins served = record {
   told = told;
   priced = priced;
   since = since;
   history = served.answered.history;
   begun = begun;
   begins = served.answered.begins;
-  text = WhereTold-then (source.content start.source) (source.content middle.source) (source.content last.source) reads.takes.0 _ _ _ reads.takes.1
-      (WhereTold-both (source.content start.source) (source.content middle.source) _ _ text joins) served.said
-      (λ a b c before said. (
-        middle.pending ++ b,
+  text = WhereTold-then (tells.source.content start.source) (tells.source.content before.lines.source) (tells.source.content after.lines.source) reads.takes.0 _ _ _ reads.takes.1
+      (WhereTold-both (tells.source.content start.source) (tells.source.content before.lines.source) _ _ text joins) served.said
+      (λ a b c both said. (
+        before.lines.pending ++ b,
         said.0,
-        subst (λ (p : List ℕ). IsTopologyText (p ++ a) told (middle.pending ++ b)) empty before.0,
+        subst (λ (p : List ℕ). IsTopologyText (p ++ a) told (before.lines.pending ++ b)) empty both.0,
         said.1,
-        subst (λ (p : List ℕ). stops (p ++ a) said.0 c) empty (before.1 said.0 c said.2),
+        subst (λ (p : List ℕ). stops (p ++ a) said.0 c) empty (both.1 said.0 c said.2),
       ));
   left = served.answered.left;
   script = served.answered.script;
@@ -154,15 +154,15 @@ not_read TooLong old new none kept other read = cc (kept, read)
 not_read TopoMemory old new none kept other read = cc (kept, none, read)
 
 -- where no topology was read
-pub leaves_topology : {S O C E : Type 0} (T : Type 0) (prices : Network → Network → Type 0) (source : Ghosts S) (sink : SinkGhosts O) (cabinet : CabinetGhosts C E) (disk : DiskGhosts E) (journal : Option (List ℕ)) (start last : Reader S) (output : O) (place : C) (topology : TopoFault)
-    → ((line word : ℕ) → topology ≡ At line word → TellsNoNetwork Lines (Word line word) (source.content start.source) (source.content last.source))
-    → ((fault : LineFault) → topology ≡ fault_of fault → WhereTold (source.content start.source) (source.content last.source) (StopsInTopology fault))
-    → (topology ≡ Read → Rose (source.frame start.source) (source.frame last.source)) → ((topology ≡ Read → ⊥) → source.frame last.source ≡ source.frame start.source)
-    → (topology ≡ TopoMemory → last ≡ start) → RunLeaves prices source sink cabinet disk journal start.source last.source output output place place {T = T} (Err (of_topology fault.Read topology))
-leaves_topology T prices source sink cabinet disk journal start last output place (At line word) wrong stopped read unfailed memory = (wrong line word refl, unfailed (λ is. absurd (cc is)), refl, refl)
-leaves_topology T prices source sink cabinet disk journal start last output place Read wrong stopped read unfailed memory = (inl (stopped line.Read refl, refl, refl), read refl)
-leaves_topology T prices source sink cabinet disk journal start last output place TooLong wrong stopped read unfailed memory = (inl (stopped line.TooLong refl, refl, refl), unfailed (λ is. absurd (cc is)))
-leaves_topology {S = S} T prices source sink cabinet disk journal start last output place TopoMemory wrong stopped read unfailed memory =
+pub leaves_topology : {S O C E : Type 0} (T : Type 0) (tells : Tellings S O C E) (prices : Network → Network → Type 0) (journal : Option (List ℕ)) (start last : Reader S) (output : O) (place : C) (topology : TopoFault)
+    → ((line word : ℕ) → topology ≡ At line word → TellsNoNetwork Lines (Word line word) (tells.source.content start.source) (tells.source.content last.source))
+    → ((fault : LineFault) → topology ≡ fault_of fault → WhereTold (tells.source.content start.source) (tells.source.content last.source) (StopsInTopology fault))
+    → (topology ≡ Read → Rose (tells.source.frame start.source) (tells.source.frame last.source)) → ((topology ≡ Read → ⊥) → tells.source.frame last.source ≡ tells.source.frame start.source) → (topology ≡ TopoMemory → last ≡ start)
+    → RunLeaves tells prices journal (parts start.source output place) (parts last.source output place) {T = T} (Err (of_topology fault.Read topology))
+leaves_topology T tells prices journal start last output place (At line word) wrong stopped read unfailed memory = (wrong line word refl, unfailed (λ is. absurd (cc is)), refl, refl)
+leaves_topology T tells prices journal start last output place Read wrong stopped read unfailed memory = (inl (stopped line.Read refl, refl, refl), read refl)
+leaves_topology T tells prices journal start last output place TooLong wrong stopped read unfailed memory = (inl (stopped line.TooLong refl, refl, refl), unfailed (λ is. absurd (cc is)))
+leaves_topology {S = S} T tells prices journal start last output place TopoMemory wrong stopped read unfailed memory =
     (inl (ap (λ (reader : Reader S). reader.source) (memory refl), refl, refl), unfailed (λ is. absurd (cc is)), refl)
 
 -- where a topology was read
@@ -181,6 +181,16 @@ module _ (prices : Network → Network → Type 0) {S O : Type 0} (source : Ghos
   module _ {K R : Type 0} (books : BooksGhosts K R) (keeping : Keeping) (since : List Entry) (first now : K) (begun : keeping.Begins network since)
       (keeps : (history : List Entry) (replies : List Reply) → GoesOn books IsDecidedAt network since first history now → TellsDisks (books.frame first).faults replies (books.frame now).faults → keeping.Keeps network since history replies)
       (more : ReadsOn source middle last) where
+    abbrev tells : TalkTellings S O K R
+    tells = talk_tellings source sink books
+
+    -- the talk after the topology
+    abbrev before : Talk (Reader S) O K
+    before = talk middle output first
+
+    abbrev after : Talk (Reader S) O K
+    after = talk last output' now
+
     held_over : last.fault ≢ Some line.Read → source.frame last.source ≡ source.frame start.source
     held_over other = more.unfailed other ∙ held_before
 
@@ -198,7 +208,7 @@ module _ (prices : Network → Network → Type 0) {S O : Type 0} (source : Ghos
           lines = lines;
         })
 
-    run_until : (fault : LineFault) → ServesUntil source sink books middle last output output' network since first now fault
+    run_until : (fault : LineFault) → TalksUntil tells network since before after fault
         → IsRunUpTo prices keeping fault (source.content start.source) (source.content last.source) (sink.content output) (sink.content output')
     run_until fault served =
         let joins = WhereTold-map (source.content start.source) (source.content middle.source) _
@@ -207,10 +217,10 @@ module _ (prices : Network → Network → Type 0) {S O : Type 0} (source : Ghos
         (λ input left lines behind rest stops. (IsAfterLines-then (start.pending ++ input) (middle.pending ++ left) behind lines stops.0, stops.1)) in
         record {
           network = network;
-          lines = served.serves.lines;
-          replies = served.serves.replies;
-          run = has_run prices source books keeping start middle last told network priced since first now begun keeps is (StopsAfterLines fault) _ empty text reads joins served.serves;
-          out = served.serves.out;
+          lines = served.talks.lines;
+          replies = served.talks.replies;
+          run = has_run prices tells keeping start before after told network priced since begun keeps is (StopsAfterLines fault) _ empty text reads joins served.talks;
+          out = served.talks.out;
         }
 
     -- what answering them comes to, of the whole input
@@ -219,15 +229,15 @@ module _ (prices : Network → Network → Type 0) {S O : Type 0} (source : Ghos
         → (IsRunUpTo prices keeping line.Read (source.content start.source) (source.content last.source) (sink.content output) (sink.content output') → sink.frame output' ≡ sink.frame output → Rose (source.frame start.source) (source.frame last.source) → P (Err fault.Read))
         → (IsRunUpTo prices keeping line.TooLong (source.content start.source) (source.content last.source) (sink.content output) (sink.content output') → sink.frame output' ≡ sink.frame output → source.frame last.source ≡ source.frame start.source → P (Err fault.TooLong))
         → (IsCutOff prices keeping (source.content start.source) (source.content last.source) (sink.content output) (sink.content output') → source.frame last.source ≡ source.frame start.source → Rose (sink.frame output) (sink.frame output') → P (Err fault.Write))
-        → (done : Result ⊤ Fault) → Serves source sink books middle last output output' network since first now done → P done
+        → (done : Result ⊤ Fault) → Talks tells network since before after done → P done
     ran P to_end at_read at_too_long at_write (Ok tt) served = to_end
         (run_of prices keeping (source.content start.source) (source.content last.source) network served.0.lines served.0.replies (sink.content output) (sink.content output') is
-        (has_run prices source books keeping start middle last told network priced since first now begun keeps is IsAllTaken _ empty text reads (whatever_before (IsAllTaken [])) served.0) (one_input served.3) served.0.out)
+        (has_run prices tells keeping start before after told network priced since begun keeps is IsAllTaken _ empty text reads (whatever_before (IsAllTaken [])) served.0) (one_input served.3) served.0.out)
         (held_over (λ read. absurd (cc (served.1, read)))) served.2
     ran P to_end at_read at_too_long at_write (Err fault.Read) served = at_read (run_until line.Read served.0) served.0.held (rw held_before at served.1)
     ran P to_end at_read at_too_long at_write (Err fault.TooLong) served = at_too_long (run_until line.TooLong served) served.held (held_over (λ read. absurd (cc (served.kept, read))))
     ran P to_end at_read at_too_long at_write (Err fault.Write) served = at_write
         (cut_of prices keeping (source.content start.source) (source.content last.source) network served.0.lines served.0.replies (sink.content output) (sink.content output')
-        (has_run prices source books keeping start middle last told network priced since first now begun keeps is IsLeftOver _ empty text reads (whatever_before (IsLeftOver [])) served.0) served.0.out)
+        (has_run prices tells keeping start before after told network priced since begun keeps is IsLeftOver _ empty text reads (whatever_before (IsLeftOver [])) served.0) served.0.out)
         (held_over (λ read. absurd (cc (served.1, read)))) served.2
     ran P to_end at_read at_too_long at_write (Err another) served = absurd served

@@ -4,6 +4,7 @@ use Rattle.std.proofs.lemmas.List.{take_rest}
 use Rattle.hose_io.specs.Stream.{Grows}
 use Rattle.hose_io.specs.Writing.{GrowsInPart}
 use Rattle.hose_io.proofs.Streams.{Grows-nil, Grows-append}
+use Rattle.hose_io.specs.Borrowed.{borrowed}
 use Rattle.hose_io.specs.declared.sink.Sink.{Ghosts as SinkGhosts}
 use Rattle.hose_io.specs.declared.source.Source.{Ghosts}
 use Rattle.hose_words.specs.Form.{grammar_of}
@@ -24,11 +25,12 @@ use Rattle.hose_price.specs.declared.priced.Price.{Price}
 use Rattle.hose_proto.specs.ReplyText.{line_of}
 use Rattle.hose_offline.specs.Fault.{of_line}
 use Rattle.std.specs.Borrow.{MutBor}
-use Rattle.hose_offline.proofs.Borrowed.{IsBehind, content_behind, held_behind, rose_behind}
+use Rattle.hose_offline.proofs.Borrowed.{held_behind, rose_behind}
 use Rattle.hose_offline.proofs.StillReading.{IsStillReading, source_held}
 use Rattle.hose_offline.specs.PriceOutcome.{AnswersInput, HasAnswered}
 use Rattle.hose_offline.specs.Pricing.{AllOut, AnswersNext, HasPriced, LastCut, PricesAll, PricesLine, PricesUntil, PricesUpTo, TakesAnswer}
 use Rattle.hose_offline.specs.SheetLine.{AnswersSheet, IsPricing, PricesHose, answer_text, answers_text, price_words, prices_words, sheet_form}
+use Rattle.hose_offline.specs.Talk.{talk}
 use Rattle.hose_offline.specs.declared.fault.Fault.{Fault}
 use Rattle.hose_offline.specs.declared.fault.Fault.TheVariants as fault
 use Rattle.hose_offline.specs.declared.sheet_answer.SheetAnswer.{SheetAnswer}
@@ -62,7 +64,7 @@ priced_shown sheet other text bytes customer hose answer same is short asks = by
 module _ (sheet : Sheet) (names : List (List ℕ)) {S O : Type 0} (source : Ghosts S) (sink : SinkGhosts O) where
   -- a line that was read was answered
   pub answered_line : (old new : Reader S) (shown : Line) (answer : SheetAnswer) (puts : List ℕ → Type 0) → IsNext source old new (Ok (Some shown)) → ((bytes : List ℕ) → Shows shown bytes → AnswersSheet sheet.network sheet bytes answer)
-      → puts (line_of (answer_text names answer)) → TakesAnswer sheet names source sink old new puts
+      → puts (line_of (answer_text names answer)) → TakesAnswer source names sheet old new puts
   answered_line old new shown answer puts next answers out = record {
     answer = answer;
     line = takes_line source old new shown (λ bytes. AnswersSheet sheet.network sheet bytes answer) next answers;
@@ -71,25 +73,25 @@ module _ (sheet : Sheet) (names : List (List ℕ)) {S O : Type 0} (source : Ghos
   }
 
   -- reading met a fault
-  pub prices_read : (old new : Reader S) (output : O) (met : LineFault) → old.fault ≡ None → IsNext source old new (Err met) → PricesLine sheet names source sink old new output output (Err (of_line met))
+  pub prices_read : (old new : Reader S) (output : O) (met : LineFault) → old.fault ≡ None → IsNext source old new (Err met) → PricesLine source sink names (talk old output sheet) (talk new output sheet) (Err (of_line met))
   prices_read old new output line_fault.Read none next = (met_fault source old new line_fault.Read none next, rose_now source old new none (next.read refl), refl)
   prices_read old new output line_fault.TooLong none next = (met_fault source old new line_fault.TooLong none next, refl)
 
   -- ---- line after line
 
-  pub nothing_priced : (reader : Reader S) (output : O) → HasPriced sheet names source sink reader reader output output
+  pub nothing_priced : (reader : Reader S) (output : O) → HasPriced source sink names (talk reader output sheet) (talk reader output sheet)
   nothing_priced reader output = record {
     answers = [];
     said = said_none (AnswersNext sheet) reader.pending (source.content reader.source);
     out = Grows-nil (sink.content output);
   }
 
-  module _ (start now new : Reader S) (first middle last : O) (priced : HasPriced sheet names source sink start now first middle) (still : IsStillReading source sink start now first middle) where
+  module _ (start now new : Reader S) (first middle last : O) (priced : HasPriced source sink names (talk start first sheet) (talk now middle sheet)) (still : IsStillReading source sink start now first middle) where
     abbrev Taken : (List ℕ → Type 0) → Type 0
-    Taken puts = TakesAnswer sheet names source sink now new puts
+    Taken puts = TakesAnswer source names sheet now new puts
 
     -- a line more is answered
-    pub priced_more : Taken (Grows (sink.content middle) (sink.content last)) → HasPriced sheet names source sink start new first last
+    pub priced_more : Taken (Grows (sink.content middle) (sink.content last)) → HasPriced source sink names (talk start first sheet) (talk new last sheet)
     priced_more taken = record {
       answers = priced.answers ++ taken.answer ∷ [];
       said = said_more source (AnswersNext sheet) start now new priced.answers priced.said still.reads taken.answer (λ bytes. AnswersSheet sheet.network sheet bytes taken.answer) taken.line (λ bytes is. is);
@@ -98,7 +100,7 @@ module _ (sheet : Sheet) (names : List (List ℕ)) {S O : Type 0} (source : Ghos
     }
 
     -- a line more is taken, and its answer is cut off
-    priced_cut : Taken (GrowsInPart (sink.content middle) (sink.content last)) → PricesUpTo sheet names source sink start new IsLeftOver (LastCut names sink first last)
+    priced_cut : Taken (GrowsInPart (sink.content middle) (sink.content last)) → PricesUpTo source sheet start new IsLeftOver (LastCut names sink first last)
     priced_cut taken = record {
       answers = priced.answers ++ taken.answer ∷ [];
       said = said_enough source (AnswersNext sheet) start new _
@@ -114,7 +116,7 @@ module _ (sheet : Sheet) (names : List (List ℕ)) {S O : Type 0} (source : Ghos
     }
 
     -- no line more is taken
-    priced_up_to : (stops : List ℕ → List ℕ → List ℕ → Type 0) → SaysUpTo source start new (AnswersNext sheet) priced.answers stops → last ≡ middle → PricesUpTo sheet names source sink start new stops (AllOut names sink first last)
+    priced_up_to : (stops : List ℕ → List ℕ → List ℕ → Type 0) → SaysUpTo source start new (AnswersNext sheet) priced.answers stops → last ≡ middle → PricesUpTo source sheet start new stops (AllOut names sink first last)
     priced_up_to stops said same = record {
       answers = priced.answers;
       said = said;
@@ -122,7 +124,7 @@ module _ (sheet : Sheet) (names : List (List ℕ)) {S O : Type 0} (source : Ghos
     }
 
     -- reading met a fault, and nothing more is out
-    until : (met : LineFault) → StopsReading source now new met → last ≡ middle → PricesUntil sheet names source sink start new first last met
+    until : (met : LineFault) → StopsReading source now new met → last ≡ middle → PricesUntil source sink names (talk start first sheet) (talk new last sheet) met
     until met stops same = record {
       prices = priced_up_to (StopsAfterLines met) (said_until source (AnswersNext sheet) start now new priced.answers priced.said still.reads met still.none stops) same;
       before_end = still.reads.ended stops.before_end;
@@ -131,14 +133,14 @@ module _ (sheet : Sheet) (names : List (List ℕ)) {S O : Type 0} (source : Ghos
     }
 
     -- a fault ends it
-    pub prices_fault : (T : Type 0) (why : Fault) → PricesLine sheet names source sink now new middle last (Err why) → PricesAll sheet names source sink {T = T} start new first last (Err why)
+    pub prices_fault : (T : Type 0) (why : Fault) → PricesLine source sink names (talk now middle sheet) (talk new last sheet) (Err why) → PricesAll source sink names (talk start first sheet) (talk new last sheet) {T = T} (Err why)
     prices_fault T fault.Read line = (until line_fault.Read line.0 line.2, rw (source_held source sink start now first middle still) at line.1)
     prices_fault T fault.TooLong line = until line_fault.TooLong line.0 line.1
     prices_fault T fault.Write line = (priced_cut line.0, line.1, rw still.held at line.2)
     prices_fault T another line = absurd line
 
     -- no line is left
-    pub prices_all : (T : Type 0) (value : T) → PricesLine sheet names source sink now new middle last (Ok false) → PricesAll sheet names source sink start new first last (Ok value)
+    pub prices_all : (T : Type 0) (value : T) → PricesLine source sink names (talk now middle sheet) (talk new last sheet) (Ok false) → PricesAll source sink names (talk start first sheet) (talk new last sheet) (Ok value)
     prices_all T value line = (
       priced_up_to IsAllTaken (said_all source (AnswersNext sheet) start now new priced.answers priced.said still.reads line.0) line.2,
       line.1,
@@ -149,9 +151,9 @@ module _ (sheet : Sheet) (names : List (List ℕ)) {S O : Type 0} (source : Ghos
 
   module _ (start now : Reader S) (first last : O) (pending : start.pending ≡ []) (reads : ReadsOn source start now) where
     abbrev Answered : (List ℕ → List ℕ → List ℕ → Type 0) → (List SheetAnswer → Type 0) → Type 0
-    Answered stops puts = HasAnswered sheet names (source.content start.source) (source.content now.source) (source.frame start.source) (source.frame now.source) sink first last stops puts
+    Answered stops puts = HasAnswered sheet (source.content start.source) (source.content now.source) stops puts
 
-    answered_from : (stops : List ℕ → List ℕ → List ℕ → Type 0) (puts : List SheetAnswer → Type 0) → PricesUpTo sheet names source sink start now stops puts → Answered stops puts
+    answered_from : (stops : List ℕ → List ℕ → List ℕ → Type 0) (puts : List SheetAnswer → Type 0) → PricesUpTo source sheet start now stops puts → Answered stops puts
     answered_from stops puts prices = record {
       answers = prices.answers;
       text = subst (λ (pending : List ℕ). WhereTold (source.content start.source) (source.content now.source) (λ was left. (rest : List ℕ) × SayLines (AnswersNext sheet) (pending ++ was) prices.answers rest × stops (pending ++ was) rest left)) pending prices.said;
@@ -159,8 +161,8 @@ module _ (sheet : Sheet) (names : List (List ℕ)) {S O : Type 0} (source : Ghos
     }
 
     -- what answering its lines comes to is what the input leaves
-    pub answers_input : (T : Type 0) (result : Result T Fault) → PricesAll sheet names source sink start now first last result
-        → AnswersInput sheet names (source.content start.source) (source.content now.source) (source.frame start.source) (source.frame now.source) sink first last result
+    pub answers_input : (T : Type 0) (result : Result T Fault) → PricesAll source sink names (talk start first sheet) (talk now last sheet) result
+        → AnswersInput source sink names (talk start.source first sheet) (talk now.source last sheet) result
     answers_input T (Ok value) all = (answered_from IsAllTaken (AllOut names sink first last) all.0, reads.unfailed (λ read. absurd (cc (all.1, read))), all.2)
     answers_input T (Err fault.Read) all = (answered_from (StopsAfterLines line_fault.Read) (AllOut names sink first last) all.0.prices, all.1, all.0.held)
     answers_input T (Err fault.TooLong) all = (answered_from (StopsAfterLines line_fault.TooLong) (AllOut names sink first last) all.prices, reads.unfailed (λ read. absurd (cc (all.kept, read))), all.held)
@@ -169,33 +171,22 @@ module _ (sheet : Sheet) (names : List (List ℕ)) {S O : Type 0} (source : Ghos
 
 -- ---- an input behind a borrow
 
-module _ (sheet : Sheet) (names : List (List ℕ)) {T O : Type 0} (other : Ghosts T) (source : Ghosts (MutBor T)) (sink : SinkGhosts O) (input input' : MutBor T) (behind : T) (output output' : O) (is : IsBehind other source input' behind) where
-  abbrev There : (List ℕ → List ℕ → List ℕ → Type 0) → (List SheetAnswer → Type 0) → Type 0
-  There stops puts = HasAnswered sheet names (source.content input) (source.content input') (source.frame input) (source.frame input') sink output output' stops puts
+module _ (sheet : Sheet) (names : List (List ℕ)) {T O : Type 0} (source : Ghosts T) (sink : SinkGhosts O) (output output' : O) (U : Type 0) where
+  -- what the input leaves, of sources of any kind
+  abbrev Answers : {S : Type 0} → Ghosts S → S → S → Result U Fault → Type 0
+  Answers any was now result = AnswersInput any sink names (talk was output sheet) (talk now output' sheet) result
 
-  abbrev Here : (List ℕ → List ℕ → List ℕ → Type 0) → (List SheetAnswer → Type 0) → Type 0
-  Here stops puts = HasAnswered sheet names (other.content input.now) (other.content behind) (other.frame input.now) (other.frame behind) sink output output' stops puts
-
-  moved_answers : (stops : List ℕ → List ℕ → List ℕ → Type 0) (puts : List SheetAnswer → Type 0) → There stops puts → Here stops puts
-  moved_answers stops puts has = record {
-    answers = has.answers;
-    text = content_behind other source input input' behind is (λ was now. WhereTold was now (λ text left. (rest : List ℕ) × SayLines (AnswersNext sheet) text has.answers rest × stops text rest left)) has.text;
-    out = has.out;
-  }
-
-  answers_there : (T' : Type 0) (result : Result T' Fault) → AnswersInput sheet names (source.content input) (source.content input') (source.frame input) (source.frame input') sink output output' result
-      → AnswersInput sheet names (other.content input.now) (other.content behind) (other.frame input.now) (other.frame behind) sink output output' result
-  answers_there T' (Ok value) all = (moved_answers IsAllTaken (AllOut names sink output output') all.0, held_behind other source input input' behind is all.1, all.2)
-  answers_there T' (Err fault.Read) all = (moved_answers (StopsAfterLines line_fault.Read) (AllOut names sink output output') all.0, rose_behind other source input input' behind is all.1, all.2)
-  answers_there T' (Err fault.TooLong) all = (moved_answers (StopsAfterLines line_fault.TooLong) (AllOut names sink output output') all.0, held_behind other source input input' behind is all.1, all.2)
-  answers_there T' (Err fault.Write) all = (moved_answers IsLeftOver (LastCut names sink output output') all.0, held_behind other source input input' behind is all.1, all.2)
-  answers_there T' (Err why) all = absurd all
+  answers_there : (input input' : MutBor T) (result : Result U Fault) → Answers (borrowed source) input input' result → Answers source input.now input'.now result
+  answers_there input input' (Ok value) all = (all.0, held_behind source input input' all.1, all.2)
+  answers_there input input' (Err fault.Read) all = (all.0, rose_behind source input input' all.1, all.2)
+  answers_there input input' (Err fault.TooLong) all = (all.0, held_behind source input input' all.1, all.2)
+  answers_there input input' (Err fault.Write) all = (all.0, held_behind source input input' all.1, all.2)
+  answers_there input input' (Err why) all = absurd all
 
   -- what is left of the borrow is left of what is behind it
-  pub answers_behind : (before : T) → input.now ≡ before → (T' : Type 0) (result : Result T' Fault) → AnswersInput sheet names (source.content input) (source.content input') (source.frame input) (source.frame input') sink output output' result
-      → AnswersInput sheet names (other.content before) (other.content behind) (other.frame before) (other.frame behind) sink output output' result
-  answers_behind before begun T' result all =
-      subst (λ (was : T). AnswersInput sheet names (other.content was) (other.content behind) (other.frame was) (other.frame behind) sink output output' result) begun (answers_there T' result all)
+  pub answers_behind : (input input' : MutBor T) (first last : T) → input.now ≡ first → input'.now ≡ last → (result : Result U Fault) → Answers (borrowed source) input input' result → Answers source first last result
+  answers_behind input input' first last begun ended result all =
+      subst (λ (now : T). Answers source first now result) ended (subst (λ (was : T). Answers source was input'.now result) begun (answers_there input input' result all))
 
 -- ---- how prices are written
 

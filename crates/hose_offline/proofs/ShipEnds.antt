@@ -1,18 +1,15 @@
 -- What shipping a journal stands for, from what was read, what was shipped and what was told.
-use Rattle.std.proofs.Common.{◌≡◌, ◌∙◌, ◌⊎◌, inl, inr, ℕ, ◌-◌, List, [], Option, None, Some, IfSome, Result, Ok, Err, refl, sym, ap, subst, arith}
+use Rattle.std.proofs.Common.{◌≡◌, ◌≢◌, ◌∙◌, ◌⊎◌, inl, inr, ℕ, ◌-◌, List, [], Option, None, Some, IfSome, Result, Ok, Err, refl, sym, ap, subst, arith}
 use Rattle.std.specs.Prelude.{⊤}
 use Rattle.std.proofs.Math.Seq.{drop-nil}
 use Rattle.hose_io.specs.Frame.{Stays}
 use Rattle.hose_io.specs.Stream.{Grows}
-use Rattle.hose_io.specs.declared.sink.Sink.{Ghosts as SinkGhosts}
 use Rattle.hose_io.proofs.Frames.{Rose-before}
 use Rattle.hose_io.proofs.Streams.{Grows-nil}
 use Rattle.hose_graph.specs.Network.{Network}
 use Rattle.hose_graph.specs.declared.entry.Entry.{Entry}
-use Rattle.hose_disk.specs.Cabinet.{CabinetFrame, opened_at}
+use Rattle.hose_disk.specs.Cabinet.{CabinetFrame}
 use Rattle.hose_disk.specs.Disk.{DiskFrame}
-use Rattle.hose_disk.specs.declared.cabinet.Cabinet.{Ghosts as CabinetGhosts}
-use Rattle.hose_disk.specs.declared.disk.Disk.{Ghosts as DiskGhosts}
 use Rattle.hose_journal.specs.Image.{Meaning}
 use Rattle.hose_journal.specs.Moments.{LeavesOnly}
 use Rattle.hose_store.specs.Entries.{BeginsWith}
@@ -24,20 +21,20 @@ use Rattle.hose_follow.specs.Packet.{Packet, packets_bytes, packets_from}
 use Rattle.hose_follow.specs.Shipping.{Ships, ShipsUpTo}
 use Rattle.hose_follow.specs.declared.shipping.ShipFault.{ShipFault}
 use Rattle.hose_follow.specs.declared.shipping.ShipFault.TheVariants.{Store, Write}
-use Rattle.hose_offline.specs.AuditOutcome.{JournalIs, NoneFailed}
-use Rattle.hose_offline.specs.Auditing.{ReadsTopology}
+use Rattle.hose_offline.specs.AuditOutcome.{NoneFailed}
+use Rattle.hose_offline.specs.Auditing.{PricedNames, ReadsTopology}
 use Rattle.hose_offline.specs.Ending.{IsLastLine, status_of_done}
 use Rattle.hose_offline.specs.Fault.{of_store}
-use Rattle.hose_offline.specs.OnDisk.{CabinetFailed, HadContent, IsUnopened}
+use Rattle.hose_offline.specs.OnDisk.{CabinetFailed, HadContent, IsUnopened, JournalIsTold}
+use Rattle.hose_offline.specs.Parts.{Parts, Tellings}
 use Rattle.hose_offline.specs.ServingOnDisk.{IsNotServed}
-use Rattle.hose_offline.specs.ShipOutcome.{IsShipped, ShipOutcome, ShipsInCabinet, ShipsPart, shipping_done}
-use Rattle.hose_offline.specs.TopologyTold.{notation_of}
+use Rattle.hose_offline.specs.ShipOutcome.{ShipOutcome, ShipsJournal, ShipsPart, shipping_done, to_ship}
 use Rattle.hose_offline.specs.declared.fault.Fault.{Fault}
 use Rattle.hose_offline.specs.declared.fault.Fault.TheVariants as fault
-use Rattle.hose_offline.proofs.Audited.{named_not_1}
+use Rattle.hose_offline.proofs.Audited.{named_not_1, named_read}
 use Rattle.hose_offline.proofs.Audits.{held_before, not_served_before, unopened_before}
 use Rattle.hose_offline.proofs.Journals.{not_opened}
-use Rattle.hose_offline.proofs.Outcomes.{clash, no_network_read, of_read}
+use Rattle.hose_offline.proofs.Outcomes.{clash}
 use Rattle.hose_offline.proofs.PutBack.{IsPutBack, held_as, not_served}
 
 -- ---- in a cabinet
@@ -50,142 +47,122 @@ outside : (A : Type 0) (P : List ℕ → Type 0) (content : Option (List ℕ)) �
 outside A P None is = inr tt
 outside A P (Some bytes) is = is
 
-module _ {O C E : Type 0} (sink : SinkGhosts O) (cabinet : CabinetGhosts C E) (disk : DiskGhosts E) (name : List ℕ) (from : ℕ) (output : O) (old new : C) (network : Network) where
+module _ {I O C E : Type 0} (tells : Tellings I O C E) (name : List ℕ) (from : ℕ) (before after : Parts I O C) (network : Network) where
   -- the disk was not opened
-  pub none_shipped : cabinet.held new ≡ cabinet.held old → CabinetFailed cabinet old new → ShipsInCabinet sink cabinet disk name from output output old new network (Err fault.Cabinet)
-  none_shipped same failed = (
+  pub none_shipped : tells.cabinet.held after.cabinet ≡ tells.cabinet.held before.cabinet → CabinetFailed tells.cabinet before.cabinet after.cabinet → after.output ≡ before.output → ShipsJournal tells name from before after network (Err fault.Cabinet)
+  none_shipped same failed no_output = (
     (inl same, failed),
-    record { entries = []; sound = tt; held = inl refl; out = none_out network from (sink.content output) },
-    refl,
+    record { entries = []; sound = tt; held = inl refl; out = subst (λ (o : O). Grows (tells.sink.content before.output) (tells.sink.content o) (packets_bytes (packets_from network from []))) (sym no_output) (none_out network from (tells.sink.content before.output)) },
+    ap tells.sink.frame no_output,
   )
 
-  module _ (output' : O) (mid : C) (opened left : E) (back : IsPutBack cabinet disk name old mid new opened left) (fresh : disk.frame opened ≡ opened_at (disk.moment opened))
-      (one : (image : List ℕ) (one two : Meaning Entry) → IsRecoveredAs network image one → IsRecoveredAs network image two → one ≡ two) where
-    part : (Puts : List ℕ → Type 0) → ShipsUpTo disk opened network from Puts → ShipsPart sink cabinet disk name from output output' old new network Puts
+  module _ (mid : C) (opened left : E) (back : IsPutBack tells.cabinet tells.disk name before.cabinet mid after.cabinet opened left) where
+    part : (Puts : List ℕ → Type 0) → ShipsUpTo tells.disk opened network from Puts → ShipsPart tells name from before after network Puts
     part Puts up = record {
       entries = up.entries;
       sound = up.held.sound;
-      held = at (outside (up.entries ≡ []) (BeginsWith (digest_of network) up.entries) (disk.content opened) up.held.read);
+      held = at (outside (up.entries ≡ []) (BeginsWith (digest_of network) up.entries) (tells.disk.content opened) up.held.read);
       out = up.out;
     }
       where
-        at : (up.entries ≡ []) ⊎ IfSome (disk.content opened) (BeginsWith (digest_of network) up.entries) → (up.entries ≡ []) ⊎ HadContent cabinet disk old new name (BeginsWith (digest_of network) up.entries)
+        at : (up.entries ≡ []) ⊎ IfSome (tells.disk.content opened) (BeginsWith (digest_of network) up.entries) → (up.entries ≡ []) ⊎ HadContent tells.cabinet tells.disk before.cabinet after.cabinet name (BeginsWith (digest_of network) up.entries)
         at (inl none) = inl none
-        at (inr begins) = inr (held_as cabinet disk name old mid new network opened left back (BeginsWith (digest_of network) up.entries) begins)
+        at (inr begins) = inr (held_as tells.cabinet tells.disk name before.cabinet mid after.cabinet network opened left back (BeginsWith (digest_of network) up.entries) begins)
 
-    not_shipped : (why : StoreFault) → Ships sink disk output output' opened left network from (Err (Store why)) → LeavesOnly disk opened left (IsAtOpening disk opened network) → IsNotServed cabinet disk name old new network (Err (of_store why))
-    not_shipped why ships run =
-        not_served cabinet disk name old mid new network opened left back (Err (of_store why)) (not_opened disk network opened left why one run ships.2)
+    module _ (one : (image : List ℕ) (one two : Meaning Entry) → IsRecoveredAs network image one → IsRecoveredAs network image two → one ≡ two) (run : LeavesOnly tells.disk opened left (IsAtOpening tells.disk opened network)) where
+      not_shipped : (why : StoreFault) → Ships tells.sink tells.disk before.output after.output opened left network from (Err (Store why)) → IsNotServed tells.cabinet tells.disk name before.cabinet after.cabinet network (Err (of_store why))
+      not_shipped why ships =
+          not_served tells.cabinet tells.disk name before.cabinet mid after.cabinet network opened left back (Err (of_store why)) (not_opened tells.disk network opened left why one run ships.2)
 
-    pub ships_in : (shipped : Result ℕ ShipFault) → Ships sink disk output output' opened left network from shipped → LeavesOnly disk opened left (IsAtOpening disk opened network)
-        → ShipsInCabinet sink cabinet disk name from output output' old new network (shipping_done shipped)
-    ships_in (Ok count) ships run = record {
-      history = ships.0.history;
-      held = held_as cabinet disk name old mid new network opened left back (IsHistoryOf network ships.0.history) ships.0.read;
-      out = ships.0.out;
-      writing = ships.1;
-      keeping = ap (λ (f : CabinetFrame). f.returned) back.in_place.call ∙ (ships.2 ∙ ap (λ (f : DiskFrame). f.faults) fresh);
-    }
-    ships_in (Err Write) ships run = (part _ ships.0, ships.1)
-    ships_in (Err (Store store.Disk)) ships run = (not_shipped store.Disk ships run, part _ ships.0, ships.1)
-    ships_in (Err (Store (store.Other kept given))) ships run = (not_shipped (store.Other kept given) ships run, part _ ships.0, ships.1)
-    ships_in (Err (Store (store.Damaged at))) ships run = (not_shipped (store.Damaged at) ships run, part _ ships.0, ships.1)
-    ships_in (Err (Store store.Memory)) ships run = (not_shipped store.Memory ships run, part _ ships.0, ships.1)
+      pub ships_in : (shipped : Result ℕ ShipFault) → Ships tells.sink tells.disk before.output after.output opened left network from shipped → ShipsJournal tells name from before after network (shipping_done shipped)
+      ships_in (Ok count) ships = record {
+        history = ships.0.history;
+        held = held_as tells.cabinet tells.disk name before.cabinet mid after.cabinet network opened left back (IsHistoryOf network ships.0.history) ships.0.read;
+        out = ships.0.out;
+        writing = ships.1;
+        keeping = ap (λ (f : CabinetFrame). f.returned) back.in_place.call ∙ (ships.2 ∙ ap (λ (f : DiskFrame). f.faults) back.out.fresh);
+      }
+      ships_in (Err Write) ships = (part _ ships.0, ships.1)
+      ships_in (Err (Store store.Disk)) ships = (not_shipped store.Disk ships, part _ ships.0, ships.1)
+      ships_in (Err (Store (store.Other kept given))) ships = (not_shipped (store.Other kept given) ships, part _ ships.0, ships.1)
+      ships_in (Err (Store (store.Damaged at))) ships = (not_shipped (store.Damaged at) ships, part _ ships.0, ships.1)
+      ships_in (Err (Store store.Memory)) ships = (not_shipped store.Memory ships, part _ ships.0, ships.1)
 
 -- ---- the outcome
 
-module _ (prices : Network → Network → Type 0) {O C E : Type 0} (sink : SinkGhosts O) (cabinet : CabinetGhosts C E) (disk : DiskGhosts E) (topology journal : List ℕ) (from : ℕ) (output output' : O) (place place' : C) where
-  abbrev Outcome : ℕ → Type 0
-  Outcome status = ShipOutcome prices sink cabinet disk topology journal from output output' place place' status
+module _ {I O C E : Type 0} (tells : Tellings I O C E) (from : ℕ) where
+  never_1_or_8 : (name : List ℕ) (before after : Parts I O C) (network : Network) (done : Result ⊤ Fault) → ShipsJournal tells name from before after network done → (status_of_done done ≡ 1) ⊎ (status_of_done done ≡ 8) → ⊥
+  never_1_or_8 name before after network (Ok value) ships (inl is) = omega (arith, is)
+  never_1_or_8 name before after network (Ok value) ships (inr is) = omega (arith, is)
+  never_1_or_8 name before after network (Err (fault.Words word)) ships is = ships.0
+  never_1_or_8 name before after network (Err fault.TooLong) ships is = ships.0
+  never_1_or_8 name before after network (Err another) ships (inl is) = omega (arith, is)
+  never_1_or_8 name before after network (Err another) ships (inr is) = omega (arith, is)
 
-  abbrev Failing : Type 0
-  Failing = NoneFailed prices sink cabinet disk topology journal output output' place place' ⊤
+  module _ (names : PricedNames) (before : Parts I O C) where
+    -- what was so of the cabinet after the topology was read was so before
+    module _ (after : Parts I O C) (read : C) (network : Network) (reads : ReadsTopology tells.cabinet before.cabinet read names.prices names.topology (Ok network)) where
+      part_before : (Puts : List ℕ → Type 0) → ShipsPart tells names.journal from (record before { cabinet = read }) after network Puts → ShipsPart tells names.journal from before after network Puts
+      part_before Puts is = record { entries = is.entries; sound = is.sound; held = at is.held; out = is.out }
+        where
+          at : (is.entries ≡ []) ⊎ HadContent tells.cabinet tells.disk read after.cabinet names.journal (BeginsWith (digest_of network) is.entries) → (is.entries ≡ []) ⊎ HadContent tells.cabinet tells.disk before.cabinet after.cabinet names.journal (BeginsWith (digest_of network) is.entries)
+          at (inl none) = inl none
+          at (inr held) = inr (held_before tells.cabinet tells.disk before.cabinet read after.cabinet reads.only_texts names.journal _ held)
 
-  abbrev Is : (Network → List ℕ → Type 0) → Type 0
-  Is P = JournalIs prices sink cabinet disk topology journal output output' place place' P
+      not_before : (why : Fault) → IsNotServed tells.cabinet tells.disk names.journal read after.cabinet network (Err why) → IsNotServed tells.cabinet tells.disk names.journal before.cabinet after.cabinet network (Err why)
+      not_before why not = not_served_before tells.cabinet tells.disk before.cabinet read after.cabinet reads.only_texts reads.text.1 names.journal network why not
 
-  never_1_or_8 : (network : Network) (mid : O) (done : Result ⊤ Fault) → ShipsInCabinet sink cabinet disk journal from output mid place place' network done → (status_of_done done ≡ 1) ⊎ (status_of_done done ≡ 8) → ⊥
-  never_1_or_8 network mid (Ok value) ships (inl is) = omega (arith, is)
-  never_1_or_8 network mid (Ok value) ships (inr is) = omega (arith, is)
-  never_1_or_8 network mid (Err (fault.Words word)) ships is = ships.0
-  never_1_or_8 network mid (Err fault.TooLong) ships is = ships.0
-  never_1_or_8 network mid (Err another) ships (inl is) = omega (arith, is)
-  never_1_or_8 network mid (Err another) ships (inr is) = omega (arith, is)
+      ships_before : (done : Result ⊤ Fault) → ShipsJournal tells names.journal from (record before { cabinet = read }) after network done → ShipsJournal tells names.journal from before after network done
+      ships_before (Ok value) ships = record {
+        history = ships.history;
+        held = held_before tells.cabinet tells.disk before.cabinet read after.cabinet reads.only_texts names.journal _ ships.held;
+        out = ships.out;
+        writing = ships.writing;
+        keeping = ships.keeping;
+      }
+      ships_before (Err fault.Write) ships = (part_before _ ships.0, ships.1)
+      ships_before (Err (fault.Other kept given)) ships = (not_before (fault.Other kept given) ships.0, part_before _ ships.1, ships.2)
+      ships_before (Err (fault.Damaged at)) ships = (not_before (fault.Damaged at) ships.0, part_before _ ships.1, ships.2)
+      ships_before (Err fault.Cabinet) ships = (not_before fault.Cabinet ships.0, part_before _ ships.1, ships.2)
+      ships_before (Err fault.Memory) ships = (not_before fault.Memory ships.0, part_before _ ships.1, ships.2)
+      ships_before (Err another) ships = absurd ships.0
 
-  module _ (mid : O) (read : C) (network : Network) (reads : ReadsTopology cabinet place read prices topology (Ok network)) (same_absent : (cabinet.frame place').absent ≡ (cabinet.frame read).absent) (stays : Stays (sink.frame mid) (sink.frame output')) where
-    part_before : (Puts : List ℕ → Type 0) → ShipsPart sink cabinet disk journal from output mid read place' network Puts → ShipsPart sink cabinet disk journal from output mid place place' network Puts
-    part_before Puts is = record { entries = is.entries; sound = is.sound; held = at is.held; out = is.out }
-      where
-        at : (is.entries ≡ []) ⊎ HadContent cabinet disk read place' journal (BeginsWith (digest_of network) is.entries) → (is.entries ≡ []) ⊎ HadContent cabinet disk place place' journal (BeginsWith (digest_of network) is.entries)
-        at (inl none) = inl none
-        at (inr held) = inr (held_before cabinet disk place read place' reads.only_texts journal _ held)
+    module _ (left : O) (after : Parts I O C) (network : Network) (stays : Stays (tells.sink.frame left) (tells.sink.frame after.output)) where
+      abbrev Ended : Result ⊤ Fault → Type 0
+      Ended done = ShipsJournal tells names.journal from before (record after { output = left }) network done
 
-    not_before : (why : Fault) → IsNotServed cabinet disk journal read place' network (Err why) → IsNotServed cabinet disk journal place place' network (Err why)
-    not_before why not = not_served_before cabinet disk place read place' reads.only_texts reads.text.1 journal network why not
+      -- the journal was told to be so
+      abbrev Told : (List ℕ → Type 0) → Type 0
+      Told Is = JournalIsTold tells.cabinet tells.disk before.cabinet after.cabinet (Some names.journal) Is
 
-    before : (done : Result ⊤ Fault) → ShipsInCabinet sink cabinet disk journal from output mid read place' network done → ShipsInCabinet sink cabinet disk journal from output mid place place' network done
-    before (Ok value) ships = record {
-      history = ships.history;
-      held = held_before cabinet disk place read place' reads.only_texts journal _ ships.held;
-      out = ships.out;
-      writing = ships.writing;
-      keeping = ships.keeping;
-    }
-    before (Err fault.Write) ships = (part_before _ ships.0, ships.1)
-    before (Err (fault.Other kept given)) ships = (not_before (fault.Other kept given) ships.0, part_before _ ships.1, ships.2)
-    before (Err (fault.Damaged at)) ships = (not_before (fault.Damaged at) ships.0, part_before _ ships.1, ships.2)
-    before (Err fault.Cabinet) ships = (not_before fault.Cabinet ships.0, part_before _ ships.1, ships.2)
-    before (Err fault.Memory) ships = (not_before fault.Memory ships.0, part_before _ ships.1, ships.2)
-    before (Err another) ships = absurd ships.0
+      completes : (status : ℕ) (done : Result ⊤ Fault) → status ≡ status_of_done done → Ended done → Told (λ bytes. (history : List Entry) × IsHistoryOf network history bytes) → NoneFailed tells before after ⊤ → (status ≡ 0) ⊎ (status ≡ 7)
+      completes status (Ok value) is ships told held = inl is
+      completes status (Err fault.Write) is ships told held = absurd (held.writing (Rose-before (tells.sink.frame before.output) (tells.sink.frame left) (tells.sink.frame after.output) ships.1 stays))
+      completes status (Err (fault.Other kept given)) is ships told held = absurd (clash tells.cabinet tells.disk before.cabinet after.cabinet names.journal _ _ (λ image none history. none history.0 history.1) ships.0.1.none told)
+      completes status (Err (fault.Damaged at)) is ships told held = absurd (clash tells.cabinet tells.disk before.cabinet after.cabinet names.journal _ _ (λ image none history. none history.0 history.1) ships.0.none told)
+      completes status (Err fault.Cabinet) is ships told held = absurd (held.keeping_it ships.0.1)
+      completes status (Err fault.Memory) is ships told held = inr is
+      completes status (Err another) is ships told held = absurd ships.0
 
-    completes : (status : ℕ) (done : Result ⊤ Fault) → status ≡ status_of_done done → ShipsInCabinet sink cabinet disk journal from output mid place place' network done → Is (λ network bytes. (history : List Entry) × IsHistoryOf network history bytes) → Failing
-        → (status ≡ 0) ⊎ (status ≡ 7)
-    completes status (Ok value) is ships told held = inl is
-    completes status (Err fault.Write) is ships told held = absurd (held.writing (Rose-before (sink.frame output) (sink.frame mid) (sink.frame output') ships.1 stays))
-    completes status (Err (fault.Other kept given)) is ships told held = absurd (clash cabinet disk place place' journal _ _ (λ image none history. none history.0 history.1) ships.0.1.none
-        (of_read (notation_of topology) prices _ _ reads.taken network _ reads.gives reads.text.2 told))
-    completes status (Err (fault.Damaged at)) is ships told held = absurd (clash cabinet disk place place' journal _ _ (λ image none history. none history.0 history.1) ships.0.none
-        (of_read (notation_of topology) prices _ _ reads.taken network _ reads.gives reads.text.2 told))
-    completes status (Err fault.Cabinet) is ships told held = absurd (held.keeping_it ships.0.1)
-    completes status (Err fault.Memory) is ships told held = inr is
-    completes status (Err another) is ships told held = absurd ships.0
+      refuses : (status : ℕ) (done : Result ⊤ Fault) → status ≡ status_of_done done → Ended done → Told (λ bytes. (history : List Entry) → ¬ IsHistoryOf network history bytes) → NoneFailed tells before after ⊤ → (status ≡ 5) ⊎ (status ≡ 7)
+      refuses status (Ok value) is ships told held = absurd (clash tells.cabinet tells.disk before.cabinet after.cabinet names.journal _ _ (λ image history none. none ships.history history) ships.held told)
+      refuses status (Err fault.Write) is ships told held = absurd (held.writing (Rose-before (tells.sink.frame before.output) (tells.sink.frame left) (tells.sink.frame after.output) ships.1 stays))
+      refuses status (Err (fault.Other kept given)) is ships told held = inl is
+      refuses status (Err (fault.Damaged at)) is ships told held = inl is
+      refuses status (Err fault.Cabinet) is ships told held = absurd (held.keeping_it ships.0.1)
+      refuses status (Err fault.Memory) is ships told held = inr is
+      refuses status (Err another) is ships told held = absurd ships.0
 
-    refuses : (status : ℕ) (done : Result ⊤ Fault) → status ≡ status_of_done done → ShipsInCabinet sink cabinet disk journal from output mid place place' network done → Is (λ network bytes. (history : List Entry) → ¬ IsHistoryOf network history bytes) → Failing
-        → (status ≡ 5) ⊎ (status ≡ 7)
-    refuses status (Ok value) is ships told held = absurd (clash cabinet disk place place' journal _ _ (λ image history none. none ships.history history) ships.held
-        (of_read (notation_of topology) prices _ _ reads.taken network _ reads.gives reads.text.2 told))
-    refuses status (Err fault.Write) is ships told held = absurd (held.writing (Rose-before (sink.frame output) (sink.frame mid) (sink.frame output') ships.1 stays))
-    refuses status (Err (fault.Other kept given)) is ships told held = inl is
-    refuses status (Err (fault.Damaged at)) is ships told held = inl is
-    refuses status (Err fault.Cabinet) is ships told held = absurd (held.keeping_it ships.0.1)
-    refuses status (Err fault.Memory) is ships told held = inr is
-    refuses status (Err another) is ships told held = absurd ships.0
+      pub is_shipped : (read : C) (done : Result ⊤ Fault) (status : ℕ) → ReadsTopology tells.cabinet before.cabinet read names.prices names.topology (Ok network) → (tells.cabinet.frame after.cabinet).absent ≡ (tells.cabinet.frame read).absent → after.input ≡ before.input
+          → ShipsJournal tells names.journal from (record before { cabinet = read }) (record after { output = left }) network done → IsUnopened tells.cabinet tells.disk read after.cabinet network names.journal → status ≡ status_of_done done → IsLastLine tells.sink left after.output done → ShipOutcome tells names from before after status
+      is_shipped read done status reads same input shipped unopened is out =
+          let ships = ships_before (record after { output = left }) read network reads done shipped in
+          named_read tells names before after _ read network status reads same input
+          (record { left = left; done = done; ships = ships; unopened = unopened_before tells.cabinet tells.disk before.cabinet read after.cabinet reads.only_texts network names.journal unopened; last_line = out; is_status = is })
+          (λ at_8. never_1_or_8 names.journal before (record after { output = left }) network done ships (inr (sym is ∙ at_8)))
+          (λ told held. completes status done is ships told held) (λ told held. refuses status done is ships told held)
 
-    pub is_shipped : (done : Result ⊤ Fault) (status : ℕ) → ShipsInCabinet sink cabinet disk journal from output mid read place' network done → IsUnopened cabinet disk read place' network journal → status ≡ status_of_done done → IsLastLine sink mid output' done → Outcome status
-    is_shipped done status after unopened is out = record {
-      left = reads.left;
-      takes = (
-        reads.taken,
-        reads.gives,
-        reads.limit,
-        ((λ at_8. absurd (never_1_or_8 network mid done ships (inr (sym is ∙ at_8)))), λ more. absurd (cc (reads.too_long.1 more))),
-      );
-      ends = inl (record {
-        network = network;
-        text = reads.text.2;
-        is = record { mid = mid; done = done; ships = ships; unopened = unopened_before cabinet disk place read place' reads.only_texts network journal unopened; last_line = out; is_status = is };
-      });
-      refused = λ refused. absurd (no_network_read (notation_of topology) prices _ _ network refused reads.text.2);
-      not_there = λ told none. absurd (cc (reads.not_there told none));
-      absent = λ told some. same_absent ∙ reads.absent told some;
-      complete = λ servable told held. completes status done is ships told held;
-      refused_journal = λ servable told held. refuses status done is ships told held;
-    }
-      where
-        ships : ShipsInCabinet sink cabinet disk journal from output mid place place' network done
-        ships = before done after
-
-  -- the words are not what is wrong
-  pub ship_not_1 : (status : ℕ) → Outcome status → status ≡ 1 → ⊥
-  ship_not_1 status outcome is = named_not_1 prices sink cabinet disk topology journal output output' place place' (IsShipped prices sink cabinet disk topology journal from output output' place place') ⊤ ⊤ status
-      (λ network told one. never_1_or_8 network told.mid told.done told.ships (inl (sym told.is_status ∙ one))) outcome is
+    -- the words are not what is wrong
+    pub ship_not_1 : (after : Parts I O C) (status : ℕ) → ShipOutcome tells names from before after status → status ≢ 1
+    ship_not_1 after status outcome = named_not_1 tells names before after (to_ship tells names.journal from before after) outcome.left status
+        (λ network told one. never_1_or_8 names.journal before (record after { output = told.left }) network told.done told.ships (inl (sym told.is_status ∙ one))) outcome.named.ends

@@ -9,19 +9,16 @@ use Rattle.hose_graph.specs.Network.{Network}
 use Rattle.hose_graph.specs.declared.entry.Entry.{Entry}
 use Rattle.hose_law.specs.History.{book_of}
 use Rattle.hose_audit.specs.Audit.{audit_text}
-use Rattle.hose_disk.specs.declared.cabinet.Cabinet.{Ghosts as CabinetGhosts}
-use Rattle.hose_disk.specs.declared.disk.Disk.{Ghosts as DiskGhosts}
 use Rattle.hose_store.specs.Recovery.{IsHistoryOf}
-use Rattle.hose_offline.specs.Auditing.{HasAudited, IsLongAt, IsNotAudited, IsStarvedAt}
-use Rattle.hose_offline.specs.CabinetText.{whole_text}
+use Rattle.hose_offline.specs.Auditing.{HasAudited, IsLongAt, IsNotRead, IsStarvedAt, IsTextServable, PricedNames, named_text}
 use Rattle.hose_offline.specs.Ending.{IsOut, OutputWorked, TakesWithinLimit}
 use Rattle.hose_offline.specs.Fault.{last_line, status_of}
 use Rattle.hose_offline.specs.OnDisk.{CabinetFailed, JournalIsTold}
-use Rattle.hose_offline.specs.Run.{HasNetwork, IsFor, IsRefusedText, IsServable}
-use Rattle.hose_offline.specs.ServingOnDisk.{first_of}
+use Rattle.hose_offline.specs.Parts.{Parts, Tellings}
+use Rattle.hose_offline.specs.Run.{HasNetwork, IsFor, IsRefusedText}
+use Rattle.hose_offline.specs.ServingOnDisk.{IsNotServed, first_of}
 use Rattle.hose_offline.specs.TopologyTold.{notation_of}
 use Rattle.hose_offline.specs.declared.fault.Fault.{Fault}
-use Rattle.hose_offline.specs.declared.notation.Notation.{Notation}
 
 -- How the text of a book ends, by what was met before. Where all was well, the text is out, or the
 -- output failed and a part of it is. Else the last line of the fault follows the text, or the
@@ -35,75 +32,106 @@ EndsTold sink output output' status (Ok _) text =
 EndsTold sink output output' status (Err why) text =
     (status ≡ status_of why) × IsOut sink output output' (text ++ last_line why)
 
-module _ (prices : Network → Network → Type 0) {O C E : Type 0} (sink : SinkGhosts O)
-    (cabinet : CabinetGhosts C E) (disk : DiskGhosts E)
-    (topology journal : List ℕ) (output output' : O) (place place' : C) where
-  -- the text of the topology
-  abbrev pub text : Option Stream
-  text = whole_text cabinet place topology
+-- ---- a command that names a topology and a journal
 
-  -- how it is written
-  abbrev pub written : Notation
-  written = notation_of topology
+-- What such a command is for: what it tells of the network, by its status; what else is as it was
+-- where it tells nothing; and what else did not fail where no call did.
+pub record Purpose : Type 1 where
+  pub Tells : ℕ → Network → Type 0
+  pub Untouched : Type 0
+  pub OthersHeld : Type 0
 
-  -- A history was read, for which the journal stood, and the text of its book is told after the
-  -- journal was closed.
-  abbrev pub IsAudited : ℕ → Network → Type 0
-  IsAudited status network = (history : List Entry) × (closing : Result ⊤ Failed)
-      × HasAudited cabinet disk journal place place' network history closing
-      × EndsTold sink output output' status (first_of (Ok tt) closing)
-      (audit_text network (book_of 0 history))
+-- No call of the output and of the cabinet failed, and what the purpose adds held.
+pub record NoneFailed {I O C E : Type 0} (tells : Tellings I O C E) (before after : Parts I O C)
+    (OthersHeld : Type 0) : Type 0 where
+  pub writing : ¬ Rose (tells.sink.frame before.output) (tells.sink.frame after.output)
+  pub keeping_it : ¬ CabinetFailed tells.cabinet before.cabinet after.cabinet
+  pub others : OthersHeld
 
-  -- The topology and the journal that were named were read, and this is told of the network; or
-  -- not, and nothing but the last line is out, which tells why, and the rest is untouched.
-  abbrev pub EndsNamed : (Network → Type 0) → Type 0 → Option Stream → ℕ → Type 0
-  EndsNamed Tells Untouched left status = HasNetwork written prices text left Tells
-      ⊎ ((why : Fault) × (status ≡ status_of why)
-      × IsNotAudited prices cabinet disk topology journal place place' left why
-      × IsOut sink output output' (last_line why) × Untouched)
+module _ {I O C E : Type 0} (tells : Tellings I O C E) (names : PricedNames)
+    (before after : Parts I O C) where
+  -- The topology and the journal that were named were read, and of the network is told what the
+  -- command is for; or not, and nothing but the last line is out, which tells why, and the rest is
+  -- untouched.
+  abbrev pub EndsNamed : Purpose → Option Stream → ℕ → Type 0
+  EndsNamed purpose left status =
+      HasNetwork (notation_of names.topology) names.prices (named_text tells names before) left
+      (purpose.Tells status)
+      ⊎ ((why : Fault) × (status ≡ status_of why) × IsNotRead tells names before after left why
+      × IsOut tells.sink before.output after.output (last_line why) × purpose.Untouched)
 
   -- A topology that is refused gives 2, but for want of memory, a cabinet that failed, and a text
   -- that is too long before it is refused.
   abbrev pub EndsRefused : Option Stream → ℕ → Type 0
   EndsRefused left status = (status ≡ 2) ⊎ (((status ≡ 7)
-      × IsStarvedAt written text left)
-      ⊎ (((status ≡ 6) × CabinetFailed cabinet place place')
-      ⊎ ((status ≡ 8) × IsLongAt written text left)))
-
-  -- no call failed, and the others held too
-  pub record NoneFailed (OthersHeld : Type 0) : Type 0 where
-    pub writing : ¬ Rose (sink.frame output) (sink.frame output')
-    pub keeping_it : ¬ CabinetFailed cabinet place place'
-    pub others : OthersHeld
+      × IsStarvedAt (notation_of names.topology) (named_text tells names before) left)
+      ⊎ (((status ≡ 6) × CabinetFailed tells.cabinet before.cabinet after.cabinet)
+      ⊎ ((status ≡ 8)
+      × IsLongAt (notation_of names.topology) (named_text tells names before) left)))
 
   -- the journal is told, and is so for each network with whose text the topology begins
   abbrev pub JournalIs : (Network → List ℕ → Type 0) → Type 0
-  JournalIs Is = IsFor written prices text (λ network.
-      JournalIsTold cabinet disk place place' (Some journal) (Is network))
+  JournalIs Is = IsFor (notation_of names.topology) names.prices (named_text tells names before)
+      (λ network. JournalIsTold tells.cabinet tells.disk before.cabinet after.cabinet
+      (Some names.journal) (Is network))
 
-  -- What comes of a command that names a topology and a journal, and that tells this of them. Of
-  -- the text of the topology this is left.
-  pub record NamedOutcome (Tells : ℕ → Network → Type 0) (Untouched OthersHeld : Type 0)
-      (status : ℕ) : Type 0 where
-    pub left : Option Stream
-    pub takes : TakesWithinLimit written text left status
-    pub ends : EndsNamed (Tells status) Untouched left status
-    pub refused : IsRefusedText written text left → EndsRefused left status
+  -- What comes of reading the text and opening the journal, of which this is told. Of the text
+  -- this is left.
+  pub record NamesOutcome (purpose : Purpose) (left : Option Stream) (status : ℕ) : Type 0 where
+    pub ends : EndsNamed purpose left status
+    pub refused : IsRefusedText (notation_of names.topology) (named_text tells names before) left
+        → EndsRefused left status
     -- a text that is not there is a failure of the cabinet, and one that is there is not absent
-    pub not_there : IsTrue (cabinet.frame place).tells → cabinet.text place topology ≡ None
-        → status ≡ 6
-    pub absent : IsTrue (cabinet.frame place).tells → IsSome (cabinet.text place topology)
-        → (cabinet.frame place').absent ≡ (cabinet.frame place).absent
+    pub not_there : IsTrue (tells.cabinet.frame before.cabinet).tells
+        → tells.cabinet.text before.cabinet names.topology ≡ None → status ≡ 6
+    pub absent : IsTrue (tells.cabinet.frame before.cabinet).tells
+        → IsSome (tells.cabinet.text before.cabinet names.topology)
+        → (tells.cabinet.frame after.cabinet).absent ≡ (tells.cabinet.frame before.cabinet).absent
+    -- a journal that stands for no history of the network is refused
+    pub refused_journal : IsTextServable tells names before
+        → JournalIs (λ network bytes. (history : List Entry) → ¬ IsHistoryOf network history bytes)
+        → NoneFailed tells before after purpose.OthersHeld → (status ≡ 5) ⊎ (status ≡ 7)
+
+  -- What comes of a command that names a topology and a journal and reads nothing besides.
+  pub record NamedOutcome (purpose : Purpose) (status : ℕ) : Type 0 where
+    pub left : Option Stream
+    pub takes : TakesWithinLimit (notation_of names.topology) (named_text tells names before) left
+        status
+    pub named : NamesOutcome purpose left status
     -- a text of a network, with a journal of that network, is told, but for want of memory and
     -- where a call failed
-    pub complete : IsServable written text
+    pub complete : IsTextServable tells names before
         → JournalIs (λ network bytes. (history : List Entry) × IsHistoryOf network history bytes)
-        → NoneFailed OthersHeld → (status ≡ 0) ⊎ (status ≡ 7)
-    -- a journal that stands for no history of the network is refused
-    pub refused_journal : IsServable written text
-        → JournalIs (λ network bytes. (history : List Entry) → ¬ IsHistoryOf network history bytes)
-        → NoneFailed OthersHeld → (status ≡ 5) ⊎ (status ≡ 7)
+        → NoneFailed tells before after purpose.OthersHeld → (status ≡ 0) ⊎ (status ≡ 7)
+    -- nothing is taken of the input
+    pub input : after.input ≡ before.input
 
-  -- an audit tells the book of the journal
-  abbrev pub AuditOutcome : ℕ → Type 0
-  AuditOutcome = NamedOutcome IsAudited ⊤ ⊤
+-- ---- an audit
+
+module _ {I O C E : Type 0} (tells : Tellings I O C E) (journal : List ℕ)
+    (before after : Parts I O C) where
+  -- A history was read, for which the journal stood, and the text of its book is told after the
+  -- journal was closed.
+  abbrev pub IsAudited : ℕ → Network → Type 0
+  IsAudited status network = (history : List Entry) × (closing : Result ⊤ Failed)
+      × HasAudited tells journal before after network history closing
+      × EndsTold tells.sink before.output after.output status (first_of (Ok tt) closing)
+      (audit_text network (book_of 0 history))
+
+  -- What the audit of a journal comes to: it is told, or no store was opened, and the last line
+  -- tells why.
+  abbrev pub AuditsJournal : ℕ → Network → Type 0
+  AuditsJournal status network = IsAudited status network
+      ⊎ ((why : Fault) × (status ≡ status_of why)
+      × IsNotServed tells.cabinet tells.disk journal before.cabinet after.cabinet network (Err why)
+      × IsOut tells.sink before.output after.output (last_line why))
+
+  -- an audit is to tell the book of the journal
+  abbrev pub to_audit : Purpose
+  to_audit = record { Tells = IsAudited; Untouched = ⊤; OthersHeld = ⊤ }
+
+-- what stands after an audit of a journal that is named
+abbrev pub AuditOutcome : {I O C E : Type 0} → Tellings I O C E → PricedNames → Parts I O C
+    → Parts I O C → ℕ → Type 0
+AuditOutcome tells names before after =
+    NamedOutcome tells names before after (to_audit tells names.journal before after)

@@ -1,25 +1,22 @@
--- What an audit does, step by step: it reads the text of a topology, and the book of a journal.
+-- What reading the text of a topology comes to, and the book of a journal that is closed again.
 use Rattle.std.specs.Prelude.{◌≡◌, ◌⊎◌, ◌↔◌, ℕ, ◌+◌, ◌<◌, ◌≤◌, List, Option, None, IsSome, IsTrue, Result, Ok, Err, length, ⊤}
 use Rattle.hose_io.specs.Frame.{Met}
 use Rattle.hose_io.specs.Stream.{Stream, Gives}
 use Rattle.hose_io.specs.declared.Failed.{Failed}
-use Rattle.hose_io.specs.declared.source.Source.{Ghosts as SourceGhosts}
 use Rattle.hose_words.specs.Reading.{WhereTold}
 use Rattle.hose_words.specs.declared.lines.LineFault.TheVariants as line
-use Rattle.hose_words.specs.declared.lines.TheConstants.{INPUT_LIMIT}
 use Rattle.hose_graph.specs.Network.{IsNetwork, Network}
 use Rattle.hose_graph.specs.declared.entry.Entry.{Entry}
 use Rattle.hose_law.specs.History.{IsSound}
-use Rattle.hose_book.specs.Ledger.{IsLedgerOf, Ledger}
 use Rattle.hose_disk.specs.Cabinet.{Has, object_of}
 use Rattle.hose_disk.specs.declared.cabinet.Cabinet.{Ghosts as CabinetGhosts}
-use Rattle.hose_disk.specs.declared.disk.Disk.{Ghosts as DiskGhosts}
 use Rattle.hose_store.specs.Recovery.{IsHistoryOf}
 use Rattle.hose_topo.specs.Reading.{StopsInTopology}
 use Rattle.hose_offline.specs.CabinetText.{OnlyTextsRead, whole_text}
 use Rattle.hose_offline.specs.Journal.{IsLeftWith}
 use Rattle.hose_offline.specs.OnDisk.{CabinetFailed, CabinetWorked, HadContent}
-use Rattle.hose_offline.specs.Run.{HasNetwork, HasText, TellsNoNetwork}
+use Rattle.hose_offline.specs.Parts.{Parts, Tellings}
+use Rattle.hose_offline.specs.Run.{HasNetwork, HasText, IsServable, TellsNoNetwork}
 use Rattle.hose_offline.specs.ServingOnDisk.{IsNotServed}
 use Rattle.hose_offline.specs.TopologyTold.{TellsPriced, limit_of, notation_of}
 use Rattle.hose_offline.specs.declared.fault.Fault.{Fault}
@@ -79,27 +76,6 @@ module _ {C E : Type 0} (cabinet : CabinetGhosts C E) (old new : C) where
     pub not_there : IsTrue (cabinet.frame old).tells → cabinet.text old name ≡ None
         → result ≡ Err fault.Cabinet
 
-  -- So was the text of a topology, and an input behind it, of which nothing is taken without one.
-  pub record TakesBoth {I : Type 0} (source : SourceGhosts I) (topology : List ℕ) (input input' : I)
-      {T : Type 0} (ComesTo : Option Stream → Result T Fault → Type 0) (result : Result T Fault) :
-      Type 0 where
-    pub left : Option Stream
-    pub text : List ℕ
-    pub gives_text : Gives (whole_text cabinet old topology) left text
-    pub text_limit : length text ≤ limit_of (notation_of topology) + 1
-    pub taken : List ℕ
-    pub gives : Gives (source.content input) (source.content input') taken
-    pub limit : length taken ≤ INPUT_LIMIT + 1
-    -- more than a limit was taken of one of the two exactly where that is told
-    pub too_long : (result ≡ Err fault.TooLong)
-        ↔ ((limit_of (notation_of topology) < length text) ⊎ (INPUT_LIMIT < length taken))
-    pub comes : ComesTo left result
-    pub only_texts : OnlyTextsRead cabinet old new
-    pub absent : IsTrue (cabinet.frame old).tells → IsSome (cabinet.text old topology)
-        → (cabinet.frame new).absent ≡ (cabinet.frame old).absent
-    pub not_there : IsTrue (cabinet.frame old).tells → cabinet.text old topology ≡ None
-        → result ≡ Err fault.Cabinet
-
   -- the topology of a text was read, or none
   abbrev pub ReadsText : Notation → (Network → Network → Type 0) → List ℕ → Result Network Fault
       → Type 0
@@ -114,59 +90,49 @@ module _ {C E : Type 0} (cabinet : CabinetGhosts C E) (old new : C) where
 
 -- The journal of a name stood for the history, as it was read at its opening, and is left with it.
 -- The cabinet failed exactly where closing did.
-pub record HasAudited {C E : Type 0} (cabinet : CabinetGhosts C E) (disk : DiskGhosts E)
-    (name : List ℕ) (old new : C) (network : Network) (history : List Entry)
+pub record HasAudited {I O C E : Type 0} (tells : Tellings I O C E) (name : List ℕ)
+    (before after : Parts I O C) (network : Network) (history : List Entry)
     (closing : Result ⊤ Failed) : Type 0 where
-  pub begun : HadContent cabinet disk old new name (IsHistoryOf network history)
+  pub begun : HadContent tells.cabinet tells.disk before.cabinet after.cabinet name
+      (IsHistoryOf network history)
   pub sound : IsSound network 0 history
-  pub met : Met (object_of (cabinet.frame old)) (object_of (cabinet.frame new)) closing
-  pub left : Has (cabinet.frame old).tells (cabinet.held old name) (λ was.
-      Has (cabinet.frame new).tells (cabinet.held new name) (λ left.
-      IsLeftWith disk was network history left))
-
--- the book that was read is that of the history
-pub record AuditsBook {C E : Type 0} (cabinet : CabinetGhosts C E) (disk : DiskGhosts E)
-    (name : List ℕ) (old new : C) (network : Network) (ledger : Ledger)
-    (closing : Result ⊤ Failed) : Type 0 where
-  pub history : List Entry
-  pub is : IsLedgerOf network 0 history ledger
-  pub audited : HasAudited cabinet disk name old new network history closing
-
--- no store was opened, or the book was read
-abbrev pub ReadsBook : {C E : Type 0} → CabinetGhosts C E → DiskGhosts E → List ℕ → C → C → Network
-    → Result (Ledger × Result ⊤ Failed) Fault → Type 0
-ReadsBook cabinet disk name old new network (Ok read) =
-    AuditsBook cabinet disk name old new network read.0 read.1
-ReadsBook cabinet disk name old new network (Err why) =
-    IsNotServed cabinet disk name old new network (Err why)
+  pub met : Met (object_of (tells.cabinet.frame before.cabinet))
+      (object_of (tells.cabinet.frame after.cabinet)) closing
+  pub left : Has (tells.cabinet.frame before.cabinet).tells (tells.cabinet.held before.cabinet name)
+      (λ was. Has (tells.cabinet.frame after.cabinet).tells (tells.cabinet.held after.cabinet name)
+      (λ left. IsLeftWith tells.disk was network history left))
 
 -- ---- both
 
-module _ (prices : Network → Network → Type 0) {C E : Type 0} (cabinet : CabinetGhosts C E)
-    (disk : DiskGhosts E) (topology journal : List ℕ) (old new : C) where
-  -- No topology was read of the text, of which this is left, or no store was opened, and why.
-  abbrev pub IsNotAudited : Option Stream → Fault → Type 0
-  IsNotAudited left why = (IsTextFault cabinet old new (notation_of topology)
-      (whole_text cabinet old topology) left why × (cabinet.held new ≡ cabinet.held old))
-      ⊎ HasNetwork (notation_of topology) prices (whole_text cabinet old topology) left
-      (λ network. IsNotServed cabinet disk journal old new network (Err why))
+-- What a command names, the text of a topology and a journal of its network, and the prices of
+-- networks.
+pub record PricedNames : Type 1 where
+  pub prices : Network → Network → Type 0
+  pub topology : List ℕ
+  pub journal : List ℕ
 
-  -- the book of the journal was read, of the network that the text begins with; or not
-  abbrev pub IsBookOf : Option Stream → Result (Ledger × Result ⊤ Failed) Fault → Type 0
-  IsBookOf left (Ok read) =
-      HasNetwork (notation_of topology) prices (whole_text cabinet old topology) left
-      (λ network. AuditsBook cabinet disk journal old new network read.0 read.1)
-  IsBookOf left (Err why) = IsNotAudited left why
+abbrev pub priced_names : (Network → Network → Type 0) → List ℕ → List ℕ → PricedNames
+priced_names prices topology journal =
+    record { prices = prices; topology = topology; journal = journal }
 
-  -- whether the book of a journal that was named was read, and what was taken of the text
-  pub record ReadsNamed (result : Result (Ledger × Result ⊤ Failed) Fault) : Type 0 where
-    pub taken : List ℕ
-    pub left : Option Stream
-    pub gives : Gives (whole_text cabinet old topology) left taken
-    pub limit : length taken ≤ limit_of (notation_of topology) + 1
-    pub too_long : (result ≡ Err fault.TooLong) ↔ (limit_of (notation_of topology) < length taken)
-    pub book : IsBookOf left result
-    pub absent : IsTrue (cabinet.frame old).tells → IsSome (cabinet.text old topology)
-        → (cabinet.frame new).absent ≡ (cabinet.frame old).absent
-    pub not_there : IsTrue (cabinet.frame old).tells → cabinet.text old topology ≡ None
-        → result ≡ Err fault.Cabinet
+-- the text of the topology
+abbrev pub named_text : {I O C E : Type 0} → Tellings I O C E → PricedNames → Parts I O C
+    → Option Stream
+named_text tells names before = whole_text tells.cabinet before.cabinet names.topology
+
+-- the text of the topology is told, tells a network, and is not too long
+abbrev pub IsTextServable : {I O C E : Type 0} → Tellings I O C E → PricedNames → Parts I O C
+    → Type 0
+IsTextServable tells names before =
+    IsServable (notation_of names.topology) (named_text tells names before)
+
+-- No topology was read of the text, of which this is left, or no store was opened, and why.
+abbrev pub IsNotRead : {I O C E : Type 0} → Tellings I O C E → PricedNames → Parts I O C
+    → Parts I O C → Option Stream → Fault → Type 0
+IsNotRead tells names before after left why =
+    (IsTextFault tells.cabinet before.cabinet after.cabinet (notation_of names.topology)
+    (named_text tells names before) left why
+    × (tells.cabinet.held after.cabinet ≡ tells.cabinet.held before.cabinet))
+    ⊎ HasNetwork (notation_of names.topology) names.prices (named_text tells names before) left
+    (λ network. IsNotServed tells.cabinet tells.disk names.journal before.cabinet after.cabinet
+    network (Err why))

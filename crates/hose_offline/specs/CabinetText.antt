@@ -4,7 +4,7 @@ use Rattle.std.specs.Borrow.{MutBor}
 use Rattle.hose_io.specs.Frame.{Frame, Stays}
 use Rattle.hose_io.specs.Stream.{Stream}
 use Rattle.hose_io.specs.declared.source.Source.{Ghosts as SourceGhosts}
-use Rattle.hose_words.specs.declared.lines.TheConstants.{INPUT_LIMIT}
+use Rattle.hose_words.specs.Limits.{input_limit}
 use Rattle.hose_disk.specs.Cabinet.{object_of}
 use Rattle.hose_disk.specs.declared.cabinet.Cabinet.{Ghosts}
 
@@ -13,8 +13,8 @@ abbrev pub stream_at : ℕ → Bool → Option (List ℕ) → Option Stream
 stream_at from false found = None
 stream_at from true None = None
 stream_at from true (Some bytes) = Some (record {
-  taken = take from (take (INPUT_LIMIT + 1) bytes);
-  left = drop from (take (INPUT_LIMIT + 1) bytes);
+  taken = take from (take (input_limit + 1) bytes);
+  left = drop from (take (input_limit + 1) bytes);
 })
 
 -- a text that is read: its cabinet, its name, and how far it was read

@@ -6,20 +6,16 @@ use Rattle.hose_io.specs.Writing.{GrowsInPart}
 use Rattle.hose_io.specs.declared.source.Source.{Ghosts as SourceGhosts}
 use Rattle.hose_io.specs.declared.sink.Sink.{Ghosts as SinkGhosts}
 use Rattle.hose_words.specs.Reading.{WhereTold}
-use Rattle.hose_words.specs.declared.lines.TheConstants.{INPUT_LIMIT}
+use Rattle.hose_words.specs.Limits.{input_limit}
 use Rattle.hose_graph.specs.Network.{Network}
 use Rattle.hose_cert.specs.Verdict.{AreCheapestFound, IsVerdict}
 use Rattle.hose_cert.specs.declared.Verdict.{Verdict}
 use Rattle.hose_cert.specs.declared.Verdict.TheVariants.{Yes, No}
-use Rattle.hose_disk.specs.declared.cabinet.Cabinet.{Ghosts as CabinetGhosts}
 use Rattle.hose_proto.specs.ReplyText.{line_of}
-use Rattle.hose_offline.specs.Auditing.{IsTextFault, TakesBoth}
-use Rattle.hose_offline.specs.CabinetText.{whole_text}
 use Rattle.hose_offline.specs.Ending.{IsOut, OutputWorked}
 use Rattle.hose_offline.specs.Fault.{last_line, status_of}
-use Rattle.hose_offline.specs.OnDisk.{CabinetWorked}
-use Rattle.hose_offline.specs.Run.{HasNetwork}
-use Rattle.hose_offline.specs.TopologyTold.{notation_of}
+use Rattle.hose_offline.specs.Named.{NamesNetwork, NamesNone, TakesBoth}
+use Rattle.hose_offline.specs.Parts.{Parts, Tellings}
 use Rattle.hose_offline.specs.declared.fault.Fault.{Fault}
 use Rattle.hose_offline.specs.declared.fault.Fault.TheVariants.{Read, Memory, TooLong}
 
@@ -71,32 +67,28 @@ module _ {I : Type 0} (source : SourceGhosts I) (input input' : I) (network : Ne
   pub record JudgesInput (result : Result Verdict Fault) : Type 0 where
     pub taken : List ℕ
     pub gives : Gives (source.content input) (source.content input') taken
-    pub limit : length taken ≤ INPUT_LIMIT + 1
-    pub too_long : (result ≡ Err TooLong) ↔ (INPUT_LIMIT < length taken)
+    pub limit : length taken ≤ input_limit + 1
+    pub too_long : (result ≡ Err TooLong) ↔ (input_limit < length taken)
     pub judged : JudgedAs result
 
 -- ---- the topology and the input
 
-module _ (prices : Network → Network → Type 0) {I C E : Type 0} (source : SourceGhosts I)
-    (cabinet : CabinetGhosts C E) (topology : List ℕ) (input input' : I) (place place' : C) where
+module _ {I O C E : Type 0} (tells : Tellings I O C E) (prices : Network → Network → Type 0)
+    (topology : List ℕ) (before after : Parts I O C) where
   -- The topology that was named was read, and the input judged by its network; or one of the two
   -- was not, and why. Where the topology was not read, nothing was taken of the input. Of its text
   -- this is left.
   abbrev pub IsVerdictOf : Option Stream → Result Verdict Fault → Type 0
-  IsVerdictOf left (Ok verdict) =
-      HasNetwork (notation_of topology) prices (whole_text cabinet place topology) left
-      (λ network. IsJudged source input input' network verdict)
-      × CabinetWorked cabinet place place'
-  IsVerdictOf left (Err why) =
-      (IsTextFault cabinet place place' (notation_of topology)
-      (whole_text cabinet place topology) left why × (input' ≡ input))
-      ⊎ (HasNetwork (notation_of topology) prices (whole_text cabinet place topology) left
-      (λ network. IsNotJudged source input input' network why)
-      × CabinetWorked cabinet place place')
+  IsVerdictOf left (Ok verdict) = NamesNetwork tells prices topology before after left
+      (λ network. IsJudged tells.source before.input after.input network verdict)
+  IsVerdictOf left (Err why) = (NamesNone tells topology before after left why
+      × (after.input ≡ before.input))
+      ⊎ NamesNetwork tells prices topology before after left
+      (λ network. IsNotJudged tells.source before.input after.input network why)
 
   -- what was taken of the text and of the input, and what came of it
   abbrev pub JudgesNamed : Result Verdict Fault → Type 0
-  JudgesNamed = TakesBoth cabinet place place' source topology input input' IsVerdictOf
+  JudgesNamed = TakesBoth tells topology before after IsVerdictOf
 
 -- What judging came to, and how that is told: the verdict, or the last line of the fault.
 abbrev pub EndsChecked : {O : Type 0} → SinkGhosts O → O → O → ℕ → Result Verdict Fault → Type 0
@@ -105,11 +97,11 @@ EndsChecked sink output output' status (Ok verdict) =
 EndsChecked sink output output' status (Err why) =
     (status ≡ status_of why) × IsOut sink output output' (last_line why)
 
--- A topology was read and the input judged, or not, and that was told.
-pub record CheckOutcome (prices : Network → Network → Type 0) {I O C E : Type 0}
-    (source : SourceGhosts I) (sink : SinkGhosts O) (cabinet : CabinetGhosts C E)
-    (topology : List ℕ) (input input' : I) (output output' : O) (place place' : C)
+-- A topology was read and the input judged, or not, which left the output alone, and that was told.
+pub record CheckOutcome {I O C E : Type 0} (tells : Tellings I O C E)
+    (prices : Network → Network → Type 0) (topology : List ℕ) (before after : Parts I O C)
     (status : ℕ) : Type 0 where
   pub result : Result Verdict Fault
-  pub judges : JudgesNamed prices source cabinet topology input input' place place' result
-  pub ends : EndsChecked sink output output' status result
+  pub judges : JudgesNamed tells prices topology before (record after { output = before.output })
+      result
+  pub ends : EndsChecked tells.sink before.output after.output status result

@@ -4,15 +4,11 @@ use mathlib.Core.List.{IsPrefix}
 use Rattle.hose_io.specs.Frame.{Met}
 use Rattle.hose_io.specs.Stream.{Gives}
 use Rattle.hose_io.specs.declared.Failed.{Failed}
-use Rattle.hose_io.specs.declared.source.Source.{Ghosts as SourceGhosts}
-use Rattle.hose_io.specs.declared.sink.Sink.{Ghosts as SinkGhosts}
 use Rattle.hose_graph.specs.Network.{Network}
 use Rattle.hose_graph.specs.declared.entry.Entry.{Entry}
 use Rattle.hose_law.specs.History.{IsSound, IsSoundAt, book_of}
 use Rattle.hose_codec.specs.Spelling.{IsSpelling}
 use Rattle.hose_disk.specs.Cabinet.{Has, object_of}
-use Rattle.hose_disk.specs.declared.cabinet.Cabinet.{Ghosts as CabinetGhosts}
-use Rattle.hose_disk.specs.declared.disk.Disk.{Ghosts as DiskGhosts}
 use Rattle.hose_journal.specs.Chain.{chain}
 use Rattle.hose_store.specs.Beginning.{HasLeft}
 use Rattle.hose_store.specs.Recovery.{IsHistoryOf, digest_of}
@@ -23,8 +19,9 @@ use Rattle.hose_follow.specs.declared.answers.Offered.{Offered}
 use Rattle.hose_follow.specs.declared.answers.Offered.TheVariants.{Have, Want, Differs, Memory, Unsound, Disk}
 use Rattle.hose_follow.specs.declared.following.FollowEnd.{FollowEnd}
 use Rattle.hose_follow.specs.declared.following.FollowEnd.TheVariants as end
-use Rattle.hose_follow.specs.declared.following.TheConstants.{INPUT_LIMIT}
+use Rattle.hose_follow.specs.Layout.{follow_limit}
 use Rattle.hose_offline.specs.OnDisk.{HadContent, opening_of}
+use Rattle.hose_offline.specs.Parts.{Parts, Tellings}
 use Rattle.hose_offline.specs.ServingOnDisk.{IsNotServed, first_of}
 use Rattle.hose_offline.specs.declared.fault.Fault.{Fault}
 use Rattle.hose_offline.specs.declared.fault.Fault.TheVariants as fault
@@ -82,27 +79,27 @@ pub data ArePacketsAnswered (network : Network) (since : List Entry) : List Pack
 
 -- ---- an input
 
-module _ {I O : Type 0} (source : SourceGhosts I) (sink : SinkGhosts O) (input input' : I)
-    (output output' : O) where
-  -- What following the input comes to for a journal that had a history: its whole packets are
-  -- answered one after another, which leads to this history. The history goes on from the first one
-  -- and is sound. `EndsSo` says how the input stands to what comes after the packets, and what is
-  -- out.
-  pub record FollowsFrom (network : Network) (since history : List Entry) (ended : FollowEnd) :
-      Type 0 where
-    pub packets : List Packet
-    pub rest : List ℕ
-    pub answers : List Offered
-    pub gives : Gives (source.content input) (source.content input') (packets_bytes packets ++ rest)
-    pub are : All IsPacket packets
-    pub answered : ArePacketsAnswered network since packets answers history
-    pub begins : IsPrefix since history
-    pub sound : IsSound network 0 history
-    pub ends : EndsSo source sink input input' output output' packets answers rest ended
-    pub limit : length (packets_bytes packets ++ rest) ≤ INPUT_LIMIT + 1
-    pub too_long : (ended ≡ end.TooLong) ↔ (INPUT_LIMIT < length (packets_bytes packets ++ rest))
-    -- without memory to begin with nothing was taken
-    pub memory : ended ≡ end.Memory → history ≡ since
+-- What following the input comes to for a journal that had a history: its whole packets are
+-- answered one after another, which leads to this history. The history goes on from the first one
+-- and is sound. `EndsSo` says how the input stands to what comes after the packets, and what is
+-- out.
+pub record FollowsFrom {I O C E : Type 0} (tells : Tellings I O C E) (before after : Parts I O C)
+    (network : Network) (since history : List Entry) (ended : FollowEnd) : Type 0 where
+  pub packets : List Packet
+  pub rest : List ℕ
+  pub answers : List Offered
+  pub gives : Gives (tells.source.content before.input) (tells.source.content after.input)
+      (packets_bytes packets ++ rest)
+  pub are : All IsPacket packets
+  pub answered : ArePacketsAnswered network since packets answers history
+  pub begins : IsPrefix since history
+  pub sound : IsSound network 0 history
+  pub ends : EndsSo tells.source tells.sink before.input after.input before.output after.output
+      packets answers rest ended
+  pub limit : length (packets_bytes packets ++ rest) ≤ follow_limit + 1
+  pub too_long : (ended ≡ end.TooLong) ↔ (follow_limit < length (packets_bytes packets ++ rest))
+  -- without memory to begin with nothing was taken
+  pub memory : ended ≡ end.Memory → history ≡ since
 
 -- what ended following, as a fault of the program
 abbrev pub following_done : FollowEnd → Result ⊤ Fault
@@ -113,33 +110,33 @@ following_done end.Write = Err fault.Write
 following_done end.TooLong = Err fault.TooLong
 following_done end.Memory = Err fault.Memory
 
--- ---- in a cabinet
+-- ---- by the journal of a name
 
--- The input was followed by the journal of a name, which was closed and put back then. It stood for
--- a history, as it was read at its opening. Failures of the disk were told no more often than the
+-- The input was followed by the journal, which was closed and put back then. It stood for a
+-- history, as it was read at its opening. Failures of the disk were told no more often than the
 -- disk has failed, and the cabinet failed where closing did.
-pub record HasFollowed {I O C E : Type 0} (source : SourceGhosts I) (sink : SinkGhosts O)
-    (cabinet : CabinetGhosts C E) (disk : DiskGhosts E) (name : List ℕ) (input input' : I)
-    (output output' : O) (old new : C) (network : Network) (ended : FollowEnd)
+pub record HasFollowed {I O C E : Type 0} (tells : Tellings I O C E) (name : List ℕ)
+    (before after : Parts I O C) (network : Network) (ended : FollowEnd)
     (closing : Result ⊤ Failed) : Type 0 where
   pub since : List Entry
   pub history : List Entry
-  pub begun : HadContent cabinet disk old new name (IsHistoryOf network since)
-  pub follows : FollowsFrom source sink input input' output output' network since history ended
-  pub disks : TellsDiskAnswers 0 follows.answers (cabinet.frame new).returned
-  pub met : Met (object_of (cabinet.frame old)) (object_of (cabinet.frame new)) closing
-  pub left : Has (cabinet.frame old).tells (cabinet.held old name) (λ was.
-      Has (cabinet.frame new).tells (cabinet.held new name) (λ left.
-      HasLeft disk IsSoundAt (disk.may_leave was) (opening_of disk network since was) history
-      left closing))
+  pub begun : HadContent tells.cabinet tells.disk before.cabinet after.cabinet name
+      (IsHistoryOf network since)
+  pub follows : FollowsFrom tells before after network since history ended
+  pub disks : TellsDiskAnswers 0 follows.answers (tells.cabinet.frame after.cabinet).returned
+  pub met : Met (object_of (tells.cabinet.frame before.cabinet))
+      (object_of (tells.cabinet.frame after.cabinet)) closing
+  pub left : Has (tells.cabinet.frame before.cabinet).tells (tells.cabinet.held before.cabinet name)
+      (λ was. Has (tells.cabinet.frame after.cabinet).tells (tells.cabinet.held after.cabinet name)
+      (λ left. HasLeft tells.disk IsSoundAt (tells.disk.may_leave was)
+      (opening_of tells.disk network since was) history left closing))
 
 -- no packet was answered, and why; or the input was followed, and the first fault is told
-abbrev pub FollowsInCabinet : {I O C E : Type 0} → SourceGhosts I → SinkGhosts O
-    → CabinetGhosts C E → DiskGhosts E → List ℕ → I → I → O → O → C → C → Network → Result ⊤ Fault
-    → Type 0
-FollowsInCabinet source sink cabinet disk name input input' output output' old new network result =
-    (IsNotServed cabinet disk name old new network result × (input' ≡ input)
-    × (output' ≡ output))
+abbrev pub FollowsJournal : {I O C E : Type 0} → Tellings I O C E → List ℕ → Parts I O C
+    → Parts I O C → Network → Result ⊤ Fault → Type 0
+FollowsJournal tells name before after network result =
+    (IsNotServed tells.cabinet tells.disk name before.cabinet after.cabinet network result
+    × (after.input ≡ before.input) × (after.output ≡ before.output))
     ⊎ ((ended : FollowEnd) × (closing : Result ⊤ Failed)
-    × HasFollowed source sink cabinet disk name input input' output output' old new network
-    ended closing × (result ≡ first_of (following_done ended) closing))
+    × HasFollowed tells name before after network ended closing
+    × (result ≡ first_of (following_done ended) closing))

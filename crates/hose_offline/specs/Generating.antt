@@ -3,7 +3,7 @@ use Rattle.std.specs.Prelude.{◌≡◌, ℕ, ◌+◌, ◌≤◌, List, [], map}
 use Rattle.hose_graph.specs.declared.entry.Entry.{Entry}
 use Rattle.hose_graph.specs.declared.command.Reply.{Reply}
 use Rattle.hose_graph.specs.Network.{Network}
-use Rattle.hose_graph.specs.declared.limits.TheConstants.{MOST_LINKS, MOST_NODES}
+use Rattle.hose_graph.specs.Limits.{most_links, most_nodes}
 use Rattle.hose_law.specs.History.{IsDecided, book_of}
 use Rattle.hose_law.specs.Quotes.{Holdings, nothing_held}
 use Rattle.hose_law.specs.Script.{ReadLine, IsScript, WithoutDisk, WithoutMemory}
@@ -12,18 +12,18 @@ use Rattle.hose_book.specs.declared.books.Books.{Ghosts as BooksGhosts}
 use Rattle.hose_core.specs.Holding.{State}
 use Rattle.hose_core.specs.Stepping.{FitsHistory}
 use Rattle.hose_gen.specs.Generated.{Order}
-use Rattle.hose_gen.specs.declared.orders.TheConstants.{LEAST_NODES, MOST_HOSES}
-use Rattle.hose_offline.specs.Serving.{AreAnswered}
+use Rattle.hose_gen.specs.Limits.{least_nodes, most_hoses}
+use Rattle.hose_offline.specs.Talking.{AreAnswered}
 use Rattle.hose_offline.specs.Tally.{tally_of}
 use Rattle.hose_offline.specs.declared.tally.Tally.{Tally}
 
 -- a network of so many nodes and links, and a script of so many hoses, can be generated
 pub record AreSizes (nodes links hoses : ℕ) : Type 0 where
-  pub enough_nodes : LEAST_NODES ≤ nodes
-  pub few_nodes : nodes ≤ MOST_NODES
+  pub enough_nodes : least_nodes ≤ nodes
+  pub few_nodes : nodes ≤ most_nodes
   pub enough_links : nodes ≤ links + 1
-  pub few_links : links ≤ MOST_LINKS
-  pub few_hoses : hoses ≤ MOST_HOSES
+  pub few_links : links ≤ most_links
+  pub few_hoses : hoses ≤ most_hoses
 
 -- the orders as lines of a script that were read
 abbrev pub asked : List Order → List ReadLine

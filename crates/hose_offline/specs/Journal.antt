@@ -5,11 +5,11 @@ use Rattle.hose_graph.specs.Network.{Network}
 use Rattle.hose_graph.specs.declared.entry.Entry.{Entry}
 use Rattle.hose_law.specs.History.{EntryKind}
 use Rattle.hose_book.specs.GoingOn.{GoesOn}
-use Rattle.hose_disk.specs.Cabinet.{Has, IsDiskCall, after_back, where_told}
+use Rattle.hose_disk.specs.Cabinet.{Has, IsDiskCall, after_back, opened_at, where_told}
 use Rattle.hose_disk.specs.Disk.{IsCalled, NoneNew}
 use Rattle.hose_disk.specs.declared.cabinet.Cabinet.{Ghosts as CabinetGhosts}
 use Rattle.hose_disk.specs.declared.disk.Disk.{Ghosts as DiskGhosts}
-use Rattle.hose_journal.specs.Moments.{Images, LeavesOnly}
+use Rattle.hose_journal.specs.Moments.{Images, KeepsCount, LeavesOnly}
 use Rattle.hose_store.specs.Beginning.{HasLeft, StandsFor}
 use Rattle.hose_store.specs.Commit.{Closes, store_books}
 use Rattle.hose_store.specs.Opening.{IsAtOpening, IsOpenedOn}
@@ -27,13 +27,15 @@ pub record IsLeftWith {E : Type 0} (disk : DiskGhosts E) (old : E) (network : Ne
   pub moments : (image : List ℕ) → disk.left_since left (disk.moment old) image
       → IsAtOpening disk old network image
 
--- A store was just opened on the disk, and stands for the history for which the disk stood as it
--- was read. However it is closed, the disk is left with that history before anything is added, and
--- else with the one that entries of this kind lead to, as `HasLeft` says.
+-- A store was just opened on the disk, of which no call failed, and stands for the history for
+-- which the disk stood as it was read. However it is closed, the disk is left with that history
+-- before anything is added, and else with the one that entries of this kind lead to, as `HasLeft`
+-- says.
 pub record IsJustOpened {E : Type 0} (disk : DiskGhosts E) (Kind : EntryKind) (old : E)
     (network : Network) (store : Kept E) : Type 0 where
   pub opened : IsOpenedOn disk old network store
   pub images : LeavesOnly disk old store.journal.disk (IsAtOpening disk old network)
+  pub count : KeepsCount disk old store.journal.disk
   pub stands : StandsFor disk Kind (disk.may_leave old) (opening_of disk network opened.history old)
       opened.history store
   pub unused : (left : E) (closing : Result ⊤ Failed) → Closes disk store left closing
@@ -47,7 +49,8 @@ pub record IsJustOpened {E : Type 0} (disk : DiskGhosts E) (Kind : EntryKind) (o
 -- ---- the disk in a cabinet
 
 module _ {C E : Type 0} (cabinet : CabinetGhosts C E) (disk : DiskGhosts E) where
-  -- The disk was taken out of the cabinet, as it was held there under the name.
+  -- The disk was taken out of the cabinet, as it was held there under the name, and no call was
+  -- made on it.
   pub record IsTakenOut (name : List ℕ) (old new : C) (taken : E) : Type 0 where
     pub content : Has (cabinet.frame old).tells (cabinet.held old name) (λ was.
         disk.content taken ≡ disk.content was)
@@ -55,6 +58,7 @@ module _ {C E : Type 0} (cabinet : CabinetGhosts C E) (disk : DiskGhosts E) wher
         NoneNew (disk.may_leave was) (disk.may_leave taken))
     pub moment : Has (cabinet.frame old).tells (cabinet.held old name) (λ was.
         disk.moment taken ≡ disk.moment was)
+    pub fresh : disk.frame taken ≡ opened_at (disk.moment taken)
     pub call : IsDiskCall {T = E} name (cabinet.frame old) (cabinet.frame new) (Ok taken)
 
   -- The disk was put into the cabinet, under the name of the one that was out.

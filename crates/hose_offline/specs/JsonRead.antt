@@ -7,17 +7,17 @@ use Rattle.hose_topo_json.specs.JsonTopology.{IsJsonTopology}
 use Rattle.hose_offline.specs.Run.{TellsNoNetwork}
 use Rattle.hose_offline.specs.declared.fault.Fault.{Fault}
 use Rattle.hose_offline.specs.declared.fault.Fault.TheVariants.{Topology, Cabinet, Memory, TooLong}
-use Rattle.hose_offline.specs.declared.json_text.TheConstants.{JSON_LIMIT}
+use Rattle.hose_offline.specs.Limits.{json_limit}
 use Rattle.hose_offline.specs.declared.notation.Notation.TheVariants as notation
 
 -- why the bytes that a source had left were not taken all
 abbrev pub IsPieceFault : Option Stream → Option Stream → Fault → Type 0
 IsPieceFault old new TooLong = (bytes : List ℕ) × Gives old new bytes
-    × (JSON_LIMIT < length bytes) × (length bytes ≤ JSON_LIMIT + 1)
+    × (json_limit < length bytes) × (length bytes ≤ json_limit + 1)
 IsPieceFault old new Cabinet =
-    (bytes : List ℕ) × Gives old new bytes × (length bytes ≤ JSON_LIMIT)
+    (bytes : List ℕ) × Gives old new bytes × (length bytes ≤ json_limit)
 IsPieceFault old new Memory =
-    (bytes : List ℕ) × Gives old new bytes × (length bytes ≤ JSON_LIMIT)
+    (bytes : List ℕ) × Gives old new bytes × (length bytes ≤ json_limit)
 IsPieceFault old new fault = ⊥
 
 -- the topology that the bytes are, or why none was read

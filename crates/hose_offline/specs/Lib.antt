@@ -10,6 +10,8 @@ pub mod GenOutcome
 pub mod Generating
 pub mod Journal
 pub mod JsonRead
+pub mod Limits
+pub mod Named
 pub mod OnDisk
 pub mod Parts
 pub mod PriceOutcome
@@ -18,9 +20,11 @@ pub mod ProveOutcome
 pub mod Run
 pub mod RunOutcome
 pub mod ScriptLine
-pub mod Serving
 pub mod ServingOnDisk
 pub mod SheetLine
 pub mod ShipOutcome
+pub mod Talk
+pub mod Talking
+pub mod TalkingOnDisk
 pub mod Tally
 pub mod TopologyTold

@@ -14,7 +14,7 @@ use Rattle.hose_store.specs.Beginning.{Beginning, HasLeft}
 use Rattle.hose_store.specs.Opening.{IsAtOpening}
 use Rattle.hose_store.specs.Recovery.{IsHistoryOf, IsRecoveredAs}
 use Rattle.hose_offline.specs.Run.{Keeping, in_memory}
-use Rattle.hose_offline.specs.Serving.{TellsDisks}
+use Rattle.hose_offline.specs.Talking.{TellsDisks}
 
 -- the opening of a disk that stood for a history then
 abbrev pub opening_of : {E : Type 0} → DiskGhosts E → Network → List Entry → E → Beginning
@@ -38,10 +38,11 @@ pub record KeptOnDisk {C E : Type 0} (cabinet : CabinetGhosts C E) (disk : DiskG
       HasLeft disk IsDecidedAt (disk.may_leave was) (opening_of disk network since was) history
       left closing))
 
--- no call of the cabinet failed; or one did
+-- no call of the cabinet failed
 abbrev pub CabinetWorked : {C E : Type 0} → CabinetGhosts C E → C → C → Type 0
 CabinetWorked cabinet old new = object_of (cabinet.frame new) ≡ object_of (cabinet.frame old)
 
+-- a call of the cabinet failed
 abbrev pub CabinetFailed : {C E : Type 0} → CabinetGhosts C E → C → C → Type 0
 CabinetFailed cabinet old new = Rose (object_of (cabinet.frame old)) (object_of (cabinet.frame new))
 

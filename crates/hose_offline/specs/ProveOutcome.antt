@@ -7,17 +7,15 @@ use Rattle.hose_io.specs.declared.sink.Sink.{Ghosts as SinkGhosts}
 use Rattle.hose_graph.specs.Hose.{Endpoint}
 use Rattle.hose_graph.specs.Network.{Network}
 use Rattle.hose_cert.specs.Written.{GrowsByLines, GrowsByPart, GrowsByWhole, HasNoPlan}
-use Rattle.hose_disk.specs.declared.cabinet.Cabinet.{Ghosts as CabinetGhosts}
 use Rattle.hose_proto.specs.Command.{AreEndsOf}
 use Rattle.hose_proto.specs.EndWords.{IsFirstUnknown}
 use Rattle.hose_proto.specs.Places.{end_word}
 use Rattle.hose_proto.specs.Reading.{IsEndOf}
 use Rattle.hose_proto.specs.ReplyText.{line_of}
-use Rattle.hose_offline.specs.Auditing.{IsTextFault, TakesText}
-use Rattle.hose_offline.specs.CabinetText.{whole_text}
+use Rattle.hose_offline.specs.Auditing.{TakesText}
 use Rattle.hose_offline.specs.Ending.{IsLastLine, OutputWorked, status_of_done}
-use Rattle.hose_offline.specs.OnDisk.{CabinetWorked}
-use Rattle.hose_offline.specs.Run.{HasNetwork}
+use Rattle.hose_offline.specs.Named.{NamesNetwork, NamesNone}
+use Rattle.hose_offline.specs.Parts.{Parts, Tellings}
 use Rattle.hose_offline.specs.TopologyTold.{notation_of}
 use Rattle.hose_offline.specs.declared.fault.Fault.{Fault}
 use Rattle.hose_offline.specs.declared.fault.Fault.TheVariants.{Memory, Words, Write}
@@ -65,52 +63,58 @@ pub record AreEndsInOrder (network : Network) (words : List (List ℕ)) (ends : 
   pub spelled : words ≡ map (end_word network) ends
   pub are : All (IsEndOf network) ends
 
--- These are the endpoints' words, of which the first is the program's word of this number.
-module _ (words : List (List ℕ)) (first : ℕ) (network : Network) where
-  -- the word of this number is the first whose name is that of no node
-  abbrev pub NamesNoNode : ℕ → Type 0
-  NamesNoNode word = (place : ℕ) × (word ≡ first + place) × IsFirstUnknown network words place
+-- the words of a hose's endpoints, of which the first is the program's word of this number
+pub record EndsFrom : Type 0 where
+  pub words : List (List ℕ)
+  pub first : ℕ
 
-  -- why they are the endpoints of no hose: a name is that of no node, or memory was wanting
-  abbrev pub IsNoHose : Fault → Type 0
-  IsNoHose (Words word) = NamesNoNode word
-  IsNoHose Memory = ⊤
-  IsNoHose _ = ⊥
+abbrev pub ends_from : List (List ℕ) → ℕ → EndsFrom
+ends_from words first = record { words = words; first = first }
 
-  -- They are the endpoints of a hose, of which this is told, or of none; nothing is out then.
-  module _ {O : Type 0} (sink : SinkGhosts O) (output output' : O) where
-    abbrev pub ProvesWords : {T : Type 0} → Result T Fault → Type 0
-    ProvesWords result = ((hose : List Endpoint) × AreEndsOf network words hose
-        × PutsProof sink output output' network hose result)
-        ⊎ ((why : Fault) × (result ≡ Err why) × IsNoHose why × (output' ≡ output))
+-- the word of this number is the first whose name is that of no node
+abbrev pub NamesNoNode : EndsFrom → Network → ℕ → Type 0
+NamesNoNode ends network word =
+    (place : ℕ) × (word ≡ ends.first + place) × IsFirstUnknown network ends.words place
+
+-- why they are the endpoints of no hose: a name is that of no node, or memory was wanting
+abbrev pub IsNoHose : EndsFrom → Network → Fault → Type 0
+IsNoHose ends network (Words word) = NamesNoNode ends network word
+IsNoHose ends network Memory = ⊤
+IsNoHose ends network _ = ⊥
+
+-- They are the endpoints of a hose, of which this is told, or of none; nothing is out then.
+abbrev pub ProvesWords : {O T : Type 0} → SinkGhosts O → EndsFrom → Network → O → O
+    → Result T Fault → Type 0
+ProvesWords sink ends network output output' result =
+    ((hose : List Endpoint) × AreEndsOf network ends.words hose
+    × PutsProof sink output output' network hose result)
+    ⊎ ((why : Fault) × (result ≡ Err why) × IsNoHose ends network why × (output' ≡ output))
 
 -- ---- the topology
 
-module _ (prices : Network → Network → Type 0) (words : List (List ℕ)) (first : ℕ)
-    {O C E : Type 0} (sink : SinkGhosts O) (cabinet : CabinetGhosts C E) (topology : List ℕ)
-    (output output' : O) (place place' : C) where
+module _ {I O C E : Type 0} (tells : Tellings I O C E) (prices : Network → Network → Type 0)
+    (topology : List ℕ) (ends : EndsFrom) (before after : Parts I O C) where
   -- The topology that was named was read, and the endpoints taken as those of its network; or it
   -- was not, and why, and then nothing is out. Of its text this is left.
   abbrev pub ProveLeaves : Option Stream → Result ⊤ Fault → Type 0
-  ProveLeaves left result =
-      (HasNetwork (notation_of topology) prices (whole_text cabinet place topology) left
-      (λ network. ProvesWords words first network sink output output' result)
-      × CabinetWorked cabinet place place')
-      ⊎ ((output' ≡ output) × ((why : Fault) × (result ≡ Err why)
-      × IsTextFault cabinet place place' (notation_of topology)
-      (whole_text cabinet place topology) left why))
+  ProveLeaves left result = NamesNetwork tells prices topology before after left
+      (λ network. ProvesWords tells.sink ends network before.output after.output result)
+      ⊎ ((after.output ≡ before.output) × ((why : Fault) × (result ≡ Err why)
+      × NamesNone tells topology before after left why))
 
   -- whether a topology that was named was read and what was written, and what was taken of the text
   abbrev pub ProvesNamed : Result ⊤ Fault → Type 0
-  ProvesNamed = TakesText cabinet place place' (notation_of topology) topology ProveLeaves
+  ProvesNamed = TakesText tells.cabinet before.cabinet after.cabinet (notation_of topology)
+      topology ProveLeaves
 
--- A topology was read and the certificate written, or not. That left the output as `left` is, and
--- then the last line was put, which tells the fault, if there is one.
-pub record ProveOutcome (prices : Network → Network → Type 0) (words : List (List ℕ)) (first : ℕ)
-    {O C E : Type 0} (sink : SinkGhosts O) (cabinet : CabinetGhosts C E) (topology : List ℕ)
-    (output output' : O) (place place' : C) (status : ℕ) : Type 0 where
+-- A topology was read and the certificate written, or not, and the input left alone. That left the
+-- output as `left` is, and then the last line was put, which tells the fault, if there is one.
+pub record ProveOutcome {I O C E : Type 0} (tells : Tellings I O C E)
+    (prices : Network → Network → Type 0) (topology : List ℕ) (ends : EndsFrom)
+    (before after : Parts I O C) (status : ℕ) : Type 0 where
   pub done : Result ⊤ Fault
   pub left : O
-  pub proves : ProvesNamed prices words first sink cabinet topology output left place place' done
-  pub last_line : IsLastLine sink left output' done
+  pub proves : ProvesNamed tells prices topology ends before (record after { output = left }) done
+  pub last_line : IsLastLine tells.sink left after.output done
   pub is_status : status ≡ status_of_done done
+  pub input : after.input ≡ before.input

@@ -18,7 +18,7 @@ use Rattle.hose_words.specs.Reading.{WhereTold}
 use Rattle.hose_proto.specs.ReplyText.{line_of, reply_text}
 use Rattle.hose_proto.specs.Replies.{GrowsShort, texts_of}
 use Rattle.hose_words.specs.Saying.{IsAllTaken, IsLeftOver, SayLines}
-use Rattle.hose_offline.specs.Serving.{SaysNext}
+use Rattle.hose_offline.specs.Talking.{SaysNext}
 use Rattle.hose_offline.specs.TopologyTold.{IsRefusedAs, Tells, TellsPriced, limit_of}
 use Rattle.hose_offline.specs.declared.notation.Notation.{Notation}
 use Rattle.hose_offline.specs.declared.notation.Refusal.{Refusal}

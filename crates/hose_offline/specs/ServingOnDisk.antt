@@ -1,24 +1,15 @@
--- What answering lines by the book of a journal comes to, and why it is not done.
-use Rattle.std.specs.Prelude.{◌≡◌, ◌⊎◌, ℕ, List, IfSome, true, Result, Ok, Err, ⊤}
+-- Why no journal was opened, and nothing was done by its book.
+use Rattle.std.specs.Prelude.{◌≡◌, ℕ, List, IfSome, true, Result, Ok, Err, ⊤}
 use Rattle.hose_io.specs.declared.Failed.{Failed}
-use Rattle.hose_io.specs.declared.source.Source.{Ghosts as SourceGhosts}
-use Rattle.hose_io.specs.declared.sink.Sink.{Ghosts as SinkGhosts}
-use Rattle.hose_words.specs.Lines.{Reader}
 use Rattle.hose_graph.specs.Network.{Network}
 use Rattle.hose_graph.specs.declared.entry.Entry.{Entry}
-use Rattle.hose_graph.specs.declared.command.Reply.{Reply}
-use Rattle.hose_law.specs.History.{IsDecidedAt}
-use Rattle.hose_book.specs.GoingOn.{GoesOn}
 use Rattle.hose_disk.specs.declared.cabinet.Cabinet.{Ghosts as CabinetGhosts}
 use Rattle.hose_disk.specs.declared.disk.Disk.{Ghosts as DiskGhosts}
 use Rattle.hose_journal.specs.Image.{Meaning, damaged, other}
 use Rattle.hose_journal.specs.Moments.{LeavesOnly}
-use Rattle.hose_store.specs.Commit.{store_books}
 use Rattle.hose_store.specs.Opening.{IsAtOpening}
 use Rattle.hose_store.specs.Recovery.{IsHistoryOf, IsRecoveredAs, digest_of}
-use Rattle.hose_store.specs.Store.{Kept}
-use Rattle.hose_offline.specs.OnDisk.{CabinetFailed, HadContent, IsRefusedOnDisk, IsUnopened, KeptOnDisk}
-use Rattle.hose_offline.specs.Serving.{Serves, TellsDisks}
+use Rattle.hose_offline.specs.OnDisk.{CabinetFailed, IsRefusedOnDisk, IsUnopened}
 use Rattle.hose_offline.specs.declared.fault.Fault.{Fault}
 use Rattle.hose_offline.specs.declared.fault.Fault.TheVariants as fault
 
@@ -66,29 +57,3 @@ IsNotServed cabinet disk name old new network (Err (fault.Damaged at)) =
 IsNotServed cabinet disk name old new network (Err fault.Memory) =
     IsUnopened cabinet disk old new network name
 IsNotServed cabinet disk name old new network _ = ⊥
-
--- Lines were answered by the book of the journal, which was closed and put back then.
-pub record HasServedInCabinet {S O C E : Type 0} (source : SourceGhosts S) (sink : SinkGhosts O)
-    (cabinet : CabinetGhosts C E) (disk : DiskGhosts E) (name : List ℕ) (start now : Reader S)
-    (output output' : O) (old new : C) (network : Network) (served : Result ⊤ Fault)
-    (closing : Result ⊤ Failed) : Type 0 where
-  pub since : List Entry
-  pub first : Kept E
-  pub last : Kept E
-  pub begun : HadContent cabinet disk old new name (IsHistoryOf network since)
-  pub serves : Serves source sink (store_books disk) start now output output' network since first
-      last served
-  pub keeps : (history : List Entry) (replies : List Reply)
-      → GoesOn (store_books disk) IsDecidedAt network since first history last
-      → TellsDisks (disk.frame first.journal.disk).faults replies
-      (disk.frame last.journal.disk).faults
-      → KeptOnDisk cabinet disk name old new closing network since history replies
-
-abbrev pub ServesInCabinet : {S O C E : Type 0} → SourceGhosts S → SinkGhosts O → CabinetGhosts C E
-    → DiskGhosts E → List ℕ → Reader S → Reader S → O → O → C → C → Network → Result ⊤ Fault
-    → Type 0
-ServesInCabinet source sink cabinet disk name start now output output' old new network result =
-    (IsNotServed cabinet disk name old new network result × (now ≡ start) × (output' ≡ output))
-    ⊎ ((served : Result ⊤ Fault) × (closing : Result ⊤ Failed)
-    × HasServedInCabinet source sink cabinet disk name start now output output' old new network
-    served closing × (result ≡ first_of served closing))

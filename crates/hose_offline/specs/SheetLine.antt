@@ -4,7 +4,7 @@ use Rattle.std.specs.List.{flat_map}
 use Rattle.hose_words.specs.Form.{Form, grammar_of, place}
 use Rattle.hose_words.specs.Grammar.{IsFirstNotAllowed}
 use Rattle.hose_words.specs.Words.{words_of}
-use Rattle.hose_words.specs.declared.lines.TheConstants.{LINE_LIMIT}
+use Rattle.hose_words.specs.Limits.{line_limit}
 use Rattle.hose_graph.specs.Hose.{Endpoint}
 use Rattle.hose_graph.specs.Name.{IsName}
 use Rattle.hose_graph.specs.Network.{Network}
@@ -35,16 +35,16 @@ sheet_form network = place IsName (ends_form network)
 -- is too long; or that there was no memory for it.
 abbrev pub AnswersSheet : Network → Sheet → List ℕ → SheetAnswer → Type 0
 AnswersSheet network sheet bytes (Priced customer line) = (hose : List Endpoint)
-    × (length bytes ≤ LINE_LIMIT) × IsPricing network bytes customer hose
+    × (length bytes ≤ line_limit) × IsPricing network bytes customer hose
     × IsPriceLine sheet hose line
 AnswersSheet network sheet bytes (NoPlan customer) = (hose : List Endpoint)
-    × (length bytes ≤ LINE_LIMIT) × IsPricing network bytes customer hose
+    × (length bytes ≤ line_limit) × IsPricing network bytes customer hose
     × HasNoPricedPlan sheet.network hose
-AnswersSheet network sheet bytes (Bad word) = (length bytes ≤ LINE_LIMIT)
+AnswersSheet network sheet bytes (Bad word) = (length bytes ≤ line_limit)
     × IsFirstNotAllowed (grammar_of (sheet_form network)) [] (words_of bytes) word
     × ((customer : List ℕ) (hose : List Endpoint) → ¬ IsPricing network bytes customer hose)
-AnswersSheet network sheet bytes Long = LINE_LIMIT < length bytes
-AnswersSheet network sheet bytes Memory = length bytes ≤ LINE_LIMIT
+AnswersSheet network sheet bytes Long = line_limit < length bytes
+AnswersSheet network sheet bytes Memory = length bytes ≤ line_limit
 
 -- what is answered to a customer who asks for this hose
 abbrev pub PricesHose : Sheet → List ℕ → List Endpoint → SheetAnswer → Type 0

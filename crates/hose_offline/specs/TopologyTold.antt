@@ -1,7 +1,7 @@
 -- What the text of a topology tells, in lines or in JSON, and what it costs to use it.
 use Rattle.std.specs.Prelude.{◌≡◌, ℕ, List, codes, if◌then◌else◌, nat_eq}
 use Rattle.std.specs.List.{ends_with}
-use Rattle.hose_words.specs.declared.lines.TheConstants.{INPUT_LIMIT}
+use Rattle.hose_words.specs.Limits.{input_limit}
 use Rattle.hose_graph.specs.Network.{Network}
 use Rattle.hose_topo.specs.TopologyText.{IsTopologyText, IsWrongAt}
 use Rattle.hose_topo_json.specs.JsonTopology.{IsJsonTopology}
@@ -11,7 +11,7 @@ use Rattle.hose_offline.specs.declared.notation.Notation.{Notation}
 use Rattle.hose_offline.specs.declared.notation.Notation.TheVariants as notation
 use Rattle.hose_offline.specs.declared.notation.Refusal.{Refusal}
 use Rattle.hose_offline.specs.declared.notation.Refusal.TheVariants.{Word, Json, Nodes, Node, Links, Link}
-use Rattle.hose_offline.specs.declared.json_text.TheConstants.{JSON_LIMIT}
+use Rattle.hose_offline.specs.Limits.{json_limit}
 
 -- how the text of a name is written
 abbrev pub notation_of : List ℕ → Notation
@@ -19,8 +19,8 @@ notation_of name = if ends_with nat_eq name (codes ".json") then notation.Json e
 
 -- how many bytes of it are read at most; one more is too many
 abbrev pub limit_of : Notation → ℕ
-limit_of notation.Lines = INPUT_LIMIT
-limit_of notation.Json = JSON_LIMIT
+limit_of notation.Lines = input_limit
+limit_of notation.Json = json_limit
 
 -- The bytes tell a network: they begin with its text, or are its JSON as a whole.
 abbrev pub Tells : Notation → List ℕ → Network → Type 0

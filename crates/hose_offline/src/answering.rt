@@ -12,13 +12,16 @@ ghost use Rattle.hose_graph.specs.Naming.{NamesPlaces};
 ghost use Rattle.hose_graph.specs.declared.entry.Entry.{Entry};
 ghost use Rattle.hose_core.specs.Stepping.{FitsHistory};
 ghost use Rattle.hose_disk.specs.Cabinet.{object_of};
+ghost use Rattle.hose_offline.specs.Parts.{KeepsAll, held, parts, tellings};
 ghost use Rattle.hose_offline.specs.RunOutcome.{RunLeaves, RunOutcome};
-ghost use Rattle.hose_offline.specs.Serving.{SaysOneThing, SaysRead, AnswersLine, Serves, ServesInMemory, ServesLine};
-ghost use Rattle.hose_offline.specs.ServingOnDisk.{ServesInCabinet};
+ghost use Rattle.hose_offline.specs.Talk.{talk};
+ghost use Rattle.hose_offline.specs.Talking.{AnswersLine, SaysOneThing, SaysRead, Talks, TalksInMemory, TalksOnce, plain_books, talk_tellings};
+ghost use Rattle.hose_offline.specs.TalkingOnDisk.{TalksInCabinet};
 
 use crate::fault::{Fault, end};
 use crate::input_line::read_line;
 use crate::journal::{close_journal, first_fault, open_journal};
+use crate::outside::Outside;
 use hose_book::{Book, Books, Plain};
 use hose_core::Core;
 use hose_disk::Cabinet;
@@ -39,23 +42,26 @@ pub fn run<P: Prices, I: Source, O: Sink, C: Cabinet>(
     alloc: Global,
     costs: &P,
     journal: Option<&str>,
-    input: &mut I,
-    output: &mut O,
-    cabinet: &mut C,
+    outside: &mut Outside<'_, I, O, C>,
 ) -> u8
-    requires { (C.frame cabinet.old).out ≡ None }
-    ensures outcome { RunOutcome (P.prices costs.now) I.Source O.Sink C.Cabinet C.Disk.Disk
-        (option_map (λ name. name.now) journal.entry) input.old input.new output.old output.new
-        cabinet.old cabinet.new result }
+    requires { (C.frame outside.old.cabinet.now).out ≡ None }
+    ensures outcome { RunOutcome (tellings I.Source O.Sink C.Cabinet C.Disk.Disk)
+        (P.prices costs.now) (option_map (λ name. name.now) journal.entry)
+        (held outside.old) (held outside.new) result }
     ensures not_words { result ≢ 1 }
-    ensures in_memory { journal.entry ≡ None → cabinet.new ≡ cabinet.old }
-    ensures back { (C.frame cabinet.new).out ≡ None }
-    ensures input { Stays (I.frame input.old) (I.frame input.new) }
-    ensures output { Stays (O.frame output.old) (O.frame output.new) }
-    ensures cabinet { Stays (object_of (C.frame cabinet.old)) (object_of (C.frame cabinet.new)) }
+    ensures back { (C.frame outside.new.cabinet.now).out ≡ None }
+    ensures keeps { KeepsAll (tellings I.Source O.Sink C.Cabinet C.Disk.Disk)
+        outside.old outside.new }
 {
-    let done = run_input(alloc, costs, journal, input, output, cabinet);
-    end(done, output)
+    let done = run_input(
+        alloc,
+        costs,
+        journal,
+        outside.input,
+        outside.output,
+        outside.cabinet,
+    );
+    end(done, outside.output)
 }
 
 // What a run comes to, before its last line.
@@ -68,9 +74,9 @@ fn run_input<P: Prices, I: Source, O: Sink, C: Cabinet>(
     cabinet: &mut C,
 ) -> Result<(), Fault>
     requires { (C.frame cabinet.old).out ≡ None }
-    ensures leaves { RunLeaves (P.prices costs.now) I.Source O.Sink C.Cabinet C.Disk.Disk
-        (option_map (λ name. name.now) journal.entry) input.old input.new output.old output.new
-        cabinet.old cabinet.new result }
+    ensures leaves { RunLeaves (tellings I.Source O.Sink C.Cabinet C.Disk.Disk)
+        (P.prices costs.now) (option_map (λ name. name.now) journal.entry)
+        (parts input.old output.old cabinet.old) (parts input.new output.new cabinet.new) result }
     ensures takes { (bytes : List ℕ) × Gives (I.content input.old) (I.content input.new) bytes
         × (length bytes ≤ INPUT_LIMIT + 1)
         × ((result ≡ Err Fault.TooLong) ↔ (INPUT_LIMIT < length bytes)) }
@@ -101,9 +107,10 @@ fn run_lines<P: Prices, S: Source, O: Sink, C: Cabinet>(
     requires taken { lines.old.taken ≡ 0 }
     requires fault { lines.old.fault ≡ None }
     requires none_out { (C.frame cabinet.old).out ≡ None }
-    ensures leaves { RunLeaves (P.prices costs.now) S.Source O.Sink C.Cabinet C.Disk.Disk
-        (option_map (λ name. name.now) journal.entry) lines.old.source lines.new.source
-        output.old output.new cabinet.old cabinet.new result }
+    ensures leaves { RunLeaves (tellings S.Source O.Sink C.Cabinet C.Disk.Disk)
+        (P.prices costs.now) (option_map (λ name. name.now) journal.entry)
+        (parts lines.old.source output.old cabinet.old)
+        (parts lines.new.source output.new cabinet.new) result }
     ensures too_long { (result ≡ Err Fault.TooLong) ↔ (INPUT_LIMIT < lines.new.taken) }
     ensures reads_on { ReadsOn S.Source lines.old lines.new }
     ensures limit { lines.new.taken ≤ INPUT_LIMIT + 1 }
@@ -130,8 +137,8 @@ fn answer_in_memory<S: Source, O: Sink>(
 ) -> Result<(), Fault>
     requires limit { lines.old.taken ≤ INPUT_LIMIT }
     requires no_fault { lines.old.fault ≡ None }
-    ensures serves { ServesInMemory S.Source O.Sink lines.old lines.new output.old output.new
-        topology result }
+    ensures talks { TalksInMemory (talk_tellings S.Source O.Sink plain_books) topology
+        (talk lines.old output.old tt) (talk lines.new output.new tt) result }
     ensures too_long { (result ≡ Err Fault.TooLong) ↔ (INPUT_LIMIT < lines.new.taken) }
     ensures reads_on { ReadsOn S.Source lines.old lines.new }
     ensures limit { lines.new.taken ≤ INPUT_LIMIT + 1 }
@@ -157,8 +164,9 @@ fn answer_in_cabinet<S: Source, O: Sink, C: Cabinet>(
     requires none_out { (C.frame cabinet.old).out ≡ None }
     requires limit { lines.old.taken ≤ INPUT_LIMIT }
     requires no_fault { lines.old.fault ≡ None }
-    ensures serves { ServesInCabinet S.Source O.Sink C.Cabinet C.Disk.Disk name.now
-        lines.old lines.new output.old output.new cabinet.old cabinet.new topology result }
+    ensures talks { TalksInCabinet (tellings S.Source O.Sink C.Cabinet C.Disk.Disk) name.now
+        (parts lines.old output.old cabinet.old) (parts lines.new output.new cabinet.new)
+        topology result }
     ensures too_long { (result ≡ Err Fault.TooLong) ↔ (INPUT_LIMIT < lines.new.taken) }
     ensures reads_on { ReadsOn S.Source lines.old lines.new }
     ensures limit { lines.new.taken ≤ INPUT_LIMIT + 1 }
@@ -173,9 +181,9 @@ fn answer_in_cabinet<S: Source, O: Sink, C: Cabinet>(
         return Err(Fault::Memory);
     };
     let mut core = Core::new(alloc, store);
-    let served = answer_all(alloc, &mut core, lines, output, &mut TableRows::new(&table));
+    let answered = answer_all(alloc, &mut core, lines, output, &mut TableRows::new(&table));
     let closed = close_journal(core.into_books(), cabinet);
-    first_fault(served, closed.0)
+    first_fault(answered, closed.0)
 }
 
 // Answers all lines that are to come.
@@ -188,10 +196,11 @@ fn answer_all<S: Source, O: Sink, K: Books + Drop, R: RowMaker>(
 ) -> Result<(), Fault>
     requires limit { lines.old.taken ≤ INPUT_LIMIT + 1 }
     requires no_fault { lines.old.fault ≡ None }
-    ensures serves { (since : List Entry) → IsSound (K.ledger core.old.books).network 0 since
+    ensures talks { (since : List Entry) → IsSound (K.ledger core.old.books).network 0 since
         → FitsHistory K.Books core.old 0 since nothing_held
-        → Serves S.Source O.Sink K.Books lines.old lines.new output.old output.new
-        (K.ledger core.old.books).network since core.old.books core.new.books result }
+        → Talks (talk_tellings S.Source O.Sink K.Books) (K.ledger core.old.books).network since
+        (talk lines.old output.old core.old.books) (talk lines.new output.new core.new.books)
+        result }
     ensures too_long { (result ≡ Err Fault.TooLong) ↔ (INPUT_LIMIT < lines.new.taken) }
     ensures reads_on { ReadsOn S.Source lines.old lines.new }
     ensures limit { lines.new.taken ≤ INPUT_LIMIT + 1 }
@@ -210,8 +219,8 @@ fn answer_line<S: Source, O: Sink, K: Books + Drop, R: RowMaker>(
     rows: &mut R,
 ) -> Result<bool, Fault>
     requires no_fault { lines.old.fault ≡ None }
-    ensures serves { ServesLine S.Source O.Sink K.Books lines.old lines.new output.old output.new
-        core.old core.new result }
+    ensures talks { TalksOnce (talk_tellings S.Source O.Sink K.Books)
+        (talk lines.old output.old core.old) (talk lines.new output.new core.new) result }
     ensures too_long { (result ≡ Err Fault.TooLong) ↔ (INPUT_LIMIT < lines.new.taken) }
     ensures reads_on { ReadsOn S.Source lines.old lines.new }
     ensures limit { lines.new.taken ≤ INPUT_LIMIT + 1 }

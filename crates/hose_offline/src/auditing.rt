@@ -2,20 +2,21 @@
 ghost use Rattle.std.specs.Prelude.{◌≡◌, ◌≢◌, IsSome, IsTrue, None};
 ghost use Rattle.hose_io.specs.Frame.{Stays};
 ghost use Rattle.hose_audit.specs.Audit.{audit_text};
-ghost use Rattle.hose_disk.specs.Cabinet.{object_of};
-ghost use Rattle.hose_offline.specs.AuditOutcome.{AuditOutcome, EndsTold};
+ghost use Rattle.hose_offline.specs.AuditOutcome.{AuditOutcome, AuditsJournal, EndsTold};
+ghost use Rattle.hose_offline.specs.Auditing.{ReadsText, ReadsTopology, priced_names};
+ghost use Rattle.hose_offline.specs.Parts.{KeepsAll, held, tellings};
 ghost use Rattle.hose_offline.specs.TopologyTold.{own_costs};
-ghost use Rattle.hose_offline.specs.Auditing.{ReadsBook, ReadsNamed, ReadsText, ReadsTopology};
 
 use crate::cabinet_text::CabinetText;
 use crate::fault::{Fault, end};
 use crate::journal::{close_journal, first_fault, open_journal};
 use crate::json_text::read_whole_json;
 use crate::notation::Notation;
+use crate::outside::Outside;
 use hose_book::Book;
 use hose_disk::Cabinet;
 use hose_graph::Topology;
-use hose_io::{Failed, Sink};
+use hose_io::{Sink, Source};
 use hose_store::Decided;
 use hose_tariff::Prices;
 use hose_topo::read;
@@ -31,25 +32,52 @@ pub struct Names<'a> {
 
 /// Reads the topology of a text and the book of a journal, closes the journal, writes what the book
 /// holds, and gives the exit status. The book is told where closing failed too.
-pub fn audit<P: Prices, O: Sink, C: Cabinet>(
+pub fn audit<P: Prices, I: Source, O: Sink, C: Cabinet>(
     alloc: Global,
     costs: &P,
     names: Names<'_>,
-    output: &mut O,
-    cabinet: &mut C,
+    outside: &mut Outside<'_, I, O, C>,
 ) -> u8
-    requires { (C.frame cabinet.old).out ≡ None }
-    ensures outcome { AuditOutcome (P.prices costs.now) O.Sink C.Cabinet C.Disk.Disk
-        names.entry.topology.now names.entry.journal.now output.old output.new
-        cabinet.old cabinet.new result }
+    requires { (C.frame (held outside.old).cabinet).out ≡ None }
+    ensures outcome { AuditOutcome (tellings I.Source O.Sink C.Cabinet C.Disk.Disk)
+        (priced_names (P.prices costs.now) names.entry.topology.now names.entry.journal.now)
+        (held outside.old) (held outside.new) result }
     ensures not_words { result ≢ 1 }
-    ensures back { (C.frame cabinet.new).out ≡ None }
-    ensures output { Stays (O.frame output.old) (O.frame output.new) }
-    ensures cabinet { Stays (object_of (C.frame cabinet.old)) (object_of (C.frame cabinet.new)) }
+    ensures back { (C.frame (held outside.new).cabinet).out ≡ None }
+    ensures keeps { KeepsAll (tellings I.Source O.Sink C.Cabinet C.Disk.Disk)
+        outside.old outside.new }
 {
-    match read_named(alloc, costs, names, cabinet) {
-        Ok(read) => tell(&read.0, first_fault(Ok(()), read.1), output),
-        Err(why) => end(Err(why), output),
+    match read_topology(alloc, costs, names.topology, outside.cabinet) {
+        Ok(topology) => audit_journal(alloc, names.journal, topology, outside),
+        Err(why) => end(Err(why), outside.output),
+    }
+}
+
+// Writes what the book of the journal of a name holds, or why no store was opened, and gives the
+// exit status. The disk is back in the cabinet then.
+fn audit_journal<I: Source, O: Sink, C: Cabinet>(
+    alloc: Global,
+    name: &str,
+    topology: Topology,
+    outside: &mut Outside<'_, I, O, C>,
+) -> u8
+    requires { (C.frame (held outside.old).cabinet).out ≡ None }
+    ensures audits { AuditsJournal (tellings I.Source O.Sink C.Cabinet C.Disk.Disk) name.now
+        (held outside.old) (held outside.new) result topology }
+    ensures input { (held outside.new).input ≡ (held outside.old).input }
+    ensures absent { (C.frame (held outside.new).cabinet).absent
+        ≡ (C.frame (held outside.old).cabinet).absent }
+    ensures back { (C.frame (held outside.new).cabinet).out ≡ None }
+    ensures keeps { KeepsAll (tellings I.Source O.Sink C.Cabinet C.Disk.Disk)
+        outside.old outside.new }
+{
+    // Nothing is added to the store, so any premises serve.
+    match open_journal::<C, Decided>(alloc, name, topology, outside.cabinet) {
+        Ok(store) => {
+            let (closing, book) = close_journal(store, outside.cabinet);
+            tell(&book, first_fault(Ok(()), closing), outside.output)
+        }
+        Err(why) => end(Err(why), outside.output),
     }
 }
 
@@ -72,23 +100,6 @@ pub fn tell<O: Sink>(book: &Book, done: Result<(), Fault>, output: &mut O) -> u8
             Err(_) => why.status(),
         },
     }
-}
-
-// The book of a journal of the network that a text tells, and what closing the journal came to.
-fn read_named<P: Prices, C: Cabinet>(
-    alloc: Global,
-    costs: &P,
-    names: Names<'_>,
-    cabinet: &mut C,
-) -> Result<(Book, Result<(), Failed>), Fault>
-    requires { (C.frame cabinet.old).out ≡ None }
-    ensures reads { ReadsNamed (P.prices costs.now) C.Cabinet C.Disk.Disk
-        names.entry.topology.now names.entry.journal.now cabinet.old cabinet.new result }
-    ensures back { (C.frame cabinet.new).out ≡ None }
-    ensures cabinet { Stays (object_of (C.frame cabinet.old)) (object_of (C.frame cabinet.new)) }
-{
-    let topology = read_topology(alloc, costs, names.topology, cabinet)?;
-    read_book(alloc, names.journal, topology, cabinet)
 }
 
 /// The network that the text of a name tells, with these costs. It is written in JSON where its
@@ -156,25 +167,4 @@ fn read_json_text<C: Cabinet>(alloc: Global, name: &str, cabinet: &mut C) -> Res
     // What is known of the cabinet again comes from here.
     let _ = text.into_cabinet();
     topology
-}
-
-// The book of the journal of a name, and what closing it came to. The disk is back in the cabinet
-// then.
-fn read_book<C: Cabinet>(
-    alloc: Global,
-    name: &str,
-    topology: Topology,
-    cabinet: &mut C,
-) -> Result<(Book, Result<(), Failed>), Fault>
-    requires { (C.frame cabinet.old).out ≡ None }
-    ensures reads { ReadsBook C.Cabinet C.Disk.Disk name.now cabinet.old cabinet.new
-        topology result }
-    ensures absent { (C.frame cabinet.new).absent ≡ (C.frame cabinet.old).absent }
-    ensures back { (C.frame cabinet.new).out ≡ None }
-    ensures cabinet { Stays (object_of (C.frame cabinet.old)) (object_of (C.frame cabinet.new)) }
-{
-    // Nothing is added to the store, so any premises serve.
-    let store = open_journal::<C, Decided>(alloc, name, topology, cabinet)?;
-    let (closing, book) = close_journal(store, cabinet);
-    Ok((book, closing))
 }

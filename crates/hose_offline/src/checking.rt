@@ -2,12 +2,13 @@
 ghost use Rattle.std.specs.Prelude.{◌≡◌, ◌≢◌, ◌↔◌, ◌+◌, ◌<◌, ◌≤◌, [], Err, IfOk, None};
 ghost use Rattle.hose_io.specs.Frame.{Rose, Stays};
 ghost use Rattle.hose_cert.specs.Verdict.{AreCheapestFound, IsVerdict};
-ghost use Rattle.hose_disk.specs.Cabinet.{object_of};
 ghost use Rattle.hose_words.specs.Reading.{ReadsOn, WhereTold};
 ghost use Rattle.hose_offline.specs.CheckOutcome.{CheckOutcome, EndsVerdict, JudgesInput, JudgesNamed};
+ghost use Rattle.hose_offline.specs.Parts.{KeepsAll, held, tellings};
 
 use crate::auditing::read_topology;
 use crate::fault::{Fault, end, put_numbered};
+use crate::outside::Outside;
 use hose_cert::{CertFault, Verdict, check_certificate};
 use hose_disk::Cabinet;
 use hose_graph::Topology;
@@ -25,38 +26,36 @@ pub fn check<P: Prices, I: Source, O: Sink, C: Cabinet>(
     alloc: Global,
     costs: &P,
     topology: &str,
-    input: &mut I,
-    output: &mut O,
-    cabinet: &mut C,
+    outside: &mut Outside<'_, I, O, C>,
 ) -> u8
-    ensures outcome { CheckOutcome (P.prices costs.now) I.Source O.Sink C.Cabinet topology.now
-        input.old input.new output.old output.new cabinet.old cabinet.new result }
+    ensures outcome { CheckOutcome (tellings I.Source O.Sink C.Cabinet C.Disk.Disk)
+        (P.prices costs.now) topology.now (held outside.old) (held outside.new) result }
     ensures not_words { result ≢ 1 }
-    ensures out { (C.frame cabinet.new).out ≡ (C.frame cabinet.old).out }
-    ensures input { Stays (I.frame input.old) (I.frame input.new) }
-    ensures output { Stays (O.frame output.old) (O.frame output.new) }
-    ensures cabinet { Stays (object_of (C.frame cabinet.old)) (object_of (C.frame cabinet.new)) }
+    ensures out { (C.frame outside.new.cabinet.now).out ≡ (C.frame outside.old.cabinet.now).out }
+    ensures keeps { KeepsAll (tellings I.Source O.Sink C.Cabinet C.Disk.Disk)
+        outside.old outside.new }
 {
-    match judge_named(alloc, costs, topology, input, cabinet) {
-        Ok(verdict) => tell_verdict(&verdict, output),
-        Err(why) => end(Err(why), output),
+    match judge_named(alloc, costs, topology, outside) {
+        Ok(verdict) => tell_verdict(&verdict, outside.output),
+        Err(why) => end(Err(why), outside.output),
     }
 }
 
 // The verdict on the certificate of the input, by the network that a text tells.
-fn judge_named<P: Prices, I: Source, C: Cabinet>(
+fn judge_named<P: Prices, I: Source, O: Sink, C: Cabinet>(
     alloc: Global,
     costs: &P,
     topology: &str,
-    input: &mut I,
-    cabinet: &mut C,
+    outside: &mut Outside<'_, I, O, C>,
 ) -> Result<Verdict, Fault>
-    ensures judges { JudgesNamed (P.prices costs.now) I.Source C.Cabinet topology.now
-        input.old input.new cabinet.old cabinet.new result }
-    ensures input { Stays (I.frame input.old) (I.frame input.new) }
+    ensures judges { JudgesNamed (tellings I.Source O.Sink C.Cabinet C.Disk.Disk)
+        (P.prices costs.now) topology.now (held outside.old) (held outside.new) result }
+    ensures output { outside.new.output ≡ outside.old.output }
+    ensures keeps { KeepsAll (tellings I.Source O.Sink C.Cabinet C.Disk.Disk)
+        outside.old outside.new }
 {
-    let top = read_topology(alloc, costs, topology, cabinet)?;
-    judge(alloc, &top, input)
+    let top = read_topology(alloc, costs, topology, outside.cabinet)?;
+    judge(alloc, &top, outside.input)
 }
 
 // The verdict on the certificate of the input, by a network.

@@ -1,13 +1,14 @@
 // Following: packets of an input, answered by the book of a journal.
 ghost use Rattle.std.specs.Prelude.{◌≡◌, ◌≢◌, None};
-ghost use Rattle.hose_io.specs.Frame.{Stays};
-ghost use Rattle.hose_disk.specs.Cabinet.{object_of};
+ghost use Rattle.hose_offline.specs.Auditing.{priced_names};
 ghost use Rattle.hose_offline.specs.FollowOutcome.{FollowOutcome};
-ghost use Rattle.hose_offline.specs.Following.{FollowsInCabinet, following_done};
+ghost use Rattle.hose_offline.specs.Following.{FollowsJournal, following_done};
+ghost use Rattle.hose_offline.specs.Parts.{KeepsAll, held, tellings};
 
 use crate::auditing::{Names, read_topology};
 use crate::fault::{Fault, end};
 use crate::journal::{close_journal, first_fault, open_journal};
+use crate::outside::Outside;
 use hose_disk::Cabinet;
 use hose_follow::{FollowEnd, Sound};
 use hose_graph::Topology;
@@ -21,51 +22,46 @@ pub fn follow<P: Prices, I: Source, O: Sink, C: Cabinet>(
     alloc: Global,
     costs: &P,
     names: Names<'_>,
-    input: &mut I,
-    output: &mut O,
-    cabinet: &mut C,
+    outside: &mut Outside<'_, I, O, C>,
 ) -> u8
-    requires { (C.frame cabinet.old).out ≡ None }
-    ensures outcome { FollowOutcome (P.prices costs.now) I.Source O.Sink C.Cabinet C.Disk.Disk
-        names.entry.topology.now names.entry.journal.now input.old input.new output.old output.new
-        cabinet.old cabinet.new result }
+    requires { (C.frame (held outside.old).cabinet).out ≡ None }
+    ensures outcome { FollowOutcome (tellings I.Source O.Sink C.Cabinet C.Disk.Disk)
+        (priced_names (P.prices costs.now) names.entry.topology.now names.entry.journal.now)
+        (held outside.old) (held outside.new) result }
     ensures not_words { result ≢ 1 }
-    ensures back { (C.frame cabinet.new).out ≡ None }
-    ensures input { Stays (I.frame input.old) (I.frame input.new) }
-    ensures output { Stays (O.frame output.old) (O.frame output.new) }
-    ensures cabinet { Stays (object_of (C.frame cabinet.old)) (object_of (C.frame cabinet.new)) }
+    ensures back { (C.frame (held outside.new).cabinet).out ≡ None }
+    ensures keeps { KeepsAll (tellings I.Source O.Sink C.Cabinet C.Disk.Disk)
+        outside.old outside.new }
 {
-    match read_topology(alloc, costs, names.topology, cabinet) {
+    match read_topology(alloc, costs, names.topology, outside.cabinet) {
         Ok(top) => {
-            let done = follow_in_cabinet(alloc, names.journal, top, input, output, cabinet);
-            end(done, output)
+            let done = follow_journal(alloc, names.journal, top, outside);
+            end(done, outside.output)
         }
-        Err(why) => end(Err(why), output),
+        Err(why) => end(Err(why), outside.output),
     }
 }
 
 // Answers all packets by the journal of a name. The first fault is told, and the disk is back in
 // the cabinet.
-fn follow_in_cabinet<I: Source, O: Sink, C: Cabinet>(
+fn follow_journal<I: Source, O: Sink, C: Cabinet>(
     alloc: Global,
     name: &str,
     topology: Topology,
-    input: &mut I,
-    output: &mut O,
-    cabinet: &mut C,
+    outside: &mut Outside<'_, I, O, C>,
 ) -> Result<(), Fault>
-    requires { (C.frame cabinet.old).out ≡ None }
-    ensures follows { FollowsInCabinet I.Source O.Sink C.Cabinet C.Disk.Disk name.now
-        input.old input.new output.old output.new cabinet.old cabinet.new topology result }
-    ensures absent { (C.frame cabinet.new).absent ≡ (C.frame cabinet.old).absent }
-    ensures back { (C.frame cabinet.new).out ≡ None }
-    ensures input { Stays (I.frame input.old) (I.frame input.new) }
-    ensures output { Stays (O.frame output.old) (O.frame output.new) }
-    ensures cabinet { Stays (object_of (C.frame cabinet.old)) (object_of (C.frame cabinet.new)) }
+    requires { (C.frame (held outside.old).cabinet).out ≡ None }
+    ensures follows { FollowsJournal (tellings I.Source O.Sink C.Cabinet C.Disk.Disk) name.now
+        (held outside.old) (held outside.new) topology result }
+    ensures absent { (C.frame (held outside.new).cabinet).absent
+        ≡ (C.frame (held outside.old).cabinet).absent }
+    ensures back { (C.frame (held outside.new).cabinet).out ≡ None }
+    ensures keeps { KeepsAll (tellings I.Source O.Sink C.Cabinet C.Disk.Disk)
+        outside.old outside.new }
 {
-    let mut store = open_journal::<C, Sound>(alloc, name, topology, cabinet)?;
-    let ended = hose_follow::follow(alloc, input, output, &mut store);
-    let closed = close_journal(store, cabinet);
+    let mut store = open_journal::<C, Sound>(alloc, name, topology, outside.cabinet)?;
+    let ended = hose_follow::follow(alloc, outside.input, outside.output, &mut store);
+    let closed = close_journal(store, outside.cabinet);
     first_fault(done_of_end(ended), closed.0)
 }
 

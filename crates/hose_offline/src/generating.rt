@@ -7,19 +7,21 @@ ghost use Rattle.hose_law.specs.Quotes.{nothing_held};
 ghost use Rattle.hose_law.specs.Script.{IsForMemory};
 ghost use Rattle.hose_law.specs.Script.ReadLine.{Asks};
 ghost use Rattle.hose_core.specs.Stepping.{FitsHistory};
-ghost use Rattle.hose_gen.specs.Generated.{generated_network, generated_script};
 ghost use Rattle.hose_offline.specs.GenOutcome.{GenLeaves, GenOutcome};
 ghost use Rattle.hose_offline.specs.Generating.{AreSizes, HaveBeenAnswered, IsTallyOf};
-ghost use Rattle.hose_offline.specs.Serving.{AnswersLine, plain_books};
+ghost use Rattle.hose_offline.specs.Parts.{KeepsAll, held, tellings};
+ghost use Rattle.hose_offline.specs.Talking.{AnswersLine, plain_books};
 ghost use Rattle.hose_offline.specs.Tally.{IsOfUpTo, with_reply};
 
 use crate::fault::{Fault, end};
+use crate::outside::Outside;
 use crate::tally::Tally;
 use hose_book::{Book, Books, Plain};
 use hose_core::Core;
+use hose_disk::Cabinet;
 use hose_gen::{Generated, generate};
 use hose_graph::{Command, Name, Reply};
-use hose_io::Sink;
+use hose_io::{Sink, Source};
 use hose_paths::{RowMaker, RowTable, TableRows};
 use std::alloc::Global;
 
@@ -34,22 +36,26 @@ pub struct Sizes {
 
 /// Makes a network and a script, answers the script by a book in memory, writes one line that sums
 /// up the replies, and gives the exit status.
-pub fn run_generated<O: Sink>(alloc: Global, sizes: Sizes, output: &mut O) -> u8
+pub fn run_generated<I: Source, O: Sink, C: Cabinet>(
+    alloc: Global,
+    sizes: Sizes,
+    outside: &mut Outside<'_, I, O, C>,
+) -> u8
     requires { AreSizes sizes.nodes sizes.links sizes.hoses }
-    ensures outcome { GenOutcome sizes.seed sizes.nodes sizes.links sizes.hoses O.Sink
-        output.old output.new result }
+    ensures outcome { GenOutcome (tellings I.Source O.Sink C.Cabinet C.Disk.Disk) sizes
+        (held outside.old) (held outside.new) result }
     ensures not_words { result ≢ 1 }
-    ensures output { Stays (O.frame output.old) (O.frame output.new) }
+    ensures keeps { KeepsAll (tellings I.Source O.Sink C.Cabinet C.Disk.Disk)
+        outside.old outside.new }
 {
-    let done = sum_up(alloc, sizes, output);
-    end(done, output)
+    let done = sum_up(alloc, sizes, outside.output);
+    end(done, outside.output)
 }
 
 // What that comes to, before its last line.
 fn sum_up<O: Sink>(alloc: Global, sizes: Sizes, output: &mut O) -> Result<(), Fault>
     requires { AreSizes sizes.nodes sizes.links sizes.hoses }
-    ensures leaves { GenLeaves sizes.seed sizes.nodes sizes.links sizes.hoses O.Sink
-        output.old output.new result }
+    ensures leaves { GenLeaves sizes O.Sink output.old output.new result }
     ensures output { Stays (O.frame output.old) (O.frame output.new) }
 {
     let made = generate(alloc, sizes.seed, sizes.nodes, sizes.links, sizes.hoses)?;

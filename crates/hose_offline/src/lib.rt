@@ -7,16 +7,17 @@
 //! as they do:
 //!
 //! ```
-//! let status = run(alloc, &OwnCosts, Some("orders.journal"), input, output, cabinet);
+//! let outside = &mut Outside::of(input, output, cabinet);
+//! let status = run(alloc, &OwnCosts, Some("orders.journal"), outside);
 //! let names = Names { topology: "star.txt", journal: "orders.journal" };
-//! let status = audit(alloc, &tariff, names, output, cabinet);
+//! let status = audit(alloc, &tariff, names, outside);
 //! let sizes = Sizes { seed: 7, nodes: 200, links: 600, hoses: 300 };
-//! let status = run_generated(alloc, sizes, output);
-//! let status = prove(alloc, &OwnCosts, "star.txt", ends, output, cabinet);
-//! let status = check(alloc, &OwnCosts, "star.txt", input, output, cabinet);
-//! let status = price(alloc, &tariffs, "star.txt", input, output, cabinet);
-//! let status = ship(alloc, &OwnCosts, names, 1, output, cabinet);
-//! let status = follow(alloc, &OwnCosts, names, input, output, cabinet);
+//! let status = run_generated(alloc, sizes, outside);
+//! let status = prove(alloc, &OwnCosts, "star.txt", ends, outside);
+//! let status = check(alloc, &OwnCosts, "star.txt", outside);
+//! let status = price(alloc, &tariffs, "star.txt", outside);
+//! let status = ship(alloc, &OwnCosts, names, 1, outside);
+//! let status = follow(alloc, &OwnCosts, names, outside);
 //! ```
 #![tactic(auto)]
 

@@ -2,17 +2,19 @@
 ghost use Rattle.std.specs.Prelude.{◌≡◌, ◌≢◌, ◌↔◌, ◌+◌, ◌<◌, ◌≤◌, ℕ, List, Err, None, length, map};
 ghost use Rattle.hose_io.specs.Frame.{Stays};
 ghost use Rattle.hose_io.specs.Stream.{Gives};
-ghost use Rattle.hose_disk.specs.Cabinet.{object_of};
 ghost use Rattle.hose_words.specs.Lines.{Shows};
 ghost use Rattle.hose_words.specs.Reading.{ReadsOn};
 ghost use Rattle.hose_law.specs.Plan.{AreNodes};
+ghost use Rattle.hose_offline.specs.Parts.{KeepsAll, held, tellings};
 ghost use Rattle.hose_offline.specs.PriceOutcome.{AnswersInput, IsSheetBy, PriceOutcome, PricesInput};
 ghost use Rattle.hose_offline.specs.Pricing.{PricesAll, PricesLine};
 ghost use Rattle.hose_offline.specs.SheetLine.{AnswersSheet, PricesHose};
+ghost use Rattle.hose_offline.specs.Talk.{talk};
 
 use crate::auditing::read_topology;
 use crate::fault::{Fault, end};
 use crate::input_line::read_sheet_line;
+use crate::outside::Outside;
 use crate::sheet_answer::{SheetAnswer, put_answer};
 use hose_disk::Cabinet;
 use hose_graph::{Hose, Name, Topology};
@@ -30,50 +32,47 @@ pub fn price<I: Source, O: Sink, C: Cabinet>(
     alloc: Global,
     tariffs: &[Tariff],
     topology: &str,
-    input: &mut I,
-    output: &mut O,
-    cabinet: &mut C,
+    outside: &mut Outside<'_, I, O, C>,
 ) -> u8
     requires some { 1 ≤ length tariffs.now }
     requires few { length tariffs.now ≤ MOST_TARIFFS }
-    ensures outcome { PriceOutcome
+    ensures outcome { PriceOutcome (tellings I.Source O.Sink C.Cabinet C.Disk.Disk)
         (IsSheetBy ⟦<Tariff as Prices>⟧.prices (λ tariff. tariff.base) (λ tariff. tariff.per)
         tariffs.now)
-        (map (λ tariff. tariff.name) tariffs.now) I.Source O.Sink C.Cabinet topology.now
-        input.old input.new output.old output.new cabinet.old cabinet.new result }
+        (map (λ tariff. tariff.name) tariffs.now) topology.now
+        (held outside.old) (held outside.new) result }
     ensures not_words { result ≢ 1 }
-    ensures out { (C.frame cabinet.new).out ≡ (C.frame cabinet.old).out }
-    ensures input { Stays (I.frame input.old) (I.frame input.new) }
-    ensures output { Stays (O.frame output.old) (O.frame output.new) }
-    ensures cabinet { Stays (object_of (C.frame cabinet.old)) (object_of (C.frame cabinet.new)) }
+    ensures out { (C.frame outside.new.cabinet.now).out ≡ (C.frame outside.old.cabinet.now).out }
+    ensures keeps { KeepsAll (tellings I.Source O.Sink C.Cabinet C.Disk.Disk)
+        outside.old outside.new }
 {
-    match read_topology(alloc, &OwnCosts, topology, cabinet) {
+    match read_topology(alloc, &OwnCosts, topology, outside.cabinet) {
         Ok(top) => {
-            let done = price_input(alloc, tariffs, &top, input, output);
-            end(done, output)
+            let done = price_input(alloc, tariffs, &top, outside);
+            end(done, outside.output)
         }
-        Err(why) => end(Err(why), output),
+        Err(why) => end(Err(why), outside.output),
     }
 }
 
 // Answers the lines of the input on a network. The rows of all nodes are made first, for each of
 // the costs that are needed.
-fn price_input<I: Source, O: Sink>(
+fn price_input<I: Source, O: Sink, C: Cabinet>(
     alloc: Global,
     tariffs: &[Tariff],
     top: &Topology,
-    input: &mut I,
-    output: &mut O,
+    outside: &mut Outside<'_, I, O, C>,
 ) -> Result<(), Fault>
     requires some { 1 ≤ length tariffs.now }
     requires few { length tariffs.now ≤ MOST_TARIFFS }
-    ensures prices { PricesInput
+    ensures prices { PricesInput (tellings I.Source O.Sink C.Cabinet C.Disk.Disk)
         (IsSheetBy ⟦<Tariff as Prices>⟧.prices (λ tariff. tariff.base) (λ tariff. tariff.per)
         tariffs.now)
-        (map (λ tariff. tariff.name) tariffs.now) I.Source O.Sink
-        input.old input.new output.old output.new top.now result }
-    ensures input { Stays (I.frame input.old) (I.frame input.new) }
-    ensures output { Stays (O.frame output.old) (O.frame output.new) }
+        (map (λ tariff. tariff.name) tariffs.now) (held outside.old) (held outside.new)
+        top.now result }
+    ensures cabinet { outside.new.cabinet ≡ outside.old.cabinet }
+    ensures keeps { KeepsAll (tellings I.Source O.Sink C.Cabinet C.Disk.Disk)
+        outside.old outside.new }
 {
     let sheet = PriceSheet::new(alloc, top, tariffs)?;
     let tables = sheet.row_tables(alloc)?;
@@ -82,8 +81,8 @@ fn price_input<I: Source, O: Sink>(
         tariffs,
         &sheet,
         &mut TablesRows::new(&tables),
-        input,
-        output,
+        outside.input,
+        outside.output,
     )
 }
 
@@ -96,9 +95,8 @@ fn price_by_sheet<I: Source, O: Sink, R: RowMaker>(
     input: &mut I,
     output: &mut O,
 ) -> Result<(), Fault>
-    ensures answers { AnswersInput sheet.now (map (λ tariff. tariff.name) tariffs.now)
-        (I.content input.old) (I.content input.new) (I.frame input.old) (I.frame input.new)
-        O.Sink output.old output.new result }
+    ensures answers { AnswersInput I.Source O.Sink (map (λ tariff. tariff.name) tariffs.now)
+        (talk input.old output.old sheet.now) (talk input.new output.new sheet.now) result }
     ensures takes { (bytes : List ℕ) × Gives (I.content input.old) (I.content input.new) bytes
         × (length bytes ≤ INPUT_LIMIT + 1)
         × ((result ≡ Err Fault.TooLong) ↔ (INPUT_LIMIT < length bytes)) }
@@ -123,8 +121,8 @@ fn price_all<S: Source, O: Sink, R: RowMaker>(
 ) -> Result<(), Fault>
     requires limit { lines.old.taken ≤ INPUT_LIMIT + 1 }
     requires no_fault { lines.old.fault ≡ None }
-    ensures prices { PricesAll sheet.now (map (λ tariff. tariff.name) tariffs.now)
-        S.Source O.Sink lines.old lines.new output.old output.new result }
+    ensures prices { PricesAll S.Source O.Sink (map (λ tariff. tariff.name) tariffs.now)
+        (talk lines.old output.old sheet.now) (talk lines.new output.new sheet.now) result }
     ensures too_long { (result ≡ Err Fault.TooLong) ↔ (INPUT_LIMIT < lines.new.taken) }
     ensures reads_on { ReadsOn S.Source lines.old lines.new }
     ensures limit { lines.new.taken ≤ INPUT_LIMIT + 1 }
@@ -144,8 +142,8 @@ fn price_line<S: Source, O: Sink, R: RowMaker>(
     output: &mut O,
 ) -> Result<bool, Fault>
     requires no_fault { lines.old.fault ≡ None }
-    ensures prices { PricesLine sheet.now (map (λ tariff. tariff.name) tariffs.now)
-        S.Source O.Sink lines.old lines.new output.old output.new result }
+    ensures prices { PricesLine S.Source O.Sink (map (λ tariff. tariff.name) tariffs.now)
+        (talk lines.old output.old sheet.now) (talk lines.new output.new sheet.now) result }
     ensures too_long { (result ≡ Err Fault.TooLong) ↔ (INPUT_LIMIT < lines.new.taken) }
     ensures reads_on { ReadsOn S.Source lines.old lines.new }
     ensures limit { lines.new.taken ≤ INPUT_LIMIT + 1 }

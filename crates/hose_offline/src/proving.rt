@@ -4,17 +4,18 @@ ghost use Rattle.std.specs.String.{string_bytes};
 ghost use Rattle.hose_io.specs.Frame.{Stays};
 ghost use Rattle.hose_graph.specs.Network.{IsNetwork};
 ghost use Rattle.hose_law.specs.Plan.{AreNodes};
-ghost use Rattle.hose_disk.specs.Cabinet.{object_of};
 ghost use Rattle.hose_proto.specs.Command.{AreEndsOf};
 ghost use Rattle.hose_proto.specs.EndWords.{AreEndWords};
-ghost use Rattle.hose_offline.specs.ProveOutcome.{AreEndsInOrder, IsNoHose, ProveOutcome, ProvesWords, PutsProof};
+ghost use Rattle.hose_offline.specs.Parts.{KeepsAll, held, tellings};
+ghost use Rattle.hose_offline.specs.ProveOutcome.{AreEndsInOrder, IsNoHose, ProveOutcome, ProvesWords, PutsProof, ends_from};
 
 use crate::auditing::read_topology;
 use crate::fault::{Fault, end};
+use crate::outside::Outside;
 use hose_cert::put_certificate;
 use hose_disk::Cabinet;
 use hose_graph::{Endpoint, Hose, Topology};
-use hose_io::{Sink, write_all};
+use hose_io::{Sink, Source, write_all};
 use hose_paths::HeapRows;
 use hose_proto::endpoint;
 use hose_tariff::Prices;
@@ -30,29 +31,29 @@ pub struct EndWords<'a> {
 /// Reads the topology of a text, writes the certificate of a hose's plan over all its links, or
 /// that there is no plan, and gives the exit status. The network has these costs, and the words are
 /// the hose's endpoints.
-pub fn prove<P: Prices, O: Sink, C: Cabinet>(
+pub fn prove<P: Prices, I: Source, O: Sink, C: Cabinet>(
     alloc: Global,
     costs: &P,
     topology: &str,
     ends: EndWords<'_>,
-    output: &mut O,
-    cabinet: &mut C,
+    outside: &mut Outside<'_, I, O, C>,
 ) -> u8
     requires ends { AreEndWords (map string_bytes ends.words.now) }
     requires first { ends.first ≤ 2 ^ 63 }
-    ensures outcome { ProveOutcome (P.prices costs.now) (map string_bytes ends.entry.words.now)
-        ends.entry.first O.Sink C.Cabinet topology.now output.old output.new
-        cabinet.old cabinet.new result }
-    ensures out { (C.frame cabinet.new).out ≡ (C.frame cabinet.old).out }
-    ensures output { Stays (O.frame output.old) (O.frame output.new) }
-    ensures cabinet { Stays (object_of (C.frame cabinet.old)) (object_of (C.frame cabinet.new)) }
+    ensures outcome { ProveOutcome (tellings I.Source O.Sink C.Cabinet C.Disk.Disk)
+        (P.prices costs.now) topology.now
+        (ends_from (map string_bytes ends.entry.words.now) ends.entry.first)
+        (held outside.old) (held outside.new) result }
+    ensures out { (C.frame outside.new.cabinet.now).out ≡ (C.frame outside.old.cabinet.now).out }
+    ensures keeps { KeepsAll (tellings I.Source O.Sink C.Cabinet C.Disk.Disk)
+        outside.old outside.new }
 {
-    match read_topology(alloc, costs, topology, cabinet) {
+    match read_topology(alloc, costs, topology, outside.cabinet) {
         Ok(top) => {
-            let done = prove_words(alloc, &top, ends, output);
-            end(done, output)
+            let done = prove_words(alloc, &top, ends, outside.output);
+            end(done, outside.output)
         }
-        Err(why) => end(Err(why), output),
+        Err(why) => end(Err(why), outside.output),
     }
 }
 
@@ -65,8 +66,9 @@ fn prove_words<O: Sink>(
 ) -> Result<(), Fault>
     requires ends { AreEndWords (map string_bytes ends.words.now) }
     requires first { ends.first ≤ 2 ^ 63 }
-    ensures proves { ProvesWords (map string_bytes ends.entry.words.now) ends.entry.first top.now
-        O.Sink output.old output.new result }
+    ensures proves { ProvesWords O.Sink
+        (ends_from (map string_bytes ends.entry.words.now) ends.entry.first) top.now
+        output.old output.new result }
     ensures output { Stays (O.frame output.old) (O.frame output.new) }
 {
     let hose = hose_of(alloc, top, ends)?;
@@ -97,7 +99,7 @@ fn hose_of(alloc: Global, top: &Topology, ends: EndWords<'_>) -> Result<Hose, Fa
     ensures hose { IfOk result (AreEndsOf top.now (map string_bytes ends.entry.words.now)) }
     ensures nodes { IfOk result (AreNodes top.now) }
     ensures none { IfErr result
-        (IsNoHose (map string_bytes ends.entry.words.now) ends.entry.first top.now) }
+        (IsNoHose (ends_from (map string_bytes ends.entry.words.now) ends.entry.first) top.now) }
 {
     // The call tells the proof what holds of each network: that no two nodes have one name.
     let _nodes = top.nodes();
@@ -118,7 +120,7 @@ fn ends_of(
     requires first { first ≤ 2 ^ 63 }
     ensures ends { IfOk result
         (λ found. AreEndsInOrder top.now (map string_bytes ends.now) found.items) }
-    ensures none { IfErr result (IsNoHose (map string_bytes ends.now) first top.now) }
+    ensures none { IfErr result (IsNoHose (ends_from (map string_bytes ends.now) first) top.now) }
 {
     let mut found = Vec::new(alloc);
     while found.len() < ends.len() {

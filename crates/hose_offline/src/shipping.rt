@@ -1,16 +1,17 @@
 // Shipping: the entries of a journal, written as packets for one that follows it.
 ghost use Rattle.std.specs.Prelude.{◌≡◌, ◌≢◌, None};
-ghost use Rattle.hose_io.specs.Frame.{Stays};
-ghost use Rattle.hose_disk.specs.Cabinet.{object_of};
+ghost use Rattle.hose_offline.specs.Auditing.{priced_names};
 ghost use Rattle.hose_offline.specs.OnDisk.{IsUnopened};
-ghost use Rattle.hose_offline.specs.ShipOutcome.{ShipOutcome, ShipsInCabinet, shipping_done};
+ghost use Rattle.hose_offline.specs.Parts.{KeepsAll, held, tellings};
+ghost use Rattle.hose_offline.specs.ShipOutcome.{ShipOutcome, ShipsJournal, shipping_done};
 
 use crate::auditing::{Names, read_topology};
 use crate::fault::{Fault, end};
+use crate::outside::Outside;
 use hose_disk::Cabinet;
 use hose_follow::ShipFault;
 use hose_graph::Topology;
-use hose_io::Sink;
+use hose_io::{Sink, Source};
 use hose_store::law_one_meaning;
 use hose_tariff::Prices;
 use std::alloc::Global;
@@ -18,57 +19,58 @@ use std::alloc::Global;
 /// Reads the topology of a text, writes the packets of the entries of the journal of a name, from
 /// the one of an epoch on, and gives the exit status. The network has these costs; the first
 /// entry's epoch is 1.
-pub fn ship<P: Prices, O: Sink, C: Cabinet>(
+pub fn ship<P: Prices, I: Source, O: Sink, C: Cabinet>(
     alloc: Global,
     costs: &P,
     names: Names<'_>,
     from: u64,
-    output: &mut O,
-    cabinet: &mut C,
+    outside: &mut Outside<'_, I, O, C>,
 ) -> u8
-    requires { (C.frame cabinet.old).out ≡ None }
-    ensures outcome { ShipOutcome (P.prices costs.now) O.Sink C.Cabinet C.Disk.Disk
-        names.entry.topology.now names.entry.journal.now from output.old output.new
-        cabinet.old cabinet.new result }
+    requires { (C.frame (held outside.old).cabinet).out ≡ None }
+    ensures outcome { ShipOutcome (tellings I.Source O.Sink C.Cabinet C.Disk.Disk)
+        (priced_names (P.prices costs.now) names.entry.topology.now names.entry.journal.now) from
+        (held outside.old) (held outside.new) result }
     ensures not_words { result ≢ 1 }
-    ensures back { (C.frame cabinet.new).out ≡ None }
-    ensures output { Stays (O.frame output.old) (O.frame output.new) }
-    ensures cabinet { Stays (object_of (C.frame cabinet.old)) (object_of (C.frame cabinet.new)) }
+    ensures back { (C.frame (held outside.new).cabinet).out ≡ None }
+    ensures keeps { KeepsAll (tellings I.Source O.Sink C.Cabinet C.Disk.Disk)
+        outside.old outside.new }
 {
-    match read_topology(alloc, costs, names.topology, cabinet) {
+    match read_topology(alloc, costs, names.topology, outside.cabinet) {
         Ok(top) => {
-            let done = ship_in_cabinet(alloc, names.journal, &top, from, output, cabinet);
-            end(done, output)
+            let done = ship_journal(alloc, names.journal, &top, from, outside);
+            end(done, outside.output)
         }
-        Err(why) => end(Err(why), output),
+        Err(why) => end(Err(why), outside.output),
     }
 }
 
 // Writes the packets of the journal of a name. The disk is back in the cabinet then.
-fn ship_in_cabinet<O: Sink, C: Cabinet>(
+fn ship_journal<I: Source, O: Sink, C: Cabinet>(
     alloc: Global,
     name: &str,
     top: &Topology,
     from: u64,
-    output: &mut O,
-    cabinet: &mut C,
+    outside: &mut Outside<'_, I, O, C>,
 ) -> Result<(), Fault>
-    requires { (C.frame cabinet.old).out ≡ None }
-    ensures ships { ShipsInCabinet O.Sink C.Cabinet C.Disk.Disk name.now from
-        output.old output.new cabinet.old cabinet.new top.now result }
-    ensures unopened { IsUnopened C.Cabinet C.Disk.Disk cabinet.old cabinet.new top.now name.now }
-    ensures absent { (C.frame cabinet.new).absent ≡ (C.frame cabinet.old).absent }
-    ensures back { (C.frame cabinet.new).out ≡ None }
-    ensures output { Stays (O.frame output.old) (O.frame output.new) }
-    ensures cabinet { Stays (object_of (C.frame cabinet.old)) (object_of (C.frame cabinet.new)) }
+    requires { (C.frame (held outside.old).cabinet).out ≡ None }
+    ensures ships { ShipsJournal (tellings I.Source O.Sink C.Cabinet C.Disk.Disk) name.now from
+        (held outside.old) (held outside.new) top.now result }
+    ensures unopened { IsUnopened C.Cabinet C.Disk.Disk (held outside.old).cabinet
+        (held outside.new).cabinet top.now name.now }
+    ensures input { (held outside.new).input ≡ (held outside.old).input }
+    ensures absent { (C.frame (held outside.new).cabinet).absent
+        ≡ (C.frame (held outside.old).cabinet).absent }
+    ensures back { (C.frame (held outside.new).cabinet).out ≡ None }
+    ensures keeps { KeepsAll (tellings I.Source O.Sink C.Cabinet C.Disk.Disk)
+        outside.old outside.new }
 {
     // What is known of each image of the disk comes from the law.
     law_one_meaning(top);
-    let Ok(disk) = cabinet.disk(name) else {
+    let Ok(disk) = outside.cabinet.disk(name) else {
         return Err(Fault::Cabinet);
     };
-    let shipped = hose_follow::ship(alloc, output, disk, top, from);
-    cabinet.back(shipped.1);
+    let shipped = hose_follow::ship(alloc, outside.output, disk, top, from);
+    outside.cabinet.back(shipped.1);
     as_done(shipped.0)
 }
 

@@ -5,21 +5,21 @@ use Rattle.hose_io.specs.Writing.{GrowsInPart}
 use Rattle.hose_words.specs.Lines.{IsNext}
 use Rattle.hose_offline.specs.declared.fault.Fault.TheVariants.{Write}
 use Rattle.hose_offline.specs.Fault.{of_line}
-use Rattle.hose_offline.specs.Serving.{AnswersLine}
-use Rattle.hose_offline.proofs.Exchanges.{exchange_of, serves_read}
+use Rattle.hose_offline.specs.Talking.{AnswersLine, talk_tellings}
+use Rattle.hose_offline.proofs.Exchanges.{exchange_of, talk_read}
 use Rattle.hose_offline.proofs.answering.answer_line.Goals as goal
 
-pub returns-in_err-line-clause-serves : goal.returns-in_err-line-clause-serves
-returns-in_err-line-clause-serves g c =
+pub returns-in_err-line-clause-talks : goal.returns-in_err-line-clause-talks
+returns-in_err-line-clause-talks g c =
     let met = c.in_err-line.field-0.0 in
     let new = c.next.follows.lender-at-none in
     let next = subst (IsNext g.S.Source c.args.lines.now new) c.in_err-line.was c.next.follows.holds-at-none in
     let told = err_from_is_err_and c.from_residual.result c.from_residual.ensures.1 in
     let is : c.from_residual.result ≡ Err (of_line met) = told.1 ∙ ap Err told.2 in
-    rw is (serves_read g.S.Source g.O.Sink g.K.Books c.args.lines.now new c.args.output.now c.args.core.now met c.requires.no_fault next)
+    rw is (talk_read (talk_tellings g.S.Source g.O.Sink g.K.Books) c.args.lines.now new c.args.output.now c.args.core.now met c.requires.no_fault next)
 
-pub returns-in_err-put_reply-clause-serves : goal.returns-in_err-put_reply-clause-serves
-returns-in_err-put_reply-clause-serves g c =
+pub returns-in_err-put_reply-clause-talks : goal.returns-in_err-put_reply-clause-talks
+returns-in_err-put_reply-clause-talks g c =
     let new = c.next.follows.lender-at-none in
     let next = subst (IsNext g.S.Source c.args.lines.now new) (c.in_ok-line.was ∙ ap Ok c.in-Some.is) c.next.follows.holds-at-none in
     let put = c.in_err-put_reply.ensures.put in
@@ -34,8 +34,8 @@ returns-in_err-put_reply-clause-serves g c =
       put.met.failed (refl {a = true}),
     )
 
-pub returns-clause-serves : goal.returns-clause-serves
-returns-clause-serves g c =
+pub returns-clause-talks : goal.returns-clause-talks
+returns-clause-talks g c =
     let new = c.next.follows.lender-at-none in
     let next = subst (IsNext g.S.Source c.args.lines.now new) (c.in_ok-line.was ∙ ap Ok c.in-Some.is) c.next.follows.holds-at-none in
     let put = c.in_ok-put_reply.ensures.put in

@@ -7,7 +7,7 @@ returns-in-Ok-open_store-clause-opens g c =
     let taken = c.in-Ok.ensures in
     record {
       was = c.in-Ok.disk;
-      taken = record { content = taken.content; images = taken.images; moment = taken.moment; call = taken.call };
+      taken = record { content = taken.content; images = taken.images; moment = taken.moment; fresh = taken.opened; call = taken.call };
       opens = c.in-Ok-open_store.ensures.opens;
     }
 
@@ -16,4 +16,4 @@ returns-in-Err-clause-refused g c =
     let taken = c.in-Ok.ensures in
     let back = c.back.ensures in
     not_served g.C.Cabinet g.C.Disk.Disk c.args.name.now c.args.cabinet.now c.disk.new.self c.back.new.self c.args.topology c.in-Ok.disk c.in-Err.refused.1
-    (record { out = record { content = taken.content; images = taken.images; moment = taken.moment; call = taken.call }; in_place = record { held = back.held; never_falls = back.never_falls; call = back.call } }) (Err c.in-Err.refused.0) c.in-Err.ensures.refused
+    (record { out = record { content = taken.content; images = taken.images; moment = taken.moment; fresh = taken.opened; call = taken.call }; in_place = record { held = back.held; never_falls = back.never_falls; call = back.call } }) (Err c.in-Err.refused.0) c.in-Err.ensures.refused

@@ -16,6 +16,7 @@ returns-in-Ok-clause-opens g c =
     record {
       opened = found.opened;
       images = found.any_moment;
+      count = found.count;
       stands = stands;
       unused = λ left closing closes. left_unused g.D.Disk c.args.topology old left store closing g.met.D.Disk.counts_now found.opened found.any_moment closes;
       leaves = λ history last left closing goes closes. c.law_closed.ensures begins old left history last closing (c.law_run.ensures begins old since history store last stands goes) closes;

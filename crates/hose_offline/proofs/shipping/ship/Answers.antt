@@ -1,32 +1,33 @@
-use Rattle.std.proofs.Common.{subst}
-use Rattle.hose_offline.specs.Auditing.{ReadsTopology}
-use Rattle.hose_offline.specs.ShipOutcome.{IsShipped}
-use Rattle.hose_offline.proofs.Audited.{is_not_told}
-use Rattle.hose_offline.proofs.Audits.{named_none}
+use Rattle.std.proofs.Common.{refl, subst}
+use Rattle.hose_offline.specs.Auditing.{ReadsTopology, priced_names}
+use Rattle.hose_offline.specs.Parts.{held, parts, tellings}
+use Rattle.hose_offline.proofs.Audited.{named_not_read, no_topology}
 use Rattle.hose_offline.proofs.ShipEnds.{is_shipped, ship_not_1}
 use Rattle.hose_offline.proofs.shipping.ship.Goals as goal
 
 pub returns-in-Ok-clause-outcome : goal.returns-in-Ok-clause-outcome
 returns-in-Ok-clause-outcome g c =
-    let place = c.args.cabinet.now in
-    let done = c.ship_in_cabinet-done in
-    let reads = subst (ReadsTopology g.C.Cabinet place c.read_topology.new.cabinet (g.P.Prices.prices c.args.costs.now) c.args.names.topology.now) c.in-Ok.is c.read_topology.ensures.reads in
-    is_shipped (g.P.Prices.prices c.args.costs.now) g.O.Sink g.C.Cabinet g.C.Disk.Disk c.args.names.topology.now c.args.names.journal.now c.args.from c.args.output.now c.end.new.output place done.new.cabinet
-    done.new.output c.read_topology.new.cabinet c.in-Ok.top reads done.ensures.absent c.end.ensures.output done.result c.end.result done.ensures.ships done.ensures.unopened c.end.ensures.status c.end.ensures.last_line
+    let tells = tellings g.I.Source g.O.Sink g.C.Cabinet g.C.Disk.Disk in
+    let names = priced_names (g.P.Prices.prices c.args.costs.now) c.args.names.topology.now c.args.names.journal.now in
+    let before = held c.args.outside.now in
+    let done = c.ship_journal-done in
+    let shipped = held done.new.outside in
+    let after = parts shipped.input c.end.new.output shipped.cabinet in
+    let reads = subst (ReadsTopology g.C.Cabinet before.cabinet c.read_topology.new.cabinet names.prices names.topology) c.in-Ok.is c.read_topology.ensures.reads in
+    is_shipped tells c.args.from names before shipped.output after c.in-Ok.top c.end.ensures.output c.read_topology.new.cabinet done.result c.end.result reads done.ensures.absent done.ensures.input done.ensures.ships done.ensures.unopened c.end.ensures.status c.end.ensures.last_line
 
 pub returns-in-Err-clause-outcome : goal.returns-in-Err-clause-outcome
 returns-in-Err-clause-outcome g c =
-    let place = c.args.cabinet.now in
-    let read = c.read_topology.new.cabinet in
-    let reads = subst (ReadsTopology g.C.Cabinet place read (g.P.Prices.prices c.args.costs.now) c.args.names.topology.now) c.in-Err.is c.read_topology.ensures.reads in
-    is_not_told (g.P.Prices.prices c.args.costs.now) g.O.Sink g.C.Cabinet g.C.Disk.Disk c.args.names.topology.now c.args.names.journal.now c.args.output.now c.end-in-Err.new.output place read
-    (IsShipped (g.P.Prices.prices c.args.costs.now) g.O.Sink g.C.Cabinet g.C.Disk.Disk c.args.names.topology.now c.args.names.journal.now c.args.from c.args.output.now c.end-in-Err.new.output place read) _ _ c.in-Err.why c.end-in-Err.result
-    (named_none (g.P.Prices.prices c.args.costs.now) g.C.Cabinet g.C.Disk.Disk c.args.names.topology.now c.args.names.journal.now place read c.in-Err.why reads) c.end-in-Err.ensures.status c.end-in-Err.ensures.last_line tt
+    let tells = tellings g.I.Source g.O.Sink g.C.Cabinet g.C.Disk.Disk in
+    let names = priced_names (g.P.Prices.prices c.args.costs.now) c.args.names.topology.now c.args.names.journal.now in
+    let before = held c.args.outside.now in
+    let ended = c.end-in-Err in
+    let after = parts before.input ended.new.output c.read_topology.new.cabinet in
+    let reads = subst (ReadsTopology g.C.Cabinet before.cabinet after.cabinet names.prices names.topology) c.in-Err.is c.read_topology.ensures.reads in
+    named_not_read tells names before after _ c.in-Err.why ended.result (no_topology tells names before after c.in-Err.why reads) ended.ensures.status ended.ensures.last_line tt refl
 
 pub returns-in-Ok-clause-not_words : goal.returns-in-Ok-clause-not_words
-returns-in-Ok-clause-not_words g c =
-    ship_not_1 (g.P.Prices.prices c.args.costs.now) g.O.Sink g.C.Cabinet g.C.Disk.Disk c.args.names.topology.now c.args.names.journal.now c.args.from c.args.output.now c.end.new.output c.args.cabinet.now c.ship_in_cabinet-done.new.cabinet c.end.result (returns-in-Ok-clause-outcome g c)
+returns-in-Ok-clause-not_words g c = ship_not_1 _ _ _ _ _ _ (returns-in-Ok-clause-outcome g c)
 
 pub returns-in-Err-clause-not_words : goal.returns-in-Err-clause-not_words
-returns-in-Err-clause-not_words g c =
-    ship_not_1 (g.P.Prices.prices c.args.costs.now) g.O.Sink g.C.Cabinet g.C.Disk.Disk c.args.names.topology.now c.args.names.journal.now c.args.from c.args.output.now c.end-in-Err.new.output c.args.cabinet.now c.read_topology.new.cabinet c.end-in-Err.result (returns-in-Err-clause-outcome g c)
+returns-in-Err-clause-not_words g c = ship_not_1 _ _ _ _ _ _ (returns-in-Err-clause-outcome g c)

@@ -1,7 +1,8 @@
 use Rattle.std.proofs.Common.{◌≡◌, ◌∙◌, inl, inr, Err, refl, ap}
 use Rattle.std.proofs.lemmas.Result.{err_from_is_err_and}
+use Rattle.hose_offline.specs.Parts.{held, parts, tellings}
 use Rattle.hose_offline.proofs.Followed.{followed_in}
-use Rattle.hose_offline.proofs.following.follow_in_cabinet.Goals as goal
+use Rattle.hose_offline.proofs.following.follow_journal.Goals as goal
 
 pub returns-in_err-store-clause-follows : goal.returns-in_err-store-clause-follows
 returns-in_err-store-clause-follows g c =
@@ -11,8 +12,10 @@ returns-in_err-store-clause-follows g c =
 
 pub returns-clause-follows : goal.returns-clause-follows
 returns-clause-follows g c =
+    let before = held c.args.outside.now in
     let followed = c.follow-ended in
     let closed = c.close_journal-closed in
-    let has = followed_in g.I.Source g.O.Sink g.C.Cabinet g.C.Disk.Disk c.args.name.now c.args.input.now followed.new.source c.args.output.now followed.new.sink c.args.cabinet.now c.open_journal.new.cabinet closed.new.cabinet c.args.topology c.in_ok-store.store followed.new.store followed.result closed.result.0
+    let after = parts followed.new.source followed.new.sink closed.new.cabinet in
+    let has = followed_in (tellings g.I.Source g.O.Sink g.C.Cabinet g.C.Disk.Disk) c.args.name.now before after c.open_journal.new.cabinet c.args.topology c.in_ok-store.store followed.new.store followed.result closed.result.0
     c.in_ok-store.ensures.opens followed.ensures.follows closed.ensures.closes in
     inr (followed.result, closed.result.0, has, rw c.done_of_end.ensures at c.first_fault.ensures)

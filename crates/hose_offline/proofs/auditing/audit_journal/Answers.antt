@@ -1,0 +1,16 @@
+use Rattle.std.proofs.Common.{inr}
+use Rattle.hose_law.specs.History.{IsDecidedAt}
+use Rattle.hose_offline.specs.Parts.{held, parts, tellings}
+use Rattle.hose_offline.proofs.Audited.{book_told}
+use Rattle.hose_offline.proofs.auditing.audit_journal.Goals as goal
+
+pub returns-in-Ok-clause-audits : goal.returns-in-Ok-clause-audits
+returns-in-Ok-clause-audits g c =
+    let tells = tellings g.I.Source g.O.Sink g.C.Cabinet g.C.Disk.Disk in
+    let before = held c.args.outside.now in
+    let closed = c.close_journal-closing in
+    let after = parts before.input c.tell.new.output closed.new.cabinet in
+    book_told tells c.args.name.now before after c.args.topology IsDecidedAt c.open_journal.new.cabinet c.in-Ok.store closed.result.0 closed.result.1 c.tell.result c.in-Ok.ensures.opens closed.ensures.closes closed.ensures.book (rw c.first_fault.ensures at c.tell.ensures.ends)
+
+pub returns-in-Err-clause-audits : goal.returns-in-Err-clause-audits
+returns-in-Err-clause-audits g c = inr (c.in-Err.why, c.end.ensures.status, c.in-Err.ensures.refused, c.end.ensures.last_line)
