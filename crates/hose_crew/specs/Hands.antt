@@ -3,7 +3,6 @@ use Rattle.std.specs.Prelude.{◌≡◌, ℕ, ◌+◌, ◌≤◌, List, [], ◌+
 use mathlib.Core.List.{IsPrefix}
 use Rattle.hose_io.specs.Connections.{Connection, Connections}
 use Rattle.hose_session.specs.Accounts.{AccountFor}
-use Rattle.hose_pool.specs.declared.rows.TheConstants.{MOST_WORKERS}
 use Rattle.hose_shared.specs.Sharing.{IsPassOf, IsSamePass, SharedBook}
 use Rattle.hose_turn.specs.Known.{HasOwnPlaces, Known}
 use Rattle.hose_crew.specs.Desk.{Started}
@@ -58,10 +57,8 @@ abbrev pub HaveWorked : {Done : Type 0} → (Done → Option Connection) → Sta
     → List (HandState Done) → Type 0
 HaveWorked came_to start first hands = All (HasWorked came_to start first) hands
 
--- So many workers may serve along parts of the first pass of a shared book.
-pub record MayServe (workers : ℕ) (shared : SharedBook) (first : Known) : Type 0 where
-  pub some : 1 ≤ workers
-  pub few : workers ≤ MOST_WORKERS
+-- Workers may serve along parts of the first pass of a shared book.
+pub record MayServe (shared : SharedBook) (first : Known) : Type 0 where
   pub of : IsPassOf shared first
   pub since : IsPrefix first.origin.since first.seen
 

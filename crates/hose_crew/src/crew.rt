@@ -7,8 +7,8 @@ ghost use Rattle.hose_crew.specs.Crew.{ServesDoor};
 ghost use Rattle.hose_crew.specs.Desk.{AreArrived, HasStopped, started_at};
 ghost use Rattle.hose_crew.specs.Hands.{AreBack, HasWorked, HaveWorked, IsGathered, IsIdle, MayServe};
 
-use crate::desk::{Closed, Desk, Start};
-use crate::hand::{Gathered, Hand, Job, Place, Work};
+use crate::desk::{Closed, Desk, LockedDesk, Start};
+use crate::hand::{Context, Gathered, Hand, Place, Work};
 use hose_disk::Disk;
 use hose_io::{Door, Failed};
 use hose_pool::{Gate, MOST_WORKERS};
@@ -22,6 +22,14 @@ use std::sync::ledger::{Blank, Share};
 use std::sync::{Mutex, Wait};
 use std::thread;
 use std::thread::Threads;
+
+/// What a crew ends with, once it has served the connections of a door: what accepting came to, the
+/// pass, whole again, and the door.
+pub struct CrewEnd<L> {
+    pub accepting: Result<(), Failed>,
+    pub pass: Pass,
+    pub door: L,
+}
 
 /// Workers, with room for the connections that they are to serve.
 #[derive(Drop)]
@@ -72,7 +80,7 @@ impl<L: Door + Send, N: Start + Send + Sync> Crew<L, N> {
         pass: Pass,
         door: L,
         blank: Blank,
-    ) -> (Result<(), Failed>, Pass, L)
+    ) -> CrewEnd<L>
         requires of { IsPassOf work.shared.now pass }
         requires shares { self.workers < pass.share }
         requires own { pass.own ≡ [] }
@@ -81,7 +89,8 @@ impl<L: Door + Send, N: Start + Send + Sync> Crew<L, N> {
         requires parts { (blank.parts ≡ N.parts) × (blank.parts ≡ self.workers) }
         requires start { N.start ≡ started_at L.Door door self.connections }
         requires accounted { AreAccounted (L.told door) }
-        ensures { ServesDoor L.Door door result.2 self.connections pass result.1 result.0 }
+        ensures { ServesDoor L.Door door result.door self.connections pass result.pass
+            result.accepting }
     {
         law_passes(&pass);
         let Crew {
@@ -92,26 +101,24 @@ impl<L: Door + Send, N: Start + Send + Sync> Crew<L, N> {
         let mut pass = pass;
         let first = &Snapshot::of(&pass);
         let desk = Desk::new(door, connections, tally);
-        let shared = work.shared;
-        take_places(shared, &mut pass, &mut share, &mut hands, first);
-        let job = Job {
-            work,
-            workers: hands.len() as u32,
-            first,
-        };
+        take_places(work.shared, &mut pass, &mut share, &mut hands, first);
         let Closed {
             door,
             tally,
             stopped,
-        } = job.serve_all(desk, &mut hands);
+        } = serve_all(&work, first, desk, &mut hands);
         let left = Gathered {
             pass,
             share,
             tally,
             door,
         };
-        let (pass, door) = gather(shared, left, hands, first);
-        (stopped, pass, door)
+        let (pass, door) = gather(work.shared, left, hands, first);
+        CrewEnd {
+            accepting: stopped,
+            pass,
+            door,
+        }
     }
 }
 
@@ -143,87 +150,79 @@ fn take_places<D: Disk, B: Begun<D>, L: Door, N: Start>(
     }
 }
 
-impl<'a, R: Threads + Wait + Sync, D: Disk + Send, B: Begun<D> + Send, G: Gate + Sync> Job<
-    'a,
-    R,
-    D,
-    B,
-    G,
-> {
-    // All workers serve connections at once, until there is no more.
-    fn serve_all<L: Door + Send, N: Start + Send + Sync>(
-        &self,
-        desk: Desk<L, N>,
-        hands: &mut [Hand<L, N>],
-    ) -> Closed<L, N>
-        requires may { MayServe self.now.workers self.now.work.shared.now
-            self.now.first.now.value }
-        requires works { HaveWorked L.came_to N.start self.now.first.now.value hands.old }
-        ensures number { length hands.new ≡ length hands.old }
-        ensures works { HaveWorked L.came_to N.start self.now.first.now.value hands.new }
-        ensures stopped { HasStopped N.start (L.frame result.door) (L.told result.door)
-            result.tally.total result.stopped }
-        ensures arrived { AreArrived N.start.told (L.told result.door) result.tally.total }
-        ensures few { result.tally.total ≤ N.start.connections }
-    {
-        let mut desk = desk;
-        for _ in self.work.rt.forever() {
-            // A worker stops where there is no more. The lock does not tell so, and the desk does.
-            desk = self.work_once(desk, hands);
-            match desk.close() {
-                Ok(closed) => return closed,
-                Err(going) => desk = going,
-            }
-        }
-        unreachable!()
-    }
+// All workers serve connections until there is no more.
+fn serve_all<
+    R: Threads + Wait + Sync,
+    D: Disk + Send,
+    B: Begun<D> + Send,
+    G: Gate + Sync,
+    L: Door + Send,
+    N: Start + Send + Sync,
+>(
+    work: &Work<'_, R, D, B, G>,
+    first: &Snapshot<Pass>,
+    desk: Desk<L, N>,
+    hands: &mut [Hand<L, N>],
+) -> Closed<L, N>
+    requires some { 0 < length hands.old }
+    requires may { MayServe work.now.shared.now first.now.value }
+    requires works { HaveWorked L.came_to N.start first.now.value hands.old }
+    ensures number { length hands.new ≡ length hands.old }
+    ensures works { HaveWorked L.came_to N.start first.now.value hands.new }
+    ensures stopped { HasStopped N.start (L.frame result.door) (L.told result.door)
+        result.tally.total result.stopped }
+    ensures arrived { AreArrived N.start.told (L.told result.door) result.tally.total }
+    ensures few { result.tally.total ≤ N.start.connections }
+{
+    let mut desk = serve_at_once(work, first, desk, hands);
+    // Each worker stopped where there was no more. The lock does not tell so, and without it the
+    // desk does, which one of them asks once more.
+    hands[0].work(work, first, &mut desk);
+    desk.close()
+}
 
-    // Each worker serves connections until there is no more.
-    fn work_once<L: Door + Send, N: Start + Send + Sync>(
-        &self,
-        desk: Desk<L, N>,
-        hands: &mut [Hand<L, N>],
-    ) -> Desk<L, N>
-        requires may { MayServe self.now.workers self.now.work.shared.now
-            self.now.first.now.value }
-        requires works { HaveWorked L.came_to N.start self.now.first.now.value hands.old }
-        ensures number { length hands.new ≡ length hands.old }
-        ensures works { HaveWorked L.came_to N.start self.now.first.now.value hands.new }
+// All workers serve connections side by side, each until it is told of no more.
+fn serve_at_once<
+    R: Threads + Wait + Sync,
+    D: Disk + Send,
+    B: Begun<D> + Send,
+    G: Gate + Sync,
+    L: Door + Send,
+    N: Start + Send + Sync,
+>(
+    work: &Work<'_, R, D, B, G>,
+    first: &Snapshot<Pass>,
+    desk: Desk<L, N>,
+    hands: &mut [Hand<L, N>],
+) -> Desk<L, N>
+    requires some { 0 < length hands.old }
+    requires may { MayServe work.now.shared.now first.now.value }
+    requires works { HaveWorked L.came_to N.start first.now.value hands.old }
+    ensures number { length hands.new ≡ length hands.old }
+    ensures works { HaveWorked L.came_to N.start first.now.value hands.new }
+{
+    let desk = Mutex::new(desk);
+    // Its parts are known to be shared by threads, and the whole is not.
+    let Work {
+        context: Context { rt, alloc, gate },
+        shared,
+        table,
+    } = *work;
+    let serve = |_: usize, hand: &mut Hand<L, N>|
+        requires { MayServe shared.now first.now.value
+            × HasWorked L.came_to N.start first.now.value hand.now }
     {
-        let desk = Mutex::new(desk);
-        // Its parts are known to be shared by threads, and the whole is not.
-        let Job {
-            work: Work {
-                rt,
-                alloc,
-                shared,
-                table,
-                gate,
-            },
-            workers,
-            first,
-        } = *self;
-        let serve = |_: usize, hand: &mut Hand<L, N>|
-            requires { MayServe workers shared.now first.now.value
-                × HasWorked L.came_to N.start first.now.value hand.now }
-        {
-            let work = Work {
-                rt,
-                alloc,
-                shared,
-                table,
-                gate,
-            };
-            let job = Job {
-                work,
-                workers,
-                first,
-            };
-            hand.work(&job, &desk)
+        let work = Work {
+            context: Context { rt, alloc, gate },
+            shared,
+            table,
         };
-        thread::for_each_mut(rt, hands, workers as usize, &serve);
-        desk.into_inner()
-    }
+        let mut locked = LockedDesk { rt, desk: &desk };
+        hand.work(&work, first, &mut locked)
+    };
+    let workers = hands.len();
+    thread::for_each_mut(rt, hands, workers, &serve);
+    desk.into_inner()
 }
 
 // Each worker gives up its place, and the connections that it ended go back to the door.

@@ -1,10 +1,11 @@
 // The door under its lock.
-ghost use Rattle.std.specs.Prelude.{◌≡◌, ◌+◌, ◌<◌, ◌≤◌, IfNone, IfOk, IfSome, IsSome};
+ghost use Rattle.std.specs.Prelude.{◌≡◌, ◌+◌, ◌<◌, ◌≤◌, IfNone, IfSome, IsSome};
 ghost use Rattle.hose_crew.specs.Desk.{AreArrived, AreFresh, DeskState, HasStopped, Started, started_at};
 
 use hose_io::{Door, Failed};
 use std::marker::{Brand, Model};
 use std::sync::ledger::{Book as Tally, Ledger, Share};
+use std::sync::{Mutex, Wait};
 
 /// What a crew's door was at the start. A caller names it here, since a lock has no other way to
 /// tell what became of it.
@@ -30,6 +31,24 @@ pub struct Accepted<L: Door> {
     pub session: u64,
     pub input: L::In,
     pub output: L::Out,
+}
+
+/// Where a worker asks for the next connection: a desk, by itself or under its lock.
+pub trait Accept<L: Door, N: Start> {
+    /// What is known of it where no connection comes any more.
+    ghost is_over: { Self → Type 0 };
+
+    /// Waits for the next connection, which counts in the share; none where as many were accepted
+    /// as are to be, no more will come, or the door failed.
+    fn accept(&mut self, share: &mut Share<N>) -> Option<Accepted<L>>
+        requires { 0 < share.old.parts }
+        ensures parts { share.new.parts ≡ share.old.parts }
+        ensures none { IfNone result (share.new.amount ≡ share.old.amount) }
+        ensures one { IfSome result (λ one. share.new.amount ≡ share.old.amount + 1) }
+        ensures few { IfSome result (λ one. share.new.amount ≤ N.start.connections) }
+        ensures fresh { IfSome result (λ one. AreFresh L.In.Source L.Out.Sink N.start.told
+            one.input one.output) }
+        ensures over { IfNone result (Self.is_over self.new) };
 }
 
 /// What accepting came to, with the door and the tally of what was accepted.
@@ -85,18 +104,35 @@ impl<L: Door, N: Start> Desk<L, N> {
         }
     }
 
-    /// Waits for the next connection, which counts in the share; none where as many were accepted
-    /// as are to be, no more will come, or the door failed.
-    pub fn accept(&mut self, share: &mut Share<N>) -> Option<Accepted<L>>
-        requires { 0 < share.old.parts }
-        ensures parts { share.new.parts ≡ share.old.parts }
-        ensures none { IfNone result (share.new.amount ≡ share.old.amount) }
-        ensures one { IfSome result (λ one. share.new.amount ≡ share.old.amount + 1) }
-        ensures few { IfSome result (λ one. share.new.amount ≤ N.start.connections) }
-        ensures fresh { IfSome result (λ one. AreFresh L.In.Source L.Out.Sink N.start.told
-            one.input one.output) }
-        ensures stopped { IfNone result (IsSome self.new.stopped) }
+    /// What accepting came to, where no connection comes any more.
+    pub fn close(self) -> Closed<L, N>
+        requires { IsSome self.stopped }
+        ensures stopped { HasStopped N.start (L.frame result.door) (L.told result.door)
+            result.tally.total result.stopped }
+        ensures arrived { AreArrived N.start.told (L.told result.door) result.tally.total }
+        ensures few { result.tally.total ≤ N.start.connections }
     {
+        let Desk {
+            door,
+            connections: _,
+            accepted: _,
+            stopped,
+            tally,
+        } = self;
+        Closed {
+            door,
+            tally,
+            stopped: stopped.unwrap(),
+        }
+    }
+}
+
+impl<L: Door, N: Start> Accept<L, N> for Desk<L, N> {
+    ghost use Rattle.std.specs.Prelude.{IsSome};
+
+    ghost is_over = { λ desk. IsSome desk.stopped };
+
+    fn accept(&mut self, share: &mut Share<N>) -> Option<Accepted<L>> {
         if self.stopped.is_some() {
             return None;
         }
@@ -110,12 +146,17 @@ impl<L: Door, N: Start> Desk<L, N> {
                 self.tally.add(share, 1);
                 // That a share is no more than the total is told by this call.
                 self.tally.audit(share);
-                close_if(&mut self.door, self.accepted == self.connections);
-                Some(Accepted {
+                let one = Accepted {
                     session: u64::from(self.accepted),
                     input,
                     output,
-                })
+                };
+                // Customers who come later are not to wait for the sessions' ends.
+                if self.connections == self.accepted {
+                    self.door.close();
+                    return Some(one);
+                }
+                Some(one)
             }
             Ok(None) => {
                 self.stopped = Some(Ok(()));
@@ -128,39 +169,22 @@ impl<L: Door, N: Start> Desk<L, N> {
             }
         }
     }
-
-    /// What accepting came to, or the desk where it goes on.
-    pub fn close(self) -> Result<Closed<L, N>, Desk<L, N>>
-        ensures stopped { IfOk result (λ closed. HasStopped N.start (L.frame closed.door)
-            (L.told closed.door) closed.tally.total closed.stopped) }
-        ensures arrived { IfOk result
-            (λ closed. AreArrived N.start.told (L.told closed.door) closed.tally.total) }
-        ensures few { IfOk result (λ closed. closed.tally.total ≤ N.start.connections) }
-    {
-        let Some(stopped) = self.stopped else {
-            return Err(self);
-        };
-        let Desk {
-            door,
-            connections: _,
-            accepted: _,
-            stopped: _,
-            tally,
-        } = self;
-        Ok(Closed {
-            door,
-            tally,
-            stopped,
-        })
-    }
 }
 
-// Customers who come once the last one was accepted are not to wait for the sessions' ends.
-fn close_if<L: Door>(door: &mut L, is_last: bool)
-    ensures told { L.told door.new ≡ L.told door.old }
-    ensures frame { L.frame door.new ≡ L.frame door.old }
-{
-    if is_last {
-        door.close();
+/// A desk that workers share, under its lock.
+#[derive(Drop)]
+pub struct LockedDesk<'a, W, L: Door, N: Start> {
+    pub rt: &'a W,
+    pub desk: &'a Mutex<Desk<L, N>>,
+}
+
+// That a connection is the last one is known only while the lock is held.
+impl<'a, W: Wait, L: Door, N: Start> Accept<L, N> for LockedDesk<'a, W, L, N> {
+    ghost use Rattle.std.specs.Prelude.{⊤};
+
+    ghost is_over = { λ _. ⊤ };
+
+    fn accept(&mut self, share: &mut Share<N>) -> Option<Accepted<L>> {
+        self.desk.lock(self.rt).accept(share)
     }
 }

@@ -7,7 +7,7 @@ ghost use Rattle.hose_shared.specs.Sharing.{IsPassOf, IsSamePass};
 ghost use Rattle.hose_crew.specs.Desk.{AreArrived, AreFresh};
 ghost use Rattle.hose_crew.specs.Hands.{AllComeBack, AllMayComeBack, AreBack, HasWorked, IsGathered, IsIdle, MayServe, Works, part_of};
 
-use crate::desk::{Accepted, Desk, Start};
+use crate::desk::{Accept, Accepted, Start};
 use hose_disk::Disk;
 use hose_io::Door;
 use hose_paths::{RowMaker, RowTable, TableRows};
@@ -18,28 +18,24 @@ use hose_turn::Pass;
 use std::alloc::{AllocError, Global};
 use std::marker::Model;
 use std::snapshot::Snapshot;
+use std::sync::Wait;
 use std::sync::ledger::{Book as Tally, Share};
-use std::sync::{Mutex, Wait};
-use std::thread::Threads;
 
-/// What a crew works with: threads and waiting, memory, the shared book, the rows that all sessions
-/// plan with, and the gate that they pass.
+/// What a crew serves with: threads and waiting, memory, and the gate that its sessions pass.
 #[derive(Drop)]
-pub struct Work<'a, W, D: Disk, B: Begun<D>, G> {
+pub struct Context<'a, W, G> {
     pub rt: &'a W,
     pub alloc: Global,
-    pub shared: &'a Shared<D, B>,
-    pub table: &'a RowTable,
     pub gate: &'a G,
 }
 
-/// What all workers of a crew are given.
+/// What all workers of a crew are given: its context, the book that they share, and the rows that
+/// all sessions plan with.
 #[derive(Drop)]
-pub struct Job<'a, W, D: Disk, B: Begun<D>, G> {
-    pub work: Work<'a, W, D, B, G>,
-    pub workers: u32,
-    /// The pass of which each worker has a part, as it was then.
-    pub first: &'a Snapshot<Pass>,
+pub struct Work<'a, W, D: Disk, B: Begun<D>, G> {
+    pub context: Context<'a, W, G>,
+    pub shared: &'a Shared<D, B>,
+    pub table: &'a RowTable,
 }
 
 /// A worker's place: its pass, and its share of what was accepted.
@@ -126,47 +122,49 @@ impl<'a, W: Wait, D: Disk, B: Begun<D>, G: Gate> Work<'a, W, D, B, G> {
             mut output,
         } = one;
         let (_, pass) = serve_session(
-            self.rt,
-            self.alloc,
+            self.context.rt,
+            self.context.alloc,
             &mut input,
             &mut output,
             self.shared,
             pass,
             session,
             rows,
-            self.gate,
+            self.context.gate,
         );
         (L::done(input, output), pass)
     }
 }
 
-// Serves one connection after another, until there is no more.
-fn serve_one_by_one<W: Threads + Wait + Sync, D: Disk, B: Begun<D>, G: Gate, L: Door, N: Start>(
-    job: &Job<'_, W, D, B, G>,
-    desk: &Mutex<Desk<L, N>>,
+// Serves one connection after another, until no more is told of.
+fn serve_one_by_one<W: Wait, D: Disk, B: Begun<D>, G: Gate, L: Door, N: Start, A: Accept<L, N>>(
+    work: &Work<'_, W, D, B, G>,
+    first: &Snapshot<Pass>,
+    from: &mut A,
     place: Place<N>,
     ended: &mut Vec<L::Done>,
 ) -> Place<N>
-    requires may { MayServe job.now.workers job.now.work.shared.now job.now.first.now.value }
-    requires works { Works N.start.told job.now.first.now.value place
-        (map L.came_to ended.old.items) }
+    requires may { MayServe work.now.shared.now first.now.value }
+    requires works { Works N.start.told first.now.value place (map L.came_to ended.old.items) }
     requires room { N.start.connections ≤ vec_capacity ended.old }
-    ensures works { Works N.start.told job.now.first.now.value result
-        (map L.came_to ended.new.items) }
+    ensures works { Works N.start.told first.now.value result (map L.came_to ended.new.items) }
     ensures room { vec_capacity ended.new ≡ vec_capacity ended.old }
+    ensures over { A.is_over from.new }
 {
     law_passes(&place.pass);
-    let mut rows = TableRows::new(job.work.table);
+    // The first pass is there for the clauses alone.
+    let _ = first;
+    let mut rows = TableRows::new(work.table);
     let Place {
         mut pass,
         mut share,
     } = place;
     loop {
-        // The lock is let go before the session begins.
-        let Some(one) = desk.lock(job.work.rt).accept(&mut share) else {
+        // Where the desk is locked, it is let go before the session begins.
+        let Some(one) = from.accept(&mut share) else {
             return Place { pass, share };
         };
-        let (done, later) = job.work.serve::<L, N, _>(one, pass, &mut rows);
+        let (done, later) = work.serve::<L, N, _>(one, pass, &mut rows);
         pass = later;
         ended.push_reserved(done);
     }
@@ -187,18 +185,20 @@ impl<L: Door, N: Start> Hand<L, N> {
         self.place = Some(place);
     }
 
-    /// Serves one connection after another, until there is no more.
-    pub fn work<W: Threads + Wait + Sync, D: Disk, B: Begun<D>, G: Gate>(
+    /// Serves one connection after another, until no more is told of.
+    pub fn work<W: Wait, D: Disk, B: Begun<D>, G: Gate, A: Accept<L, N>>(
         &mut self,
-        job: &Job<'_, W, D, B, G>,
-        desk: &Mutex<Desk<L, N>>,
+        work: &Work<'_, W, D, B, G>,
+        first: &Snapshot<Pass>,
+        from: &mut A,
     )
-        requires may { MayServe job.now.workers job.now.work.shared.now job.now.first.now.value }
-        requires works { HasWorked L.came_to N.start job.now.first.now.value self.old }
-        ensures works { HasWorked L.came_to N.start job.now.first.now.value self.new }
+        requires may { MayServe work.now.shared.now first.now.value }
+        requires works { HasWorked L.came_to N.start first.now.value self.old }
+        ensures works { HasWorked L.came_to N.start first.now.value self.new }
+        ensures over { A.is_over from.new }
     {
         if let Some(place) = self.place.take() {
-            self.place = Some(serve_one_by_one(job, desk, place, &mut self.ended));
+            self.place = Some(serve_one_by_one(work, first, from, place, &mut self.ended));
         }
     }
 }

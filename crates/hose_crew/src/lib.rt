@@ -3,8 +3,9 @@
 //!
 //! ```
 //! let crew = Crew::<_, N>::new(alloc, 4, 200)?;       // four workers, for 200 connections
-//! let work = Work { rt, alloc, shared: &shared, table: &table, gate: &PlainGate };
-//! let (stopped, pass, door) = crew.serve(work, pass, door, Blank::new(4));
+//! let context = Context { rt, alloc, gate: &PlainGate };
+//! let work = Work { context, shared: &shared, table: &table };
+//! let CrewEnd { accepting, pass, door } = crew.serve(work, pass, door, Blank::new(4));
 //! ```
 #![tactic(auto)]
 
@@ -12,6 +13,6 @@ mod crew;
 mod desk;
 mod hand;
 
-pub use crew::Crew;
+pub use crew::{Crew, CrewEnd};
 pub use desk::Start;
-pub use hand::Work;
+pub use hand::{Context, Work};

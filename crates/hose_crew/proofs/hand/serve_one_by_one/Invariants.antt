@@ -4,7 +4,7 @@ use Rattle.hose_crew.proofs.hand.serve_one_by_one.Given as goal
 
 abbrev pub invariant-loop-one : goal.invariant-loop-one
 invariant-loop-one g l =
-    Works g.N.Start.start.told l.job.first.now.value
+    Works g.N.Start.start.told l.first.value
     (record { pass = l.pass; parts = l.share.parts; amount = l.share.amount })
     (map g.L.Door.came_to l.ended.items)
     × (g.N.Start.start.connections ≤ vec_capacity l.ended)
