@@ -9,7 +9,7 @@ use hose_disk::{Cabinet, Disk, DiskCall, MemCabinet, MemDisk};
 use hose_io::{Door, MemDoor, MemSink, MemSource, Sink, Source};
 use hose_pool::Gate;
 use hose_tariff::Tariff;
-use hosed_program::{Means, World, flat, hops, long, program, tariffs};
+use hosed_program::{Context, World, flat, hops, long, program, tariffs};
 use std::alloc::{AllocError, Global};
 use std::sync::Wait;
 use std::thread::Threads;
@@ -77,8 +77,8 @@ fn run_by<R: Threads + Wait + Sync, G: Gate + Sync>(
     gate: &G,
 ) -> Result<Outcome, AllocError> {
     let mut world = world_of(alloc, case)?;
-    let means = Means { rt, alloc, gate };
-    let status = run_in(means, &case.words, &mut world, tariffs);
+    let context = Context { rt, alloc, gate };
+    let status = run_in(context, &case.words, &mut world, tariffs);
     let disk = disk_after(status, &mut world.cabinet);
     let mut outcome = Outcome::new(alloc, u64::from(status), disk);
     tell_streams(alloc, &world, case.door.connections.len(), &mut outcome)?;
@@ -105,7 +105,7 @@ fn world_of(alloc: Global, case: &Case) -> Result<MemWorld, AllocError>
 
 // The program's call, at types of which no more is known: its clauses are long at those of a case.
 fn run_in<R: Threads + Wait + Sync, I: Source, O: Sink, C: Cabinet, L: Door + Send, G: Gate + Sync>(
-    means: Means<'_, R, G>,
+    context: Context<'_, R, G>,
     words: &[String],
     world: &mut World<I, O, C, L>,
     tariffs: &[Tariff],
@@ -113,7 +113,7 @@ fn run_in<R: Threads + Wait + Sync, I: Source, O: Sink, C: Cabinet, L: Door + Se
     requires { (C.frame world.old.cabinet).out ≡ None }
     ensures { result ≢ 7 → (C.frame world.new.cabinet).out ≡ None }
 {
-    program(means, words, tariffs, world)
+    program(context, words, tariffs, world)
 }
 
 // The journal's disk after this status, where it was put back.

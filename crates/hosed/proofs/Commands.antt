@@ -1,5 +1,5 @@
 -- The program's words, one after the other.
-use Rattle.std.specs.Prelude.{MatchOption, option_map, ⊤}
+use Rattle.std.specs.Prelude.{MatchOption, ⊤}
 use Rattle.std.proofs.Common.{◌≡◌, ◌≢◌, ◌∙◌, ◌⊎◌, ℕ, ◌+◌, ◌<◌, ◌≤◌, ◌-◌, ◌^◌, List, [], ◌∷◌, ◌++◌, Option, None, Some, IfNone, IfSome, decimal, inl, inr, suc, zero, length, take, drop, get_or, map, refl, sym, ap, subst, arith}
 use Rattle.std.proofs.lemmas.Bool.{cases_lt}
 use Rattle.std.proofs.lemmas.Fmt.{decimal_injective}
@@ -15,7 +15,8 @@ use Rattle.hose_words.proofs.Forms.{AreApart, Misses-stronger, after_place, fron
 use Rattle.hose_words.proofs.Passing.{Passes, pass_branch, pass_finish, pass_list, pass_maybe, pass_nothing, pass_place}
 use Rattle.hose_proto.specs.EndWords.{end_words_form}
 use Rattle.hose_proto.proofs.EndWords.{end_words_closed}
-use Rattle.hosed.specs.ProgramWords.{ArePriceable, AreWords, AsksFor, CheckTask, GenerateTask, IsAvailable, IsChosen, IsFileName, IsFirstNamed, IsFirstWrong, IsGenerateTask, IsNodeCount, IsOfJournal, IsOfTopology, IsProveTask, IsRunTask, IsServeTask, IsShipTask, IsStart, IsTariffName, JournalTask, MayDo, ProveTask, RunTask, ServeTask, ShipTask, Start, Task, Verb, at_word, chosen_of, first_end, from_form, name_words, named_form, server_form, sizes_form, start_word, tariff_option, tariff_words, task_words, topology_form, program_form, program_word, with_tariff, words_form}
+use Rattle.hose_offline.specs.declared.generating.Sizes.{Sizes}
+use Rattle.hosed.specs.ProgramWords.{ArePriceable, AreWords, AsksFor, CheckTask, IsAvailable, IsChosen, IsFileName, IsFirstNamed, IsFirstWrong, IsGenerateTask, IsNodeCount, IsOfJournal, IsOfTopology, IsProveTask, IsRunTask, IsServeTask, IsShipTask, IsStart, IsTariffName, JournalTask, MayDo, ProveTask, RunTask, ServeTask, ShipTask, Start, Task, Verb, at_word, chosen_of, first_end, from_form, name_words, named_form, server_form, sizes_form, start_word, tariff_option, tariff_words, task_words, topology_form, program_form, program_word, with_tariff, words_form}
 use Rattle.hosed.specs.ProgramWords.Start.{named, option}
 use Rattle.hosed.specs.ProgramWords.Verb.{audit, check, follow, generate, price, prove, run, serve, ship}
 use Rattle.hosed.specs.Reading.{AreJournalWords, Chooses, NamesJournal, NamesNoJournal, NamesNoTariff, NamesNoTopology, NamesTopology}
@@ -390,7 +391,7 @@ journal_once names one other may may' same =
     let is = one_file names one.tariff other.tariff one.topology other.topology (one.journal ∷ []) (other.journal ∷ []) may.of may'.of same in
     λ i. record { tariff = is.tariffs i; topology = is.topologies i; journal = ap (word_of 0) is.rests i }
 
-generate_once : (names : List (List ℕ)) (one other : GenerateTask) → IsGenerateTask one → IsGenerateTask other → task_words names generate one ≡ task_words names generate other → one ≡ other
+generate_once : (names : List (List ℕ)) (one other : Sizes) → IsGenerateTask one → IsGenerateTask other → task_words names generate one ≡ task_words names generate other → one ≡ other
 generate_once names one other may may' same =
     let seeds = decimal_injective one.seed other.seed may.is_seed may'.is_seed (ap (word_of 0) same) in
     let nodes = decimal_injective one.nodes other.nodes (omega (arith, may.nodes_within)) (omega (arith, may'.nodes_within)) (ap (word_of 1) same) in
@@ -502,8 +503,3 @@ named_none {T} name_of tariffs words name None none took = λ first. at tariffs 
     at (one ∷ more) none is =
         let below : is.place < length (one ∷ more) = omega (arith, is.within, length-map (one ∷ more) name_of) in
         none is.place one below (sym (get_or-map name_of (one ∷ more) is.place one [] below) ∙ sym is.is)
-
--- what is none once it is seen as bytes is none
-pub none_named : {A : Type 0} (view : A → List ℕ) (name : Option A) → option_map view name ≡ None → name ≡ None
-none_named view None none = refl
-none_named view (Some name) none = absurd (cc none)

@@ -1,9 +1,13 @@
 -- What the program's words come to, from what their command came to.
-use Rattle.std.proofs.Common.{◌≡◌, ◌≢◌, ℕ, List}
+use Rattle.std.proofs.Common.{◌≡◌, ◌≢◌, ℕ, List, subst}
 use Rattle.hose_offline.specs.Ending.{IsOut}
 use Rattle.hose_offline.specs.Fault.{last_line}
 use Rattle.hose_offline.specs.declared.fault.Fault.TheVariants.{Words}
-use Rattle.hosed.specs.Offline.{Does, Offer, OfflineOutcome, Outside, Tellings}
+use Rattle.hose_offline.specs.Parts.{Parts, Tellings, parts}
+use Rattle.hose_offline.specs.Auditing.{PricedNames}
+use Rattle.hosed.specs.Offline.{Does, Offer, OfflineOutcome}
+use Rattle.hosed.specs.ServeOutcome.{ServeOutcome}
+use Rattle.hosed.specs.ServerDoor.{DoorSeen}
 use Rattle.hosed.specs.ProgramWords.{AreWords, AreWrongWords, IsFirstWrong, Task, Verb}
 use Rattle.hosed.specs.ProgramWords.Verb.{prove}
 use Rattle.hosed.proofs.Commands.{none_wrong, of_each}
@@ -12,7 +16,7 @@ use Rattle.hosed.proofs.Commands.{none_wrong, of_each}
 pub are_wrong : (names words : List (List ℕ)) (number : ℕ) → IsFirstWrong names words number → AreWrongWords names words
 are_wrong names words number wrong = λ verb task are. none_wrong names words verb task number are wrong
 
-module _ {I O C E : Type 0} (tells : Tellings I O C E) (offer : Offer) (before after : Outside I O C) (status : ℕ) (words : List (List ℕ)) where
+module _ {I O C E : Type 0} (tells : Tellings I O C E) (offer : Offer) (before after : Parts I O C) (status : ℕ) (words : List (List ℕ)) where
   -- the command did what its task says, and does not end with the status of wrong words
   pub right_words : (verb : Verb) (task : Task verb) → AreWords offer.names words verb task → status ≢ 1 → Does tells offer before after status verb task → OfflineOutcome tells offer before after status words
   right_words verb task are not_1 done = record {
@@ -37,3 +41,16 @@ module _ {I O C E : Type 0} (tells : Tellings I O C E) (offer : Offer) (before a
     wrong_words = λ all. (same_input, same_cabinet, (number, wrong, out));
     does = λ verb task are. absurd (none_wrong offer.names words verb task number are wrong);
   }
+
+-- what is beside a command, told part by part as it was lent and as it comes back
+pub told_of : {I O C E : Type 0} {tells : Tellings I O C E} {offer : Offer} {before was : Parts I O C} {status : ℕ} {words : List (List ℕ)} (after : Parts I O C) {input : I} {output : O} {cabinet : C} → before ≡ was → after.input ≡ input → after.output ≡ output → after.cabinet ≡ cabinet
+    → OfflineOutcome tells offer before after status words → OfflineOutcome tells offer was (parts input output cabinet) status words
+told_of {tells = tells} {offer = offer} {was = was} {status = status} {words = words} after lent input output cabinet outcome =
+    subst (λ (now : Parts _ _ _). OfflineOutcome tells offer was now status words) (λ i. parts (input i) (output i) (cabinet i)) (subst (λ (old : Parts _ _ _). OfflineOutcome tells offer old after status words) lent outcome)
+
+-- what is beside a server, so told
+pub served_of : {I O C E : Type 0} {tells : Tellings I O C E} {names : PricedNames} {count : ℕ} {before was : Parts I O C} {door door' : DoorSeen} {status : ℕ} (after : Parts I O C) {input : I} {output : O} {cabinet : C} → before ≡ was → after.input ≡ input → after.output ≡ output → after.cabinet ≡ cabinet
+    → ServeOutcome tells names count (record { others = before; door = door }) (record { others = after; door = door' }) status → ServeOutcome tells names count (record { others = was; door = door }) (record { others = parts input output cabinet; door = door' }) status
+served_of {tells = tells} {names = names} {count = count} {was = was} {door = door} {door' = door'} {status = status} after lent input output cabinet outcome =
+    subst (λ (now : Parts _ _ _). ServeOutcome tells names count (record { others = was; door = door }) (record { others = now; door = door' }) status) (λ i. parts (input i) (output i) (cabinet i))
+    (subst (λ (old : Parts _ _ _). ServeOutcome tells names count (record { others = old; door = door }) (record { others = after; door = door' }) status) lent outcome)

@@ -1,28 +1,28 @@
 -- What a server stands for, from what was read, what was served and what was told.
-use Rattle.std.proofs.Common.{◌≡◌, ◌≢◌, ◌∙◌, ◌⊎◌, inl, inr, ℕ, List, ◌∷◌, Result, Ok, Err, refl, sym, ap, subst}
+use Rattle.std.proofs.Common.{◌≡◌, ◌≢◌, ◌∙◌, ◌⊎◌, inl, inr, ℕ, List, Some, IsErr, Result, Ok, Err, refl, sym, ap, subst}
 use Rattle.std.specs.Prelude.{⊤}
-use Rattle.hose_io.specs.Frame.{Frame, Rose}
+use Rattle.hose_io.specs.Frame.{Frame, Met, Rose}
 use Rattle.hose_io.specs.declared.Failed.{Failed}
 use Rattle.hose_io.specs.declared.sink.Sink.{Ghosts as SinkGhosts}
 use Rattle.hose_graph.specs.Network.{Network}
 use Rattle.hose_graph.specs.declared.entry.Entry.{Entry}
 use Rattle.hose_audit.specs.Audit.{audit_text}
-use Rattle.hose_disk.specs.declared.cabinet.Cabinet.{Ghosts as CabinetGhosts}
-use Rattle.hose_disk.specs.declared.disk.Disk.{Ghosts as DiskGhosts}
 use Rattle.hose_store.specs.Recovery.{IsHistoryOf}
-use Rattle.hose_offline.specs.AuditOutcome.{JournalIs, NoneFailed}
-use Rattle.hose_offline.specs.Auditing.{ReadsTopology}
-use Rattle.hose_offline.specs.Fault.{status_of}
-use Rattle.hose_offline.specs.TopologyTold.{notation_of}
-use Rattle.hosed.specs.ServeOutcome.{EndsServed, ServeOutcome, first_failed}
-use Rattle.hosed.specs.ServingDoor.{DoorSeen, ServesConnectionsIn}
+use Rattle.hose_offline.specs.AuditOutcome.{EndsTold, NoneFailed, Purpose}
+use Rattle.hose_offline.specs.Auditing.{PricedNames, ReadsTopology}
+use Rattle.hose_offline.specs.Ending.{IsOut}
+use Rattle.hose_offline.specs.Fault.{last_line, status_of}
+use Rattle.hose_offline.specs.OnDisk.{CabinetFailed, JournalIsTold}
+use Rattle.hose_offline.specs.Parts.{Tellings}
+use Rattle.hose_offline.specs.ServingOnDisk.{IsNotServed}
 use Rattle.hose_offline.specs.declared.fault.Fault.{Fault}
-use Rattle.hose_offline.specs.declared.fault.Fault.TheVariants.{Cabinet, Door}
-use Rattle.hosed.specs.declared.serving.Served.{Served}
-use Rattle.hosed.specs.declared.serving.Served.TheVariants as served
-use Rattle.hose_offline.proofs.Audited.{told_status}
-use Rattle.hosed.proofs.Connections.{connections_before}
-use Rattle.hose_offline.proofs.Outcomes.{clash, no_network_read, of_read}
+use Rattle.hose_offline.specs.declared.fault.Fault.TheVariants.{Cabinet, Door, Memory, Write}
+use Rattle.hose_offline.proofs.Audited.{named_not_1, named_not_read, named_read, no_store, no_topology, told_status}
+use Rattle.hose_offline.proofs.Outcomes.{clash}
+use Rattle.hosed.specs.ServeOutcome.{EndsServed, IsServed, ServeOutcome, first_failed}
+use Rattle.hosed.specs.ServerDoor.{IsServedAlong, OutputDoor, OutsideDoor, ServesByJournal, ServesConnections, Speaks, spoken}
+use Rattle.hosed.specs.declared.server.ServerEnd.{ServerEnd}
+use Rattle.hosed.proofs.Connections.{served_before}
 
 -- a fault after the opening is the door's or the cabinet's
 failed_is : (accepting closing : Result ⊤ Failed) (why : Fault) → first_failed accepting closing ≡ Err why → (why ≡ Door) ⊎ (why ≡ Cabinet)
@@ -30,74 +30,96 @@ failed_is (Err failed) closing why is = inl (cc is)
 failed_is (Ok done) (Err failed) why is = inr (cc is)
 failed_is (Ok done) (Ok closed) why is = absurd (cc is)
 
--- a server that was opened ends with one of these
-served_status : {O : Type 0} (sink : SinkGhosts O) (output output' : O) (status : ℕ) (done : Served) → EndsServed sink output output' status done → (other : ℕ) → other ≢ 0 → other ≢ 4 → other ≢ 6 → other ≢ 7 → other ≢ 9 → status ≡ other → ⊥
-served_status sink output output' status served.Starved ends other no_0 no_4 no_6 no_7 no_9 is = no_7 (sym is ∙ ends.0)
-served_status sink output output' status served.Shut ends other no_0 no_4 no_6 no_7 no_9 is = no_9 (sym is ∙ ends.0)
-served_status sink output output' status served.Unheard ends other no_0 no_4 no_6 no_7 no_9 is = no_4 (sym is ∙ ends.0)
-served_status sink output output' status (served.Ended ledger accepting closing) ends other no_0 no_4 no_6 no_7 no_9 is =
-    told_status sink output output' status (first_failed accepting closing) (audit_text ledger.network ledger.book) ends other no_0 no_4
-    (λ why fault same. by why (failed_is accepting closing why fault) same) is
+-- a server that opened its store ends with one of these
+served_status : {O : Type 0} (sink : SinkGhosts O) (before after : OutputDoor O) (left : O) (status : ℕ) (came : Result ServerEnd Fault) → Speaks sink before after came → EndsServed sink after.output left status came → (other : ℕ) → other ≢ 0 → other ≢ 4 → other ≢ 6 → other ≢ 7 → other ≢ 9 → status ≢ other
+served_status sink before after left status (Err Memory) speaks ends other no_0 no_4 no_6 no_7 no_9 is = no_7 (sym is ∙ ends.0)
+served_status sink before after left status (Err Door) speaks ends other no_0 no_4 no_6 no_7 no_9 is = no_9 (sym is ∙ ends.0)
+served_status sink before after left status (Err Write) speaks ends other no_0 no_4 no_6 no_7 no_9 is = no_4 (sym is ∙ ends.0)
+served_status sink before after left status (Err another) speaks ends other no_0 no_4 no_6 no_7 no_9 is = absurd speaks
+served_status sink before after left status (Ok end) speaks ends other no_0 no_4 no_6 no_7 no_9 is =
+    told_status sink after.output left status (first_failed end.accepting end.closing) (audit_text end.book.network end.book.book) ends other no_0 no_4
+    (λ why fault same. by why (failed_is end.accepting end.closing why fault) same) is
   where
     by : (why : Fault) → (why ≡ Door) ⊎ (why ≡ Cabinet) → status_of why ≢ other
     by why (inl door) same = no_9 (sym same ∙ ap status_of door)
     by why (inr cabinet) same = no_6 (sym same ∙ ap status_of cabinet)
 
--- so the words were not wrong
-pub served_not_1 : {O : Type 0} (sink : SinkGhosts O) (output output' : O) (status : ℕ) (done : Served) → EndsServed sink output output' status done → status ≡ 1 → ⊥
-served_not_1 sink output output' status done ends is = served_status sink output output' status done ends 1 (λ e. absurd (cc e)) (λ e. absurd (cc e)) (λ e. absurd (cc e)) (λ e. absurd (cc e)) (λ e. absurd (cc e)) is
-
--- lists that are the same begin alike
-pub same_first : (one other : ℕ) (ones others : List ℕ) → one ∷ ones ≡ other ∷ others → one ≡ other
-same_first one other ones others same = cc same
-
-module _ (prices : Network → Network → Type 0) {O C E : Type 0} (sink : SinkGhosts O) (cabinet : CabinetGhosts C E) (disk : DiskGhosts E) (topology journal : List ℕ) (count : ℕ) (output mid output' : O) (place read place' : C) (door door' : DoorSeen) (network : Network)
-    (reads : ReadsTopology cabinet place read prices topology (Ok network)) (same_absent : (cabinet.frame place').absent ≡ (cabinet.frame read).absent) where
-  abbrev Failing : Type 0
-  Failing = NoneFailed prices sink cabinet disk topology journal output output' place place' (¬ Rose door.frame door'.frame)
-
-  abbrev Is : (Network → List ℕ → Type 0) → Type 0
-  Is P = JournalIs prices sink cabinet disk topology journal output output' place place' P
-
-  abbrev Serves : Served → Type 0
-  Serves done = ServesConnectionsIn cabinet disk sink journal place place' network count output mid door door' (Ok done)
-
-  pub is_served : (done : Served) (status : ℕ) → ServesConnectionsIn cabinet disk sink journal read place' network count output mid door door' (Ok done) → EndsServed sink mid output' status done
-      → ServeOutcome prices sink cabinet disk topology journal count output output' place place' door door' status
-  is_served done status after ends = record {
-    left = reads.left;
-    takes = (
-      reads.taken,
-      reads.gives,
-      reads.limit,
-      (
-        (λ is. absurd (served_status sink mid output' status done ends 8 (λ e. absurd (cc e)) (λ e. absurd (cc e)) (λ e. absurd (cc e)) (λ e. absurd (cc e)) (λ e. absurd (cc e)) is)),
-        λ more. absurd (cc (reads.too_long.1 more)),
-      ),
-    );
-    ends = inl (record { network = network; text = reads.text.2; is = record { mid = mid; done = done; serves = serves; ends = ends } });
-    refused = λ refused. absurd (no_network_read (notation_of topology) prices _ _ network refused reads.text.2);
-    not_there = λ told none. absurd (cc (reads.not_there told none));
-    absent = λ told some. same_absent ∙ reads.absent told some;
-    complete = λ servable told held. completes done held serves ends;
-    refused_journal = λ servable told held. refuses done held told serves ends;
+module _ {I O C E : Type 0} (tells : Tellings I O C E) (names : PricedNames) (count : ℕ) (before after : OutsideDoor I O C) where
+  abbrev purpose : Purpose
+  purpose = record {
+    Tells = IsServed tells names.journal count before after;
+    Untouched = after.door ≡ before.door;
+    OthersHeld = ¬ Rose before.door.frame after.door.frame;
   }
-    where
-      serves : Serves done
-      serves = connections_before cabinet disk place read place' reads.only_texts reads.text.1 journal network sink count output mid door door' done after
 
-      completes : (one : Served) → Failing → Serves one → EndsServed sink mid output' status one → (status ≡ 0) ⊎ (status ≡ 7)
-      completes served.Starved held is out = inr out.0
-      completes served.Shut held is out = absurd (held.others is.3)
-      completes served.Unheard held is out = absurd (held.writing (subst (λ (o : O). Rose (sink.frame output) (sink.frame o)) (sym out.1) is.3))
-      completes (served.Ended ledger (Err failed) closing) held is out = absurd (held.others (is.1.failed refl))
-      completes (served.Ended ledger (Ok done) (Err failed)) held is out = absurd (held.keeping_it (is.0.kept.met.failed refl))
-      completes (served.Ended ledger (Ok done) (Ok closed)) held is (inl whole) = inl whole.0
-      completes (served.Ended ledger (Ok done) (Ok closed)) held is (inr part) = absurd (held.writing (subst (λ (f : Frame). Rose f (sink.frame output')) is.3 part.1))
+  -- the words are not what is wrong
+  pub serve_not_1 : (status : ℕ) → ServeOutcome tells names count before after status → status ≢ 1
+  serve_not_1 status outcome = named_not_1 tells names before.others after.others purpose outcome.left status
+      (λ network told. served_status tells.sink (spoken before) (record (spoken after) { output = told.mid }) after.others.output status told.came told.speaks told.ends 1 (λ e. absurd (cc e)) (λ e. absurd (cc e)) (λ e. absurd (cc e)) (λ e. absurd (cc e)) (λ e. absurd (cc e))) outcome.named.ends
 
-      refuses : (one : Served) → Failing → Is (λ network bytes. (history : List Entry) → ¬ IsHistoryOf network history bytes) → Serves one → EndsServed sink mid output' status one → (status ≡ 5) ⊎ (status ≡ 7)
-      refuses served.Starved held told is out = inr out.0
-      refuses served.Shut held told is out = absurd (held.others is.3)
-      refuses served.Unheard held told is out = absurd (held.writing (subst (λ (o : O). Rose (sink.frame output) (sink.frame o)) (sym out.1) is.3))
-      refuses (served.Ended ledger accepting closing) held told is out = absurd (clash cabinet disk place place' journal _ _ (λ image history none. none is.0.since history) is.0.kept.begun
-          (of_read (notation_of topology) prices _ _ reads.taken network _ reads.gives reads.text.2 told))
+  -- no topology was read
+  pub no_topology_read : (why : Fault) (status : ℕ) → ReadsTopology tells.cabinet before.others.cabinet after.others.cabinet names.prices names.topology (Err why) → status ≡ status_of why → IsOut tells.sink before.others.output after.others.output (last_line why) → after.door ≡ before.door → after.others.input ≡ before.others.input
+      → ServeOutcome tells names count before after status
+  no_topology_read why status reads is out same_door same_input = named_not_read tells names before.others after.others purpose why status (no_topology tells names before.others after.others why reads) is out same_door same_input
+
+  module _ (read : C) (mid : O) (network : Network) (status : ℕ) (reads : ReadsTopology tells.cabinet before.others.cabinet read names.prices names.topology (Ok network)) (same_absent : (tells.cabinet.frame after.others.cabinet).absent ≡ (tells.cabinet.frame read).absent)
+      (same_input : after.others.input ≡ before.others.input) where
+    abbrev Failing : Type 0
+    Failing = NoneFailed tells before.others after.others (¬ Rose before.door.frame after.door.frame)
+
+    abbrev middle : OutputDoor O
+    middle = record (spoken after) { output = mid }
+
+    abbrev Serves : Result ServerEnd Fault → Type 0
+    Serves one = ServesByJournal tells names.journal before.others.cabinet after.others.cabinet network (IsServedAlong count before.door after.door) one
+
+    -- no store was opened
+    not_opened : (why : Fault) → IsNotServed tells.cabinet tells.disk names.journal read after.others.cabinet network (Err why) → middle ≡ spoken before → EndsServed tells.sink mid after.others.output status (Err why) → ServeOutcome tells names count before after status
+    not_opened why not same ends =
+        let told = at why not ends in
+        named_not_read tells names before.others after.others purpose why status (no_store tells names before.others after.others read network why reads same_absent not) told.0
+        (subst (λ (o : O). IsOut tells.sink o after.others.output (last_line why)) (ap (λ (s : OutputDoor O). s.output) same) told.1) (ap (λ (s : OutputDoor O). s.door) same) same_input
+      where
+        at : (one : Fault) → IsNotServed tells.cabinet tells.disk names.journal read after.others.cabinet network (Err one) → EndsServed tells.sink mid after.others.output status (Err one) → (status ≡ status_of one) × IsOut tells.sink mid after.others.output (last_line one)
+        at Write is out = absurd is
+        at another is out = out
+
+    -- one was
+    opened : (came : Result ServerEnd Fault) → ServesByJournal tells names.journal read after.others.cabinet network (IsServedAlong count before.door after.door) came → Speaks tells.sink (spoken before) middle came → EndsServed tells.sink mid after.others.output status came
+        → ServeOutcome tells names count before after status
+    opened came after_read speaks ends =
+        named_read tells names before.others after.others purpose read network status reads same_absent same_input (record { mid = mid; came = came; serves = serves; speaks = speaks; ends = ends })
+        (served_status tells.sink (spoken before) middle after.others.output status came speaks ends 8 (λ e. absurd (cc e)) (λ e. absurd (cc e)) (λ e. absurd (cc e)) (λ e. absurd (cc e)) (λ e. absurd (cc e)))
+        (λ told held. completes came held serves speaks ends) (λ told held. refuses came held told serves speaks ends)
+      where
+        serves : Serves came
+        serves = served_before tells before.others.cabinet read after.others.cabinet reads.only_texts reads.text.1 names.journal network _ came after_read
+
+        ended : (accepting closing : Result ⊤ Failed) (text : List ℕ) → Failing → Met before.door.frame after.door.frame accepting → (IsErr closing → CabinetFailed tells.cabinet before.others.cabinet after.others.cabinet) → tells.sink.frame mid ≡ tells.sink.frame before.others.output
+            → EndsTold tells.sink mid after.others.output status (first_failed accepting closing) text → (status ≡ 0) ⊎ (status ≡ 7)
+        ended (Err failed) closing text held met closes same out = absurd (held.others (met.failed refl))
+        ended (Ok done) (Err failed) text held met closes same out = absurd (held.keeping_it (closes refl))
+        ended (Ok done) (Ok closed) text held met closes same (inl whole) = inl whole.0
+        ended (Ok done) (Ok closed) text held met closes same (inr part) = absurd (held.writing (subst (λ (f : Frame). Rose f (tells.sink.frame after.others.output)) same part.1))
+
+        completes : (one : Result ServerEnd Fault) → Failing → Serves one → Speaks tells.sink (spoken before) middle one → EndsServed tells.sink mid after.others.output status one → (status ≡ 0) ⊎ (status ≡ 7)
+        completes (Ok end) held (inl kept) says out = ended end.accepting end.closing (audit_text end.book.network end.book.book) held says.0 kept.kept.met.failed says.2 out
+        completes (Ok end) held (inr lost) says out = absurd (cc lost.0)
+        completes (Err Memory) held is says out = inr out.0
+        completes (Err Door) held is says out = absurd (held.others says.2)
+        completes (Err Write) held is says out = absurd (held.writing (subst (λ (o : O). Rose (tells.sink.frame before.others.output) (tells.sink.frame o)) (sym out.1) says.2))
+        completes (Err another) held is says out = absurd says
+
+        refuses : (one : Result ServerEnd Fault) → Failing → JournalIsTold tells.cabinet tells.disk before.others.cabinet after.others.cabinet (Some names.journal) (λ bytes. (history : List Entry) → ¬ IsHistoryOf network history bytes)
+            → Serves one → Speaks tells.sink (spoken before) middle one → EndsServed tells.sink mid after.others.output status one → (status ≡ 5) ⊎ (status ≡ 7)
+        refuses (Ok end) held told (inl kept) says out = absurd (clash tells.cabinet tells.disk before.others.cabinet after.others.cabinet names.journal _ _ (λ image is none. none kept.since is) kept.kept.begun told)
+        refuses (Ok end) held told (inr lost) says out = absurd (cc lost.0)
+        refuses (Err Memory) held told is says out = inr out.0
+        refuses (Err Door) held told is says out = absurd (held.others says.2)
+        refuses (Err Write) held told is says out = absurd (held.writing (subst (λ (o : O). Rose (tells.sink.frame before.others.output) (tells.sink.frame o)) (sym out.1) says.2))
+        refuses (Err another) held told is says out = absurd says
+
+    pub is_served : (came : Result ServerEnd Fault) → ServesConnections tells names.journal count (record before { others = record before.others { cabinet = read } }) (record after { others = record after.others { output = mid } }) network came
+        → EndsServed tells.sink mid after.others.output status came → ServeOutcome tells names count before after status
+    is_served came (inl (why, is, not, same)) ends = not_opened why not same (subst (EndsServed tells.sink mid after.others.output status) is ends)
+    is_served came (inr (serves, speaks)) ends = opened came serves speaks ends

@@ -2,11 +2,7 @@
 use Rattle.std.proofs.Common.{◌≡◌, ◌∙◌, ◌⊎◌, inl, inr, ⊎_elim, ℕ, ◌≤◌, ◌<◌, List, [], ◌∷◌, length, Bool, Option, Some, is_some, ◌↔◌, Result, Ok, Err, nat_lt, refl, sym, ap, subst, arith, append-nil, length-append}
 use Rattle.std.specs.Prelude.{⊤}
 use mathlib.Core.List.{IsPrefix}
-use Rattle.hose_crew.specs.Crew.{AreServed}
-use Rattle.hose_io.specs.Frame.{Met}
-use Rattle.hose_io.specs.Stream.{Grows}
 use Rattle.hose_io.specs.declared.Failed.{Failed}
-use Rattle.hose_io.specs.declared.sink.Sink.{Ghosts as SinkGhosts}
 use Rattle.hose_graph.specs.Network.{Network}
 use Rattle.hose_graph.specs.declared.entry.Entry.{Entry}
 use Rattle.hose_law.specs.History.{IsDecidedAt, IsSound}
@@ -22,9 +18,7 @@ use Rattle.hose_turn.specs.Known.{Known}
 use Rattle.hose_turn.specs.Places.{HasPlaces}
 use Rattle.hose_offline.specs.OnDisk.{opening_of}
 use Rattle.hose_offline.specs.Journal.{IsJustOpened}
-use Rattle.hosed.specs.ServingDoor.{DoorSeen, HasKept, IsMadeAlong, IsOpening, OpensAt, ServesByStore, ServesOpened, StaysAsRead, ready_line, served_of}
-use Rattle.hosed.specs.declared.serving.Opened.{Opened}
-use Rattle.hosed.specs.declared.serving.Opened.TheVariants as opened
+use Rattle.hosed.specs.ServerDoor.{IsKeptOn, IsOpening, OpensAt, ServesBook, StaysAsRead, from_to}
 
 -- a history without a place after its beginning is that beginning
 no_more : (since history : List Entry) → IsPrefix since history → HasPlaces (length since) (length history) [] → history ≡ since
@@ -83,7 +77,7 @@ module _ {E : Type 0} (disk : DiskGhosts E) (was left : E) (network : Network) (
     (law : (since history : List Entry) (store : Kept E) → StandsFor disk IsDecidedAt (disk.may_leave was) (opening_of disk network since was) history store → Closes disk store left closing
     → HasLeft disk IsDecidedAt (disk.may_leave was) (opening_of disk network since was) history left closing) where
   kept_from : (since history : List Entry) (first store : Kept E) → IsOpening disk was network since first → StandsFor disk IsDecidedAt (disk.may_leave was) (opening_of disk network since was) history store → Closes disk store left closing
-      → IsCalled (disk.frame store.journal.disk) (disk.frame left) closing → HasKept disk was left network since history closing
+      → IsCalled (disk.frame store.journal.disk) (disk.frame left) closing → IsKeptOn disk was left (from_to network since history) closing
   kept_from since history first store opening stands closes call = record {
     read = opening.read;
     begins = stands.since;
@@ -93,7 +87,7 @@ module _ {E : Type 0} (disk : DiskGhosts E) (was left : E) (network : Network) (
   }
 
   -- a store that was opened and closed
-  pub closed_at_once : (since : List Entry) (store : Kept E) → IsOpening disk was network since store → Closes disk store left closing → IsCalled (disk.frame store.journal.disk) (disk.frame left) closing → StaysAsRead disk was left network
+  pub closed_at_once : (since : List Entry) (store : Kept E) → IsOpening disk was network since store → Closes disk store left closing → IsCalled (disk.frame store.journal.disk) (disk.frame left) closing → StaysAsRead network (IsKeptOn disk was left)
   closed_at_once since store opening closes call = record { since = since; closing = closing; kept = kept_from since since store store opening opening.stands closes call }
 
   -- a store that was shared between
@@ -104,48 +98,35 @@ module _ {E : Type 0} (disk : DiskGhosts E) (was left : E) (network : Network) (
     abbrev since : List Entry
     since = pass.origin.since
 
-    kept : HasKept disk was left network since shared.history closing
+    kept : IsKeptOn disk was left (from_to network since shared.history) closing
     kept = kept_from since shared.history first store (named since first began)
         (shared.stands (opening_of disk network since was) was refl (sym of) (λ one begins. (named since one begins).stands)) closes call
 
-    along : IsMadeAlong network since shared.history pass (disk.frame left).faults
-    along = record {
-      of = of;
-      began = refl;
-      seen = shared.whole.seen;
-      own = shared.whole.own;
-      met = ⊎_elim (λ few. inl (omega (arith, few, call.met.stays.never_falls))) (λ most. inr (omega (arith, most, call.met.stays.never_falls))) met;
-    }
-
-    stays : pass.own ≡ [] → StaysAsRead disk was left network
-    stays none = record {
+    -- nothing was made along the pass
+    pub stays_shared : pass.own ≡ [] → StaysAsRead network (IsKeptOn disk was left)
+    stays_shared none = record {
       since = since;
       closing = closing;
-      kept = subst (λ (history : List Entry). HasKept disk was left network since history closing)
+      kept = subst (λ (history : List Entry). IsKeptOn disk was left (from_to network since history) closing)
           (no_more since shared.history kept.begins (subst (HasPlaces (length since) (length shared.history)) none shared.whole.own)) kept;
     }
 
-    pub served_by : {O : Type 0} (sink : SinkGhosts O) (count : ℕ) (output output' : O) (door door' : DoorSeen) (ledger : Ledger) (old : Known) (done : Opened) → old.own ≡ [] → store.ledger ≡ ledger → ServesOpened sink count output output' door door' old pass done
-        → ServesByStore disk sink was (Some left) network count output output' door door' (served_of done ledger closing)
-    served_by sink count output output' door door' ledger old opened.Shut none is serves = (stays (ap (λ (p : Known). p.own) serves.0 ∙ none), serves.1, serves.2, serves.3)
-    served_by sink count output output' door door' ledger old opened.Unheard none is serves = (stays (ap (λ (p : Known). p.own) serves.0 ∙ none), serves.1, serves.2, serves.3)
-    served_by sink count output output' door door' ledger old (opened.Ended accepting) none is serves = (
-      record {
-        since = since;
-        history = shared.history;
-        pass = pass;
-        kept = kept;
-        along = along;
-        served = serves.0;
-        is = subst (IsLedgerOf network 0 shared.history) is
-            (record { is_network = shared.whole.stood.network ∙ of; is_book = shared.whole.stood.book; tracks = shared.whole.stood.tracks });
-      },
-      serves.1,
-      serves.2,
-      serves.3,
-    )
-
--- a door was opened, the line was put, and connections were served
-pub opened_and_served : {O : Type 0} (sink : SinkGhosts O) (count : ℕ) (output output' : O) (door door' : DoorSeen) (old new : Known) (accepting : Result ⊤ Failed) → AreServed door.told door'.told count new accepting → Met door.frame door'.frame accepting
-    → Grows (sink.content output) (sink.content output') ready_line → sink.frame output' ≡ sink.frame output → ServesOpened sink count output output' door door' old new (opened.Ended accepting)
-opened_and_served sink count output output' door door' old new accepting served met grows same = (served, met, grows, same)
+    -- connections were served along it
+    pub serves_shared : (Along : Known → Result ⊤ Failed → Type 0) (book : Ledger) (accepting : Result ⊤ Failed) → store.ledger ≡ book → Along pass accepting
+        → ServesBook network (IsKeptOn disk was left) (disk.frame left).faults Along (Ok (record { book = book; accepting = accepting; closing = closing }))
+    serves_shared Along book accepting is served = record {
+      since = since;
+      history = shared.history;
+      pass = pass;
+      kept = kept;
+      along = record {
+        of = of;
+        began = refl;
+        seen = shared.whole.seen;
+        own = shared.whole.own;
+        met = ⊎_elim (λ few. inl (omega (arith, few, call.met.stays.never_falls))) (λ most. inr (omega (arith, most, call.met.stays.never_falls))) met;
+      };
+      served = served;
+      is = subst (IsLedgerOf network 0 shared.history) is
+          (record { is_network = shared.whole.stood.network ∙ of; is_book = shared.whole.stood.book; tracks = shared.whole.stood.tracks });
+    }

@@ -1,27 +1,20 @@
 -- What the program's words come to.
 use Rattle.std.specs.Prelude.{◌≡◌, ◌↔◌, ℕ, List}
+use Rattle.hose_offline.specs.Auditing.{priced_names}
 use Rattle.hose_offline.specs.Ending.{IsOut}
 use Rattle.hose_offline.specs.Fault.{last_line}
-use Rattle.hosed.specs.Offline.{Offer, OfflineOutcome, Outside, Tellings, outside}
+use Rattle.hose_offline.specs.Parts.{Tellings}
+use Rattle.hosed.specs.Offline.{Offer, OfflineOutcome}
 use Rattle.hosed.specs.ProgramWords.{AreWords, AreWrongWords, AsksToServe, IsFirstWrong, Task}
 use Rattle.hosed.specs.ProgramWords.Verb.{serve}
 use Rattle.hosed.specs.ServeOutcome.{ServeOutcome}
-use Rattle.hosed.specs.ServingDoor.{DoorSeen}
+use Rattle.hosed.specs.ServerDoor.{OutsideDoor}
 use Rattle.hose_offline.specs.declared.fault.Fault.TheVariants.{Words}
-
--- all that is outside of a server: what there is for every command, and a door
-pub record OutsideDoor (I O C : Type 0) : Type 0 where
-  pub others : Outside I O C
-  pub door : DoorSeen
-
-abbrev pub with_door : {I O C : Type 0} → I → O → C → DoorSeen → OutsideDoor I O C
-with_door input output cabinet door =
-    record { others = outside input output cabinet; door = door }
 
 -- Words that do not begin with `serve` come to what they come to for every command that waits for
 -- nobody, and nothing is done to the door. Of those that do, wrong ones end with the status 1 and
--- take nothing; the last line tells the first of them that is not allowed. Right ones take nothing
--- of the input, and do what a server does.
+-- take nothing; the last line tells the first of them that is not allowed. Right ones do what a
+-- server does.
 pub record HosedOutcome {I O C E : Type 0} (tells : Tellings I O C E) (offer : Offer)
     (before after : OutsideDoor I O C) (status : ℕ) (words : List (List ℕ)) : Type 0 where
   pub offline : ¬ AsksToServe words
@@ -34,7 +27,5 @@ pub record HosedOutcome {I O C E : Type 0} (tells : Tellings I O C E) (offer : O
       × ((word : ℕ) × IsFirstWrong offer.names words word
       × IsOut tells.sink before.others.output after.others.output (last_line (Words word)))
   pub serves : (task : Task serve) → AreWords offer.names words serve task
-      → (after.others.input ≡ before.others.input)
-      × ServeOutcome (offer.prices task.tariff) tells.sink tells.cabinet tells.disk task.topology
-      task.journal task.connections before.others.output after.others.output
-      before.others.cabinet after.others.cabinet before.door after.door status
+      → ServeOutcome tells (priced_names (offer.prices task.tariff) task.topology task.journal)
+      task.connections before after status

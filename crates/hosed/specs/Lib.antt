@@ -1,6 +1,7 @@
 pub mod Hosed
+pub mod Limits
 pub mod Offline
 pub mod ProgramWords
 pub mod Reading
 pub mod ServeOutcome
-pub mod ServingDoor
+pub mod ServerDoor

@@ -3,20 +3,21 @@ use Rattle.std.specs.Prelude.{◌≡◌, ◌≢◌, ℕ, ◌-◌, ◌<◌, ◌�
 use Rattle.hose_words.specs.Cursor.{Position}
 use Rattle.hose_words.specs.Form.{Fits64, Form, IsWithin, TellsNumber, branch, finish, grammar_of, maybe, number, place}
 use Rattle.hose_words.specs.Grammar.{IsFirst, IsFirstNotAllowed}
-use Rattle.hose_gen.specs.declared.orders.TheConstants.{LEAST_NODES, MOST_HOSES}
+use Rattle.hose_gen.specs.Limits.{least_nodes, most_hoses}
 use Rattle.hose_graph.specs.Network.{Network}
-use Rattle.hose_graph.specs.declared.limits.TheConstants.{MOST_EPOCH, MOST_LINKS, MOST_NODES}
+use Rattle.hose_graph.specs.Limits.{most_epoch, most_links, most_nodes}
 use Rattle.hose_offline.specs.TopologyTold.{own_costs}
+use Rattle.hose_offline.specs.declared.generating.Sizes.{Sizes}
 use Rattle.hose_proto.specs.EndWords.{AreEndWords, end_words_form}
 use Rattle.std.specs.String.{string_bytes}
-use Rattle.hose_pool.specs.declared.rows.TheConstants.{MOST_WORKERS}
-use Rattle.hose_price.specs.declared.sheet.TheConstants.{MOST_TARIFFS}
+use Rattle.hose_pool.specs.Limits.{most_workers}
+use Rattle.hose_price.specs.Limits.{most_tariffs}
 use Rattle.hosed.specs.declared.words.Request.{Request}
 use Rattle.hosed.specs.declared.words.Request.TheVariants.{Audit, Check, Follow, Generate, Price, Prove, Run, Ship}
 use Rattle.hosed.specs.declared.words.OfJournal.{OfJournal}
 use Rattle.hosed.specs.declared.words.OfTopology.{OfTopology}
-use Rattle.hosed.specs.declared.words.Service.{Service}
-use Rattle.hosed.specs.declared.words.TheConstants.{MOST_CONNECTIONS}
+use Rattle.hosed.specs.declared.words.ServeRequest.{ServeRequest}
+use Rattle.hosed.specs.Limits.{most_connections}
 
 -- ---- files and tariffs
 
@@ -105,13 +106,6 @@ pub record JournalTask : Type 0 where
   pub topology : List ℕ
   pub journal : List ℕ
 
--- the four numbers of which a network and a script are made
-pub record GenerateTask : Type 0 where
-  pub seed : ℕ
-  pub nodes : ℕ
-  pub links : ℕ
-  pub hoses : ℕ
-
 -- a tariff, if one is chosen, the text of a topology, and the endpoints of a hose
 pub record ProveTask : Type 0 where
   pub tariff : Option ℕ
@@ -148,7 +142,7 @@ pub record ServeTask : Type 0 where
 abbrev pub Task : Verb → Type 0
 Task run = RunTask
 Task audit = JournalTask
-Task generate = GenerateTask
+Task generate = Sizes
 Task prove = ProveTask
 Task check = CheckTask
 Task price = PriceTask
@@ -184,23 +178,23 @@ task_words names serve task = tariff_words names task.tariff
 
 -- a generated network may have so many nodes
 abbrev pub IsNodeCount : ℕ → Type 0
-IsNodeCount = IsWithin LEAST_NODES MOST_NODES
+IsNodeCount = IsWithin least_nodes most_nodes
 
 -- a generated network of so many nodes may have so many links: enough to join them
 abbrev pub IsLinkCount : ℕ → ℕ → Type 0
-IsLinkCount nodes = IsWithin (nodes - 1) MOST_LINKS
+IsLinkCount nodes = IsWithin (nodes - 1) most_links
 
 -- a generated script may ask for so many hoses
 abbrev pub IsHoseCount : ℕ → Type 0
-IsHoseCount = IsWithin 0 MOST_HOSES
+IsHoseCount = IsWithin 0 most_hoses
 
 -- there are tariffs with these names to price under, and no more than there may be
 abbrev pub ArePriceable : List (List ℕ) → Type 0
-ArePriceable names = IsWithin 1 MOST_TARIFFS (length names)
+ArePriceable names = IsWithin 1 most_tariffs (length names)
 
 -- entries may be shipped from this epoch on: the first one's is 1
 abbrev pub IsFromEpoch : ℕ → Type 0
-IsFromEpoch = IsWithin 1 MOST_EPOCH
+IsFromEpoch = IsWithin 1 most_epoch
 
 -- a number may be that of a port: 16 bits hold it, and it is not 0
 abbrev pub IsPort : ℕ → Type 0
@@ -224,7 +218,7 @@ pub record IsOfJournal (names : List (List ℕ)) (tariff : Option ℕ) (topology
   pub is_journal : IsFileName journal
 
 -- those of a network and a script that are generated
-pub record IsGenerateTask (task : GenerateTask) : Type 0 where
+pub record IsGenerateTask (task : Sizes) : Type 0 where
   pub is_seed : Fits64 task.seed
   pub nodes_within : IsNodeCount task.nodes
   pub links_within : IsLinkCount task.nodes task.links
@@ -249,8 +243,8 @@ pub record IsShipTask (names : List (List ℕ)) (task : ShipTask) : Type 0 where
 pub record IsServeTask (names : List (List ℕ)) (task : ServeTask) : Type 0 where
   pub of : IsOfJournal names task.tariff task.topology task.journal
   pub is_port : IsPort task.port
-  pub connections_within : IsWithin 1 MOST_CONNECTIONS task.connections
-  pub workers_within : IsWithin 1 MOST_WORKERS task.workers
+  pub connections_within : IsWithin 1 most_connections task.connections
+  pub workers_within : IsWithin 1 most_workers task.workers
 
 -- a program that has tariffs with these names may be given such a task
 abbrev pub MayDo : List (List ℕ) → (verb : Verb) → Task verb → Type 0
@@ -291,12 +285,7 @@ abbrev pub AreWordsOf : List (List ℕ) → List (List ℕ) → Request → Type
 AreWordsOf names words (Run tariff journal) = AreWords names words run
     (record { tariff = tariff; journal = option_map (λ name. name.now) journal })
 AreWordsOf names words (Audit of) = AreWords names words audit (journal_task of)
-AreWordsOf names words (Generate sizes) = AreWords names words generate (record {
-  seed = sizes.seed;
-  nodes = sizes.nodes;
-  links = sizes.links;
-  hoses = sizes.hoses;
-})
+AreWordsOf names words (Generate sizes) = AreWords names words generate sizes
 AreWordsOf names words (Prove of ends first) = AreWords names words prove (record {
   tariff = of.tariff;
   topology = of.topology.now;
@@ -314,19 +303,19 @@ AreWordsOf names words (Ship of from) = AreWords names words ship (record {
 AreWordsOf names words (Follow of) = AreWords names words follow (journal_task of)
 
 -- what a server is to do
-abbrev pub task_of : Service → ServeTask
-task_of service = record {
-  tariff = service.tariff;
-  topology = service.topology.now;
-  journal = service.journal.now;
-  port = service.port;
-  connections = service.connections;
-  workers = service.workers;
+abbrev pub task_of : ServeRequest → ServeTask
+task_of request = record {
+  tariff = request.tariff;
+  topology = request.topology.now;
+  journal = request.journal.now;
+  port = request.port;
+  connections = request.connections;
+  workers = request.workers;
 }
 
 -- the words are those of a server
-abbrev pub AreServiceWords : List (List ℕ) → List (List ℕ) → Service → Type 0
-AreServiceWords names words service = AreWords names words serve (task_of service)
+abbrev pub AreServeWords : List (List ℕ) → List (List ℕ) → ServeRequest → Type 0
+AreServeWords names words request = AreWords names words serve (task_of request)
 
 -- ---- which words are wrong
 
@@ -375,8 +364,8 @@ topology_form names form = with_tariff names (named_form form) form
 
 -- the numbers of a server
 abbrev pub server_form : Form
-server_form = place (TellsNumber IsPort) (place (TellsNumber (IsWithin 1 MOST_CONNECTIONS))
-    (place (TellsNumber (IsWithin 1 MOST_WORKERS)) finish))
+server_form = place (TellsNumber IsPort) (place (TellsNumber (IsWithin 1 most_connections))
+    (place (TellsNumber (IsWithin 1 most_workers)) finish))
 
 -- the epoch from which on a journal is shipped
 abbrev pub from_form : Form

@@ -5,16 +5,15 @@ use Rattle.hose_io.specs.declared.Failed.{Failed}
 use Rattle.hose_io.specs.declared.sink.Sink.{Ghosts as SinkGhosts}
 use Rattle.hose_graph.specs.Network.{Network}
 use Rattle.hose_audit.specs.Audit.{audit_text}
-use Rattle.hose_disk.specs.declared.cabinet.Cabinet.{Ghosts as CabinetGhosts}
-use Rattle.hose_disk.specs.declared.disk.Disk.{Ghosts as DiskGhosts}
 use Rattle.hose_offline.specs.AuditOutcome.{EndsTold, NamedOutcome}
+use Rattle.hose_offline.specs.Auditing.{PricedNames}
 use Rattle.hose_offline.specs.Ending.{IsOut}
 use Rattle.hose_offline.specs.Fault.{last_line, status_of}
-use Rattle.hosed.specs.ServingDoor.{DoorSeen, ServesConnectionsIn}
+use Rattle.hose_offline.specs.Parts.{Tellings}
 use Rattle.hose_offline.specs.declared.fault.Fault.{Fault}
-use Rattle.hose_offline.specs.declared.fault.Fault.TheVariants.{Cabinet, Door, Memory, Write}
-use Rattle.hosed.specs.declared.serving.Served.{Served}
-use Rattle.hosed.specs.declared.serving.Served.TheVariants as served
+use Rattle.hose_offline.specs.declared.fault.Fault.TheVariants.{Cabinet, Door, Write}
+use Rattle.hosed.specs.ServerDoor.{IsServedAlong, OutsideDoor, ServesByJournal, Speaks, spoken}
+use Rattle.hosed.specs.declared.server.ServerEnd.{ServerEnd}
 
 -- what came of accepting and then closing: the first fault
 abbrev pub first_failed : {A B : Type 0} → Result A Failed → Result B Failed → Result ⊤ Fault
@@ -22,32 +21,35 @@ first_failed (Err failed) closing = Err Door
 first_failed (Ok _) (Err failed) = Err Cabinet
 first_failed (Ok _) (Ok _) = Ok tt
 
--- How the output ends once connections were served: the text of the book is told, and the last line
--- of a fault of accepting or closing follows it; else there is the last line alone.
-abbrev pub EndsServed : {O : Type 0} → SinkGhosts O → O → O → ℕ → Served → Type 0
-EndsServed sink output output' status served.Starved =
-    (status ≡ status_of Memory) × IsOut sink output output' (last_line Memory)
-EndsServed sink output output' status served.Shut =
-    (status ≡ status_of Door) × IsOut sink output output' (last_line Door)
-EndsServed sink output output' status served.Unheard =
+-- How the output ends once a store was opened. Where connections were served, the text of the book
+-- is told, and the last line of a fault of accepting or closing follows it; else there is the last
+-- line alone, and none after an output that failed.
+abbrev pub EndsServed : {O : Type 0} → SinkGhosts O → O → O → ℕ → Result ServerEnd Fault → Type 0
+EndsServed sink output output' status (Ok end) =
+    EndsTold sink output output' status (first_failed end.accepting end.closing)
+    (audit_text end.book.network end.book.book)
+EndsServed sink output output' status (Err Write) =
     (status ≡ status_of Write) × (output' ≡ output)
-EndsServed sink output output' status (served.Ended ledger accepting closing) =
-    EndsTold sink output output' status (first_failed accepting closing)
-    (audit_text ledger.network ledger.book)
+EndsServed sink output output' status (Err why) =
+    (status ≡ status_of why) × IsOut sink output output' (last_line why)
 
-module _ (prices : Network → Network → Type 0) {O C E : Type 0} (sink : SinkGhosts O)
-    (cabinet : CabinetGhosts C E) (disk : DiskGhosts E) (topology journal : List ℕ) (count : ℕ)
-    (output output' : O) (place place' : C) (door door' : DoorSeen) where
-  -- Connections were served by the journal, which left the output as `mid` is, and then the rest
-  -- was told.
-  pub record IsServed (status : ℕ) (network : Network) : Type 0 where
-    pub mid : O
-    pub done : Served
-    pub serves : ServesConnectionsIn cabinet disk sink journal place place' network count
-        output mid door door' (Ok done)
-    pub ends : EndsServed sink mid output' status done
+-- A store was opened on the journal and served connections, or not, which left the output as `mid`
+-- is, and then the rest was told.
+pub record IsServed {I O C E : Type 0} (tells : Tellings I O C E) (name : List ℕ) (count : ℕ)
+    (before after : OutsideDoor I O C) (status : ℕ) (network : Network) : Type 0 where
+  pub mid : O
+  pub came : Result ServerEnd Fault
+  pub serves : ServesByJournal tells name before.others.cabinet after.others.cabinet network
+      (IsServedAlong count before.door after.door) came
+  pub speaks : Speaks tells.sink (spoken before) (record (spoken after) { output = mid }) came
+  pub ends : EndsServed tells.sink mid after.others.output status came
 
-  -- a server tells the book of the journal as it was after the last connection
-  abbrev pub ServeOutcome : ℕ → Type 0
-  ServeOutcome = NamedOutcome prices sink cabinet disk topology journal output output' place place'
-      IsServed (door' ≡ door) (¬ Rose door.frame door'.frame)
+-- A server tells the book of the journal as it was after the last connection.
+abbrev pub ServeOutcome : {I O C E : Type 0} → Tellings I O C E → PricedNames → ℕ
+    → OutsideDoor I O C → OutsideDoor I O C → ℕ → Type 0
+ServeOutcome tells names count before after status =
+    NamedOutcome tells names before.others after.others (record {
+      Tells = IsServed tells names.journal count before after;
+      Untouched = after.door ≡ before.door;
+      OthersHeld = ¬ Rose before.door.frame after.door.frame;
+    }) status

@@ -29,31 +29,34 @@ ghost use Rattle.std.specs.Prelude.{◌≡◌, ◌⊎◌, None, map};
 ghost use Rattle.std.specs.String.{string_bytes};
 ghost use Rattle.hose_io.specs.Frame.{Stays};
 ghost use Rattle.hose_disk.specs.Cabinet.{object_of};
-ghost use Rattle.hosed.specs.Hosed.{HosedOutcome, with_door};
-ghost use Rattle.hosed.specs.Offline.{OfflineOutcome, offer_of, outside, tellings};
+ghost use Rattle.hose_offline.specs.Parts.{KeepsAll, held, parts, tellings};
+ghost use Rattle.hosed.specs.Hosed.{HosedOutcome};
+ghost use Rattle.hosed.specs.Offline.{OfflineOutcome, offer_of};
 ghost use Rattle.hosed.specs.ProgramWords.{AsksToServe};
-ghost use Rattle.hosed.specs.ServingDoor.{seen_of};
+ghost use Rattle.hosed.specs.ServerDoor.{seen_of, with_door};
 
 mod chosen;
 mod end_words;
-mod serving;
+mod naming;
+mod server;
 mod words;
 
 use chosen::costs_of;
+pub use hose_crew::Context;
 use hose_disk::Cabinet;
 use hose_io::{Door, Sink, Source};
 use hose_offline::{
-    EndWords, Fault, audit, check, end, follow, price, prove, run, run_generated, ship,
+    EndWords, Fault, Outside, audit, check, end, follow, price, prove, run, run_generated, ship,
 };
 use hose_pool::Gate;
 use hose_tariff::{Prices, Tariff};
-pub use serving::Means;
-use serving::serve;
+pub use naming::{Named, named_by};
+use server::serve;
 use std::alloc::Global;
 use std::sync::Wait;
 use std::thread::Threads;
 pub use words::MOST_CONNECTIONS;
-use words::{Request, asks_to_serve, request_of, service_of};
+use words::{Request, asks_to_serve, request_of, serve_of};
 
 /// Does what the words say, and gives the exit status. The words are those after the program's
 /// name: `run`, and the name of a journal in the cabinet if the book is to be kept in one; `audit`,
@@ -115,12 +118,12 @@ pub fn hosed<
     if !asks_to_serve(words) {
         return offline(alloc, words, input, output, cabinet, tariffs);
     }
-    match service_of(words, tariffs) {
-        Ok(service) => {
-            let costs = costs_of(tariffs, service.tariff);
-            let means = Means { rt, alloc, gate };
-            let (status, _) = serve(means, &costs, service, output, cabinet, door);
-            status
+    match serve_of(words, tariffs) {
+        Ok(request) => {
+            let costs = costs_of(tariffs, request.tariff);
+            let context = Context { rt, alloc, gate };
+            let mut outside = Outside::of(input, output, cabinet);
+            serve(context, &costs, request, &mut outside, door)
         }
         Err(wrong) => end(Err(Fault::Words(wrong)), output),
     }
@@ -142,43 +145,62 @@ pub fn offline<I: Source, O: Sink, C: Cabinet>(
     ensures outcome { OfflineOutcome (tellings I.Source O.Sink C.Cabinet C.Disk.Disk)
         (offer_of ⟦<Tariff as Prices>⟧.prices (λ tariff. tariff.name) (λ tariff. tariff.base)
         (λ tariff. tariff.per) tariffs.now)
-        (outside input.old output.old cabinet.old) (outside input.new output.new cabinet.new)
+        (parts input.old output.old cabinet.old) (parts input.new output.new cabinet.new)
         result (map string_bytes words.now) }
     ensures back { (C.frame cabinet.new).out ≡ None }
     ensures input { Stays (I.frame input.old) (I.frame input.new) }
     ensures output { Stays (O.frame output.old) (O.frame output.new) }
     ensures cabinet { Stays (object_of (C.frame cabinet.old)) (object_of (C.frame cabinet.new)) }
 {
+    let mut outside = Outside::of(input, output, cabinet);
+    do_command(alloc, words, tariffs, &mut outside)
+}
+
+// Does what the words say with what is beside the program, where no customer is to be served.
+fn do_command<I: Source, O: Sink, C: Cabinet>(
+    alloc: Global,
+    words: &[String],
+    tariffs: &[Tariff],
+    outside: &mut Outside<'_, I, O, C>,
+) -> u8
+    requires none_out { (C.frame outside.old.cabinet.now).out ≡ None }
+    requires waits_for_nobody { ¬ AsksToServe (map string_bytes words.now) }
+    ensures outcome { OfflineOutcome (tellings I.Source O.Sink C.Cabinet C.Disk.Disk)
+        (offer_of ⟦<Tariff as Prices>⟧.prices (λ tariff. tariff.name) (λ tariff. tariff.base)
+        (λ tariff. tariff.per) tariffs.now)
+        (held outside.old) (held outside.new) result (map string_bytes words.now) }
+    ensures back { (C.frame outside.new.cabinet.now).out ≡ None }
+    ensures keeps { KeepsAll (tellings I.Source O.Sink C.Cabinet C.Disk.Disk)
+        outside.old outside.new }
+{
     match request_of(words, tariffs) {
         Ok(Request::Run { tariff, journal }) => {
             let by = costs_of(tariffs, tariff);
-            run(alloc, &by, journal, input, output, cabinet)
+            run(alloc, &by, journal, outside)
         }
         Ok(Request::Audit(of)) => {
             let by = costs_of(tariffs, of.tariff);
-            audit(alloc, &by, of.names, output, cabinet)
+            audit(alloc, &by, of.names, outside)
         }
-        Ok(Request::Generate(sizes)) => run_generated(alloc, sizes, output),
+        Ok(Request::Generate(sizes)) => run_generated(alloc, sizes, outside),
         Ok(Request::Prove { of, ends, first }) => {
             let by = costs_of(tariffs, of.tariff);
             let ends = EndWords { words: ends, first };
-            prove(alloc, &by, of.topology, ends, output, cabinet)
+            prove(alloc, &by, of.topology, ends, outside)
         }
         Ok(Request::Check(of)) => {
             let by = costs_of(tariffs, of.tariff);
-            check(alloc, &by, of.topology, input, output, cabinet)
+            check(alloc, &by, of.topology, outside)
         }
-        Ok(Request::Price { topology }) => {
-            price(alloc, tariffs, topology, input, output, cabinet)
-        }
+        Ok(Request::Price { topology }) => price(alloc, tariffs, topology, outside),
         Ok(Request::Ship { of, from }) => {
             let by = costs_of(tariffs, of.tariff);
-            ship(alloc, &by, of.names, from, output, cabinet)
+            ship(alloc, &by, of.names, from, outside)
         }
         Ok(Request::Follow(of)) => {
             let by = costs_of(tariffs, of.tariff);
-            follow(alloc, &by, of.names, input, output, cabinet)
+            follow(alloc, &by, of.names, outside)
         }
-        Err(wrong) => end(Err(Fault::Words(wrong)), output),
+        Err(wrong) => end(Err(Fault::Words(wrong)), outside.output),
     }
 }

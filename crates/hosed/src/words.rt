@@ -4,7 +4,7 @@ ghost use Rattle.std.specs.String.{string_bytes};
 ghost use Rattle.hose_words.specs.Cursor.{IsWrong, Misses, Took};
 ghost use Rattle.hose_words.specs.Form.{Fits64, IsWithin, TellsNumber, finish};
 ghost use Rattle.hose_words.specs.Grammar.{IsFirst};
-ghost use Rattle.hosed.specs.ProgramWords.{ArePriceable, AreServiceWords, AsksFor, AsksToServe, IsFileName, IsFirstNamed, IsFirstWrong, IsTariffName, at_word, journal_task, program_form, topology_task};
+ghost use Rattle.hosed.specs.ProgramWords.{ArePriceable, AreServeWords, AsksFor, AsksToServe, IsFileName, IsFirstNamed, IsFirstWrong, IsTariffName, at_word, journal_task, program_form, topology_task};
 ghost use Rattle.hosed.specs.Reading.{AreJournalWords, Chooses, NamesJournal, NamesNoJournal, NamesNoTariff, NamesNoTopology, NamesTopology, Reads};
 ghost use Rattle.hosed.specs.ProgramWords.Verb.{audit, check, generate, price, prove, run, ship};
 
@@ -70,7 +70,7 @@ pub struct OfJournal<'w> {
 
 /// A server: the callers of a door are answered by the book of a journal.
 #[derive(Clone, Copy)]
-pub struct Service<'w> {
+pub struct ServeRequest<'w> {
     /// The place of the tariff that is chosen.
     pub tariff: Option<usize>,
     /// The names of the text of its topology and of its journal.
@@ -242,9 +242,9 @@ fn ship_of<'w>(words: &'w [String], tariffs: &[Tariff]) -> Result<Request<'w>, u
 }
 
 /// The server that the words ask for, or the first of them that is not allowed.
-pub fn service_of<'w>(words: &'w [String], tariffs: &[Tariff]) -> Result<Service<'w>, u64>
+pub fn serve_of<'w>(words: &'w [String], tariffs: &[Tariff]) -> Result<ServeRequest<'w>, u64>
     requires { AsksToServe (map string_bytes words.now) }
-    ensures ok { IfOk result (AreServiceWords (map (λ tariff. tariff.name) tariffs.now)
+    ensures ok { IfOk result (AreServeWords (map (λ tariff. tariff.name) tariffs.now)
         (map string_bytes words.now)) }
     ensures wrong { IfErr result (IsFirstWrong (map (λ tariff. tariff.name) tariffs.now)
         (map string_bytes words.now)) }
@@ -254,7 +254,7 @@ pub fn service_of<'w>(words: &'w [String], tariffs: &[Tariff]) -> Result<Service
     let connections = number_at(words, at + 1, 1, MOST_CONNECTIONS)?;
     let workers = number_at(words, at + 2, 1, MOST_WORKERS)?;
     none_at(words, at + 3)?;
-    Ok(Service {
+    Ok(ServeRequest {
         tariff: of.tariff,
         topology: of.names.topology,
         journal: of.names.journal,

@@ -6,7 +6,7 @@ use Rattle.hose_words.proofs.Forms.{wrong_later, wrong_place}
 use Rattle.hosed.specs.ProgramWords.{IsPort, at_word, server_form}
 use Rattle.hosed.specs.ProgramWords.Verb.{serve}
 use Rattle.hosed.proofs.Commands.{journal_then, no_journal, took_to, verb_wrong}
-use Rattle.hosed.proofs.words.service_of.Goals as goal
+use Rattle.hosed.proofs.words.serve_of.Goals as goal
 
 pub returns-in_err-of-clause-wrong : goal.returns-in_err-of-clause-wrong
 returns-in_err-of-clause-wrong g c =

@@ -1,0 +1,22 @@
+use Rattle.std.proofs.Common.{◌∷◌}
+use Rattle.hosed.proofs.server.serve_in_cabinet.Given as goal
+
+abbrev pub ghosts-serve_store-N-Start : goal.ghosts-serve_store-N-Start
+ghosts-serve_store-N-Start g a = record {
+  start = record {
+    frame = record (g.L.Door.frame a.door.now) { loan = a.door.ghost_name ∷ (g.L.Door.frame a.door.now).loan };
+    told = g.L.Door.told a.door.now;
+    connections = a.request.connections;
+  };
+}
+
+abbrev pub ghosts-serve_store-N-Ledger : goal.ghosts-serve_store-N-Ledger
+ghosts-serve_store-N-Ledger g a = record { name = a.opening.blank.name; parts = a.opening.blank.parts }
+
+abbrev pub ghosts-serve_store-N-AtOpening : goal.ghosts-serve_store-N-AtOpening
+ghosts-serve_store-N-AtOpening g a = record {
+  had = g.C.Disk.Disk.may_leave a.opening.was.value;
+  content = g.C.Disk.Disk.content a.opening.was.value;
+  moment = g.C.Disk.Disk.moment a.opening.was.value;
+  network = a.opening.store.ledger.network;
+}

@@ -1,0 +1,55 @@
+use Rattle.std.proofs.Common.{subst, sym, rules}
+use Rattle.hose_turn.specs.declared.view.Origin.{Origin}
+use Rattle.hosed.specs.ServerDoor.{IsServedAlong, OpensAt, seen_of}
+use Rattle.hose_offline.specs.OnDisk.{opening_of}
+use Rattle.hosed.proofs.Sharing.{closed_at_once, is_opening, just_opened, opens_at, serves_shared, stays_shared}
+use Rattle.hosed.proofs.server.serve_store.Goals as goal
+
+pub returns-in_default-clause-serves : goal.returns-in_default-clause-serves
+returns-in_default-clause-serves g c =
+    let asked = c.requires.opened in
+    let network = c.args.opening.store.ledger.network in
+    let was = c.args.opening.was.value in
+    let left = c.close-disk.result.1 in
+    let closing = c.close-disk.result.0 in
+    closed_at_once g.D.Disk was left network closing
+    (λ since history store stands closes. c.law_closed.ensures (opening_of g.D.Disk network since was) was left history store closing stands closes)
+    asked.opened.history c.args.opening.store (just_opened g.D.Disk was network c.args.opening.store asked) c.close-disk.ensures.closes c.close-disk.ensures.call
+
+pub returns-in-Err-clause-serves : goal.returns-in-Err-clause-serves
+returns-in-Err-clause-serves g c =
+    let network = c.args.opening.store.ledger.network in
+    let was = c.args.opening.was.value in
+    let left = c.close-disk-in-Err.result.1 in
+    let closing = c.close-disk-in-Err.result.0 in
+    let made = c.in-Ok-new.ensures in
+    stays_shared g.D.Disk was left network closing
+    (λ since history store stands closes. c.law_closed.ensures (opening_of g.D.Disk network since was) was left history store closing stands closes)
+    _ (λ since store opens. is_opening g.D.Disk was _ _ _ _ network c.requires.had c.requires.content c.requires.moment c.requires.network since store opens) c.in-Ok-new.pass made.stands.first c.close.result (search rules)
+    made.stands.begins c.close.ensures.history c.close.ensures.faults c.close-disk-in-Err.ensures.closes c.close-disk-in-Err.ensures.call (search rules)
+
+pub returns-clause-serves : goal.returns-clause-serves
+returns-clause-serves g c =
+    let network = c.args.opening.store.ledger.network in
+    let was = c.args.opening.was.value in
+    let left = c.close-closing.result.1 in
+    let closing = c.close-closing.result.0 in
+    let made = c.in-Ok-new.ensures in
+    let served = c.serve-accepting in
+    serves_shared g.D.Disk was left network closing
+    (λ since history store stands closes. c.law_closed.ensures (opening_of g.D.Disk network since was) was left history store closing stands closes)
+    _ (λ since store opens. is_opening g.D.Disk was _ _ _ _ network c.requires.had c.requires.content c.requires.moment c.requires.network since store opens) served.result.pass made.stands.first c.close-2.result (search rules)
+    (subst (λ (origin : Origin). OpensAt g.D.Disk g.N.AtOpening.had g.N.AtOpening.content g.N.AtOpening.moment g.N.AtOpening.network origin.since made.stands.first) (sym served.ensures.same.origin) made.stands.begins) c.close-2.ensures.history c.close-2.ensures.faults c.close-closing.ensures.closes c.close-closing.ensures.call
+    (IsServedAlong c.args.request.connections (seen_of (g.L.Door.frame c.args.door) (g.L.Door.told c.args.door)) (seen_of (g.L.Door.frame served.result.door) (g.L.Door.told served.result.door))) c.close-closing.result.2 served.result.accepting (search rules) (rw c.in-Ok.ensures at (rw c.announce.ensures.told at served.ensures.served))
+
+pub new-requires : goal.new-requires
+new-requires g c =
+    let asked = c.requires in
+    let was = c.args.opening.was.value in
+    let store = c.args.opening.store in
+    let since = asked.opened.opened.history in (
+      since,
+      opens_at g.D.Disk was _ _ _ _ store.ledger.network asked.had asked.content asked.moment asked.network since store (just_opened g.D.Disk was store.ledger.network store asked.opened),
+      asked.opened.stands.has.book,
+      asked.opened.stands.has.tracks,
+    )

@@ -1,0 +1,233 @@
+-- What serving the connections of a door comes to, and what it does to the journal.
+use Rattle.std.specs.Prelude.{◌≡◌, ◌⊎◌, ℕ, ◌≤◌, List, [], codes, length, take, Option, None, Some, IfSome, Result, Ok, Err, is_err, is_some, ⊤}
+use mathlib.Core.List.{IsPrefix}
+use Rattle.hose_io.specs.Connections.{Connections}
+use Rattle.hose_io.specs.Frame.{Frame, Met, Rose}
+use Rattle.hose_io.specs.Stream.{Grows}
+use Rattle.hose_io.specs.Writing.{GrowsInPart}
+use Rattle.hose_io.specs.declared.Failed.{Failed}
+use Rattle.hose_io.specs.declared.sink.Sink.{Ghosts as SinkGhosts}
+use Rattle.hose_graph.specs.Network.{Network}
+use Rattle.hose_graph.specs.declared.entry.Entry.{Entry}
+use Rattle.hose_law.specs.Book.{IsOversold}
+use Rattle.hose_law.specs.Cheapest.{AreCheapest}
+use Rattle.hose_law.specs.History.{IsDecided, IsDecidedAt, book_of}
+use Rattle.hose_law.specs.Live.{AreLiveUnreleased, StaysLive}
+use Rattle.hose_book.specs.Ledger.{IsLedgerOf}
+use Rattle.hose_crew.specs.Crew.{AreServed}
+use Rattle.hose_disk.specs.Cabinet.{Has, object_of}
+use Rattle.hose_disk.specs.declared.disk.Disk.{Ghosts as DiskGhosts}
+use Rattle.hose_proto.specs.ReplyText.{line_of}
+use Rattle.hose_store.specs.Beginning.{HasLeft, StandsFor}
+use Rattle.hose_store.specs.Recovery.{IsHistoryOf}
+use Rattle.hose_store.specs.Store.{Kept}
+use Rattle.hose_turn.specs.Faults.{end_of_count}
+use Rattle.hose_turn.specs.Known.{Known}
+use Rattle.hose_turn.specs.Places.{HasPlaces}
+use Rattle.hose_offline.specs.OnDisk.{HadContent, opening_of}
+use Rattle.hose_offline.specs.Parts.{Parts, Tellings, held, parts}
+use Rattle.hose_offline.specs.ServingOnDisk.{IsNotServed}
+use Rattle.hose_offline.specs.declared.fault.Fault.{Fault}
+use Rattle.hose_offline.specs.declared.fault.Fault.TheVariants.{Door, Memory, Write}
+use Rattle.hose_offline.specs.declared.outside.Outside.{Outside}
+use Rattle.hosed.specs.declared.server.ServerEnd.{ServerEnd}
+
+-- ---- what a server says
+
+-- what tells that the server is ready
+abbrev pub ready_line : List ℕ
+ready_line = line_of (codes "ready")
+
+-- what is seen of a door, whatever borrows lead to it: its frame and its connections
+pub record DoorSeen : Type 0 where
+  pub frame : Frame
+  pub told : Option Connections
+
+abbrev pub seen_of : Frame → Option Connections → DoorSeen
+seen_of frame told = record { frame = record frame { loan = [] }; told = told }
+
+-- the output of a server, and what is seen of its door
+pub record OutputDoor (O : Type 0) : Type 0 where
+  pub output : O
+  pub door : DoorSeen
+
+abbrev pub output_door : {O : Type 0} → O → DoorSeen → OutputDoor O
+output_door output door = record { output = output; door = door }
+
+-- all that is outside of a server: what there is for every command, and a door
+pub record OutsideDoor (I O C : Type 0) : Type 0 where
+  pub others : Parts I O C
+  pub door : DoorSeen
+
+abbrev pub with_door : {I O C : Type 0} → I → O → C → DoorSeen → OutsideDoor I O C
+with_door input output cabinet door =
+    record { others = parts input output cabinet; door = door }
+
+-- what is lent to a server
+abbrev pub door_beside : {I O C E : Type 0} → Outside I O C E → DoorSeen → OutsideDoor I O C
+door_beside outside door = record { others = held outside; door = door }
+
+-- the part of it through which a server speaks
+abbrev pub spoken : {I O C : Type 0} → OutsideDoor I O C → OutputDoor O
+spoken outside = output_door outside.others.output outside.door
+
+-- The door was opened, and the line that the server is ready is out; or the door did not open, and
+-- nothing was written; or a part of the line alone is out, and the output failed.
+abbrev pub IsAnnounced : {O T : Type 0} → SinkGhosts O → OutputDoor O → OutputDoor O
+    → Result T Fault → Type 0
+IsAnnounced sink before after (Ok _) = (after.door ≡ before.door)
+    × Grows (sink.content before.output) (sink.content after.output) ready_line
+    × (sink.frame after.output ≡ sink.frame before.output)
+IsAnnounced sink before after (Err Door) = (after.output ≡ before.output)
+    × (after.door.told ≡ before.door.told) × Rose before.door.frame after.door.frame
+IsAnnounced sink before after (Err Write) = (after.door ≡ before.door)
+    × GrowsInPart (sink.content before.output) (sink.content after.output) ready_line
+    × Rose (sink.frame before.output) (sink.frame after.output)
+IsAnnounced sink before after (Err another) = ⊥
+
+-- What a server that opened its store has said, and what became of its door. Where there was no
+-- memory to begin with, it said nothing, and the door is as it was.
+abbrev pub Speaks : {O : Type 0} → SinkGhosts O → OutputDoor O → OutputDoor O
+    → Result ServerEnd Fault → Type 0
+Speaks sink before after (Ok end) = Met before.door.frame after.door.frame end.accepting
+    × Grows (sink.content before.output) (sink.content after.output) ready_line
+    × (sink.frame after.output ≡ sink.frame before.output)
+Speaks sink before after (Err Memory) = after ≡ before
+Speaks sink before after (Err why) = IsAnnounced {T = ⊤} sink before after (Err why)
+
+-- connections of a door were served along a pass, so many at most, and accepting came to this
+abbrev pub IsServedAlong : ℕ → DoorSeen → DoorSeen → Known → Result ⊤ Failed → Type 0
+IsServedAlong count was now pass accepting = AreServed was.told now.told count pass accepting
+
+-- ---- the store that is shared
+
+-- the store was just opened on a disk, which stood for this history as it was read
+pub record IsOpening {E : Type 0} (disk : DiskGhosts E) (was : E) (network : Network)
+    (since : List Entry) (store : Kept E) : Type 0 where
+  pub read : IfSome (disk.content was) (IsHistoryOf network since)
+  pub stands : StandsFor disk IsDecidedAt (disk.may_leave was) (opening_of disk network since was)
+      since store
+
+-- A store was just opened on a disk that had these images and this content at this moment, and
+-- stood for this history.
+pub record OpensAt {E : Type 0} (disk : DiskGhosts E) (Had : List ℕ → Type 0)
+    (content : Option (List ℕ)) (moment : ℕ) (network : Network) (since : List Entry)
+    (store : Kept E) : Type 0 where
+  pub read : IfSome content (IsHistoryOf network since)
+  pub stands : StandsFor disk IsDecidedAt Had (record {
+    since = since;
+    network = network;
+    moment = moment;
+    tells = is_some content;
+  }) since store
+
+-- ---- the book that is kept
+
+-- how the history of a network went on: the one with which it begins, and what it is now
+pub record Progress : Type 0 where
+  pub network : Network
+  pub since : List Entry
+  pub history : List Entry
+
+abbrev pub from_to : Network → List Entry → List Entry → Progress
+from_to network since history = record { network = network; since = since; history = history }
+
+-- The history was made along one pass: it begins with what the pass has seen, and each of its
+-- entries since the first history is the pass's own. The disk has met as many faults as the pass.
+pub record IsMadeAlong (made : Progress) (pass : Known) (faults : ℕ) : Type 0 where
+  pub of : pass.origin.network ≡ made.network
+  pub began : pass.origin.since ≡ made.since
+  pub seen : IsPrefix pass.seen made.history
+  pub own : HasPlaces (length made.since) (length made.history) pass.own
+  pub met : (pass.faults ≤ faults) ⊎ (end_of_count ≤ faults)
+
+-- Connections were served along a pass, and its entries are in the journal, which is kept so. The
+-- book is that of its history.
+pub record ServesAlong (network : Network) (IsKept : Progress → Result ⊤ Failed → Type 0)
+    (faults : ℕ) (Along : Known → Type 0) (end : ServerEnd) : Type 0 where
+  pub since : List Entry
+  pub history : List Entry
+  pub pass : Known
+  pub kept : IsKept (from_to network since history) end.closing
+  pub along : IsMadeAlong (from_to network since history) pass faults
+  pub served : Along pass
+  pub is : IsLedgerOf network 0 history end.book
+
+-- The journal was opened and closed, and stands for what it stood for.
+pub record StaysAsRead (network : Network) (IsKept : Progress → Result ⊤ Failed → Type 0) :
+    Type 0 where
+  pub since : List Entry
+  pub closing : Result ⊤ Failed
+  pub kept : IsKept (from_to network since since) closing
+
+-- what serving by a store that was opened comes to: connections were served, or nothing was entered
+abbrev pub ServesBook : Network → (Progress → Result ⊤ Failed → Type 0) → ℕ
+    → (Known → Result ⊤ Failed → Type 0) → Result ServerEnd Fault → Type 0
+ServesBook network IsKept faults Along (Ok end) =
+    ServesAlong network IsKept faults (λ pass. Along pass end.accepting) end
+ServesBook network IsKept faults Along (Err why) = StaysAsRead network IsKept
+
+-- ---- on a disk
+
+-- A disk was kept from its opening, when it stood for the first history, to its closing, when it
+-- stands for what this is now. All entries since are decided.
+pub record IsKeptOn {E : Type 0} (disk : DiskGhosts E) (was left : E) (made : Progress)
+    (closing : Result ⊤ Failed) : Type 0 where
+  pub read : IfSome (disk.content was) (IsHistoryOf made.network made.since)
+  pub begins : IsPrefix made.since made.history
+  pub decided : IsDecided made.network 0 (length made.since) made.history
+  pub told : (disk.frame left).has_failed ≡ is_err closing
+  pub leaves : HasLeft disk IsDecidedAt (disk.may_leave was)
+      (opening_of disk made.network made.since was) made.history left closing
+
+-- What serving by a store comes to on its disk, which is gone where there was no memory to share
+-- the store.
+abbrev pub ServesByStore : {E : Type 0} → DiskGhosts E → E → Option E → Network
+    → (Known → Result ⊤ Failed → Type 0) → Result ServerEnd Fault → Type 0
+ServesByStore disk was None network Along came = came ≡ Err Memory
+ServesByStore disk was (Some left) network Along came =
+    ServesBook network (IsKeptOn disk was left) (disk.frame left).faults Along came
+
+-- ---- in a cabinet
+
+module _ {I O C E : Type 0} (tells : Tellings I O C E) (name : List ℕ) (old new : C) where
+  -- The journal of a name was kept from its opening, when it stood for the first history, to its
+  -- closing. The cabinet failed exactly where closing did. At each place of the history since no
+  -- link is oversold, and exactly those VPNs are live that were admitted before it and not released
+  -- since; what each later admission reserves carries every matrix within the rates of its hose,
+  -- and no tree over the links allowed at the book before it carries them at less cost.
+  pub record IsKeptIn (made : Progress) (closing : Result ⊤ Failed) : Type 0 where
+    pub begun : HadContent tells.cabinet tells.disk old new name
+        (IsHistoryOf made.network made.since)
+    pub begins : IsPrefix made.since made.history
+    pub decided : IsDecided made.network 0 (length made.since) made.history
+    pub met : Met (object_of (tells.cabinet.frame old)) (object_of (tells.cabinet.frame new))
+        closing
+    pub left : Has (tells.cabinet.frame old).tells (tells.cabinet.held old name) (λ was.
+        Has (tells.cabinet.frame new).tells (tells.cabinet.held new name) (λ left.
+        HasLeft tells.disk IsDecidedAt (tells.disk.may_leave was)
+        (opening_of tells.disk made.network made.since was) made.history left closing))
+    pub none_oversold : (place l : ℕ)
+        → ¬ IsOversold made.network (book_of 0 (take place made.history)) l
+    pub held : (place : ℕ) → place ≤ length made.history
+        → AreLiveUnreleased 0 made.history place
+    pub kept : (place : ℕ) → StaysLive 0 made.history place
+    pub cheapest : AreCheapest made.network 0 (length made.since) made.history
+
+  -- What serving by the journal comes to once its store was opened. Where there was no memory to
+  -- share the store, the disk is not back.
+  abbrev pub ServesByJournal : Network → (Known → Result ⊤ Failed → Type 0)
+      → Result ServerEnd Fault → Type 0
+  ServesByJournal network Along came =
+      ServesBook network IsKeptIn (tells.cabinet.frame new).returned Along came
+      ⊎ ((came ≡ Err Memory) × ((tells.cabinet.frame new).out ≡ Some name))
+
+-- No store was opened on the journal, which is told why, and nothing was said; or one was.
+abbrev pub ServesConnections : {I O C E : Type 0} → Tellings I O C E → List ℕ → ℕ
+    → OutsideDoor I O C → OutsideDoor I O C → Network → Result ServerEnd Fault → Type 0
+ServesConnections tells name count before after network came =
+    ((why : Fault) × (came ≡ Err why) × IsNotServed tells.cabinet tells.disk name
+    before.others.cabinet after.others.cabinet network (Err why) × (spoken after ≡ spoken before))
+    ⊎ (ServesByJournal tells name before.others.cabinet after.others.cabinet network
+    (IsServedAlong count before.door after.door) came
+    × Speaks tells.sink (spoken before) (spoken after) came)

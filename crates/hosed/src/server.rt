@@ -1,0 +1,366 @@
+// Connections that are served: a door, a crew, and the book of a journal that they share.
+ghost use Rattle.std.specs.Prelude.{◌≡◌, ◌≢◌, ◌↔◌, ◌⊎◌, ◌≤◌, ℕ, Err, IfOk, List, [], None, Option};
+ghost use Rattle.hose_io.specs.Connections.{AreAccounted};
+ghost use Rattle.hose_io.specs.Frame.{Stays};
+ghost use Rattle.hose_graph.specs.Network.{Network};
+ghost use Rattle.hose_law.specs.History.{IsDecidedAt};
+ghost use Rattle.hose_offline.specs.Auditing.{priced_names};
+ghost use Rattle.hose_offline.specs.Journal.{IsJustOpened};
+ghost use Rattle.hose_offline.specs.Parts.{KeepsAll, tellings};
+ghost use Rattle.hose_offline.specs.declared.fault.Fault.TheVariants as fault;
+ghost use Rattle.hosed.specs.ServeOutcome.{EndsServed, ServeOutcome, first_failed};
+ghost use Rattle.hosed.specs.ServerDoor.{IsAnnounced, IsServedAlong, ServesByStore, ServesConnections, Speaks, door_beside, output_door, seen_of};
+
+use crate::words::ServeRequest;
+use hose_book::{Book, Books};
+use hose_crew::{Context, Crew, CrewEnd, Start, Work};
+use hose_disk::{Cabinet, Disk};
+use hose_graph::Topology;
+use hose_io::{Door, Failed, Sink, Source, write_all};
+use hose_offline::{Fault, Outside, end, open_store, read_topology, tell};
+use hose_paths::RowTable;
+use hose_pool::{Gate, MOST_WORKERS, table_of_all};
+use hose_shared::{Begun, Shared};
+use hose_store::{Decided, Store, law_closed};
+use hose_tariff::Prices;
+use std::alloc::{AllocError, Global};
+use std::marker::{Brand, PhantomData};
+use std::snapshot::Snapshot;
+use std::sync::Wait;
+use std::sync::ledger::Blank;
+use std::thread::Threads;
+
+/// The book of a journal by which connections were served, once it was closed, and what accepting
+/// and closing came to.
+pub struct ServerEnd {
+    pub book: Book,
+    pub accepting: Result<(), Failed>,
+    pub closing: Result<(), Failed>,
+}
+
+/// What came of serving connections by a store that was opened, its disk, which is gone where there
+/// was no memory to share it, and the door.
+pub struct Served<D, L> {
+    pub came: Result<ServerEnd, Fault>,
+    pub disk: Option<D>,
+    pub door: L,
+}
+
+/// On which disk a store was opened, as it was then, and of which network. A caller names them
+/// here, since a lock has no other way to tell for what its store stood.
+pub trait AtOpening: Start {
+    /// The images that a stop might have left of the disk.
+    ghost had: { List ℕ → Type 0 };
+
+    /// What was read of it, where it told, and its moment.
+    ghost content: { Option (List ℕ) };
+
+    ghost moment: { ℕ };
+
+    ghost network: { Network };
+}
+
+// A caller's proof names them.
+impl AtOpening for Brand {
+    ghost use Rattle.std.specs.Prelude.{None, [], ⊤};
+
+    ghost had = { λ image. ⊤ };
+
+    ghost content = { None };
+
+    ghost moment = { 0 };
+
+    ghost network = { record { nodes = []; links = [] } };
+}
+
+/// The store that is shared was just opened so.
+struct JustOpened<N> {
+    at: PhantomData<N>,
+}
+
+impl<D: Disk, N: AtOpening> Begun<D> for JustOpened<N> {
+    ghost use Rattle.hosed.specs.ServerDoor.{OpensAt};
+
+    ghost begins = { OpensAt D.Disk N.had N.content N.moment N.network };
+}
+
+/// A store that was just opened, what its disk was then, and what is to become the ledger of the
+/// connections that are accepted.
+#[derive(Drop)]
+pub struct OpenedStore<D: Disk> {
+    pub store: Store<D>,
+    pub was: Snapshot<D>,
+    pub blank: Blank,
+}
+
+/// Workers, and the rows of all nodes that they plan with.
+#[derive(Drop)]
+pub struct Staff<L: Door, N: Start> {
+    pub crew: Crew<L, N>,
+    pub table: RowTable,
+}
+
+// Opens the door, and says that the server is ready.
+fn announce<O: Sink, L: Door>(door: &mut L, port: u16, output: &mut O) -> Result<(), Fault>
+    ensures announced { IsAnnounced O.Sink
+        (output_door output.old (seen_of (L.frame door.old) (L.told door.old)))
+        (output_door output.new (seen_of (L.frame door.new) (L.told door.new))) result }
+    ensures told { L.told door.new ≡ L.told door.old }
+    ensures frame { IfOk result (λ _. L.frame door.new ≡ L.frame door.old) }
+    ensures accounted { AreAccounted (L.told door.new) }
+    ensures output { Stays (O.frame output.old) (O.frame output.new) }
+    ensures door { Stays (L.frame door.old) (L.frame door.new) }
+{
+    if door.open(port).is_err() {
+        return Err(Fault::Door);
+    }
+    if write_all(output, b"ready\n").is_err() {
+        return Err(Fault::Write);
+    }
+    Ok(())
+}
+
+// Serves the connections of a door by a store that was just opened on the disk that was once so,
+// and closes it. Where there is no memory to share the store, its disk is gone.
+fn serve_store<
+    R: Threads + Wait + Sync,
+    O: Sink,
+    D: Disk + Send,
+    L: Door + Send,
+    N: AtOpening + Send + Sync,
+    G: Gate + Sync,
+>(
+    context: Context<'_, R, G>,
+    opening: OpenedStore<D>,
+    request: ServeRequest<'_>,
+    output: &mut O,
+    door: L,
+) -> Served<D, L>
+    requires workers { (1 ≤ request.workers) × (request.workers ≤ MOST_WORKERS) }
+    requires name { opening.blank.name ≡ N.name }
+    requires parts { (opening.blank.parts ≡ N.parts) × (opening.blank.parts ≡ request.workers) }
+    requires start { N.start ≡ record {
+      frame = L.frame door;
+      told = L.told door;
+      connections = request.connections;
+    } }
+    requires had { (image : List ℕ) → N.had image ↔ D.may_leave opening.was.value image }
+    requires content { N.content ≡ D.content opening.was.value }
+    requires moment { N.moment ≡ D.moment opening.was.value }
+    requires network { N.network ≡ opening.store.ledger.network }
+    requires opened { IsJustOpened D.Disk IsDecidedAt opening.was.value
+        opening.store.ledger.network opening.store }
+    ensures serves { ServesByStore D.Disk opening.was.value result.disk
+        opening.store.ledger.network (IsServedAlong request.entry.connections
+        (seen_of (L.frame door) (L.told door))
+        (seen_of (L.frame result.door) (L.told result.door))) result.came }
+    ensures speaks { Speaks O.Sink
+        (output_door output.old (seen_of (L.frame door) (L.told door)))
+        (output_door output.new (seen_of (L.frame result.door) (L.told result.door)))
+        result.came }
+    ensures output { Stays (O.frame output.old) (O.frame output.new) }
+    ensures door { Stays (L.frame door) (L.frame result.door) }
+{
+    law_closed::<D, Decided>();
+    // What the disk was is there for the clauses alone.
+    let OpenedStore {
+        store,
+        was: _,
+        blank,
+    } = opening;
+    let top = store.book().topology();
+    let Ok(Staff { crew, table }) = begin::<R, L, N>(context.rt, context.alloc, top, request) else {
+        let (_, disk, _) = store.close();
+        return Served {
+            came: Err(Fault::Memory),
+            disk: Some(disk),
+            door,
+        };
+    };
+    let Ok((shared, pass)) = Shared::<D, JustOpened<N>>::new(context.alloc, store) else {
+        return Served {
+            came: Err(Fault::Memory),
+            disk: None,
+            door,
+        };
+    };
+    let mut door = door;
+    if let Err(why) = announce(&mut door, request.port, output) {
+        let (_, disk, _) = shared.close(pass).close();
+        return Served {
+            came: Err(why),
+            disk: Some(disk),
+            door,
+        };
+    }
+    let work = Work {
+        context,
+        shared: &shared,
+        table: &table,
+    };
+    let CrewEnd {
+        accepting,
+        pass,
+        door,
+    } = crew.serve(work, pass, door, blank);
+    let (closing, disk, book) = shared.close(pass).close();
+    let end = ServerEnd {
+        book,
+        accepting,
+        closing,
+    };
+    Served {
+        came: Ok(end),
+        disk: Some(disk),
+        door,
+    }
+}
+
+// The workers, and the rows of all nodes, which as many threads make.
+fn begin<R: Threads + Sync, L: Door + Send, N: Start + Send + Sync>(
+    rt: &R,
+    alloc: Global,
+    network: &Topology,
+    request: ServeRequest,
+) -> Result<Staff<L, N>, AllocError>
+    requires workers { (1 ≤ request.workers) × (request.workers ≤ MOST_WORKERS) }
+    ensures { IfOk result (λ staff. staff.crew
+        ≡ record { workers = request.entry.workers; connections = request.entry.connections }) }
+{
+    let crew = Crew::new(alloc, request.workers, request.connections)?;
+    let table = table_of_all(rt, alloc, network, request.workers)?;
+    Ok(Staff { crew, table })
+}
+
+// Serves the connections of a door by the journal that is named. Its disk is back in the cabinet
+// then, but for want of memory to share its store.
+fn serve_in_cabinet<
+    R: Threads + Wait + Sync,
+    I: Source,
+    O: Sink,
+    C: Cabinet,
+    L: Door + Send,
+    G: Gate + Sync,
+>(
+    context: Context<'_, R, G>,
+    topology: Topology,
+    request: ServeRequest<'_>,
+    outside: &mut Outside<'_, I, O, C>,
+    door: &mut L,
+) -> Result<ServerEnd, Fault>
+    requires none_out { (C.frame outside.old.cabinet.now).out ≡ None }
+    requires workers { (1 ≤ request.workers) × (request.workers ≤ MOST_WORKERS) }
+    ensures serves { ServesConnections (tellings I.Source O.Sink C.Cabinet C.Disk.Disk)
+        request.entry.journal.now request.entry.connections
+        (door_beside outside.old (seen_of (L.frame door.old) (L.told door.old)))
+        (door_beside outside.new (seen_of (L.frame door.new) (L.told door.new)))
+        topology result }
+    ensures input { outside.new.input.now ≡ outside.old.input.now }
+    ensures absent { (C.frame outside.new.cabinet.now).absent
+        ≡ (C.frame outside.old.cabinet.now).absent }
+    ensures back { ((C.frame outside.new.cabinet.now).out ≡ None)
+        ⊎ (result ≡ Err fault.Memory) }
+    ensures keeps { KeepsAll (tellings I.Source O.Sink C.Cabinet C.Disk.Disk)
+        outside.old outside.new }
+    ensures door { Stays (L.frame door.old) (L.frame door.new) }
+{
+    let Ok(disk) = outside.cabinet.disk(request.journal) else {
+        return Err(Fault::Cabinet);
+    };
+    let was = Snapshot::of(&disk);
+    let store = match open_store::<C::Disk, Decided>(context.alloc, topology, disk) {
+        Ok(store) => store,
+        Err(refused) => {
+            outside.cabinet.back(refused.1);
+            return Err(refused.0);
+        }
+    };
+    let blank = Blank::new(u64::from(request.workers));
+    let opening = OpenedStore { store, was, blank };
+    let Served {
+        came,
+        disk,
+        door: _door,
+    } = serve_store::<R, O, C::Disk, &mut L, Brand, G>(
+        context,
+        opening,
+        request,
+        outside.output,
+        door,
+    );
+    if let Some(disk) = disk {
+        outside.cabinet.back(disk);
+    }
+    came
+}
+
+/// Reads the topology that is named, serves the connections of a door by the journal, writes what
+/// its book holds, and gives the exit status. The book is told where accepting or closing
+/// failed too.
+pub fn serve<
+    R: Threads + Wait + Sync,
+    P: Prices,
+    I: Source,
+    O: Sink,
+    C: Cabinet,
+    L: Door + Send,
+    G: Gate + Sync,
+>(
+    context: Context<'_, R, G>,
+    costs: &P,
+    request: ServeRequest<'_>,
+    outside: &mut Outside<'_, I, O, C>,
+    door: &mut L,
+) -> u8
+    requires none_out { (C.frame outside.old.cabinet.now).out ≡ None }
+    requires workers { (1 ≤ request.workers) × (request.workers ≤ MOST_WORKERS) }
+    ensures outcome { ServeOutcome (tellings I.Source O.Sink C.Cabinet C.Disk.Disk)
+        (priced_names (P.prices costs.now) request.entry.topology.now request.entry.journal.now)
+        request.entry.connections
+        (door_beside outside.old (seen_of (L.frame door.old) (L.told door.old)))
+        (door_beside outside.new (seen_of (L.frame door.new) (L.told door.new))) result }
+    ensures not_words { result ≢ 1 }
+    ensures back { ((C.frame outside.new.cabinet.now).out ≡ None) ⊎ (result ≡ 7) }
+    ensures keeps { KeepsAll (tellings I.Source O.Sink C.Cabinet C.Disk.Disk)
+        outside.old outside.new }
+    ensures door { Stays (L.frame door.old) (L.frame door.new) }
+{
+    let topology = match read_topology(context.alloc, costs, request.topology, outside.cabinet) {
+        Ok(topology) => topology,
+        Err(why) => return end(Err(why), outside.output),
+    };
+    let came = serve_in_cabinet(context, topology, request, outside, door);
+    tell_served(came, outside.output)
+}
+
+// Writes what is left to write once connections were served, or not, and gives the exit status.
+fn tell_served<O: Sink>(came: Result<ServerEnd, Fault>, output: &mut O) -> u8
+    ensures ends { EndsServed O.Sink output.old output.new result came }
+    ensures output { Stays (O.frame output.old) (O.frame output.new) }
+{
+    match came {
+        Ok(
+            ServerEnd {
+                book,
+                accepting,
+                closing,
+            },
+        ) => tell(&book, first_failed(accepting, closing), output),
+        // After a failed write nothing more is written.
+        Err(Fault::Write) => Fault::Write.status(),
+        Err(why) => end(Err(why), output),
+    }
+}
+
+// What came of accepting and then closing.
+fn first_failed(accepting: Result<(), Failed>, closing: Result<(), Failed>) -> Result<(), Fault>
+    ensures { result ≡ first_failed accepting closing }
+{
+    match accepting {
+        Err(_) => Err(Fault::Door),
+        Ok(()) => match closing {
+            Err(_) => Err(Fault::Cabinet),
+            Ok(()) => Ok(()),
+        },
+    }
+}
