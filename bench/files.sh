@@ -4,6 +4,7 @@
 # what is no file, as a journal and as a topology. Two programs on one journal are in bench/two.sh.
 # Ends with status 1 where something else came of one.
 # usage: bench/files.sh [PROGRAM]
+[ "${1-}" != --help ] || exec sed -n '2,/^[^#]/s/^# \{0,1\}//p' "$0"
 . "$(dirname "$0")/setup.sh"
 
 python3 - "$program" "$work" <<'END'
@@ -61,7 +62,8 @@ def comes(name, words, text, status, output, limit=None):
     done = subprocess.run([PROGRAM, *words], input=text, capture_output=True, text=True,
                           timeout=SECONDS, preexec_fn=before)
     print(f"{name}: status {done.returncode}, {done.stdout!r}")
-    right.append((done.returncode, done.stdout, done.stderr) == (status, output, ""))
+    told = (done.returncode, done.stdout, done.stderr.count("\n"))
+    right.append(told == (status, output, int(status != 0)))
 
 
 def holds(path, bytes, rest=0):

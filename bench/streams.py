@@ -15,6 +15,8 @@ import subprocess
 import sys
 import tempfile
 
+from usage import tell_usage
+
 GIB = 1 << 30
 MOST_WORD = 4_096
 
@@ -68,7 +70,7 @@ def run(program, words, **streams):
 def with_words(program):
     for words, text, status, output in WORDS:
         found = run(program, words, input=text, stdout=subprocess.PIPE)
-        hint = found[2].count(b"\n") == (1 if status == 1 else 0)
+        hint = found[2].count(b"\n") == int(status != 0)
         yield f"{words} over {len(text)} bytes", found[:2] == (status, output) and hint, found
     found = run(program, ["--help"], input=STAR, stdout=subprocess.PIPE)
     tells = found[1].startswith(b"usage: hosed run") and not found[2]
@@ -219,4 +221,5 @@ def main():
 
 
 if __name__ == "__main__":
+    tell_usage(__doc__)
     main()

@@ -4,6 +4,7 @@
 # in between, and the first goes on undisturbed. A third, after the first's end, finds all orders.
 # Ends with status 1 where one of them did otherwise.
 # usage: bench/two.sh [PROGRAM]
+[ "${1-}" != --help ] || exec sed -n '2,/^[^#]/s/^# \{0,1\}//p' "$0"
 . "$(dirname "$0")/setup.sh"
 
 python3 - "$program" "$work/journal" <<'END'
@@ -23,7 +24,8 @@ def whole(name, script, status, output):
     streams = {"input": STAR + script, "capture_output": True, "text": True, "timeout": SECONDS}
     done = subprocess.run([PROGRAM, "run", JOURNAL], **streams)
     print(f"{name}: status {done.returncode}, {done.stdout!r}")
-    return (done.returncode, done.stdout, done.stderr) == (status, output, "")
+    told = (done.returncode, done.stdout, done.stderr.count("\n"))
+    return told == (status, output, int(status != 0))
 
 
 class First:

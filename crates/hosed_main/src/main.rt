@@ -8,12 +8,9 @@ use hose_door::TcpDoor;
 use hose_io::{StdSink, StdSource};
 use hose_pool::PlainGate;
 use hosed_program::{
-    Means, USAGE, World, flat, hops, long, no_memory, program, program_words, tariffs,
+    Context, World, flat, hops, long, no_memory, program, program_words, tariffs, tell_reason,
 };
 use std::process::ExitCode;
-
-// The status of words that are not allowed.
-const WRONG_WORDS: u8 = 1;
 
 fn main(rt: HostRuntime) -> ExitCode {
     let alloc = rt.alloc();
@@ -29,23 +26,27 @@ fn main(rt: HostRuntime) -> ExitCode {
     let by_hops = Box::new(alloc, |length: u64| hops(length));
     let by_long = Box::new(alloc, |length: u64| long(length));
     let (Ok(by_flat), Ok(by_hops), Ok(by_long)) = (by_flat, by_hops, by_long) else {
-        return ExitCode::from(no_memory(&mut world.output));
+        let status = no_memory(&mut world.output);
+        tell_reason(&rt, status, &[], &[]);
+        return ExitCode::from(status);
     };
     let tariffs = tariffs(alloc, by_flat, by_hops, by_long);
     let status = match (program_words(&rt, alloc), tariffs) {
         (Ok(words), Ok(tariffs)) => {
-            let means = Means {
+            let context = Context {
                 rt: &rt,
                 alloc,
                 gate: &PlainGate,
             };
-            program(means, &words, &tariffs, &mut world)
+            let status = program(context, &words, &tariffs, &mut world);
+            tell_reason(&rt, status, &words, &tariffs);
+            status
         }
-        _ => no_memory(&mut world.output),
+        _ => {
+            let status = no_memory(&mut world.output);
+            tell_reason(&rt, status, &[], &[]);
+            status
+        }
     };
-    if status == WRONG_WORDS {
-        // The output tells it too, so a standard error that fails is passed over.
-        let _ = eprintln!(rt; "{USAGE}");
-    }
     ExitCode::from(status)
 }

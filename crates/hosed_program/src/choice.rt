@@ -5,29 +5,30 @@ ghost use Rattle.hose_io.specs.Frame.{Stays};
 ghost use Rattle.hose_disk.specs.Cabinet.{object_of};
 ghost use Rattle.hose_offline.specs.Ending.{IsOut};
 ghost use Rattle.hose_offline.specs.Fault.{last_line};
-ghost use Rattle.hosed.specs.Hosed.{HosedOutcome, with_door};
-ghost use Rattle.hosed.specs.Offline.{offer_of, tellings};
+ghost use Rattle.hose_offline.specs.Parts.{tellings};
+ghost use Rattle.hosed.specs.Hosed.{HosedOutcome};
+ghost use Rattle.hosed.specs.Offline.{offer_of};
 ghost use Rattle.hosed.specs.ProgramWords.{AsksToServe};
-ghost use Rattle.hosed.specs.ServingDoor.{seen_of};
+ghost use Rattle.hosed.specs.ServerDoor.{seen_of, with_door};
 ghost use Rattle.hose_offline.specs.declared.fault.Fault.TheVariants as fault;
-ghost use Rattle.hosed_program.specs.Asked.{IsTold, asked_of};
+ghost use Rattle.hosed_program.specs.TextOrCommand.{IsTold, text_or_command};
 
 use crate::texts::{HELP, VERSION};
 use hose_disk::Cabinet;
 use hose_io::{Door, Sink, Source, write_all};
 use hose_pool::Gate;
 use hose_tariff::{Prices, Tariff};
-use hosed::Means;
+use hosed::Context;
 use std::sync::Wait;
 use std::thread::Threads;
 
 /// What the program's words ask for.
 #[derive(Clone, Copy)]
-pub enum Asked {
+pub enum TextOrCommand {
     Help,
     Version,
     /// All other words, right ones and wrong ones.
-    Service,
+    Command,
 }
 
 /// What the program reads, writes and serves.
@@ -47,19 +48,24 @@ pub fn program<
     C: Cabinet,
     L: Door + Send,
     G: Gate + Sync,
->(means: Means<'_, R, G>, words: &[String], tariffs: &[Tariff], world: &mut World<I, O, C, L>) -> u8
+>(
+    context: Context<'_, R, G>,
+    words: &[String],
+    tariffs: &[Tariff],
+    world: &mut World<I, O, C, L>,
+) -> u8
     requires { (C.frame world.old.cabinet).out ≡ None }
-    ensures help { asked_of (map string_bytes words.now) ≡ Asked.Help
+    ensures help { text_or_command (map string_bytes words.now) ≡ TextOrCommand.Help
         → (world.new.input ≡ world.old.input) × (world.new.cabinet ≡ world.old.cabinet)
         × (world.new.door ≡ world.old.door)
         × IsTold O.Sink world.old.output world.new.output HELP.now result }
-    ensures version { asked_of (map string_bytes words.now) ≡ Asked.Version
+    ensures version { text_or_command (map string_bytes words.now) ≡ TextOrCommand.Version
         → (world.new.input ≡ world.old.input) × (world.new.cabinet ≡ world.old.cabinet)
         × (world.new.door ≡ world.old.door)
         × IsTold O.Sink world.old.output world.new.output VERSION.now result }
 
     // All else is as the server's one call says.
-    ensures service { asked_of (map string_bytes words.now) ≡ Asked.Service
+    ensures command { text_or_command (map string_bytes words.now) ≡ TextOrCommand.Command
         → HosedOutcome (tellings I.Source O.Sink C.Cabinet C.Disk.Disk)
         (offer_of ⟦<Tariff as Prices>⟧.prices (λ tariff. tariff.name) (λ tariff. tariff.base)
         (λ tariff. tariff.per) tariffs.now)
@@ -78,31 +84,31 @@ pub fn program<
         (object_of (C.frame world.new.cabinet)) }
     ensures door { Stays (L.frame world.old.door) (L.frame world.new.door) }
 {
-    match asked_by(words) {
-        Asked::Help => tell(&mut world.output, HELP),
-        Asked::Version => tell(&mut world.output, VERSION),
-        Asked::Service => hosed::hosed(
-            means.rt,
-            means.alloc,
+    match text_or_command(words) {
+        TextOrCommand::Help => tell(&mut world.output, HELP),
+        TextOrCommand::Version => tell(&mut world.output, VERSION),
+        TextOrCommand::Command => hosed::hosed(
+            context.rt,
+            context.alloc,
             words,
             &mut world.input,
             &mut world.output,
             &mut world.cabinet,
             &mut world.door,
             tariffs,
-            means.gate,
+            context.gate,
         ),
     }
 }
 
 // What the words ask for. The texts are for each of these words alone.
-fn asked_by(words: &[String]) -> Asked
-    ensures { result ≡ asked_of (map string_bytes words.now) }
+fn text_or_command(words: &[String]) -> TextOrCommand
+    ensures { result ≡ text_or_command (map string_bytes words.now) }
 {
     match words {
-        [word] if word.as_str() == "--help" => Asked::Help,
-        [word] if word.as_str() == "--version" => Asked::Version,
-        _ => Asked::Service,
+        [word] if word.as_str() == "--help" => TextOrCommand::Help,
+        [word] if word.as_str() == "--version" => TextOrCommand::Version,
+        _ => TextOrCommand::Command,
     }
 }
 

@@ -4,19 +4,21 @@
 //! ```
 //! let words = program_words(&rt, alloc)?;
 //! let tariffs = tariffs(alloc, by_flat, by_hops, by_long)?;
-//! let means = Means { rt: &rt, alloc, gate: &PlainGate };
+//! let context = Context { rt: &rt, alloc, gate: &PlainGate };
 //! let mut world = World { input, output, cabinet, door };
-//! let status = program(means, &words, &tariffs, &mut world);
+//! let status = program(context, &words, &tariffs, &mut world);
 //! ```
 #![tactic(auto)]
 
 mod choice;
+mod reasons;
 mod rules;
 mod texts;
 mod words;
 
-pub use choice::{Asked, World, no_memory, program};
-pub use hosed::Means;
+pub use choice::{TextOrCommand, World, no_memory, program};
+pub use hosed::Context;
+pub use reasons::tell_reason;
 pub use rules::{flat, hops, long, tariffs};
-pub use texts::{HELP, USAGE, VERSION};
+pub use texts::{HELP, VERSION};
 pub use words::program_words;

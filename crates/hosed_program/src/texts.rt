@@ -164,13 +164,3 @@ status  comes                           last line
 
 /// What `--version` is answered with.
 pub const VERSION: &str = "hosed 0.2.0\n";
-
-/// What is said on standard error where the words are wrong.
-pub const USAGE: &str = "hosed takes `run`, which reads a topology and commands, and after it the \
-    name of a journal if the book is to be kept; or `audit`, and after it the names of a topology \
-    and of a journal; or `serve`, and after it these two names, a port, and how many connections \
-    and workers; or `prove`, and after it the name of a topology and endpoints; or `check` or \
-    `price`, and after it the name of a topology; or `ship`, and after it the names of a topology \
-    and of a journal, and an epoch; or `follow`, and after it these two names; or `gen`, and after \
-    it a seed and how many nodes, links and hoses; `--tariff` and a name may stand after the first \
-    word, but for `price` and `gen`; or `--help`, which tells their forms, or `--version`.";

@@ -5,15 +5,15 @@ use Rattle.hose_io.specs.Frame.{Rose}
 use Rattle.hose_io.specs.Stream.{Grows}
 use Rattle.hose_io.specs.Writing.{GrowsInPart}
 use Rattle.hose_io.specs.declared.sink.Sink.{Ghosts}
-use Rattle.hosed_program.specs.declared.choice.Asked.{Asked}
-use Rattle.hosed_program.specs.declared.choice.Asked.TheVariants.{Help, Version, Service}
+use Rattle.hosed_program.specs.declared.choice.TextOrCommand.{TextOrCommand}
+use Rattle.hosed_program.specs.declared.choice.TextOrCommand.TheVariants.{Help, Version, Command}
 
 -- `--help` alone, `--version` alone, or anything else
-abbrev pub asked_of : List (List ℕ) → Asked
-asked_of (word ∷ []) =
+abbrev pub text_or_command : List (List ℕ) → TextOrCommand
+text_or_command (word ∷ []) =
     if bytes_eq word (codes "--help") then Help
-    else if bytes_eq word (codes "--version") then Version else Service
-asked_of _ = Service
+    else if bytes_eq word (codes "--version") then Version else Command
+text_or_command _ = Command
 
 -- A text is out, the status is 0, and the sink has not failed; or it failed, a part is out, and the
 -- status is 4.

@@ -1,0 +1,202 @@
+#!/usr/bin/env python3
+"""Runs the program to each of its statuses, and compares what it says on standard error.
+
+At the status 0 that is nothing, and else one sentence, which names what the words named. What is
+wanted stands here, written by hand. Each status has one trial at least, and 1 and 6 have one for
+each cause that an operator meets: a word that is wrong, missing or empty, or the name of no node;
+a file that is not there, a folder that is not, rights that are missing, a journal that another
+program holds. Ends with status 1 where a status, or a sentence, is another one.
+
+usage: bench/reasons.py [PROGRAM]
+
+The PROGRAM is crates/hosed_main/out/hosed_main where none is named. It listens at a port of
+127.0.0.1 at most, and its files lie in a folder that is removed at the end. One trial reads 1 GiB,
+which takes a second or two.
+"""
+import os
+import resource
+import shutil
+import socket
+import subprocess
+import sys
+import tempfile
+
+from usage import tell_usage
+
+TOP = os.path.join(os.path.dirname(os.path.abspath(__file__)), "..")
+PROGRAM = os.path.join(TOP, "crates", "hosed_main", "out", "hosed_main")
+SECONDS = 120  # after which a program hangs
+NOBODY = 65_534  # a user without rights
+GIB, JSON_LIMIT = 1 << 30, 16 << 20
+
+HELP = ", see hosed --help"
+LAST = "the last line of the output tells"
+PLACE = "a line ends with a line feed alone, and a carriage return is part of a word"
+TEXT = "could not be read: it or its folder is not there, rights are missing, or its disk failed"
+JOURNAL = ("could not be opened or closed: its folder is not there, rights are missing, another "
+           "program holds it, or its disk failed")
+OTHER = "is damaged, or it is that of another network, or of other costs, than the topology"
+TWO_NODES = "node a\nnode b\nlink a b 10 7\nend\n"
+CERTIFICATE = "cost 1\nhose a:1 b:1\nuse 0 1\nend\n"
+
+
+class Trials:
+    """Trials of a program in a folder, and how many did otherwise than was wanted."""
+
+    def __init__(self, program, folder):
+        self.program, self.folder = program, folder
+        self.wrong = 0
+
+    def path(self, name):
+        return os.path.join(self.folder, name)
+
+    def write(self, name, text):
+        with open(self.path(name), "w", encoding="ascii") as file:
+            file.write(text)
+
+    def comes(self, words, status, sentence, text="", **streams):
+        """Runs the program, and tells where it did not end so."""
+        how = {"stdout": subprocess.DEVNULL, **streams}
+        if "stdin" not in how:
+            how["input"] = text
+        done = subprocess.run([self.program, *words], cwd=self.folder, timeout=SECONDS, text=True,
+                              stderr=subprocess.PIPE, check=False, **how)
+        want = f"hosed: {sentence}\n" if sentence else ""
+        same = (done.returncode, done.stderr) == (status, want)
+        self.wrong += not same
+        print(f"{'as wanted' if same else 'OTHERWISE'}: {' '.join(words) or '(no words)'}: "
+              f"{done.returncode} {done.stderr.rstrip()}")
+        if not same:
+            print(f"  wanted: {status} {want.rstrip()}")
+
+
+def words_that_are_wrong(trials):
+    trials.comes([], 1, f"word 1 is not allowed: it is missing{HELP}")
+    trials.comes(["fly"], 1, f'word 1 is not allowed: "fly"{HELP}')
+    trials.comes(["run", "--tariff", "nope"], 1, f'word 3 is not allowed: "nope"{HELP}')
+    trials.comes(["audit", "net.txt"], 1, f"word 3 is not allowed: it is missing{HELP}")
+    trials.comes(["serve", "net.txt", "j", "0", "1", "1"], 1,
+                 f'word 4 is not allowed: "0"{HELP}')
+    trials.comes(["run", ""], 1, f"word 2 is not allowed: it is empty, too long or no text{HELP}")
+    trials.comes(["run", "j", 'a "b"\nc'], 1, f'word 3 is not allowed: "a \\"b\\"\\nc"{HELP}')
+    trials.comes(["prove", "net.txt", "a:1", "z:1"], 1,
+                 f"the word that {LAST} is not allowed: it is the name of no node of the topology "
+                 f'"net.txt"{HELP}')
+
+
+def topologies(trials):
+    trials.write("bad.txt", TWO_NODES.replace("\n", "\r\n"))
+    trials.write("bad.json", "{}")
+    trials.comes(["run"], 2, "the topology in the input is not allowed at the place that "
+                 f"{LAST}: {PLACE}", "node a\r\n")
+    for name in ("bad.txt", "bad.json"):
+        trials.comes(["audit", name, "j"], 2,
+                     f'the topology "{name}" is not allowed at the place that {LAST}: {PLACE}')
+
+
+def streams(trials):
+    folder = os.open(trials.folder, os.O_RDONLY)
+    trials.comes(["run"], 3, "the input could not be read", stdin=folder)
+    os.close(folder)
+    with open("/dev/full", "w", encoding="ascii") as full:
+        for words in (["--help"], ["run"]):
+            trials.comes(words, 4, "the output could not be written: its disk is full, or what "
+                         "reads it has ended", TWO_NODES + "acme link 0\n", stdout=full)
+
+
+def journals(trials):
+    trials.comes(["run", "kept"], 0, None, TWO_NODES + "acme admit a:1 b:1\n")
+    trials.comes(["run", "kept"], 5, f'the journal "kept" {OTHER} in the input tells',
+                 TWO_NODES.replace("10 7", "10 8"))
+    trials.comes(["audit", "--tariff", "hops", "net.txt", "kept"], 5,
+                 f'the journal "kept" {OTHER} "net.txt" tells')
+
+
+def closed_error(trials):
+    """Without a standard error the sentence goes nowhere, and no file has it."""
+    with open(trials.path("kept"), "rb") as file:
+        before = file.read()
+    words = ["/bin/sh", "-c", 'exec "$@" 2>&-', trials.program, trials.program, "run", "kept"]
+    done = subprocess.run(words, cwd=trials.folder, timeout=SECONDS, input=TWO_NODES.replace(
+        "10 7", "10 8"), text=True, stdout=subprocess.DEVNULL, check=False)
+    with open(trials.path("kept"), "rb") as file:
+        same = (done.returncode, file.read()) == (5, before)
+    trials.wrong += not same
+    print(f"{'as wanted' if same else 'OTHERWISE'}: run kept 2>&-: {done.returncode}")
+
+
+def files(trials):
+    trials.comes(["audit", "none.txt", "j"], 6,
+                 f'the topology "none.txt" {TEXT}; or the journal "j" {JOURNAL}')
+    trials.comes(["check", "none.txt"], 6, f'the topology "none.txt" {TEXT}')
+    trials.comes(["run", "none/j"], 6, f'the journal "none/j" {JOURNAL}', TWO_NODES)
+    held = subprocess.Popen([trials.program, "run", "held"], cwd=trials.folder, text=True,
+                            stdin=subprocess.PIPE, stdout=subprocess.PIPE)
+    held.stdin.write(TWO_NODES + "acme link 0\n")
+    held.stdin.flush()
+    held.stdout.readline()
+    trials.comes(["run", "held"], 6, f'the journal "held" {JOURNAL}', TWO_NODES)
+    held.communicate(timeout=SECONDS)
+    trials.write("closed.txt", TWO_NODES)
+    os.chmod(trials.path("closed.txt"), 0)
+    os.chmod(trials.folder, 0o755)
+    nobody = {"preexec_fn": lambda: os.setuid(NOBODY)} if os.getuid() == 0 else {}
+    trials.comes(["price", "closed.txt"], 6, f'the topology "closed.txt" {TEXT}', **nobody)
+
+
+def limits(trials):
+    def starved():
+        resource.setrlimit(resource.RLIMIT_AS, (8 << 20, 8 << 20))
+
+    trials.comes(["gen", "1", "512", "2048", "10"], 7, "there was not enough memory",
+                 preexec_fn=starved)
+    with open(trials.path("long"), "wb") as file:
+        file.write(TWO_NODES.encode())
+        file.truncate(GIB + 1)
+    with open(trials.path("long"), "rb") as file:
+        trials.comes(["run"], 8, "the input is longer than 1 GiB", stdin=file)
+    trials.write("long.json", " " * (JSON_LIMIT + 1))
+    trials.comes(["check", "long.json"], 8,
+                 'the topology "long.json", or the input, is longer than 1 GiB, or the topology is '
+                 "in JSON and longer than 16 MiB")
+
+
+def ports(trials):
+    with socket.socket() as other:
+        other.bind(("127.0.0.1", 0))
+        other.listen()
+        port = str(other.getsockname()[1])
+        trials.comes(["serve", "net.txt", "j", port, "1", "1"], 9,
+                     f"the port {port} could not be opened: another program listens there, or "
+                     "rights are missing; or accepting a connection failed")
+
+
+def inputs(trials):
+    trials.comes(["check", "net.txt"], 10, "the certificate in the input is not valid for the "
+                 f'topology "net.txt": {LAST} the lowest rule that fails', CERTIFICATE)
+    trials.comes(["follow", "net.txt", "follower"], 11,
+                 f"the input has no whole packet at the byte that {LAST}", "packet")
+
+
+def main(words):
+    if "--help" in words or "-h" in words or len(words) > 1:
+        print(__doc__.strip())
+        return 0 if "--help" in words or "-h" in words else 2
+    program = os.path.abspath(words[0] if words else PROGRAM)
+    folder = tempfile.mkdtemp()
+    try:
+        trials = Trials(program, folder)
+        trials.write("net.txt", TWO_NODES)
+        for part in (words_that_are_wrong, topologies, streams, journals, closed_error, files,
+                     limits, ports, inputs):
+            part(trials)
+        trials.comes(["--version"], 0, None)
+    finally:
+        shutil.rmtree(folder)
+    print(f"{trials.wrong} did otherwise")
+    return 1 if trials.wrong else 0
+
+
+if __name__ == "__main__":
+    tell_usage(__doc__)
+    sys.exit(main(sys.argv[1:]))
