@@ -6,6 +6,7 @@
 # With names it runs these scripts alone, and prints the table in place of writing it. It ends with
 # status 1 where a script failed, whose row then says so.
 # usage: bench/all.sh [-l LOGS] [SCRIPT ..]     SCRIPT: as orders.sh; LOGS (out/figures)
+[ "${1-}" != --help ] || exec sed -n '2,/^[^#]/s/^# \{0,1\}//p' "$0"
 set -euo pipefail
 export LC_ALL=C
 cd "$(dirname "${BASH_SOURCE[0]}")/.."
@@ -14,8 +15,8 @@ if [ "${1-}" = -l ]; then
     logs=$2
     shift 2
 fi
-all=(admits book codec commands decisions journal json long_lines orders puts quotes serve standby
-    store takes topology)
+all=(admits book codec commands decisions journal json long_lines maintenance orders puts quotes
+    serve standby store takes topology)
 scripts=("$@")
 if (($# == 0)); then scripts=("${all[@]/%/.sh}"); fi
 mkdir -p "$logs"

@@ -3,6 +3,7 @@
 # stand in bench/figures/NAME under names with `.txt` behind them, since the gate takes none of
 # Rattle outside of crates/; they are built as the crate figures_NAME in a copy of this repository.
 # usage: bench/figures/build.sh NAME     NAME: codec, digests, quotes or takes
+[ "${1-}" != --help ] || exec sed -n '2,/^[^#]/s/^# \{0,1\}//p' "$0"
 set -euo pipefail
 export LC_ALL=C
 cd "$(dirname "${BASH_SOURCE[0]}")/../.."
