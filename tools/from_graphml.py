@@ -2,12 +2,13 @@
 """Writes the topology of a network in GraphML, as those of the Internet Topology Zoo are and as
 networkx writes them, on standard output; what was changed is told on standard error.
 
-A node's name is made of its `label`, or of its id: in lower case, with one `-` for what a name may
-not have, 16 bytes at most, and a number where two would be one. A link's length is the great circle
-between its nodes in whole km, at least 1, by their `Longitude` and `Latitude`; else that of
---length. Its capacity is its `LinkSpeedRaw`, in bits a second, in whole Mbit/s rounded down, at
-least 1; else that of --capacity. Loops, and edges to nodes that are not there, are dropped. The
-places of nodes stand in comment lines `# at NAME LONGITUDE LATITUDE`.
+A node's name is made of its `label`, or of its id: in lower case and without marks, with one `-`
+for what a name may not have, 16 bytes at most, and a number where two would be one. A link's length
+is the great circle between its nodes in whole km, at least 1, by their `Longitude` and `Latitude`;
+where one of them has none, it is that of --length. Its capacity is its `LinkSpeedRaw`, in bits a
+second, in whole Mbit/s rounded down, at least 1; else that of --capacity. Loops, and edges to nodes
+that are not there, are dropped. The places of nodes stand in comment lines
+`# at NAME LONGITUDE LATITUDE`.
 
 example:
   python3 tools/from_graphml.py demo/alps.graphml > alps.txt
@@ -65,14 +66,20 @@ def data_of(element, keys: Keys) -> Dict[str, str]:
     return found
 
 
-def graph_of(content: bytes, draft: topologies.Draft):
-    """The root of the document, and its first graph."""
+def root_of(content: bytes, name: str, what: str):
+    """The root of a document, which has to have this name."""
     try:
         root = ElementTree.fromstring(content)
     except (ElementTree.ParseError, ValueError, LookupError) as fault:
-        raise networks.WrongInput(f"it is not GraphML, nor any other XML: {fault}") from None
-    if local(root) != "graphml":
-        raise networks.WrongInput(f"it is XML, but its root is {ascii(local(root))}, not 'graphml'")
+        raise networks.WrongInput(f"it is not {what}, nor any other XML: {fault}") from None
+    if local(root) != name:
+        raise networks.WrongInput(f"it is XML, but its root is {ascii(local(root))}, not '{name}'")
+    return root
+
+
+def graph_of(content: bytes, draft: topologies.Draft):
+    """The root of the document, and its first graph."""
+    root = root_of(content, "graphml", "GraphML")
     graphs = children(root, "graph")
     if not graphs:
         raise networks.WrongInput("there is no graph in it")

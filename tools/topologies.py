@@ -8,6 +8,7 @@ import json
 import math
 import re
 import sys
+import unicodedata
 from typing import Callable, Dict, List, Optional, Tuple
 
 import networks
@@ -15,14 +16,23 @@ import networks
 MOST_NODES, MOST_LINKS = 512, 2048
 MOST_CAPACITY, MOST_LENGTH = 1_000_000_000, 1_000_000
 MOST_NAME = 16
+SHOWN = 5  # nodes that a sentence names
 EARTH = 6371.0088  # km, the mean radius
+LETTERS = str.maketrans({
+    "\xdf": "ss", "\xe6": "ae", "\u0153": "oe", "\xf8": "o", "\u0142": "l", "\u0111": "d",
+    "\xf0": "d", "\xfe": "th", "\u0131": "i", "\u0127": "h", "\u0167": "t", "\u2019": "'",
+})
+"""Small letters that are no letter with a mark, in those that a name may have."""
 
 Place = Tuple[float, float]  # longitude and latitude, in degrees
 
 
 def name_of(label: str) -> str:
-    """A label in lower case, with one `-` for what a name may not have; it may be empty."""
-    return re.sub("[^a-z0-9]+", "-", label.lower()).strip("-")[:MOST_NAME].rstrip("-")
+    """A label in lower case and without marks, with one `-` for what a name may not have; it may be
+    empty."""
+    letters = unicodedata.normalize("NFKD", label.lower().translate(LETTERS))
+    plain = "".join(letter for letter in letters if not unicodedata.combining(letter))
+    return re.sub("[^a-z0-9]+", "-", plain).strip("-")[:MOST_NAME].rstrip("-")
 
 
 def kilometres(one: Place, other: Place) -> float:
@@ -130,33 +140,25 @@ class Draft:
         """The whole; what was taken for all links without their own is told."""
         if not self.names:
             raise networks.WrongInput("there is no node")
+        missing = []
         for what, count in self.without.items():
-            if not count:
-                continue
-            wanted = getattr(self, what)
-            if wanted is None:
-                reason = "capacity" if what == "capacity" else "length, as a node has no place"
-                raise networks.WrongInput(
-                    f"{count} of {len(self.links)} links have no {reason}: give one by --{what}"
-                )
-            self.note(f"{count} of {len(self.links)} links have the {what} {wanted} by --{what}")
+            told = f"{count} of {len(self.links)} links"
+            if count and getattr(self, what) is None:
+                missing.append(f"{told} have no {what}{self.because(what)}: give one by --{what}")
+            elif count:
+                self.note(f"{told} have the {what} {getattr(self, what)} by --{what}")
+        if missing:
+            raise networks.WrongInput("; ".join(missing))
         return networks.Topology(list(self.names.values()), self.links, self.places)
 
-
-def degrees(value: float) -> str:
-    return f"{value:.6f}".rstrip("0").rstrip(".")
-
-
-def text_of(topology: networks.Topology) -> str:
-    """A topology as text, with the places as comment lines."""
-    lines = []
-    for name in topology.nodes:
-        if name in topology.places:
-            lines.append(f"# at {name} {' '.join(map(degrees, topology.places[name]))}")
-        lines.append(f"node {name}")
-    for link in topology.links:
-        lines.append(f"link {link.a} {link.b} {link.capacity} {link.length}")
-    return "\n".join([*lines, "end"]) + "\n"
+    def because(self, what: str) -> str:
+        """Why links have no length: which nodes have no place."""
+        nodes = [name for name in self.names.values() if name not in self.places]
+        if what != "length" or not nodes:
+            return ""
+        more = len(nodes) - SHOWN
+        some = ", ".join(nodes[:SHOWN]) + (f" and {more} more" if more > 0 else "")
+        return f", as {some} {'has' if len(nodes) == 1 else 'have'} no place"
 
 
 def json_of(topology: networks.Topology) -> str:
@@ -212,4 +214,4 @@ def main(description: str, read: Callable[[bytes, Draft], None]) -> None:
         raise networks.WrongInput(f"{given.file}: {wrong}") from None
     for change in draft.changes:
         print(f"{words.prog}: {change}", file=sys.stderr)
-    print((json_of if given.json else text_of)(topology), end="")
+    print((json_of if given.json else networks.text_of)(topology), end="")
