@@ -1,6 +1,6 @@
 #!/usr/bin/env python3
 """Judges a certificate by the six rules of docs/GUIDE.md alone: `yes C`, or `no K` with the lowest
-that fails. TOPOLOGY has its own costs. The status is 0, or 10 at no, or 2 where a file is wrong."""
+that fails. The status is 0, or 10 at no, or 2 where a file is wrong."""
 import argparse
 import re
 import sys
@@ -69,9 +69,9 @@ def main():
     words = argparse.ArgumentParser(description=__doc__)
     words.add_argument("topology", metavar="TOPOLOGY")
     words.add_argument("certificate", metavar="CERTIFICATE", nargs="?", default="-")
-    given = words.parse_args()
-    answer = judged(networks.load(networks.read_topology, given.topology),
-                    networks.read_file(given.certificate))
+    given = networks.add_tariff(words).parse_args()
+    answer = judged(networks.load_topology(given.topology, given.tariff),
+                    networks.read_any(given.certificate))
     print(answer, flush=True)
     sys.exit(10 if answer.startswith("no") else 0)
 

@@ -1,20 +1,23 @@
 """What the server's texts say, as plain values: topologies, audits, and replies to `link`.
 
 docs/GUIDE.md has the texts. A line is read by its form, and names have to be known; what the
-server judges beyond that, as limits on numbers, is left to the server.
+server judges beyond that, as limits on numbers, is left to the server. A topology whose path ends
+in `.json` is read as JSON, as the server does.
 
-    topology = networks.read_topology(networks.read_file("demo/backbone.txt"))
+    topology = networks.load_topology("demo/backbone.txt")
     audit = networks.load(networks.read_audit, "demo/backbone_audit.txt")
-    networks.check_audit(topology, audit)
+    topology = networks.of_audit(topology, audit)
 
 A program of this folder ends by `sys.exit(networks.status_of(main))`, which turns `WrongInput` into
-one sentence on standard error and status 2.
+one sentence on standard error and its status, which is 2 for most.
 """
+import argparse
+import json
 import os
 import re
 import sys
-from dataclasses import dataclass, field
-from typing import Callable, Dict, List, Tuple
+from dataclasses import dataclass, field, replace
+from typing import Callable, Dict, List, Optional, Tuple
 
 USAGE_OR_INPUT = 2
 NOBODY_READS = 128 + 13  # as a shell tells it of a program that SIGPIPE ended
@@ -22,7 +25,9 @@ INTERRUPTED = 128 + 2
 
 
 class WrongInput(Exception):
-    """What a tool cannot go on with, as one sentence."""
+    """What a tool cannot go on with, as one sentence, and the status with which it ends."""
+
+    status = USAGE_OR_INPUT
 
 
 class WrongText(WrongInput):
@@ -32,6 +37,10 @@ class WrongText(WrongInput):
         super().__init__(f"line {line}: {what}")
         self.line = line
         self.what = what
+
+
+class WrongJson(WrongInput):
+    """A text that is no topology in JSON: where, as in `links 2`, and what is wrong there."""
 
 
 class OtherNetwork(WrongInput):
@@ -99,6 +108,7 @@ def form(text: str) -> "re.Pattern":
     return re.compile(text.replace("N", "[0-9]{1,20}").replace("W", "[a-z0-9-]{1,16}"))
 
 
+NAME = form("W")
 NODE = form("node W")
 LINK = form("link W W N N(?: N)?")
 EPOCH = form("epoch N")
@@ -106,6 +116,12 @@ STATE = form("link N W W capacity N cost N load N")
 REPLY = form("link N W W capacity N cost N load N( out)? at N")
 VPN = form("vpn N W cost N ends W:N .. links N:N ..")
 LIVE = form("live N cost N")
+TARIFFS: Dict[str, Callable[[int], int]] = {
+    "flat": lambda length: length,
+    "hops": lambda length: 1,
+    "long": lambda length: min(5 + 2 * length, 1_000_000),
+}
+"""What each tariff makes of a link's length."""
 COORDINATE = r"(-?[0-9]{1,9}(?:\.[0-9]{1,20})?)"
 PLACE = re.compile(f"# at ([a-z0-9-]{{1,16}}) {COORDINATE} {COORDINATE}")
 
@@ -121,6 +137,12 @@ def lines_of(text: str) -> List[str]:
 def shown(line: str) -> str:
     """A line as a sentence may show it."""
     return ascii(line if len(line) <= 40 else line[:37] + "...")
+
+
+def unlike(line: str, what: str) -> str:
+    """That a line is not what should stand there; a carriage return is seen by few editors."""
+    returns = ", and a carriage return stands in it" if "\r" in line else ""
+    return f"{shown(line)} is {what}{returns}"
 
 
 def read_topology(text: str) -> Topology:
@@ -149,8 +171,8 @@ def read_topology(text: str) -> Topology:
         elif link:
             links.append(topology_link(at, len(links), link, known))
         else:
-            raise WrongText(at, f"{shown(line)} is not a line of a topology (`node NAME`, "
-                                "`link A B CAPACITY LENGTH` with or without COST, `end`)")
+            raise WrongText(at, unlike(line, "not a line of a topology (`node NAME`, "
+                                       "`link A B CAPACITY LENGTH` with or without COST, `end`)"))
     raise WrongText(len(lines) + 1, "the topology ends without its line `end`")
 
 
@@ -162,6 +184,79 @@ def topology_link(at: int, number: int, link: "re.Match", known: set) -> Link:
     if capacity == 0:
         raise WrongText(at, "the link has no capacity")
     return Link(number, link[1], link[2], capacity, length, int(link[5] or length))
+
+
+def read_json(text: str) -> Topology:
+    """The network of a topology in JSON."""
+    try:
+        told = json.loads(text, parse_constant=no_number)
+    except (ValueError, RecursionError) as fault:
+        raise WrongJson(f"it is no JSON: {fault}") from None
+    if not isinstance(told, dict):
+        raise WrongJson("the JSON is no object")
+    nodes, links = told.get("nodes"), told.get("links")
+    if not isinstance(nodes, list) or not nodes:
+        raise WrongJson("nodes: there is no array of names")
+    known: set = set()
+    for place, name in enumerate(nodes):
+        if not isinstance(name, str) or not NAME.fullmatch(name) or name in known:
+            raise WrongJson(f"nodes {place}: {shown(json.dumps(name))} is no name, or one again")
+        known.add(name)
+    if not isinstance(links, list):
+        raise WrongJson("links: there is no array of links")
+    return Topology(nodes, [json_link(at, link, known) for at, link in enumerate(links)])
+
+
+def no_number(word: str) -> None:
+    raise ValueError(f"{word} stands in it")
+
+
+def json_link(at: int, link, known: set) -> Link:
+    found = link if isinstance(link, dict) else {}
+    ends = [found.get(name) for name in "ab"]
+    capacity, length = found.get("capacity"), found.get("length")
+    cost = found.get("cost", length)
+    if not (all(isinstance(end, str) and end in known for end in ends) and ends[0] != ends[1]
+            and all(type(number) is int and number > 0 for number in (capacity, length, cost))):
+        raise WrongJson(f"links {at}: it is no object with `a` and `b`, the names of two nodes, "
+                        "and the numbers `capacity`, `length` and, where it has one, `cost`")
+    return Link(at, *ends, capacity, length, cost)
+
+
+def load_topology(path: str, tariff: Optional[str] = None) -> Topology:
+    """The network of a file, with the costs of a tariff where one is named."""
+    topology = load(read_json if path.endswith(".json") else read_topology, path)
+    return priced(topology, tariff) if tariff else topology
+
+
+def priced(topology: Topology, tariff: str) -> Topology:
+    """The network with the costs of a tariff."""
+    links = [replace(link, cost=TARIFFS[tariff](link.length)) for link in topology.links]
+    return replace(topology, links=links)
+
+
+def text_of(topology: Topology) -> str:
+    """A topology as text, with the places as comment lines."""
+    lines = []
+    for name in topology.nodes:
+        if name in topology.places:
+            lines.append(f"# at {name} {' '.join(map(decimal, topology.places[name]))}")
+        lines.append(f"node {name}")
+    for link in topology.links:
+        cost = "" if link.cost == link.length else f" {link.cost}"
+        lines.append(f"link {link.a} {link.b} {link.capacity} {link.length}{cost}")
+    return "\n".join([*lines, "end"]) + "\n"
+
+
+def decimal(value: float) -> str:
+    return f"{value:.6f}".rstrip("0").rstrip(".")
+
+
+def add_tariff(words: argparse.ArgumentParser) -> argparse.ArgumentParser:
+    """Adds `--tariff NAME` to the words of a program."""
+    words.add_argument("--tariff", metavar="NAME", choices=list(TARIFFS),
+                       help="the tariff of the book: " + ", ".join(TARIFFS))
+    return words
 
 
 def read_audit(text: str) -> Audit:
@@ -187,7 +282,7 @@ def read_audit(text: str) -> Audit:
                 raise WrongText(at, f"it tells {live[1]} VPNs, and {len(vpns)} stand before it")
             return Audit(int(epoch[1]), links, vpns, int(live[1]), int(live[2]))
         else:
-            raise WrongText(at, f"{shown(line)} is not the line of an audit that may stand here")
+            raise WrongText(at, unlike(line, "not the line of an audit that may stand here"))
     raise WrongText(len(lines) + 1, "the audit ends without its line `live K cost C`")
 
 
@@ -216,7 +311,7 @@ def read_link_replies(text: str) -> List[LinkState]:
         if line.split(" ")[0] == "link":
             reply = REPLY.fullmatch(line)
             if not reply:
-                raise WrongText(at, f"{shown(line)} is not a reply to `link`")
+                raise WrongText(at, unlike(line, "not a reply to `link`"))
             found.append(link_state(at, reply, reply[7] is not None))
     if not found:
         raise WrongText(1, "there is no reply to `link`")
@@ -226,6 +321,20 @@ def read_link_replies(text: str) -> List[LinkState]:
 def latest(states: List[LinkState]) -> List[LinkState]:
     """The links that are told, by ascending numbers, each as it is told last."""
     return [state for _, state in sorted({state.number: state for state in states}.items())]
+
+
+def of_audit(topology: Topology, audit: Audit, tariff: Optional[str] = None) -> Topology:
+    """The network with the costs of an audit: those of the tariff that is named, else its own or
+    those of any tariff. Raises `OtherNetwork` where the audit is not one of it."""
+    may_be = [priced(topology, name) for name in ([tariff] if tariff else TARIFFS)]
+    faults = []
+    for network in may_be if tariff else [topology, *may_be]:
+        try:
+            check_audit(network, audit)
+            return network
+        except OtherNetwork as fault:
+            faults.append(fault)
+    raise faults[0]
 
 
 def check_audit(topology: Topology, audit: Audit) -> None:
@@ -264,8 +373,8 @@ def words_of(a: str, b: str, capacity: int, cost: int) -> str:
     return f"{a} {b} capacity {capacity} cost {cost}"
 
 
-def read_file(path: str) -> str:
-    """The text in a file, or that of standard input where the path is `-`."""
+def read_any(path: str) -> str:
+    """What is in a file, or in standard input where the path is `-`, whatever bytes these are."""
     name = named(path)
     if path == "-" and sys.stdin is None:
         raise WrongInput(f"{name} is closed")
@@ -278,11 +387,18 @@ def read_file(path: str) -> str:
     except (OSError, ValueError) as fault:
         reason = getattr(fault, "strerror", None) or fault
         raise WrongInput(f"{name} cannot be read: {reason}") from None
-    if content[1:5] == b"HOSE":
-        raise WrongInput(f"{name} is a journal; `hosed audit TOPOLOGY JOURNAL` tells what it holds")
-    if b"\0" in content:
-        raise WrongInput(f"{name} is not a text")
     return content.decode("utf-8", "surrogateescape")  # a comment may have any bytes
+
+
+def read_file(path: str) -> str:
+    """The text in a file, or that of standard input where the path is `-`."""
+    text = read_any(path)
+    if text[1:5] == "HOSE":
+        raise WrongInput(f"{named(path)} is a journal; `hosed audit TOPOLOGY JOURNAL` tells what "
+                         "it holds")
+    if "\0" in text:
+        raise WrongInput(f"{named(path)} is not a text")
+    return text
 
 
 def named(path: str) -> str:
@@ -293,7 +409,7 @@ def load(reader: Callable, path: str):
     """What a reader of texts makes of a file; its sentences begin with the file."""
     try:
         return reader(read_file(path))
-    except WrongText as wrong:
+    except (WrongText, WrongJson) as wrong:
         raise WrongInput(f"{named(path)}, {wrong}") from None
 
 
@@ -306,7 +422,7 @@ def status_of(main: Callable[[], None]) -> int:
         sys.stdout.flush()
         return 0
     except WrongInput as wrong:
-        return told(str(wrong))
+        return told(str(wrong), wrong.status)
     except KeyboardInterrupt:
         return INTERRUPTED
     except OSError as fault:
@@ -317,6 +433,6 @@ def status_of(main: Callable[[], None]) -> int:
         return told(f"the output cannot be written: {fault.strerror}")
 
 
-def told(sentence: str) -> int:
+def told(sentence: str, status: int = USAGE_OR_INPUT) -> int:
     print(f"{os.path.basename(sys.argv[0])}: {sentence}", file=sys.stderr)
-    return USAGE_OR_INPUT
+    return status

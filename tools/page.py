@@ -16,6 +16,9 @@ customer. A VPN or a link that is chosen, in a table, in the picture or by the e
 address, as PAGE.html#vpn=1 or PAGE.html#link=5, is shown in the picture and in numbers; Escape
 shows all again.
 
+TOPOLOGY is JSON where its name ends in `.json`. The costs are those of the audit, which have to be
+the network's own or those of a tariff; of the one that --tariff names, where it is given.
+
 Nodes stand where comment lines `# at NAME X Y` of the topology put them, with Y growing upward, and
 the others where springs along the links pull them, in the same way each time.
 """
@@ -130,19 +133,19 @@ def out_of(topology, replies):
     return frozenset(link.number for link in told if link.out)
 
 
-def audit_of(topology, text):
-    audit = networks.read_audit(text)
-    networks.check_audit(topology, audit)
-    return audit
-
-
-def load(reader, topology, path, of):
-    """What a reader makes of a file and a topology, where that is of the same network."""
+def of_network(made, path, of):
+    """What `made` makes of a text in a file, where that is of the same network as another file."""
     try:
-        return networks.load(lambda text: reader(topology, text), path)
+        return networks.load(made, path)
     except networks.OtherNetwork as other:
         raise networks.WrongInput(f"{networks.named(path)} is of another network than "
                                   f"{networks.named(of)}: {other}") from None
+
+
+def audited(topology, tariff, text):
+    """The audit of a text, and the network with its costs."""
+    audit = networks.read_audit(text)
+    return networks.of_audit(topology, audit, tariff), audit
 
 
 def main():
@@ -153,10 +156,14 @@ def main():
                        help="an audit of this network, `-` for standard input")
     words.add_argument("replies", metavar="REPLIES", nargs="?",
                        help="replies to `link`; a link that is told to be out is dashed")
-    given = words.parse_args()
-    topology = networks.load(networks.read_topology, given.topology)
-    audit = given.audit and load(audit_of, topology, given.audit, given.topology)
-    out = load(out_of, topology, given.replies, given.topology) if given.replies else frozenset()
+    given = networks.add_tariff(words).parse_args()
+    topology, audit = networks.load_topology(given.topology, given.tariff), None
+    if given.audit:
+        topology, audit = of_network(lambda text: audited(topology, given.tariff, text),
+                                     given.audit, given.topology)
+    out = frozenset()
+    if given.replies:
+        out = of_network(lambda text: out_of(topology, text), given.replies, given.topology)
     print(page(os.path.basename(given.topology), topology, audit, out), end="")
 
 

@@ -7,7 +7,10 @@ from collections import defaultdict
 import places
 
 WIDTH, MOST_HEIGHT, MARGIN = 1000, 620, 60
-GAP = 22  # between two links that join the same nodes, where these are not nearer than 4 of it
+ONE_PLACE = 4  # nodes that are nearer stand at one place
+APART = 64  # between two nodes of one place; half of it is more than 10 pixels on a telephone
+EDGE = 6
+GAP = 22  # between two links that join the same nodes, where these are not nearer than 3 of it
 NAMED = 80  # nodes, of which no more are named in the picture
 SHARED = 60  # links, of which no more have their use beside them
 DIRECTIONS = ("e", "ne", "n", "nw", "w", "sw", "s", "se")
@@ -19,7 +22,8 @@ class Picture:
     def __init__(self, topology):
         self.topology = topology
         self.number = {name: place for place, name in enumerate(topology.nodes)}
-        self.nodes, self.height = fitted(places.places_of(topology))
+        nodes, self.height = fitted(places.places_of(topology))
+        self.nodes = parted(nodes, self.height)
         self.bends = bends(topology.links)
 
     def ends(self, link):
@@ -29,7 +33,7 @@ class Picture:
         """The point of a link's curve that is half way between its nodes."""
         (ax, ay), (bx, by) = self.ends(link)
         across = math.dist((ax, ay), (bx, by)) or 1
-        bend = self.bends[link.number] * min(GAP, across / 4) / across
+        bend = self.bends[link.number] * min(GAP, across / 3) / across
         bend = bend if link.a < link.b else -bend
         return (ax + bx) / 2 - bend * (by - ay), (ay + by) / 2 + bend * (bx - ax)
 
@@ -52,6 +56,28 @@ def fitted(at):
     indent = (WIDTH - width * scale) / 2
     return ([(indent + (x - left) * scale, MARGIN + (low + height - y) * scale) for x, y in at],
             height * scale + 2 * MARGIN)
+
+
+def parted(nodes, height):
+    """The nodes, those at one place on a circle round it, so that a link between them is seen and
+    can be pointed at. The circle lies within the picture."""
+    together = []
+    for number, at in enumerate(nodes):
+        near = (group for group in together if math.dist(nodes[group[0]], at) < ONE_PLACE)
+        group = next(near, None)
+        if group:
+            group.append(number)
+        else:
+            together.append([number])
+    found = list(nodes)
+    for group in (group for group in together if len(group) > 1):
+        radius = min(APART / 2 / math.sin(math.pi / len(group)), height / 2 - EDGE)
+        x, y = (min(max(value, radius + EDGE), most - radius - EDGE)
+                for value, most in zip(nodes[group[0]], (WIDTH, height)))
+        for place, number in enumerate(group):
+            angle = 2 * math.pi * place / len(group) + math.pi
+            found[number] = (x + radius * math.cos(angle), y + radius * math.sin(angle))
+    return found
 
 
 def bends(links):

@@ -10,14 +10,19 @@ written for each VPN, and one for all:
   vpn OLD CUSTOMER refused: REPLY        it is not there; the REPLY says why
   moved K of N cost C now D              how many were admitted, and what these cost together
 
-example, for a network in new.txt:
+With --topology the text of a network stands before the script, whose file is JSON where its name
+ends in `.json`: then the whole is what `hosed run` reads. With --down L, once for each link that is
+to be out of service, an `operator down L` stands before the first VPN. In OUTPUT the replies to
+such lines, before the first VPN's, are passed over.
+
+example, for a network in new.json of which link 3 is out:
   ./hosed audit demo/backbone.txt backbone.journal > audit.txt
-  python3 tools/replay.py audit.txt > script.txt
-  cat new.txt script.txt | ./hosed run new.journal > output.txt
-  python3 tools/replay.py audit.txt output.txt
+  python3 tools/replay.py --topology new.json --down 3 audit.txt | ./hosed run new.journal > output
+  python3 tools/replay.py audit.txt output
 
 Each VPN is planned anew, so its links may be others. Those that come first have the first choice of
-what is free; who is refused may be admitted where others are given up.
+what is free; who is refused may be admitted where others are given up. That may be so on the same
+network too, where what was released meanwhile had led a later VPN another way.
 
 status:
   0 the script was written, or each VPN was admitted; 1 one was refused; 2 these words are not
@@ -67,19 +72,27 @@ def may_answer(reply, vpn: networks.Vpn) -> bool:
 def moves(audit: networks.Audit, output: str) -> List[Move]:
     """What became of each VPN of an audit, by what `hosed run` wrote to the script."""
     lines, vpns, found = networks.lines_of(output), audit.vpns, []
-    for at, line in enumerate(lines, 1):
-        if at > len(vpns):
+    before = replies_before(lines)
+    for at, line in enumerate(lines[before:], before + 1):
+        if len(found) == len(vpns):
             what = f"{networks.shown(line)} stands after the replies to all {len(vpns)} VPNs"
             raise networks.WrongText(at, what)
-        reply = client.read_reply(line)
-        if not may_answer(reply, vpns[at - 1]):
-            what = f"{networks.shown(line)} is no reply to {networks.shown(line_of(vpns[at - 1]))}"
+        vpn, reply = vpns[len(found)], client.read_reply(line)
+        if not may_answer(reply, vpn):
+            what = networks.unlike(line, f"no reply to {networks.shown(line_of(vpn))}")
             raise networks.WrongText(at, what)
-        found.append(Move(vpns[at - 1], reply))
-    if len(lines) < len(vpns):
-        what = f"the replies end after {len(lines)} of {len(vpns)} VPNs"
+        found.append(Move(vpn, reply))
+    if len(found) < len(vpns):
+        what = f"the replies end after {len(found)} of {len(vpns)} VPNs"
         raise networks.WrongText(len(lines) + 1, what)
     return found
+
+
+def replies_before(lines: List[str]) -> int:
+    """How many replies to `down` stand before all others."""
+    kinds = client.Down, client.Already
+    return next((at for at, line in enumerate(lines)
+                 if not isinstance(client.read_reply(line), kinds)), len(lines))
 
 
 def total(found: List[Move]) -> str:
@@ -88,17 +101,26 @@ def total(found: List[Move]) -> str:
     return f"moved {len(moved)} of {len(found)} cost {was} now {now}"
 
 
+def write_script(given: argparse.Namespace, audit: networks.Audit) -> None:
+    if given.topology:
+        print(networks.text_of(networks.load_topology(given.topology)), end="")
+    for line in [*(f"operator down {link}" for link in given.down), *script(audit)]:
+        print(line)
+
+
 def main() -> None:
     words = argparse.ArgumentParser(
         description=__doc__, formatter_class=argparse.RawDescriptionHelpFormatter
     )
     words.add_argument("audit", metavar="AUDIT", help="what `hosed audit` wrote")
     words.add_argument("output", metavar="OUTPUT", nargs="?", help="what came of the script")
+    words.add_argument("--topology", metavar="TOPOLOGY", help="stands before the script, as text")
+    words.add_argument("--down", metavar="L", type=int, action="append", default=[],
+                       help="a link that is taken out of service before the first VPN")
     given = words.parse_args()
     audit = networks.load(networks.read_audit, given.audit)
     if given.output is None:
-        for line in script(audit):
-            print(line)
+        write_script(given, audit)
         return
     found = networks.load(lambda text: moves(audit, text), given.output)
     for move in found:

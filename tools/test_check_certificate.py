@@ -1,6 +1,8 @@
 """Tests of check_certificate.py: certificates that were worked out by hand, and each rule broken
 by one."""
+import json
 import os
+import tempfile
 import unittest
 
 import check_certificate
@@ -223,6 +225,32 @@ class Program(unittest.TestCase):
     def test_statuses(self):
         self.assertEqual(self.run_on(TEXT), (0, "yes 26\n", ""))
         self.assertEqual(self.run_on(TEXT[1:]), (10, "no 1\n", ""))
+
+    def test_bytes_that_are_no_text(self):
+        """As `check` says of them: rule 1 fails."""
+        for text in (TEXT[:-1] + "\0", "\0", "\1HOSE\1" + "\0" * 33, TEXT.replace("a:3", "\xe4:3")):
+            self.assertEqual(self.run_on(text), (10, "no 1\n", ""))
+
+    def test_a_tariff_and_json(self):
+        """By `hops` each link of the star costs 1: 3 + 4 + 5, from the middle 1, else 2."""
+        star = os.path.join(DEMO, "star.txt")
+        rows = ["0 2 2 1", "2 0 2 1", "2 2 0 1", "1 1 1 0"]
+        text = "\n".join(["cost 12", *LINES[1:5], *(f"pot {root} 0 {row}" for root, row
+                                                   in enumerate(rows)), "end", ""])
+        links = [{"a": link.a, "b": link.b, "capacity": 10, "length": link.length}
+                 for link in STAR.links]
+        with tempfile.TemporaryDirectory() as folder:
+            path = os.path.join(folder, "star.json")
+            with open(path, "w", encoding="ascii") as file:
+                json.dump({"nodes": STAR.nodes, "links": links}, file)
+            for topology in (star, path):
+                for words, of, answer in (
+                        ([], TEXT, (0, "yes 26\n", "")), ([], text, (10, "no 3\n", "")),
+                        (["--tariff", "hops"], text, (0, "yes 12\n", "")),
+                        (["--tariff", "hops"], TEXT, (10, "no 3\n", ""))):
+                    told = within("check_certificate.py", check_certificate.main, *words, topology,
+                                  text=of)
+                    self.assertEqual(told, answer)
 
     def test_files(self):
         names = (os.path.join(DEMO, name) for name in ("star.txt", "star_certificate.txt"))

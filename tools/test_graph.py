@@ -1,8 +1,13 @@
 """Tests of graph.py: the picture of a small audit, worked out by hand."""
+import json
+import os
+import re
+import tempfile
 import unittest
 
 import graph
 import networks
+from runs import within
 
 AUDIT = """epoch 1
 link 0 a h capacity 10 cost 1 load 0
@@ -10,6 +15,11 @@ link 1 b h capacity 10 cost 2 load 5
 link 2 c h capacity 10 cost 3 load 10
 live 0 cost 40
 """
+TOPOLOGY = "node a\nnode b\nnode c\nnode h\n" \
+    "link a h 10 1\nlink b h 10 2\nlink c h 10 3\nend\n"
+JSON = json.dumps({"nodes": ["a", "b", "c", "h"], "links": [
+    {"a": name, "b": "h", "capacity": 10, "length": length}
+    for name, length in (("a", 1), ("b", 2), ("c", 3))]})
 # A hue of a third is green, and one of 0 red; a link's width goes from 1 to 12, by its load.
 DRAWN = [
     'graph {',
@@ -40,8 +50,26 @@ class Graphs(unittest.TestCase):
                          ['graph {', '  "b" -- "h"', '  "c" -- "h"', '}'])
 
     def test_another_text(self):
-        with self.assertRaisesRegex(networks.WrongText, "line 2: .*, and the text is no audit"):
-            graph.read_links("node a\nlink a b 1 1\n")
+        sentence = "line 2: .*, and the text is neither an audit nor a topology"
+        with self.assertRaisesRegex(networks.WrongText, sentence):
+            graph.read_links("bye\nlink a b 1 1\n")
+
+    def test_a_topology(self):
+        """Its links carry nothing: each is as thin as they get, and green."""
+        drawn = [DRAWN[0], DRAWN[1], *(DRAWN[1].replace('"a"', name).replace("0: 0", f"{link}: 0")
+                                       for link, name in ((1, '"b"'), (2, '"c"'))), DRAWN[4]]
+        for name, text in (("star.txt", TOPOLOGY), ("star.json", JSON)):
+            with tempfile.TemporaryDirectory() as folder:
+                path = os.path.join(folder, name)
+                with open(path, "w", encoding="ascii") as file:
+                    file.write(text)
+                self.assertEqual(within("graph.py", graph.main, path),
+                                 (0, "".join(f"{line}\n" for line in drawn), ""))
+
+    def test_a_book_under_a_tariff(self):
+        """What links cost is not drawn."""
+        audit = re.sub("cost [123] ", "cost 1 ", AUDIT)
+        self.assertEqual(graph.graph(graph.read_links(audit)), DRAWN)
 
 
 if __name__ == "__main__":

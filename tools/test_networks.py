@@ -1,6 +1,7 @@
 """Tests of networks.py, by texts after docs/GUIDE.md."""
 import contextlib
 import io
+import json
 import os
 import tempfile
 import unittest
@@ -44,6 +45,8 @@ WRONG_TOPOLOGIES = [
     ("node a\nnode b\nlink a b 0 1\nend\n", 3, "no capacity"),
     ("node <script>\nend\n", 1, "not a line of a topology"),
     ("node a\r\nend\r\n", 1, r"'node a\r'"),
+    ("node a\r\nend\r\n", 1, ", and a carriage return stands in it"),
+    ("node a\nend\r\n", 2, ", and a carriage return stands in it"),
     ("node " + "a" * 99 + "\nend\n", 1, "aaa...'"),
 ]
 WRONG_AUDITS = [
@@ -59,8 +62,31 @@ WRONG_AUDITS = [
     (AUDIT[:-15], 5, "without its line `live K cost C`"),
 ]
 WRONG_REPLIES = [
+    ("link 0 a b capacity 9 cost 1 load 0 at 0\r\n", 1, "and a carriage return stands in it"),
     ("admitted 1 cost 1 at 1 links 0:1\n", 1, "no reply to `link`"),
     ("bye\nlink 0 a b capacity 9 cost 1 load 0\n", 2, "not a reply to `link`"),
+]
+NODES = '{"nodes": ["a", "b"], "links": '
+JSON_LINK = '{"a": "a", "b": "b", "capacity": 9, "length": 7}'
+WRONG_JSON = [
+    # the text, and the beginning of the sentence
+    ("", "it is no JSON: "),
+    ("node a\nend\n", "it is no JSON: "),
+    ("[" * 100000, "it is no JSON: "),
+    ('{"nodes": ["a"], "links": [], "x": NaN}', "it is no JSON: NaN stands in it"),
+    ("[]", "the JSON is no object"),
+    ('{"links": []}', "nodes: "),
+    ('{"nodes": [], "links": []}', "nodes: "),
+    ('{"nodes": {"a": 1}, "links": []}', "nodes: "),
+    ('{"nodes": ["a", "b", "a", 7], "links": []}', "nodes 2: '\"a\"' is no name, or one again"),
+    ('{"nodes": ["a", ["b"]], "links": []}', "nodes 1: "),
+    ('{"nodes": ["a", "B"], "links": []}', "nodes 1: "),
+    ('{"nodes": ["a"]}', "links: "),
+    (NODES + "{}}", "links: "),
+    *((NODES + f"[{JSON_LINK}, {JSON_LINK.replace(*change)}]}}", "links 1: ") for change in (
+        ('"a": "a"', '"a": "c"'), ('"b": "b"', '"b": "a"'), ('"b": "b"', '"b": ["b"]'),
+        ("9", "0"), ("9", "9.0"), ("9", "true"), ("7", "-7"), (', "length": 7', ""),
+        ("7", '7, "cost": 0'), ("7", '7, "cost": null'), (JSON_LINK, "7"))),
 ]
 OTHER_NETWORKS = [
     ([LINKS[0], Link(1, "a", "b", 20, 7, 4)], "link 1 is a b capacity 20 cost 3"),
@@ -74,6 +100,43 @@ class Readers(unittest.TestCase):
         places = {"a": (0, -1.5), "b": (12.25, 3)}
         self.assertEqual(networks.read_topology(TOPOLOGY),
                          Topology(["a", "b", "c"], LINKS, places))
+
+    def test_a_topology_as_a_text_again(self):
+        self.assertEqual(networks.text_of(networks.read_topology(TOPOLOGY)),
+                         "# at a 0 -1.5\nnode a\n# at b 12.25 3\nnode b\nnode c\n"
+                         "link b a 10 7\nlink a b 20 7 3\nend\n")
+
+    def test_a_topology_in_json(self):
+        """Of a member that comes again the last one counts, and others are passed over."""
+        text = json.dumps({"nodes": ["a", "b", "c"], "of": ["x"], "links": [
+            {"a": "b", "b": "a", "capacity": 10, "length": 7, "label": None},
+            {"a": "a", "b": "b", "capacity": 20, "length": 7, "cost": 3}]})
+        again = text.replace('"nodes"', '"nodes": 7, "nodes"', 1)
+        for told in (text, again):
+            self.assertEqual(networks.read_json(told), Topology(["a", "b", "c"], LINKS))
+        for told, sentence in WRONG_JSON:
+            with self.subTest(text=told), self.assertRaises(networks.WrongJson) as caught:
+                networks.read_json(told)
+            self.assertTrue(str(caught.exception).startswith(sentence), caught.exception)
+
+    def test_a_name_that_ends_in_json(self):
+        with tempfile.TemporaryDirectory() as folder:
+            for name, sentence in (("x.json", "x.json, it is no JSON"), ("y", None)):
+                path = os.path.join(folder, name)
+                with open(path, "w", encoding="ascii") as file:
+                    file.write(TOPOLOGY)
+                if sentence:
+                    with self.assertRaisesRegex(networks.WrongInput, sentence):
+                        networks.load_topology(path)
+                else:
+                    self.assertEqual(networks.load_topology(path).links, LINKS)
+
+    def test_costs_by_a_tariff(self):
+        """As docs/GUIDE.md has them: of the lengths 7 and 600,000, whatever else they cost."""
+        links = [LINKS[1], Link(1, "a", "b", 1, 600_000, 600_000)]
+        for name, costs in (("flat", [7, 600_000]), ("hops", [1, 1]), ("long", [19, 1_000_000])):
+            found = networks.priced(Topology(["a", "b"], links), name)
+            self.assertEqual([link.cost for link in found.links], costs)
 
     def test_an_audit(self):
         vpn = Vpn(3, "acme", 15, [("a", 5), ("b", 6)], [(1, 5)])
@@ -103,6 +166,10 @@ class Readers(unittest.TestCase):
             with self.subTest(words=words), self.assertRaises(networks.WrongInput) as caught:
                 networks.check_audit(Topology(["a", "b", "c"], links), audit)
             self.assertIn(words, str(caught.exception))
+        self.assertEqual(networks.of_audit(networks.read_topology(TOPOLOGY), audit),
+                         networks.read_topology(TOPOLOGY))
+        with self.assertRaisesRegex(networks.OtherNetwork, "link 1 is a b capacity 20 cost 3"):
+            networks.of_audit(networks.read_topology(TOPOLOGY), audit, "flat")
         with self.assertRaisesRegex(networks.WrongInput, "an endpoint at b, which is no node"):
             networks.check_audit(Topology(["a", "c"], LINKS), audit)
 

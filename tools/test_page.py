@@ -13,6 +13,7 @@ import networks
 import page
 import picture
 import places
+from runs import within
 
 HERE = os.path.dirname(os.path.abspath(__file__))
 STAR = """node a
@@ -46,7 +47,7 @@ SIDES = [([], "n"), ([0], "w"), ([math.pi / 2], "s"), ([0, math.pi / 2, math.pi]
 
 def star():
     topology = networks.read_topology(STAR)
-    return topology, page.audit_of(topology, STAR_AUDIT), page.out_of(topology, OUT)
+    return (*page.audited(topology, None, STAR_AUDIT), page.out_of(topology, OUT))
 
 
 class Parts(html.parser.HTMLParser):
@@ -100,6 +101,39 @@ class Pages(unittest.TestCase):
         for place in (one, other):  # as far from b as from h
             self.assertAlmostEqual(math.dist(place, (940, 280)), math.dist(place, (500, 60)))
 
+    def test_nodes_at_one_place_are_moved_apart(self):
+        """Two, three and twenty nodes, in the middle of the picture, at its edge, and alone."""
+        for count in (2, 3, 20):
+            for east, north in ((5, 5), (0, 0), (10, 10), (None, None)):
+                names = [f"n{node}" for node in range(count)]
+                text = "".join(f"node {name}\n# at {name} {east or 0} {north or 0}\n"
+                               for name in names)
+                if east is not None:
+                    text += "node a\n# at a 0 10\nnode b\n# at b 10 0\n"
+                text += "".join(f"link {one} {other} 1 1\n"
+                                for one, other in zip(names, names[1:]))
+                drawn = picture.Picture(networks.read_topology(text + "end\n"))
+                near = min(math.dist(one, other) for place, one in enumerate(drawn.nodes)
+                           for other in drawn.nodes[:place])
+                with self.subTest(count=count, east=east):
+                    self.assertGreater(near, 12 if east is None else 20)
+                    self.assertTrue(all(0 < x < picture.WIDTH and 0 < y < drawn.height
+                                        for x, y in drawn.nodes))
+        self.assertEqual(picture.parted([(1.0, 2.0), (9.0, 2.0)], 300), [(1.0, 2.0), (9.0, 2.0)])
+
+    def test_a_link_between_nodes_at_one_place(self):
+        """Two links from a to b, of which each has a point that is far from both nodes."""
+        topology = networks.read_topology(
+            "node a\nnode b\nnode c\n# at a 0 0\n# at b 0 0\n# at c 9 9\n"
+            "link a b 1 1\nlink b a 1 1\nlink a c 1 1\nend\n")
+        drawn = picture.Picture(topology)
+        self.assertAlmostEqual(math.dist(*drawn.ends(topology.links[0])), picture.APART)
+        middles = [drawn.middle(link) for link in topology.links[:2]]
+        self.assertAlmostEqual(math.dist(*middles), picture.APART / 3)
+        for middle in middles:
+            for end in drawn.ends(topology.links[0]):
+                self.assertGreater(math.dist(middle, end), picture.APART / 2 - 0.001)
+
     def test_degrees(self):
         for load, capacity, name, percent in DEGREES:
             with self.subTest(load=load, capacity=capacity):
@@ -136,13 +170,51 @@ class Places(unittest.TestCase):
 class MadeNetworks(unittest.TestCase):
     def test_loads_are_what_vpns_reserve(self):
         topology, audit = made_network.made(30, 60, 50)
-        audit = page.audit_of(networks.read_topology(topology), audit)
+        _, audit = page.audited(networks.read_topology(topology), None, audit)
         loads = [0] * 60
         for vpn in audit.vpns:
             for link, amount in vpn.amounts:
                 loads[link] += amount
         self.assertEqual([link.load for link in audit.links], loads)
         self.assertTrue(all(link.load <= link.capacity for link in audit.links))
+
+
+class Tariffs(unittest.TestCase):
+    """The lengths of STAR are 1, 2 and 3, so `hops` costs 1, 1, 1 and `long` 7, 9, 11."""
+
+    AUDITS = {name: STAR_AUDIT.replace("cost 1 load", f"cost {costs[0]} load")
+              .replace("cost 2 load", f"cost {costs[1]} load")
+              .replace("cost 3 load", f"cost {costs[2]} load")
+              for name, costs in (("hops", (1, 1, 1)), ("long", (7, 9, 11)))}
+
+    def test_the_costs_are_those_of_the_audit(self):
+        topology = networks.read_topology(STAR)
+        for name, audit in self.AUDITS.items():
+            for tariff in (None, name):
+                found, _ = page.audited(topology, tariff, audit)
+                self.assertEqual(found, networks.priced(topology, name))
+        for tariff, audit in (("hops", self.AUDITS["long"]), ("long", STAR_AUDIT),
+                              (None, STAR_AUDIT.replace("cost 3 load", "cost 4 load"))):
+            with self.assertRaisesRegex(networks.OtherNetwork, "link [02] is "):
+                page.audited(topology, tariff, audit)
+
+    def test_a_topology_in_json(self):
+        """The page of demo/alps.json has the links of demo/alps.txt, with the costs of `hops`."""
+        topology = networks.load_topology(os.path.join(HERE, "..", "demo", "alps.json"))
+        text = networks.load_topology(os.path.join(HERE, "..", "demo", "alps.txt"))
+        self.assertEqual((topology.nodes, topology.links), (text.nodes, text.links))
+        lines = "".join(f"link {link.number} {link.a} {link.b} capacity {link.capacity} cost 1 "
+                        "load 0\n" for link in text.links)
+        with tempfile.NamedTemporaryFile("w") as audit:
+            audit.write(f"epoch 0\n{lines}live 0 cost 0\n")
+            audit.flush()
+            for words in ([], ["--tariff", "hops"]):
+                status, output, error = within("page.py", page.main, *words, os.path.join(
+                    HERE, "..", "demo", "alps.json"), audit.name)
+                self.assertEqual((status, error), (0, ""))
+                told = json.loads(Parts(output).texts["network"])
+                self.assertEqual([link[2:6] for link in told["links"]],
+                                 [[link.capacity, link.length, 1, 0] for link in text.links])
 
 
 class Program(unittest.TestCase):

@@ -1,4 +1,5 @@
 """Tests of replay.py: a small audit whose move was worked out by hand, and that of demo/."""
+import json
 import os
 import tempfile
 import unittest
@@ -47,6 +48,22 @@ class Replays(unittest.TestCase):
         self.assertEqual([str(move) for move in found], MOVES)
         self.assertEqual(replay.total(found), "moved 2 of 3 cost 14 now 28")
 
+    def test_replies_to_down_before_the_first(self):
+        for before in ("down 3 at 1\n", "down 3 at 1\nalready 3 at 1\n"):
+            found = replay.moves(AUDIT, before + OUTPUT)
+            self.assertEqual([str(move) for move in found], MOVES)
+        lines = OUTPUT.splitlines()
+        for wrong, at in ((["denied at 0", *lines], 1), ([lines[0], "down 3 at 2", *lines[1:]], 2),
+                          (["down 3 at 1", *lines[:2]], 4), (["down 3 at 1"], 2),
+                          (["down 3 at 1", *lines, "down 4 at 9"], 5)):
+            with self.assertRaises(networks.WrongText) as caught:
+                replay.moves(AUDIT, "\n".join(wrong) + "\n")
+            self.assertEqual(caught.exception.line, at)
+
+    def test_a_carriage_return(self):
+        with self.assertRaisesRegex(networks.WrongText, "line 1: .* a carriage return stands"):
+            replay.moves(AUDIT, OUTPUT.replace("\n", "\r\n"))
+
     def test_a_node_that_is_gone(self):
         output = "bad 4\nfull at 0\nmemory\n"
         self.assertEqual([str(move) for move in replay.moves(AUDIT, output)], [
@@ -74,6 +91,19 @@ class Program(unittest.TestCase):
         with open(demo("backbone_script.txt"), encoding="ascii") as text:
             lines = text.readlines()[:2]
         self.assertEqual(run(demo("backbone_audit.txt")), (0, "".join(lines), ""))
+
+    def test_the_whole_input_of_run(self):
+        """A topology in JSON, with a cost of its own, as text; links that are out; the script."""
+        links = [{"a": "a", "b": "b", "capacity": 9, "length": 7, "cost": 3}]
+        lines = ["node a", "node b", "link a b 9 7 3", "end", "operator down 0", "operator down 2"]
+        with open(demo("backbone_script.txt"), encoding="ascii") as text:
+            lines += text.read().splitlines()[:2]
+        with tempfile.NamedTemporaryFile("w", suffix=".json") as topology:
+            json.dump({"nodes": ["a", "b"], "links": links}, topology)
+            topology.flush()
+            told = run("--topology", topology.name, "--down", "0", "--down", "2",
+                       demo("backbone_audit.txt"))
+        self.assertEqual(told, (0, "".join(f"{line}\n" for line in lines), ""))
 
     def test_status_1(self):
         with tempfile.NamedTemporaryFile("w") as output:

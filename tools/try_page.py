@@ -28,6 +28,23 @@ def rows(table, column):
             f".map(row => row.children[{column}].textContent)")
 
 
+# Three nodes at one place, two of them joined by two links, and one elsewhere.
+ONE_PLACE = """node a
+node b
+node c
+node d
+# at a 8.5 47.4
+# at b 8.5 47.4
+# at c 8.5 47.4
+# at d 6.1 46.2
+link a b 10 1
+link b a 10 1
+link b c 10 1
+link c d 10 200
+end
+"""
+
+
 class Tries(unittest.TestCase):
     @classmethod
     def setUpClass(cls):
@@ -37,6 +54,7 @@ class Tries(unittest.TestCase):
         cls.backbone = cls.write("backbone", topology, audit)
         cls.network_alone = cls.write("alone", topology)
         cls.with_out = cls.write("out", topology, audit, page.out_of(topology, OUT))
+        cls.one_place = cls.write("one_place", networks.read_topology(ONE_PLACE))
         large, large_audit = made_network.made(512, 2048, 20000)
         cls.large = cls.write("large", networks.read_topology(large),
                               networks.read_audit(large_audit))
@@ -107,6 +125,20 @@ class Tries(unittest.TestCase):
         self.assertEqual(self.value(TITLE), "Link 5, den \u2013 kcy")
         self.assertEqual(self.value("[...document.querySelectorAll('#chosen td')].map(cell => "
                                     "cell.textContent)"), ["1", "acme", "1000"])
+
+    def test_links_between_nodes_at_one_place(self):
+        """Each can be pointed at and chosen, on a wide screen and a narrow one."""
+        for size in SIZES.values():
+            self.browser.size(*size)
+            self.browser.open(self.one_place)
+            for link, between in ((0, "a \u2013 b"), (1, "b \u2013 a"), (2, "b \u2013 c")):
+                middle = (f"picture.appendChild(drawn('circle', {{cx: links[{link}].x, "
+                          f"cy: links[{link}].y, r: 1}}))")
+                self.browser.point(middle)
+                told = self.value("find('#pointed').textContent")
+                self.assertEqual(told.split("\n")[0], f"link {link}, {between}")
+                self.browser.click(middle)
+                self.assertEqual(self.value(TITLE), f"Link {link}, {between}")
 
     def test_by_the_keyboard_alone(self):
         self.browser.open(self.backbone)
