@@ -8,6 +8,7 @@ import subprocess
 import tempfile
 import unittest
 
+import man
 from fake_server import FakeHosed, FakeServer
 
 TOP = os.path.join(os.path.dirname(os.path.abspath(__file__)), "..")
@@ -75,20 +76,38 @@ class Sessions(unittest.TestCase):
 
 class Moves(unittest.TestCase):
     def test_script_and_result(self):
-        script = example("backbone_audit.txt > moved_script.txt")
+        script = example("backbone_audit.txt > examples/move/script.txt")
         without = example("grep -v 'link chi nyc' demo/backbone.txt")
-        network = example("cat moved.txt moved_script.txt").partition("| ./hosed run")
-        result = example("backbone_audit.txt moved_output.txt")
+        network = example("cat examples/move/moved.txt").partition("| ./hosed run")
+        result = example("backbone_audit.txt examples/move/output.txt")
         with tempfile.TemporaryDirectory() as folder:
+            os.makedirs(os.path.join(folder, "examples", "move"))
             for name in ("demo", "tools"):
                 os.symlink(os.path.abspath(os.path.join(TOP, name)), os.path.join(folder, name))
             self.assertEqual(run(script, folder), (0, ""))
             self.assertEqual(run(without, folder), (0, ""))
             status, text = run(network[0], folder)
             self.assertEqual((status, text.count("\nlink "), text.count("admit ")), (0, 13, 2))
-            with open(os.path.join(folder, "moved_output.txt"), "w", encoding="ascii") as output:
+            path = os.path.join(folder, "examples", "move", "output.txt")
+            with open(path, "w", encoding="ascii") as output:
                 output.write(MOVED)
             self.assertEqual(run(result, folder), (0, told_after(result)))
+
+    def test_a_link_out_of_service(self):
+        """The reply to `down` stands first, and the epochs are one more."""
+        line = example("--topology demo/backbone.txt --down 11").partition("| ./hosed run")[0]
+        status, text = run(line)
+        self.assertEqual(status, 0)
+        self.assertIn("\nend\noperator down 11\nacme admit ", text)
+        result = example("demo/backbone_audit.txt examples/move/out.txt")
+        with tempfile.TemporaryDirectory() as folder:
+            path = os.path.join(folder, "out.txt")
+            with open(path, "w", encoding="ascii") as output:
+                output.write("down 11 at 1\n" + MOVED.replace("ed 2 cost", "ed 3 cost")
+                             .replace("at 2", "at 3").replace("ed 1 cost", "ed 2 cost")
+                             .replace("at 1 ", "at 2 "))
+            line = result.replace("examples/move/out.txt", path)
+            self.assertEqual(run(line), (0, told_after(result)))
 
 
 class Importers(unittest.TestCase):
@@ -111,6 +130,53 @@ class Importers(unittest.TestCase):
         lines += ["link {a} {b} {capacity} {length}".format(**link) for link in topology["links"]]
         text = text_of("demo/alps.txt").splitlines()
         self.assertEqual(lines, [line for line in text if line.startswith(("node ", "link "))])
+
+
+class Sections(unittest.TestCase):
+    def sections(self):
+        """The name of each section, and the commands in it."""
+        for name in DOCUMENTS:
+            for section in re.split(r"(?m)^## ", text_of(name)):
+                blocks = re.findall(r"(?ms)^```console\n(.*?)^```$", section)
+                title = f"{name}, {section.splitlines()[0]}"
+                yield title, re.findall(r"(?m)^\$ (.*)$", "".join(blocks))
+
+    def test_each_has_a_folder_of_its_own(self):
+        """It is made before all else, no other section names it, and nothing else is written to."""
+        made = {}
+        for title, commands in self.sections():
+            folders = {folder for command in commands
+                       for folder in re.findall(r"examples/([a-z_]+)", command)}
+            written = {path for command in commands
+                       for path in re.findall(r"> *([^\s|;&>]+)", command) if path != "/dev/full"}
+            self.assertLessEqual(len(folders), 1, title)
+            if written or folders:
+                folder, = folders
+                self.assertNotIn(folder, made, title)
+                made[folder] = title
+                self.assertEqual(commands[0], f"mkdir -p examples/{folder}", title)
+        self.assertGreater(len(made), 8)
+
+    def test_the_version(self):
+        """CHANGELOG.md has that of the program, and it is the one that is installed."""
+        version = man.read_usage(text_of("crates/hosed_program/src/texts.rt")).version.split()[1]
+        self.assertIn(f"\n## {version}\n", text_of("CHANGELOG.md"))
+        paths = re.findall(r"/usr/local/lib/hosed/([0-9.]+)", text_of("docs/OPERATING.md"))
+        self.assertEqual(set(paths), {version})
+
+    def test_the_unit(self):
+        units = re.findall(r"(?ms)^```ini\n(.*?)^```$", text_of("docs/OPERATING.md"))
+        self.assertIn(text_of("tools/systemd/hosed.service"), units)
+
+    def test_units_name_what_is_installed(self):
+        """docs/OPERATING.md, "Install", makes the program's name and a link to a release."""
+        installed = re.compile(r"/usr/local/(bin/hosed|lib/hosed/current/(tools/\w+\.py))")
+        for name in os.listdir(os.path.join(TOP, "tools", "systemd")):
+            for path in re.findall(r"/usr/local/[^\s'\"]+", text_of(f"tools/systemd/{name}")):
+                found = installed.fullmatch(path)
+                self.assertTrue(found, f"{name}: {path}")
+                if found[2]:
+                    self.assertTrue(os.path.exists(os.path.join(TOP, found[2])), path)
 
 
 if __name__ == "__main__":
