@@ -1,112 +1,62 @@
 #!/usr/bin/env python3
-"""Lists the entries of a journal, of either version, by docs/GUIDE.md alone, and verifies its chain.
+"""Lists the entries of a journal, of either version, by docs/GUIDE.md alone; verifies its chain.
 
 The last line is the chain value of all entries, or `damaged at P`, and then the status is 5. It
-judges no book: whether a link is oversold is told by `hosed audit`."""
+judges no book: whether a link is oversold is told by `hosed audit`. A program may write to the
+journal meanwhile: what is told then are its first entries, up to one of them.
+
+example:
+  python3 tools/read_journal.py orders.journal
+
+status:
+  0 it was read to its end, or was not begun; 2 the words are not these; 5 it is damaged;
+  6 it is not there, or cannot be read
+"""
 import argparse
 import sys
-from hashlib import sha256
 
-EMPTY, VALUE, MOST_BODY, SEAL = 39, 32, 3_471, b"\5"
-NAME = set(b"abcdefghijklmnopqrstuvwxyz0123456789-")
-
-
-class Wrong(Exception):
-    """A field that no journal has at its place."""
-
-
-class Fields:
-    """Bytes from a place on, of which one field after another is taken."""
-
-    def __init__(self, held, at=0):
-        self.held, self.at = held, at
-
-    def take(self, size):
-        self.at += size
-        if self.at > len(self.held):
-            raise Wrong
-        return self.held[self.at - size:self.at]
-
-    def number(self, size, least, most):
-        number = int.from_bytes(self.take(size), "big")
-        if not least <= number <= most:
-            raise Wrong
-        return number
-
-    def name(self):
-        name = self.take(self.number(1, 1, 16))
-        if not set(name) <= NAME:
-            raise Wrong
-        return name.decode()
-
-    def pairs(self, count, most, most_value):
-        """Ascending numbers, each with a value."""
-        pairs = []
-        for _ in range(count):
-            number = self.number(2, pairs[-1][0] + 1 if pairs else 0, most)
-            pairs.append((number, self.number(4, 1, most_value)))
-        return " ".join(f"{number}:{value}" for number, value in pairs)
-
-
-def entry(body):
-    """The entry that a body spells: its nodes and links are told by their numbers."""
-    fields = Fields(body)
-    kind = fields.number(1, 1, 4)
-    customer = f"{fields.name()} " if kind < 3 else ""
-    if kind == 1:
-        ends = fields.pairs(fields.number(1, 2, 64), 511, 1_000_000)
-        told = f"admit {ends} links {fields.pairs(fields.number(2, 1, 511), 2_047, 32_000_000)}"
-    elif kind == 2:
-        told = f"release {fields.number(4, 0, 4_000_000_000)}"
-    else:
-        told = f"{'down' if kind == 3 else 'up'} {fields.number(2, 0, 2_047)}"
-    if fields.at < len(body):
-        raise Wrong
-    return customer + told
+import journals
+import networks
+from live_journal import Bytes, DamagedJournal, File, Reader
 
 
 def lines(held):
     """What is told of the bytes of a journal."""
-    if len(held) < EMPTY or len(held) == EMPTY and held[0] != 1:
-        yield "not begun"
-        return
-    gate = 0
+    return told_of(Reader(Bytes(held)))
+
+
+def told_of(reader):
+    """What is told of a journal that a reader has not begun to read."""
     try:
-        Fields(held).number(1, 1, 1)
-        gate, head = 1, Fields(held, 1)
-        if head.take(4) != b"HOSE":
-            raise Wrong
-        version, value, gate, count = head.number(1, 1, 2), head.take(VALUE), head.at, 0
-        yield f"version {version} digest {value.hex()}"
-        chained = version == 2
-        while held[gate] == 1:
-            record = Fields(held, gate + 1)
-            size = record.number(4, 0, MOST_BODY)
-            kept, body = record.take(VALUE if chained else 0), record.take(size)
-            Fields(held, record.at).take(1)  # the next gate
-            if not chained and body == SEAL + value:
-                chained, told = True, "seal"
-            else:
-                value, count = sha256(value + body).digest(), count + 1
-                if chained and kept != value:
-                    raise Wrong
-                told = f"{count} {entry(body)}"
-            yield f"at {gate} {told}"
-            gate = record.at
-        yield f"at {gate} end, chain {value.hex()}"
-    except Wrong:
-        yield f"damaged at {gate}"
+        if not reader.is_begun():
+            yield "not begun"
+            return
+        yield f"version {reader.head.version} digest {reader.head.digest.hex()}"
+        records = reader.records()
+        while records:
+            for record in records:
+                yield f"at {record.gate} {line_of(record)}"
+            records = reader.records()
+        yield f"at {reader.place.gate} end, chain {reader.place.value.hex()}"
+    except journals.Damaged as damaged:
+        yield f"{damaged}"
+
+
+def line_of(record):
+    return f"{record.epoch} {journals.told_of(record.entry)}" if record.entry else "seal"
 
 
 def main():
     words = argparse.ArgumentParser(
         description=__doc__, formatter_class=argparse.RawDescriptionHelpFormatter)
-    words.add_argument("journal", metavar="JOURNAL", type=argparse.FileType("rb"))
-    with words.parse_args().journal as file:
-        told = list(lines(file.read()))
-    print("\n".join(told))
-    return 5 if told[-1].startswith("damaged") else 0
+    words.add_argument("journal", metavar="JOURNAL")
+    given = words.parse_args()
+    line = ""
+    for line in told_of(Reader(File(given.journal))):
+        print(line)
+    if line.startswith("damaged"):
+        sys.exit(DamagedJournal.status)
 
 
 if __name__ == "__main__":
-    sys.exit(main())
+    sys.exit(networks.status_of(main))

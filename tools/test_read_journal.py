@@ -153,8 +153,9 @@ class Program(unittest.TestCase):
 
     def test_one_that_is_not_there(self):
         status, output, error = within("read_journal.py", read_journal.main, "/nowhere/journal")
-        self.assertEqual((status, output), (2, ""))
-        self.assertIn("/nowhere/journal", error)
+        self.assertEqual((status, output), (6, ""))
+        self.assertEqual(error, "read_journal.py: /nowhere/journal cannot be read: No such file or "
+                                "directory\n")
 
 
 if __name__ == "__main__":
