@@ -1,0 +1,222 @@
+#!/usr/bin/env python3
+"""Tells figures of the journal of a server that runs, and shows its book.
+
+JOURNAL is read without a lock and without a copy, up to its last entry, as by tools/tail.py: the
+epoch, how many VPNs are live, of all and by customer, load, capacity and state of each link by its
+ends, orders by kind, what is reserved costs, the bytes of the file, and when it was written last.
+They are written once
+
+- as a text for Prometheus, on standard output, or to the file of --write, which is replaced as a
+  whole, as the textfile collector of node_exporter wants it; with --every again and again;
+- as JSON with --json, or as the page of tools/page.py with --page;
+
+or, with --http PORT, answered at 127.0.0.1 as long as the program runs: `/` is the page, which the
+browser asks for anew every 10 seconds, /metrics the text, and /json the JSON. Where the journal
+cannot be read at that time the status is 503, and the answer says why. Where another journal of the
+same network is put at JOURNAL, that one is told from then on.
+
+examples:
+  python3 tools/metrics.py demo/star.txt orders.journal
+  python3 tools/metrics.py --json demo/star.txt orders.journal
+
+status:
+  0 all is written; 2 the words are not these, TOPOLOGY is none, the file cannot be written, or the
+  port cannot be had; 5 the journal is damaged; 6 it is not there, is not begun, or cannot be read;
+  12 it is of another network
+"""
+import argparse
+import json
+import os
+import re
+import sys
+import time
+from typing import Dict, Iterator, List, Optional, Tuple
+
+import journals
+import networks
+import page
+from books import Book
+from live_journal import LiveJournal, Unreadable
+from metrics_server import serve
+
+
+RENEW = 10  # seconds
+
+
+class Watched:
+    """The journal at a path, and its book so far."""
+
+    def __init__(self, path: str, topology: networks.Topology):
+        self.path, self.topology = path, topology
+        self.digest = journals.digest_of(topology)
+        self.journal: Optional[LiveJournal] = LiveJournal(path, self.digest)
+        self.book = Book(topology)
+
+    def update(self) -> None:
+        """Reads up to the last entry. Where the journal lost entries, or was damaged and may be so
+        no more, it is read anew."""
+        try:
+            self._read()
+        except networks.WrongInput:
+            self._read()
+        if self.journal.value is None:
+            raise Unreadable(f"{self.path} is not begun")
+
+    def _read(self) -> None:
+        """Reads up to the last entry. After a fault the next call begins anew."""
+        if self.journal is None:
+            self.journal, self.book = LiveJournal(self.path, self.digest), Book(self.topology)
+        try:
+            records = self.journal.read()
+            while records:
+                for record in records:
+                    self.book.enter(record)
+                records = self.journal.read()
+        except networks.WrongInput:
+            self.close()
+            raise
+
+    def close(self) -> None:
+        if self.journal is not None:
+            self.journal.close()
+        self.journal = None
+
+
+# ---- Figures.
+
+Sample = Tuple[Dict[str, str], object]
+
+
+def families(watched: Watched, now: float) -> Iterator[Tuple[str, str, str, List[Sample]]]:
+    """Each figure: its name, its type, what it is, and its samples with their labels."""
+    book, written = watched.book, watched.journal.written()
+    links = [({"link": str(link.number), "a": link.a, "b": link.b}, link) for link in book.links()]
+    yield "hosed_epoch", "gauge", "Orders in the journal.", [({}, book.epoch)]
+    yield ("hosed_orders_total", "counter", "Orders in the journal, by kind.",
+           [({"kind": kind}, count) for kind, count in book.orders.items()])
+    yield "hosed_live_vpns", "gauge", "VPNs that are live.", [({}, len(book.live))]
+    yield ("hosed_customer_vpns", "gauge", "VPNs that are live, of a customer who has one.",
+           [({"customer": name}, count) for name, count in book.customers().items()])
+    yield "hosed_cost", "gauge", "What all that is reserved costs.", [({}, book.cost())]
+    yield ("hosed_link_load", "gauge", "What is reserved on a link.",
+           [(labels, link.load) for labels, link in links])
+    yield ("hosed_link_capacity", "gauge", "What a link can carry.",
+           [(labels, link.capacity) for labels, link in links])
+    yield ("hosed_link_out", "gauge", "1 where a link is out of service, else 0.",
+           [(labels, int(link.out)) for labels, link in links])
+    yield "hosed_journal_bytes", "gauge", "Bytes of the journal.", [({}, watched.journal.size())]
+    yield ("hosed_last_entry_time_seconds", "gauge",
+           "When the journal was written last, in seconds since 1970.", [({}, f"{written:.3f}")])
+    yield ("hosed_last_entry_age_seconds", "gauge",
+           "How long ago that was when this was written.", [({}, f"{max(now - written, 0):.3f}")])
+
+
+def escaped(value: str) -> str:
+    """The value of a label."""
+    return value.replace("\\", "\\\\").replace('"', '\\"').replace("\n", "\\n")
+
+
+def exposed(watched: Watched) -> str:
+    """The figures in the text format of Prometheus."""
+    lines = []
+    for name, kind, what, samples in families(watched, time.time()):
+        lines += [f"# HELP {name} {what}", f"# TYPE {name} {kind}"]
+        for labels, value in samples:
+            told = ",".join(f'{label}="{escaped(word)}"' for label, word in labels.items())
+            lines.append(f"{name}{{{told}}} {value}" if told else f"{name} {value}")
+    return "\n".join(lines) + "\n"
+
+
+def as_json(watched: Watched) -> str:
+    book = watched.book
+    written = watched.journal.written()
+    told = {
+        "epoch": book.epoch, "chain": watched.journal.value.hex(),
+        "orders": dict(book.orders), "live_vpns": len(book.live), "cost": book.cost(),
+        "customers": book.customers(), "journal_bytes": watched.journal.size(),
+        "last_entry_time_seconds": round(written, 3),
+        "last_entry_age_seconds": round(max(time.time() - written, 0), 3),
+        "links": [{"link": link.number, "a": link.a, "b": link.b, "capacity": link.capacity,
+                   "cost": link.cost, "load": link.load, "out": link.out}
+                  for link in book.links()]}
+    return json.dumps(told, indent=1) + "\n"
+
+
+def as_page(watched: Watched) -> str:
+    book = watched.book
+    title = os.path.basename(watched.path)
+    return page.page(title, book.topology, book.audit(), frozenset(book.out))
+
+
+def renewed(text: str) -> str:
+    """The page with a script that has the browser ask for it anew, also with an end of its
+    address."""
+    script = f"<script>setTimeout(() => location.reload(), {1_000 * RENEW});</script>\n</body>"
+    return text.replace("</body>", script)
+
+
+# ---- The program.
+
+
+def put(path: str, text: str) -> None:
+    """Replaces a file as a whole."""
+    try:
+        with open(path + ".new", "w", encoding="utf-8") as file:
+            file.write(text)
+        os.replace(path + ".new", path)
+    except OSError as fault:
+        raise networks.WrongInput(f"{path} cannot be written: {fault.strerror}") from None
+
+
+def write(watched: Watched, given: argparse.Namespace) -> None:
+    watched.update()
+    made = as_json if given.json else as_page if given.page else exposed
+    if given.write:
+        put(given.write, made(watched))
+    else:
+        print(made(watched), end="", flush=True)
+
+
+def number_word(least: int, most: int):
+    def read(word: str) -> int:
+        if not re.fullmatch("[1-9][0-9]{0,8}", word) or not least <= int(word) <= most:
+            raise argparse.ArgumentTypeError(f"a number of {least} to {most}")
+        return int(word)
+    return read
+
+
+def words_of() -> argparse.ArgumentParser:
+    words = argparse.ArgumentParser(
+        description=__doc__, formatter_class=argparse.RawDescriptionHelpFormatter)
+    words.add_argument("topology", metavar="TOPOLOGY", help="the network of the journal")
+    words.add_argument("journal", metavar="JOURNAL")
+    forms = words.add_mutually_exclusive_group()
+    forms.add_argument("--json", action="store_true", help="write JSON")
+    forms.add_argument("--page", action="store_true", help="write the page")
+    forms.add_argument("--http", metavar="PORT", type=number_word(1, 65_535),
+                       help="answer at this port of 127.0.0.1")
+    words.add_argument("--write", metavar="FILE", help="write to a file, which is replaced")
+    words.add_argument("--every", metavar="SECONDS", type=number_word(1, 86_400),
+                       help="write again and again, with a pause of so long")
+    return networks.add_tariff(words)
+
+
+def main() -> None:
+    words = words_of()
+    given = words.parse_args()
+    if given.http and (given.write or given.every):
+        words.error("--http takes neither --write nor --every")
+    watched = Watched(given.journal, networks.load_topology(given.topology, given.tariff))
+    if given.http:
+        serve(given.http, watched.update, {
+            "/": ("text/html; charset=us-ascii", lambda: renewed(as_page(watched))),
+            "/metrics": ("text/plain; version=0.0.4; charset=utf-8", lambda: exposed(watched)),
+            "/json": ("application/json", lambda: as_json(watched))})
+    write(watched, given)
+    while given.every:
+        time.sleep(given.every)
+        write(watched, given)
+
+
+if __name__ == "__main__":
+    sys.exit(networks.status_of(main))
