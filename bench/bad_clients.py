@@ -13,9 +13,13 @@ a library that gcc makes of bench/edge.c makes two seconds of just these. It als
 for want of descriptors and as the network fails, for a while and for longer; and a server has too
 few descriptors indeed. Who comes after the last connection is refused, and at another address.
 
+With --front the first part is tried on `tools/front.py` over the PROGRAM, whose sessions go on for
+as long as a customer wants: the status at a port that is taken is 23, and a front that has
+descriptors for few customers at a time serves all of many.
+
 Prints what each was answered; or the first difference, and ends with status 1.
 
-usage: bench/bad_clients.py [PROGRAM]
+usage: bench/bad_clients.py [--front] [PROGRAM]
 The PROGRAM (./hosed) is seen from the top of the repository.
 """
 
@@ -29,7 +33,8 @@ import sys
 import tempfile
 import time
 
-from histories import HANGS, TRIES, Differs, client, same, start
+from histories import HANGS, TRIES, Differs, client, same, start, start_front, told_of_front
+from usage import tell_usage
 
 HOST = "127.0.0.1"
 STAR = "demo/star.txt"
@@ -294,8 +299,68 @@ def change(program, work):
     are_refused(changed)
 
 
+# ---- A front.
+
+FEW, MANY = 24, 40  # descriptors of a front, and customers at once
+
+
+def front_alone(program, work):
+    """One customer is the only one of a front."""
+    journal = os.path.join(work, "alone")
+    front, port = start_front(program, STAR, journal)
+    told = say(port, b"hello acme\nadmit a:3 b:4 c:5\nshow 1\nbye\n").decode()
+    same(told, ALONE, "one who is alone")
+    same(told_of_front(front, program, STAR, journal), (0, BOOK_OF_ONE), "the book of one")
+    print("one who is alone was served")
+
+
+def few_descriptors(program, work):
+    """More customers than descriptors: others wait for the end of the first."""
+    def limit():
+        resource.setrlimit(resource.RLIMIT_NOFILE, (FEW, FEW))
+
+    journal = os.path.join(work, "few")
+    front, port = start_front(program, STAR, journal, files=limit)
+    peers = [connect(port) for _ in range(MANY)]
+    for peer in peers:
+        peer.sendall(b"hello acme\nbye\n")
+    for peer in peers:
+        with peer:
+            same(read_all(peer), b"welcome at 0\nbye\n", "one of many")
+    same(told_of_front(front, program, STAR, journal)[0], 0, "the status")
+    print(f"{FEW} descriptors, {MANY} customers at once: all were served")
+
+
+def serve_at_front(program, work):
+    front_alone(program, work)
+    journal, other = os.path.join(work, "journal"), os.path.join(work, "other")
+    front, port = start_front(program, STAR, journal)
+    words = [sys.executable, "tools/front.py", "--program", program, "--port", str(port)]
+    second = subprocess.run([*words, STAR, other], stdout=subprocess.PIPE, text=True,
+                            stderr=subprocess.DEVNULL, timeout=HANGS)
+    customers = Behaved(port)
+    try:
+        same((second.returncode, second.stdout), (23, ""), "a port that is taken")
+        serve_all(port, customers)
+        status, audit = told_of_front(front, program, STAR, journal)
+        same(status, 0, "the status")
+        same(audit.splitlines()[0], f"epoch {customers.epoch}", "the audit")
+        same(audit.splitlines()[-1], "live 0 cost 0", "the audit")
+        few_descriptors(program, work)
+    finally:
+        front.kill()
+
+
 def main():
-    program = os.path.abspath(sys.argv[1] if len(sys.argv) > 1 else "./hosed")
+    words = [word for word in sys.argv[1:] if word != "--front"]
+    program = os.path.abspath(words[0] if words else "./hosed")
+    if "--front" in sys.argv:
+        with tempfile.TemporaryDirectory() as work:
+            try:
+                serve_at_front(program, work)
+            except (Differs, OSError, *client.FAULTS) as difference:
+                sys.exit(f"bad clients: {difference}")
+        return
     behaved = 3 + len(TOLD) + 1
     connections = 2 + len(TOLD) + 2 + behaved
     with tempfile.TemporaryDirectory() as work:
@@ -320,4 +385,5 @@ def main():
 
 
 if __name__ == "__main__":
+    tell_usage(__doc__)
     main()

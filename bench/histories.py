@@ -1,5 +1,5 @@
 #!/usr/bin/env python3
-"""Judges concurrent random sessions of `hosed serve` from outside.
+"""Judges concurrent random sessions of `hosed serve`, or of `tools/front.py`, from outside.
 
 Each run serves some customers at once over a random network of up to 9 nodes. Its history is read
 off the replies: each epoch is that of one admission, release or change of a link's service, which
@@ -8,22 +8,30 @@ reply that tells that epoch, the places of a session may not go back, and the au
 of the last book. Prints how many runs, sessions and replies of each kind there were; or the first
 difference, and ends with status 1.
 
-usage: bench/histories.py [PROGRAM [RUNS [SEED]]]
+With --front the sessions are those of a front over the PROGRAM. There a quote is its customer's,
+and not its session's. So the lines of all sessions of a customer are put into one order that
+explains the numbers of quotes, in which no line comes before one that was answered before it was
+said.
+
+usage: bench/histories.py [--front] [PROGRAM [RUNS [SEED]]]
 The PROGRAM (./hosed) is seen from the top of the repository.
 """
 
 import os
 import random
+import signal
 import socket
 import subprocess
 import sys
 import tempfile
 import threading
+import time
 from collections import Counter
 from typing import NamedTuple
 
 from compare_planner import COMPARED, OPERATOR, QUOTES, Vpn, decide, grounds, in_service
 from compare_planner import pairs_text, plan_cost, random_hose, random_network, topology_lines
+from usage import tell_usage
 
 sys.path.insert(0, os.path.join(os.path.dirname(os.path.abspath(__file__)), "..", "tools"))
 import client
@@ -57,6 +65,7 @@ class Session(threading.Thread):
         self.port, self.network, self.draw = port, network, random.Random(seed)
         self.customer = self.draw.choice(NAMES)
         self.said, self.fault = [], None  # pairs of a command and its reply
+        self.times = []  # when each was said, and answered
         self.out = set()  # the links that it took out of service and has not put back
 
     def line(self, own):
@@ -78,7 +87,9 @@ class Session(threading.Thread):
     def run(self):
         try:
             self.said.append(("hello", None, ""))
+            begun = time.monotonic()
             with client.Session("127.0.0.1", self.port, self.customer, HANGS) as session:
+                self.times.append((begun, time.monotonic()))
                 self.said[-1] = ("hello", None, str(session.welcome))
                 own = []
                 for _ in range(COMMANDS):
@@ -92,7 +103,9 @@ class Session(threading.Thread):
     def ask(self, session, kind, value, text):
         """The reply to a line; what was said has none where the server is gone before it."""
         self.said.append((kind, value, ""))
+        begun = time.monotonic()
         reply = session.reply_to(f"{kind} {text}")
+        self.times.append((begun, time.monotonic()))
         self.said[-1] = (kind, value, str(reply))
         if isinstance(reply, client.Down):
             self.out.add(value)
@@ -181,10 +194,10 @@ ENTERED = ("admitted", "released", "down", "up")  # the first words of what an e
 
 
 class Judge:
-    """One session against the books."""
+    """One session against the books. `held` are the quotes of its customer, or its own."""
 
-    def __init__(self, history, session):
-        self.history, self.session, self.last, self.held = history, session, 0, {}
+    def __init__(self, history, session, held):
+        self.history, self.session, self.last, self.held = history, session, 0, held
 
     def refused(self, epoch, hose):
         kind, side = self.history.decided(epoch, hose)
@@ -234,32 +247,133 @@ class Judge:
         ends, links = self.history.ends(vpn.hose), pairs_text(vpn.plan)
         return f"vpn {value} cost {vpn.cost} at {epoch} ends {ends} links {links}"
 
-    def judge(self, kinds):
-        for kind, value, reply in self.session.said:
-            where = f"{self.session.customer}, {kind} {value}, after {self.last}"
-            if kind == "bye":
-                same(reply, "bye", where)
+    def judge(self, kind, value, reply, kinds):
+        """The next line of the session."""
+        where = f"{self.session.customer}, {kind} {value}, after {self.last}"
+        if kind == "bye":
+            same(reply, "bye", where)
+            return
+        place, before = place_of(reply), before_of(reply)
+        if before < self.last:
+            raise Differs(f"{where}\nwent back: {reply}")
+        if reply.split()[0] not in ENTERED:
+            same(reply, self.expected(kind, value, reply, place), where)
+        elif kind == "take":
+            # What was quoted is admitted only on equal grounds.
+            same(self.expected(kind, value, reply, before), None, where)
+        self.last = place
+        kinds[" ".join(word for word in reply.split()[:2] if word.isalpha())] += 1
+
+
+def before_of(reply):
+    """The epoch before what a reply tells."""
+    return place_of(reply) - (reply.split()[0] in ENTERED)
+
+
+# ---- The order of a customer's lines.
+
+
+def by_session(sessions):
+    """The lines of each session with the session, in their order: a quote is a session's own."""
+    return [[(session, *line) for line in session.said] for session in sessions]
+
+
+def by_customer(sessions):
+    """The lines of each customer, in an order that explains the quotes."""
+    names = sorted({session.customer for session in sessions})
+    return [Order([one for one in sessions if one.customer == name]).found() for name in names]
+
+
+def what_is_quoted(reply):
+    """What a quote and its take both tell: the cost, and the links."""
+    words = reply.split()
+    return words[words.index("cost") + 1], tuple(words[words.index("links"):])
+
+
+class Order:
+    """Looks for one order of the lines of some sessions: a step is the next line of one of them. A
+    `bye` tells no epoch, and comes last."""
+
+    def __init__(self, sessions):
+        self.sessions = sessions
+        self.said = [[line for line in one.said if line[0] != "bye"] for one in sessions]
+        self.seen = set()
+
+    def found(self):
+        """Depth first; what was tried once is not tried again."""
+        stack = [(tuple(0 for _ in self.sessions), (), None)]
+        while stack:
+            at, held, line = stack.pop()
+            if all(place == len(said) for place, said in zip(at, self.said)):
+                return self.lines(line)
+            if (at, held) not in self.seen:
+                self.seen.add((at, held))
+                stack += self.steps(at, held, line)
+        raise Differs(f"no order of the lines of {self.sessions[0].customer} explains the quotes")
+
+    def steps(self, at, held, line):
+        """Where each next line leads; one alone where it changes no quotes."""
+        after = []
+        for number in self.next_ones(at):
+            kept = self.quotes_after(number, at[number], dict(held))
+            if kept is None:
                 continue
-            place = place_of(reply)
-            entered = reply.split()[0] in ENTERED
-            before = place - 1 if entered else place
-            if before < self.last:
-                raise Differs(f"{where}\nwent back: {reply}")
-            if not entered:
-                same(reply, self.expected(kind, value, reply, place), where)
-            elif kind == "take":
-                # What was quoted is admitted only on equal grounds.
-                same(self.expected(kind, value, reply, before), None, where)
-            self.last = place
-            kinds[" ".join(word for word in reply.split()[:2] if word.isalpha())] += 1
+            there = tuple(place + (one == number) for one, place in enumerate(at))
+            step = (there, tuple(sorted(kept.items())), (line, number, at[number]))
+            if step[1] == held:
+                return [step]
+            after.append(step)
+        return after
+
+    def next_ones(self, at):
+        """The sessions whose next line may come now: those that enter nothing come before the one
+        that enters something at their epoch."""
+        heads = [number for number, said in enumerate(self.said) if at[number] < len(said)]
+        first_told = min(self.sessions[number].times[at[number]][1] for number in heads)
+        places = {number: self.place(number, at[number]) for number in heads}
+        least = min(places.values())
+        return [number for number in heads
+                if self.sessions[number].times[at[number]][0] <= first_told
+                and places[number] == least]
+
+    def place(self, number, at):
+        """The epoch before a line, and whether it enters something."""
+        reply = self.said[number][at][2]
+        return before_of(reply), reply.split()[0] in ENTERED
+
+    def quotes_after(self, number, at, held):
+        """The quotes that are held after a line, or none where its reply does not fit to them."""
+        kind, value, reply = self.said[number][at]
+        free = [one for one in range(1, QUOTES + 1) if one not in held]
+        words = reply.split()
+        if words[0] == "quoted":
+            if free[:1] != [int(words[1])]:
+                return None
+            held[free[0]] = (what_is_quoted(reply), int(words[5]))
+        elif reply.startswith("too many"):
+            return None if free else held
+        elif reply.startswith("no quote"):
+            return None if value in held else held
+        elif kind == "take":
+            what, epoch = held.pop(value, (None, None))
+            fits = str(epoch) == words[1] if words[0] == "stale" else what == what_is_quoted(reply)
+            return held if fits else None
+        return held
+
+    def lines(self, line):
+        found = [(one, *line) for one in self.sessions for line in one.said if line[0] == "bye"]
+        while line:
+            line, number, at = line
+            found.append((self.sessions[number], *self.said[number][at]))
+        return found[::-1]
 
 
-def entries(sessions):
-    """The entries of all sessions by their epochs."""
+def entries(orders):
+    """The entries of all lines by their epochs."""
     found = {}
-    for session in sessions:
+    for lines in orders:
         quoted = {}
-        for kind, value, reply in session.said:
+        for session, kind, value, reply in lines:
             words = reply.split()
             if words[0] == "quoted":
                 quoted[int(words[1])] = value
@@ -271,8 +385,8 @@ def entries(sessions):
     return found
 
 
-def judge(network, sessions, audit, kinds):
-    history, found = History(network), entries(sessions)
+def judge(network, orders, audit, kinds):
+    history, found = History(network), entries(orders)
     same(sorted(found), list(range(1, len(found) + 1)), "the epochs of all entries")
     for epoch in sorted(found):
         session, what, value, reply = found[epoch]
@@ -287,8 +401,10 @@ def judge(network, sessions, audit, kinds):
         if kind == "refused":
             raise Differs(f"epoch {epoch}: {reply}\nwhere the planner refuses")
         same(reply, history.admit(session.customer, hose, plan), f"epoch {epoch}")
-    for session in sessions:
-        Judge(history, session).judge(kinds)
+    for lines in orders:
+        judges, held = {}, {}
+        for session, *line in lines:
+            judges.setdefault(session, Judge(history, session, held)).judge(*line, kinds)
     same(audit, history.audit(), "the audit")
 
 
@@ -316,12 +432,45 @@ def start(program, topology, journal, connections):
     raise Differs("no port could be opened")
 
 
-def serve(program, work, seed, kinds):
+def start_front(program, topology, journal, *options, files=None):
+    """A front that is ready, and its port. Its log is beside the journal."""
+    words = [sys.executable, "tools/front.py", "--program", program, "--log", f"{journal}.log"]
+    for _ in range(TRIES):
+        with socket.socket() as probe:
+            probe.bind(("127.0.0.1", 0))
+            port = probe.getsockname()[1]
+        front = subprocess.Popen([*words, "--port", str(port), *options, topology, journal],
+                                 stdout=subprocess.PIPE, text=True, preexec_fn=files)
+        first = front.stdout.readline()
+        if first:
+            same(first, "ready\n", "the first line")
+            return front, port
+        same(front.wait(HANGS), 23, "the status where a port is taken")
+    raise Differs("no port could be opened")
+
+
+def audit_of(program, topology, journal):
+    words = [program, "audit", topology, journal]
+    return subprocess.run(words, stdout=subprocess.PIPE, text=True, check=True).stdout
+
+
+def told_of_front(front, program, topology, journal):
+    """Ends a front, and gives its status and the audit of its journal."""
+    front.send_signal(signal.SIGTERM)
+    status = front.wait(HANGS)
+    front.stdout.close()
+    return status, audit_of(program, topology, journal)
+
+
+def serve(program, work, seed, kinds, is_front):
     draw = random.Random(seed)
     network = random_network(draw, COMPARED)
     topology, journal = os.path.join(work, f"{seed}.txt"), os.path.join(work, f"{seed}.journal")
     write_topology(network, topology)
-    server, port = start(program, topology, journal, SESSIONS)
+    if is_front:
+        server, port = start_front(program, topology, journal)
+    else:
+        server, port = start(program, topology, journal, SESSIONS)
     sessions = [Session(port, network, f"{seed} {number}") for number in range(SESSIONS)]
     for session in sessions:
         session.start()
@@ -329,26 +478,34 @@ def serve(program, work, seed, kinds):
         session.join()
         if session.fault:
             raise Differs(f"a session failed: {session.fault}")
-    audit = server.stdout.read().splitlines()
-    same(server.wait(HANGS), 0, "the status")
-    judge(network, sessions, audit, kinds)
+    if is_front:
+        status, audit = told_of_front(server, program, topology, journal)
+    else:
+        audit, status = server.stdout.read(), server.wait(HANGS)
+    same(status, 0, "the status")
+    orders = by_customer(sessions) if is_front else by_session(sessions)
+    judge(network, orders, audit.splitlines(), kinds)
 
 
 def main():
-    program = os.path.abspath(sys.argv[1] if len(sys.argv) > 1 else "./hosed")
-    runs = int(sys.argv[2]) if len(sys.argv) > 2 else 100
-    seed = sys.argv[3] if len(sys.argv) > 3 else "1"
+    is_front = "--front" in sys.argv
+    words = [word for word in sys.argv[1:] if word != "--front"]
+    program = os.path.abspath(words[0] if words else "./hosed")
+    runs = int(words[1]) if len(words) > 1 else 100
+    seed = words[2] if len(words) > 2 else "1"
     kinds = Counter()
     with tempfile.TemporaryDirectory() as work:
         for number in range(runs):
             try:
-                serve(program, work, f"{seed}-{number}", kinds)
+                serve(program, work, f"{seed}-{number}", kinds, is_front)
             except Differs as difference:
                 sys.exit(f"run {number} of seed {seed}: {difference}")
-    print(f"{runs} runs of {SESSIONS} sessions with {WORKERS} workers agree")
+    by = "a front" if is_front else f"{WORKERS} workers"
+    print(f"{runs} runs of {SESSIONS} sessions with {by} agree")
     for kind, count in sorted(kinds.items()):
         print(f"{count:8} {kind}")
 
 
 if __name__ == "__main__":
+    tell_usage(__doc__)
     main()

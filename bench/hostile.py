@@ -10,7 +10,10 @@ within a line, and some that break off; the audit must have the orders of all. A
 that says less or more, or that is silent for a minute is a failure: then the input up to there is
 printed, and it ends with status 1.
 
-usage: bench/hostile.py [PROGRAM [LINES [SESSIONS [SEED]]]]
+With --front there are sessions alone, with `tools/front.py` over the PROGRAM, where a quote is its
+customer's and not its session's.
+
+usage: bench/hostile.py [--front] [PROGRAM [LINES [SESSIONS [SEED]]]]
 The PROGRAM (./hosed) is seen from the top of the repository; LINES (1,000,000), SESSIONS (10,000).
 """
 
@@ -26,6 +29,8 @@ from collections import Counter, defaultdict
 
 from compare_planner import FORCED, WEIGHTS, Server, pairs_text, random_command, random_network
 from compare_planner import topology_lines
+from histories import Differs, same, start_front, told_of_front
+from usage import tell_usage
 
 LINES_OF_A_RUN = 2_000
 MOST_LINE = 4_096
@@ -66,6 +71,8 @@ class Desk(Server):
     def __init__(self, network):
         super().__init__(network)
         self.quotes = defaultdict(dict)
+        self.customer_of = {}
+        self.shares_quotes = False  # whether a quote is its customer's, and not its session's
         self.nodes = {name.encode(): number for number, name in enumerate(network.nodes)}
 
     def hose_of(self, words, before):
@@ -132,7 +139,9 @@ class Desk(Server):
             return ["bad 2"]
         if len(words) > 2:
             return ["bad 3"]
-        self.customer_of[session] = words[1].decode()
+        customer = words[1].decode()
+        session = customer if self.shares_quotes else session
+        self.customer_of[session] = customer
         replies = [f"welcome at {self.epoch}"]
         for line in lines[1:]:
             reply = self.later(line, session)
@@ -140,8 +149,6 @@ class Desk(Server):
             if reply == "bye":
                 break
         return replies
-
-    customer_of = {}
 
     def later(self, line, session):
         if len(line) > MOST_LINE:
@@ -154,7 +161,7 @@ class Desk(Server):
         except Refused as refused:
             return f"bad {refused}"
 
-    # A session's quotes are its own, and its VPNs and its right to change links its customer's.
+    # A session's quotes may be its own; its VPNs and its right to change links are its customer's.
 
     def enter(self, customer, hose, plan, cost):
         return super().enter(self.customer_of.get(customer, customer), hose, plan, cost)
@@ -234,15 +241,6 @@ def hostile(draw, good):
 # ---- The program.
 
 
-class Differs(Exception):
-    pass
-
-
-def same(got, want, where):
-    if got != want:
-        raise Differs(f"{where}\ntold:     {got}\nexpected: {want}")
-
-
 def first_word(reply):
     return " ".join(word for word in reply.split()[:2] if word.isalpha())
 
@@ -272,13 +270,10 @@ def free_port():
         return probe.getsockname()[1]
 
 
-def start(program, work, network, connections):
+def start(program, topology, journal, connections):
     """A server of one worker that is ready, and its port."""
-    topology = os.path.join(work, "topology")
-    with open(topology, "w", encoding="ascii") as file:
-        file.write("\n".join(topology_lines(network)) + "\n")
-    for turn in range(TRIES):
-        port, journal = free_port(), os.path.join(work, f"journal {turn}")
+    for _ in range(TRIES):
+        port = free_port()
         words = [program, "serve", topology, journal, str(port), str(connections), "1"]
         process = subprocess.Popen(words, stdout=subprocess.PIPE, text=True)
         if process.stdout.readline() == "ready\n":
@@ -325,12 +320,17 @@ def session_text(draw, good):
     return text[:draw.randint(0, len(text))] if draw.random() < 0.2 else text
 
 
-def run_sessions(program, draw, count, kinds):
+def run_sessions(program, draw, count, kinds, is_front):
     """One server of so many sessions, one after another."""
     network = random_network(draw, FORCED)
     desk, good = Desk(network), Server(network)
+    desk.shares_quotes = is_front
     with tempfile.TemporaryDirectory() as work:
-        process, port = start(program, work, network, count)
+        files = [os.path.join(work, name) for name in ("topology", "journal")]
+        with open(files[0], "w", encoding="ascii") as file:
+            file.write("\n".join(topology_lines(network)) + "\n")
+        served = start_front(program, *files) if is_front else start(program, *files, count)
+        process, port = served
         try:
             for number in range(count):
                 text = session_text(draw, good)
@@ -344,9 +344,12 @@ def run_sessions(program, draw, count, kinds):
                     continue
                 same(replies, desk.session(text, f"session {number}"), f"to {text[:400]!r}")
                 kinds.update(first_word(reply) for reply in replies)
-            told, _ = process.communicate(timeout=HANGS)
+            if is_front:
+                status, told = told_of_front(process, program, *files)
+            else:
+                told, status = process.communicate(timeout=HANGS)[0], process.returncode
             same(told.splitlines(), desk.audit(), "the book of a server")
-            same(process.returncode, 0, "the status of a server")
+            same(status, 0, "the status of a server")
         finally:
             process.kill()
 
@@ -356,22 +359,29 @@ def parts(count, most):
 
 
 def main():
-    program = os.path.abspath(sys.argv[1] if len(sys.argv) > 1 else "./hosed")
-    given = sys.argv[2:5]
+    is_front = "--front" in sys.argv
+    words = [word for word in sys.argv[1:] if word != "--front"]
+    program = os.path.abspath(words[0] if words else "./hosed")
+    given = words[1:4]
     lines, sessions, seed = map(int, given + ["1000000", "10000", "1"][len(given):])
     said, served = Counter(), Counter()
     try:
-        for number, count in enumerate(parts(lines, LINES_OF_A_RUN)):
+        for number, count in enumerate(parts(0 if is_front else lines, LINES_OF_A_RUN)):
             run_lines(program, random.Random(f"{seed} lines {number}"), count, said)
         for number, count in enumerate(parts(sessions, MOST_CONNECTIONS)):
-            run_sessions(program, random.Random(f"{seed} sessions {number}"), count, served)
+            draw = random.Random(f"{seed} sessions {number}")
+            run_sessions(program, draw, count, served, is_front)
     except (Differs, OSError, subprocess.TimeoutExpired) as difference:
         sys.exit(f"hostile: {difference}")
-    for name, kinds in ((f"{lines} lines", said), (f"{sessions} sessions", served)):
-        told = ", ".join(f"{count} {kind}" for kind, count in sorted(kinds.items()))
-        print(f"hostile: {name}, each answered as the planner says: {told}")
+    told = [(f"{sessions} sessions", served)]
+    if not is_front:
+        told.insert(0, (f"{lines} lines", said))
+    for name, kinds in told:
+        counts = ", ".join(f"{count} {kind}" for kind, count in sorted(kinds.items()))
+        print(f"hostile: {name}, each answered as the planner says: {counts}")
 
 
 if __name__ == "__main__":
+    tell_usage(__doc__)
     os.chdir(os.path.join(os.path.dirname(os.path.abspath(__file__)), ".."))
     main()

@@ -1,5 +1,5 @@
 #!/usr/bin/env python3
-"""A customer's session with `hosed serve`, as a module and as a program.
+"""A customer's session with `hosed serve` or `tools/front.py`, as a module and as a program.
 
     with Session("127.0.0.1", 7000, "acme") as session:
         vpn = session.admit({"a": 3, "b": 4})
@@ -11,7 +11,8 @@ and so on. `ConnectionLost` is raised where the server is not there or closes th
 kind `NoAnswer` where it does not answer in time, and `MalformedReply` where what it says is no
 reply to the command. After these the session is over, and nothing connects again; `unanswered` is
 the line that was sent and has no reply, and an order in it may have been entered all the same.
-A session ends with its `with`, which says `bye`.
+A session ends with its `with`, which says `bye`. In place of a port the path of a Unix socket may
+stand.
 """
 import argparse
 import re
@@ -19,7 +20,7 @@ import socket
 import sys
 import time
 from dataclasses import dataclass
-from typing import Callable, ClassVar, Dict, Iterable, Mapping, Optional, Tuple
+from typing import Callable, ClassVar, Dict, Iterable, Mapping, Optional, Tuple, Union
 
 import networks
 
@@ -302,16 +303,35 @@ def read_reply(line: str) -> Optional[Reply]:
 # ---- Connections.
 
 
+Place = Union[int, str]
+"""A port, or the path of a Unix socket."""
+
+
+def connected(host: str, place: Place, timeout: Optional[float]) -> socket.socket:
+    """A connection to a port of a host, or to a Unix socket."""
+    if isinstance(place, int):
+        opened = socket.create_connection((host, place), timeout)
+        opened.setsockopt(socket.IPPROTO_TCP, socket.TCP_NODELAY, 1)
+        return opened
+    opened = socket.socket(socket.AF_UNIX)
+    opened.settimeout(timeout)
+    try:
+        opened.connect(place)
+    except OSError:
+        opened.close()
+        raise
+    return opened
+
+
 class Lines:
     """A connection to whoever answers each line with one line."""
 
-    def __init__(self, host: str, port: int, timeout: Optional[float] = TIMEOUT):
-        self.peer, self.timeout = f"{host}:{port}", timeout
+    def __init__(self, host: str, place: Place, timeout: Optional[float] = TIMEOUT):
+        self.peer, self.timeout = f"{host}:{place}" if isinstance(place, int) else place, timeout
         self.unanswered: Optional[str] = None
         self._left = b""
         try:
-            self._socket = socket.create_connection((host, port), timeout)
-            self._socket.setsockopt(socket.IPPROTO_TCP, socket.TCP_NODELAY, 1)
+            self._socket = connected(host, place, timeout)
         except OSError as fault:
             raise self.lost(fault) from None
 
@@ -403,7 +423,7 @@ def hose(ends: Mapping[str, int]) -> str:
 class Session:
     """A session of one customer, who was greeted. `timeout` is in seconds; None waits forever."""
 
-    def __init__(self, host: str, port: int, customer: str, timeout: Optional[float] = TIMEOUT):
+    def __init__(self, host: str, port: Place, customer: str, timeout: Optional[float] = TIMEOUT):
         self._lines = Lines(host, port, timeout)
         self._over = False
         try:
@@ -502,8 +522,9 @@ class Session:
 # ---- The program.
 
 DESCRIPTION = """\
-Gives one command to `hosed serve` as a customer, and prints the reply; without a COMMAND, each
-line of standard input up to `bye`, all in one session, as a `take` needs after its `quote`.
+Gives one command to `hosed serve` or `tools/front.py` as a customer, and prints the reply; without
+a COMMAND, each line of standard input up to `bye`, all in one session, as a `take` needs after its
+`quote`. PORT is a number, or the path of a Unix socket, which has a `/` then, as in ./socket.
 """
 EPILOG = """\
 commands:
@@ -528,6 +549,11 @@ def port_number(text: str) -> int:
     return int(text)
 
 
+def place(text: str) -> Place:
+    """A port, or a path with a `/`."""
+    return text if "/" in text else port_number(text)
+
+
 def seconds(text: str) -> float:
     if not re.fullmatch(r"[0-9]{1,6}(\.[0-9]{1,6})?", text) or float(text) == 0:
         raise argparse.ArgumentTypeError(f"{text!r} is no time in seconds, as 2 or 0.5")
@@ -543,7 +569,7 @@ def parser_of_words() -> argparse.ArgumentParser:
         "--timeout", type=seconds, default=TIMEOUT, metavar="SECONDS",
         help=f"for the connection and for each reply ({TIMEOUT:g})",
     )
-    parser.add_argument("port", type=port_number, metavar="PORT")
+    parser.add_argument("port", type=place, metavar="PORT")
     parser.add_argument("customer", metavar="CUSTOMER")
     command = parser.add_argument(
         "command", nargs=argparse.REMAINDER, metavar="COMMAND", help="see below"

@@ -11,10 +11,15 @@ class FakeServer:
             Session("127.0.0.1", server.port, "acme").bye()
     """
 
-    def __init__(self, *connections, at_last=None):
+    def __init__(self, *connections, at_last=None, path=None):
         self.connections, self.at_last, self.lines = connections, at_last, []
-        self.listener = socket.create_server(("127.0.0.1", 0))
-        self.port = self.listener.getsockname()[1]
+        if path:
+            self.listener = socket.socket(socket.AF_UNIX)
+            self.listener.bind(path)
+            self.listener.listen()
+        else:
+            self.listener = socket.create_server(("127.0.0.1", 0))
+        self.port = path or self.listener.getsockname()[1]
         self.thread = threading.Thread(target=self.serve, daemon=True)
 
     def serve(self):

@@ -1,5 +1,6 @@
 #!/usr/bin/env python3
 """Customers who order, ask and give up at a running server for a given time, and how fast it is.
+PORT is a number, or the path of a Unix socket, which has a `/` then, as in ./socket.
 
 Each customer is a process with one session, who waits for each reply before the next command.
 Which commands come how often is told by `--mix`; hoses are random ones of the network, which is
@@ -47,7 +48,7 @@ FORK = multiprocessing.get_context("fork")
 class Load(NamedTuple):
     """What customers do, where, and for how long."""
 
-    port: int
+    port: client.Place
     customers: int
     seconds: float
     mix: Dict[str, int]
@@ -441,7 +442,7 @@ def words() -> argparse.Namespace:
     parser = argparse.ArgumentParser(
         description=__doc__, formatter_class=argparse.RawDescriptionHelpFormatter
     )
-    parser.add_argument("port", type=client.port_number, metavar="PORT")
+    parser.add_argument("port", type=client.place, metavar="PORT")
     parser.add_argument("customers", type=customers, metavar="CUSTOMERS")
     parser.add_argument("seconds", type=client.seconds, metavar="SECONDS")
     parser.add_argument("--host", default=client.HOST, help=f"where it is ({client.HOST})")

@@ -3,6 +3,7 @@ import os
 import socket
 import subprocess
 import sys
+import tempfile
 import threading
 import unittest
 from unittest import mock
@@ -211,6 +212,16 @@ class Program(unittest.TestCase):
             words = ("acme", "admit", "a:3", "b:4")
             self.assertEqual(run(server.port, *words), (0, admitted.decode(), ""))
             self.assertEqual(run(server.port, *words), (1, refused.decode(), ""))
+
+    def test_a_unix_socket(self):
+        with tempfile.TemporaryDirectory() as folder:
+            path = os.path.join(folder, "socket")
+            with FakeServer([WELCOME, b"bad 1\n", BYE], path=path):
+                self.assertEqual(run(path, "acme", "fly"), (1, "bad 1\n", ""))
+            os.remove(path)
+            status, output, error = run(path, "acme", "fly")
+            self.assertEqual((status, output), (2, ""))
+            self.assertIn(f"{path}: No such file or directory", error)
 
     def test_lines_of_the_input_are_one_session(self):
         quoted, taken = b"quoted 1 cost 6 at 0 links 0:2\n", b"stale 0 1\n"
