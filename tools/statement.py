@@ -1,0 +1,360 @@
+#!/usr/bin/env python3
+"""Prints the statement: every definition that the clauses of the top calls reach, all the way down.
+
+Who believes what docs/PROOFS.md says has to believe these definitions, and no others, which are
+steps of proofs. They are read from the sources, and names are looked up as the check does. Each
+stands after those that it uses, with its comment, by chapters; so do types of the Rust sources as
+contracts see them, constants, and the ghost members of traits. The last chapter has the calls. What
+an outside of the program has to keep to says the contract of its trait's calls. Names of libraries
+are not followed: they are told at the end.
+
+usage: statement.py [COMMAND] [--html FILE]    the statement as a text, or as a page with links
+       statement.py --count                    how many definitions and lines, by crate and command
+       statement.py --files                    which files of definitions have what
+
+COMMAND is run, audit, gen, prove, check, price, ship, follow or serve: what its outcome reaches,
+alone. Lines are those of definitions, without comments and blank lines, and with the heads of the
+modules around them; `--count` tells the others apart. Ends with status 1 where a name is not found,
+and tells it.
+"""
+import collections
+import heapq
+import html
+import signal
+import sys
+
+import resolve
+from resolve import Repository, definition_key
+
+CALLS = [("call", "hosed", "lib", "offline"), ("call", "hosed", "lib", "hosed")]
+OUTCOMES = {"run": "RunOutcome", "audit": "AuditOutcome", "gen": "GenOutcome",
+            "prove": "ProveOutcome", "check": "CheckOutcome", "price": "PriceOutcome",
+            "ship": "ShipOutcome", "follow": "FollowOutcome", "serve": "ServeOutcome"}
+
+# Chapters, and the crates whose definitions stand in them. hose_law stands in four, by module. What
+# is of one command alone, and of no crate that is named here, stands in a chapter of the command.
+CHAPTERS = [
+    ("Network and traffic", "hose_graph hose_tariff hose_topo hose_topo_json"),
+    ("Plans", "hose_links hose_paths hose_root hose_tree hose_plan hose_price"),
+    ("The book", "hose_book"),
+    ("History", "hose_core"),
+    ("Streams, lines and words", "hose_io hose_words hose_proto"),
+    ("Journal and disk", "hose_codec hose_disk hose_journal hose_store"),
+    ("Sessions", "hose_turn hose_pool hose_shared hose_session hose_crew hose_door"),
+    ("What commands share", ""),
+]
+LAW = {"Network and traffic": "Walk Row Tree Matrix Route Carries Heaviest",
+       "Plans": "Plan CanonicalPlan Decision Cheapest",
+       "The book": "Book Live Service Room"}
+HISTORY = 3
+SHARED = len(CHAPTERS) - 1
+
+
+class Statement:
+    """What the calls reach, in reading order. `of` has the commands that reach each node."""
+
+    def __init__(self, repository, calls=CALLS, outcomes=OUTCOMES):
+        self.repository = repository
+        self.outcomes = outcomes
+        self.titles = [*(title for title, _ in CHAPTERS), *outcomes, "Words, and the calls"]
+        self.calls = [key for key in calls]
+        self.reached = self.closure(self.calls)
+        self.of = collections.defaultdict(set)
+        for command, name in outcomes.items():
+            for key in self.closure([self.outcome(name)]):
+                self.of[key].add(command)
+
+    def outcome(self, name):
+        found = [key for key in self.reached if key[0] == "definition" and key[3] == name]
+        if len(found) != 1:
+            raise ValueError(f"{name}: {len(found)} definitions of the statement have this name")
+        return found[0]
+
+    def closure(self, starts):
+        """What the starts reach; of a trait the members that something of it reads."""
+        seen, todo = set(), list(starts)
+        while todo:
+            while todo:
+                key = todo.pop()
+                if key not in seen:
+                    seen.add(key)
+                    todo += self.repository.node(key).uses
+            read = {field for key in seen for field in self.repository.node(key).fields}
+            for key in [key for key in seen if key[0] == "trait"]:
+                todo += [member for name in self.repository.members(key) if name in read
+                         for member in [("member", *key[1:], name)] if member not in seen]
+        return seen
+
+    def problems(self):
+        """Names that were not found, and fields that no record, type or trait has."""
+        known = self.repository.known_fields()
+        found = set(self.repository.unresolved)
+        found |= {resolve.Problem(node.path, field.line, f".{field.text}")
+                  for node, field in self.repository.asked_fields if field.text not in known}
+        return sorted(found)
+
+    # ---- order
+
+    def rank(self, key):
+        """Where a node stands among those that do not use each other."""
+        crates = list(self.repository.crates)
+        if key[0] == "definition":
+            file = self.repository.files[key[1], key[2]]
+            place = (1, self.repository.file_rank(file))
+        else:
+            place = (0, 0)
+        return (crates.index(key[1]), *place, key[2], self.repository.node(key).line, str(key))
+
+    def home(self, key):
+        """The chapter that a node would stand in by itself."""
+        crate, module = key[1], key[2].split(".")[0]
+        if key[0] == "call":
+            return len(self.titles) - 1
+        for place, (title, crates) in enumerate(CHAPTERS):
+            modules = LAW.get(title, "").split() if crate == "hose_law" else ()
+            if crate in crates.split() or module in modules:
+                return place
+        if crate == "hose_law":
+            return HISTORY
+        if not self.of[key]:
+            return len(self.titles) - 1
+        if len(self.of[key]) == 1:
+            return len(CHAPTERS) + list(self.outcomes).index(*self.of[key])
+        return SHARED
+
+    def ordered(self, keys):
+        """The chapters with their nodes: each node after those that it uses."""
+        keys = set(keys)
+        uses = {key: {other for other in self.repository.node(key).uses
+                      if other in keys and other != key} for key in keys}
+        chapter = {}
+        for key in topological(uses, self.rank, lambda key: None):
+            chapter[key] = max([self.home(key), *(chapter[other] for other in uses[key])])
+        found = collections.defaultdict(list)
+        for key in topological(uses, lambda key: (chapter[key], self.rank(key)),
+                               lambda key: (chapter[key], self.repository.node(key).path)):
+            found[chapter[key]].append(key)
+        return [(self.titles[place], found[place]) for place in sorted(found)]
+
+    # ---- figures
+
+    def lines(self, keys):
+        """How many lines these definitions have, with the heads of the modules around them."""
+        found = sum(self.repository.node(key).lines() for key in keys if key[0] == "definition")
+        heads = {(key[1], key[2], module.line): len(module.lines)
+                 for key in keys if key[0] == "definition"
+                 for module in self.repository.node(key).definition.outer}
+        return found + sum(heads.values())
+
+    def all_keys(self):
+        return [definition_key(definition) for file in self.repository.files.values()
+                for definition in file.definitions]
+
+
+def topological(uses, rank, group):
+    """The keys in an order in which each stands after those that it uses: as long as there is one,
+    the next of the same group, else the lowest rank."""
+    left = {key: len(others) for key, others in uses.items()}
+    users = collections.defaultdict(list)
+    for key, others in uses.items():
+        for other in others:
+            users[other].append(key)
+    heap, groups, done, last = [], collections.defaultdict(list), set(), None
+
+    def offer(key):
+        heapq.heappush(heap, (rank(key), key))
+        heapq.heappush(groups[group(key)], (rank(key), key))
+
+    for key in uses:
+        if left[key] == 0:
+            offer(key)
+    while heap:
+        lowest, from_group = heap[0][0][:1], groups[last]
+        while from_group and from_group[0][1] in done:
+            heapq.heappop(from_group)
+        near = from_group and from_group[0][0][:1] == lowest
+        key = heapq.heappop(from_group if near else heap)[1]
+        if key in done:
+            continue
+        done.add(key)
+        last = group(key)
+        yield key
+        for user in users[key]:
+            left[user] -= 1
+            if left[user] == 0:
+                offer(user)
+    if len(done) < len(uses):
+        raise ValueError("definitions use each other: " + ", ".join(
+            ".".join(key) for key in sorted(uses) if key not in done))
+
+
+# ---- as a text
+
+def parts_of(statement, keys):
+    """The nodes of a chapter in turn: the path where it changes, the heads of modules that begin,
+    the comment, and the node."""
+    path, outer, shared = None, [], None
+    for key in keys:
+        node = statement.repository.node(key)
+        within = node.definition.outer if node.definition else []
+        heads = [module for module in within if module not in outer]
+        if node.path != path:
+            heads, shared = list(within), None
+        comment = node.comment
+        if node.definition is not None and not node.definition.comment:
+            comment = comment if comment != shared else []
+        shared = node.comment
+        yield node, node.path if node.path != path else None, heads, comment
+        path, outer = node.path, within
+
+
+def as_text(statement, keys):
+    found = []
+    for place, (title, members) in enumerate(statement.ordered(keys), 1):
+        found += ["", f"==== {place}. {title}", ""]
+        for node, path, heads, comment in parts_of(statement, members):
+            if path is not None:
+                found += [f"-- ==== {path}", ""]
+            for module in heads:
+                found += module.lines
+            indent = " " * (node.definition.indent if node.definition else 0)
+            found += [f"{indent}-- {line}".rstrip() for line in comment]
+            found += [*node.text, ""]
+    found += ["==== From libraries", "", *statement.repository.told_outside(keys), ""]
+    return "\n".join(found[1:])
+
+
+# ---- as a page
+
+STYLE = ("body{font:15px/1.5 sans-serif;max-width:60em;margin:2em auto;padding:0 1em}"
+         "pre{font:13px/1.45 monospace;white-space:pre-wrap;margin:.2em 0 1em}"
+         "p{margin:.8em 0 0}a{text-decoration:none}h3{font-size:1em;color:#666;margin:2em 0 0}"
+         "a:hover{text-decoration:underline}")
+
+
+def anchor(key):
+    return html.escape("-".join(part.replace("/", ".").replace(" ", "_") for part in key[1:]))
+
+
+def linked(node, keys):
+    """The node's text with a link at each name that leads to a node of the page."""
+    lines = []
+    for number, line in enumerate(node.text, node.line):
+        at, done = 0, []
+        for (place, column, length), key in sorted(node.links.items()):
+            if place == number and key in keys and column >= at:
+                done.append(html.escape(line[at:column]))
+                name = html.escape(line[column:column + length])
+                done.append(f'<a href="#{anchor(key)}">{name}</a>')
+                at = column + length
+        lines.append("".join(done) + html.escape(line[at:]))
+    return "\n".join(lines)
+
+
+def as_page(statement, keys, title):
+    keys, chapters = set(keys), statement.ordered(keys)
+    found = ["<!DOCTYPE html>", '<html lang="en"><meta charset="utf-8">',
+             f"<title>{html.escape(title)}</title>", f"<style>{STYLE}</style>",
+             f"<h1>{html.escape(title)}</h1>", "<ol>"]
+    found += [f'<li><a href="#chapter{place}">{html.escape(name)}</a>, '
+              f'{len(members)}</li>' for place, (name, members) in enumerate(chapters, 1)]
+    found.append("</ol>")
+    for place, (name, members) in enumerate(chapters, 1):
+        found.append(f'<h2 id="chapter{place}">{place}. {html.escape(name)}</h2>')
+        for node, path, heads, comment in parts_of(statement, members):
+            if path is not None:
+                found.append(f"<h3>{html.escape(path)}</h3>")
+            for module in heads:
+                found.append(f"<pre>{html.escape(chr(10).join(module.lines))}</pre>")
+            if comment:
+                found.append(f"<p>{html.escape(' '.join(comment))}</p>")
+            exact = node.kind in ("definition", "call")
+            text = linked(node, keys) if exact else html.escape("\n".join(node.text))
+            found.append(f'<pre id="{anchor(node.key)}">{text}</pre>')
+    found += ["<h2>From libraries</h2><pre>",
+              *map(html.escape, statement.repository.told_outside(keys)), "</pre></html>"]
+    return "\n".join(found) + "\n"
+
+
+# ---- figures
+
+def count_table(statement):
+    """The rows of `--count`."""
+    everything = statement.all_keys()
+    reached = [key for key in statement.reached if key[0] == "definition"]
+    others = collections.Counter(key[0] for key in statement.reached)
+    rows = [f"statement: {len(reached)} definitions, {statement.lines(reached)} lines; beside them "
+            f"{others['type']} types, {others['constant']} constants, {others['trait']} traits "
+            f"with {others['member']} members, {others['view']} of implementations",
+            f"all: {len(everything)} definitions, {statement.lines(everything)} lines", "",
+            "crate              statement           all",
+            "              definitions lines  definitions lines"]
+    for crate in statement.repository.crates:
+        own = [key for key in everything if key[1] == crate]
+        inside = [key for key in reached if key[1] == crate]
+        if own:
+            rows.append(f"{crate:16} {len(inside):8} {statement.lines(inside):5} {len(own):12} "
+                        f"{statement.lines(own):5}")
+    rows += ["", "command      definitions lines   by it alone"]
+    for command in statement.outcomes:
+        inside = [key for key in reached if command in statement.of[key]]
+        alone = [key for key in inside if len(statement.of[key]) == 1]
+        rows.append(f"{command:16} {len(inside):7} {statement.lines(inside):5} {len(alone):8} "
+                    f"{statement.lines(alone):5}")
+    two = [key for key in reached if {"run", "serve"} & statement.of[key]]
+    rows.append(f"{'run or serve':16} {len(two):7} {statement.lines(two):5}")
+    return rows
+
+
+def file_table(statement):
+    """The rows of `--files`: what each file of definitions has."""
+    found = collections.defaultdict(list)
+    for file in statement.repository.files.values():
+        inside = [definition_key(one) in statement.reached for one in file.definitions]
+        if inside:
+            kind = "statement" if all(inside) else "both" if any(inside) else "proofs"
+            found[kind].append(f"{file.path}: {sum(inside)} of {len(inside)}"
+                               if kind == "both" else file.path)
+    titles = {"statement": "the statement alone", "proofs": "definitions of proofs alone",
+              "both": "both, with how many of the statement"}
+    rows = []
+    for kind, title in titles.items():
+        rows += [f"{title}: {len(found[kind])} files", *(f"  {path}" for path in found[kind]), ""]
+    return rows
+
+
+def main(words):
+    options = [word for word in words if word.startswith("--")]
+    names = [word for word in words if not word.startswith("--")]
+    if "--help" in options or "-h" in words:
+        print(__doc__.strip())
+        return 0
+    page = names.pop() if options == ["--html"] and names else None
+    command = names.pop(0) if names else None
+    if names or command not in (None, *OUTCOMES) or options not in (
+            [], ["--html"], ["--count"], ["--files"]) or (
+            options == ["--html"]) != (page is not None):
+        print(__doc__.strip(), file=sys.stderr)
+        return 1
+    statement = Statement(Repository())
+    problems = statement.problems()
+    for problem in problems:
+        print(f"{problem.path}:{problem.line}: {problem.name} is not found", file=sys.stderr)
+    keys = statement.reached if command is None else {
+        key for key in statement.reached if command in statement.of[key]}
+    if options == ["--count"]:
+        print("\n".join(count_table(statement)))
+    elif options == ["--files"]:
+        print("\n".join(file_table(statement)).rstrip())
+    elif options == ["--html"]:
+        title = "The statement" if command is None else f"The statement of {command}"
+        with open(page, "w", encoding="utf-8") as file:
+            file.write(as_page(statement, keys, title))
+    elif not options:
+        print(as_text(statement, keys), end="")
+    return 1 if problems else 0
+
+
+if __name__ == "__main__":
+    signal.signal(signal.SIGPIPE, signal.SIG_DFL)  # as `| head` wants it
+    sys.exit(main(sys.argv[1:]))
