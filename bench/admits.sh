@@ -1,6 +1,7 @@
 #!/usr/bin/env bash
 # Seconds that 20,001 admissions take from start to end, the last of them at a full book.
 # usage: bench/admits.sh [PROGRAM]
+[ "${1-}" != --help ] || exec sed -n '2,/^[^#]/s/^# \{0,1\}//p' "$0"
 . "$(dirname "$0")/setup.sh"
 
 {

@@ -3,6 +3,7 @@
 # youngest VPN, and an admission with the release of the youngest, of the oldest and of the one in
 # the middle. The book of 10 is the reference of the same run.
 # usage: bench/book.sh [PROGRAM]
+[ "${1-}" != --help ] || exec sed -n '2,/^[^#]/s/^# \{0,1\}//p' "$0"
 . "$(dirname "$0")/setup.sh"
 
 # The seconds of the program on a book with so many live VPNs, before the commands and with them.

@@ -14,6 +14,8 @@ import os
 import re
 import sys
 
+from usage import tell_usage
+
 sys.path.insert(0, os.path.join(os.path.dirname(os.path.abspath(__file__)), "..", "tools"))
 import certificates  # noqa: E402
 import check_certificate  # noqa: E402
@@ -572,4 +574,5 @@ def main():
 
 
 if __name__ == "__main__":
+    tell_usage(__doc__)
     main()

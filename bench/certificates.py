@@ -33,6 +33,7 @@ import tempfile
 
 from compare_planner import COMPARED, Link, Network, canonical_plan, plan_cost
 from compare_planner import random_hose, random_network, topology_lines
+from usage import tell_usage
 
 os.chdir(os.path.join(os.path.dirname(os.path.abspath(__file__)), ".."))
 sys.path.insert(0, "tools")
@@ -433,4 +434,5 @@ def main():
 
 
 if __name__ == "__main__":
+    tell_usage(__doc__)
     main()

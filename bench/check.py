@@ -14,6 +14,7 @@ import time
 
 from certificates import certificate
 from compare_planner import Link, Network, canonical_plan
+from usage import tell_usage
 
 os.chdir(os.path.join(os.path.dirname(os.path.abspath(__file__)), ".."))
 sys.path.insert(0, "tools")
@@ -66,4 +67,5 @@ def main():
 
 
 if __name__ == "__main__":
+    tell_usage(__doc__)
     main()

@@ -10,6 +10,10 @@ import os
 import re
 import sys
 
+from usage import tell_usage
+
+tell_usage(__doc__)
+
 os.chdir(os.path.join(os.path.dirname(os.path.abspath(__file__)), ".."))
 NAME = re.compile(r"[^\W\d][\w']*")
 FILE = re.compile(r"[\w/]+\.(?:antt|rt)\b")

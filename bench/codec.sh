@@ -3,6 +3,7 @@
 # million of them; and how many times as long each takes as to copy their bytes. Before that, of
 # 100,000 byte strings at random each that is read as an entry is to be its spelling.
 # usage: bench/codec.sh [PROGRAM]
+[ "${1-}" != --help ] || exec sed -n '2,/^[^#]/s/^# \{0,1\}//p' "$0"
 set -euo pipefail
 export LC_ALL=C
 cd "$(dirname "${BASH_SOURCE[0]}")/.."

@@ -2,6 +2,7 @@
 # Seconds that a million questions about a link take from start to end, and a million admissions and
 # releases by turns; and the memory of the process with 20,000 live VPNs of 64 endpoints.
 # usage: bench/commands.sh [PROGRAM]
+[ "${1-}" != --help ] || exec sed -n '2,/^[^#]/s/^# \{0,1\}//p' "$0"
 . "$(dirname "$0")/setup.sh"
 
 # Runs the program on the input, and prints how long that took, and the last reply.

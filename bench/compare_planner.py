@@ -23,6 +23,8 @@ from collections import Counter
 from itertools import combinations, product, zip_longest
 from typing import NamedTuple
 
+from usage import tell_usage
+
 COMMANDS = 80  # of each network
 OPERATOR = "operator"  # who may take links out of service and put them back
 CUSTOMERS = ("acme", "zeta", OPERATOR)
@@ -662,4 +664,5 @@ def main():
 
 
 if __name__ == "__main__":
+    tell_usage(__doc__)
     main()

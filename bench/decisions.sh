@@ -4,6 +4,7 @@
 # plain loop over the same bytes. The time is that of the whole run, with reading the topology and
 # making the rows of all nodes; what these two take alone is measured in the same run.
 # usage: bench/decisions.sh [PROGRAM [SEED]]
+[ "${1-}" != --help ] || exec sed -n '2,/^[^#]/s/^# \{0,1\}//p' "$0"
 . "$(dirname "$0")/setup.sh"
 
 RUNS=5

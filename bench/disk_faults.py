@@ -12,6 +12,7 @@ usage: bench/disk_faults.py run | diff - crates/cases_program/data/disk_faults_r
 import sys
 
 from star_model import EMPTY, PLAIN, STAR, Disk, Failed, Journal, Server, audit, hose_of, journal_of
+from usage import tell_usage
 
 ORDERS = ("admit a:3 b:4 c:5", "admit a:1 b:1")
 # What a customer says, with a question after each order.
@@ -115,4 +116,5 @@ def main():
 
 
 if __name__ == "__main__":
+    tell_usage(__doc__)
     main()

@@ -10,10 +10,12 @@ Four kinds of examples are marked in the text:
   a table after <!-- sessions TOPOLOGY -->  customers of a server: what each says, row by row,
                                             and is answered
 
-Blocks of one section, which is what stands under a heading of two `#`, are run in one folder, one
-after the other; it has links to demo/ and tools/, and `./hosed` is the program, also after `try`.
-Port 7000 is one that is free. Prints each example that came out otherwise, and how many were run;
-ends with status 1 where one did.
+All blocks are run in one folder, one after the other and the documents in this order, as by one
+who types them all; it has links to demo/ and tools/, and `./hosed` is the program, also after
+`try`. A section, which is what stands under a heading of two `#`, has a shell of its own, and at
+its end all that it started has ended. Nothing may be left in the folder but what is below its
+`examples`. Port 7000 is one that is free. Prints each example that came out otherwise, and how many
+were run; ends with status 1 where one did.
 
 usage: bench/examples.py [PROGRAM]     the PROGRAM (./hosed) as seen from the top of the repository
 """
@@ -26,6 +28,8 @@ import subprocess
 import sys
 import tempfile
 import time
+
+from usage import tell_usage
 
 os.chdir(os.path.join(os.path.dirname(os.path.abspath(__file__)), ".."))
 TOP = os.getcwd()
@@ -98,28 +102,33 @@ def stop_all(shell):
         pass
 
 
-def run_blocks(commands):
-    """Runs commands in one folder and one shell; a later one begins when all is written."""
+def run_blocks(commands, folder):
+    """Runs commands in a folder and one shell; a later one begins when all is written."""
     port = str(free_port())
-    with tempfile.TemporaryDirectory() as folder:
-        make_folder(folder)
-        streams = {"stdin": subprocess.PIPE, "stdout": subprocess.PIPE,
-                   "stderr": subprocess.DEVNULL, "start_new_session": True}
-        with subprocess.Popen(["bash", "-c", SHELL], cwd=folder, **streams) as shell:
-            try:
-                for command, wanted in commands:
-                    shell.stdin.write(f"{command.replace('7000', port)}\n".encode())
-                    shell.stdin.flush()
-                    found = taken(shell.stdout, len(wanted.encode()))
-                    if found != wanted:
-                        raise Differs(command, wanted, found)
-                shell.stdin.close()
-                rest = taken(shell.stdout, 10_000)
-                if rest:
-                    raise Differs(f"after {commands[-1][0]}", "", rest)
-            finally:
-                stop_all(shell)
+    streams = {"stdin": subprocess.PIPE, "stdout": subprocess.PIPE,
+               "stderr": subprocess.DEVNULL, "start_new_session": True}
+    with subprocess.Popen(["bash", "-c", SHELL], cwd=folder, **streams) as shell:
+        try:
+            for command, wanted in commands:
+                shell.stdin.write(f"{command.replace('7000', port)}\n".encode())
+                shell.stdin.flush()
+                found = taken(shell.stdout, len(wanted.encode()))
+                if found != wanted:
+                    raise Differs(command, wanted, found)
+            shell.stdin.close()
+            rest = taken(shell.stdout, 10_000)
+            if rest:
+                raise Differs(f"after {commands[-1][0]}", "", rest)
+        finally:
+            stop_all(shell)
     return len(commands)
+
+
+def check_folder(folder):
+    """Raises `Differs` where an example left a file elsewhere than below `examples`."""
+    found = sorted(set(os.listdir(folder)) - {"demo", "tools", "hosed", "examples"})
+    if found:
+        raise Differs("what is left beside examples/", [], found)
 
 
 def run_script(topology, rows):
@@ -192,10 +201,11 @@ def say(stream, lines, replies):
             raise Differs(line, reply, found)
 
 
-def examples(section):
+def examples(section, folder):
     """What runs each example of a section."""
     if blocks(section):
-        yield lambda: run_blocks(blocks(section))
+        yield lambda: run_blocks(blocks(section), folder)
+        yield lambda: check_folder(folder) or 0
     for topology, rows in tables(section, "script"):
         yield lambda topology=topology, rows=rows: run_script(topology, rows)
     for _, rows in tables(section, "words"):
@@ -204,22 +214,29 @@ def examples(section):
         yield lambda topology=topology, rows=rows: run_sessions(topology, rows)
 
 
+def run_document(path, folder):
+    """How many examples of a document came out as they should, and how many otherwise."""
+    with open(path, encoding="utf-8") as document:
+        text = document.read()
+    count = differed = 0
+    for section in sections(text):
+        for run in examples(section, folder):
+            try:
+                count += run()
+            except Differs as fault:
+                differed += 1
+                print(f"{path}, {section.splitlines()[0]}: {fault}")
+    print(f"examples: {count} of {path}")
+    return differed
+
+
 def main():
-    differed = 0
-    for path in DOCUMENTS:
-        with open(path, encoding="utf-8") as document:
-            text = document.read()
-        count = 0
-        for section in sections(text):
-            for run in examples(section):
-                try:
-                    count += run()
-                except Differs as fault:
-                    differed += 1
-                    print(f"{path}, {section.splitlines()[0]}: {fault}")
-        print(f"examples: {count} of {path}")
+    with tempfile.TemporaryDirectory() as folder:
+        make_folder(folder)
+        differed = sum(run_document(path, folder) for path in DOCUMENTS)
     sys.exit(1 if differed else 0)
 
 
 if __name__ == "__main__":
+    tell_usage(__doc__)
     main()

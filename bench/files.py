@@ -24,6 +24,8 @@ import sys
 import tempfile
 from functools import partial
 
+from usage import tell_usage
+
 os.chdir(os.path.join(os.path.dirname(os.path.abspath(__file__)), ".."))
 PROGRAM = os.path.abspath((sys.argv[1:] + ["./hosed"])[0])
 HANGS = 120  # seconds
@@ -436,4 +438,5 @@ def main():
 
 
 if __name__ == "__main__":
+    tell_usage(__doc__)
     main()

@@ -28,6 +28,7 @@ from concurrent.futures import ThreadPoolExecutor
 
 from compare_planner import Server, Vpn, pairs_text, plan_cost, random_command, random_network
 from compare_planner import FORCED, WEIGHTS
+from usage import tell_usage
 
 sys.path.insert(0, os.path.join(os.path.dirname(os.path.abspath(__file__)), "..", "tools"))
 import read_journal
@@ -459,5 +460,6 @@ def main():
 
 
 if __name__ == "__main__":
+    tell_usage(__doc__)
     os.chdir(os.path.join(os.path.dirname(os.path.abspath(__file__)), ".."))
     main()

@@ -4,6 +4,7 @@
 # with what they begin with. With names it takes these crates and those below them. The minutes say
 # something on an idle machine alone.
 # usage: bench/gate.sh [CRATE ..]
+[ "${1-}" != --help ] || exec sed -n '2,/^[^#]/s/^# \{0,1\}//p' "$0"
 set -euo pipefail
 export LC_ALL=C
 cd "$(dirname "$0")/.."

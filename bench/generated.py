@@ -15,6 +15,7 @@ import sys
 import time
 
 from compare_planner import Link, Network, Server
+from usage import tell_usage
 
 os.chdir(os.path.join(os.path.dirname(os.path.abspath(__file__)), ".."))
 sys.path.insert(0, "tools")
@@ -120,4 +121,5 @@ def main():
 
 
 if __name__ == "__main__":
+    tell_usage(__doc__)
     main()

@@ -12,6 +12,10 @@ usage: bench/images.py | diff - crates/cases_parts/data/images.cases
 
 import itertools
 
+from usage import tell_usage
+
+tell_usage(__doc__)
+
 MOST = 4  # bytes of the disk
 VALUES = (0, 1, 2, 3, 9)  # those of its bytes
 FILLED = (0, 9)

@@ -4,6 +4,7 @@
 # bytes. And how long the chain value of a record of ten bytes takes, which with the value before it
 # is one block of SHA-256, beside a block of a long text.
 # usage: bench/journal.sh [PROGRAM] [DIGESTS]     what is not given is built
+[ "${1-}" != --help ] || exec sed -n '2,/^[^#]/s/^# \{0,1\}//p' "$0"
 set -euo pipefail
 export LC_ALL=C
 cd "$(dirname "${BASH_SOURCE[0]}")/.."

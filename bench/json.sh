@@ -3,6 +3,7 @@
 # json.load of the same file without the start of Python. The journal is one of another network, so
 # the topology is read and its digest taken, and nothing else; the start of the program counts.
 # usage: bench/json.sh [PROGRAM]
+[ "${1-}" != --help ] || exec sed -n '2,/^[^#]/s/^# \{0,1\}//p' "$0"
 . "$(dirname "$0")/setup.sh"
 
 printf 'node another\nend\n' | "$program" run "$work/journal"

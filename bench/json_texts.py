@@ -39,6 +39,8 @@ import subprocess
 import sys
 import tempfile
 
+from usage import tell_usage
+
 os.chdir(os.path.join(os.path.dirname(os.path.abspath(__file__)), ".."))
 MOST_NODES, MOST_LINKS, MOST_BYTES = 512, 2048, 16
 MOST = {"capacity": 1_000_000_000, "length": 1_000_000, "cost": 1_000_000}
@@ -372,4 +374,5 @@ def main():
 
 
 if __name__ == "__main__":
+    tell_usage(__doc__)
     main()

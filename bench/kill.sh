@@ -6,6 +6,7 @@
 # runs go on from one journal in a row. Prints how many were killed and how many differed; ends
 # with status 1 where one differed, or where no order was acknowledged.
 # usage: bench/kill.sh [N [SEED]]     TMPDIR: where the journals are made
+[ "${1-}" != --help ] || exec sed -n '2,/^[^#]/s/^# \{0,1\}//p' "$0"
 set -euo pipefail
 export LC_ALL=C
 cd "$(dirname "${BASH_SOURCE[0]}")/.."

@@ -20,6 +20,7 @@ import time
 
 from compare_planner import COMPARED, random_network
 from histories import SESSIONS, Differs, Session, client, same, start, write_topology
+from usage import tell_usage
 
 LONGEST = 0.12  # seconds until a server is killed, from its first line
 
@@ -102,4 +103,5 @@ def main():
 
 
 if __name__ == "__main__":
+    tell_usage(__doc__)
     main()

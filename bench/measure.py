@@ -12,6 +12,8 @@ import subprocess
 import sys
 import time
 
+from usage import tell_usage
+
 
 def processor_seconds():
     used = resource.getrusage(resource.RUSAGE_CHILDREN)
@@ -32,4 +34,5 @@ def main():
 
 
 if __name__ == "__main__":
+    tell_usage(__doc__)
     main()

@@ -13,6 +13,7 @@
 # usage: bench/memory.sh [PROGRAM]
 # The PROGRAM (crates/hosed_main/out/hosed_main) is seen from the top of the repository. It is no
 # script: the growths of the shell would be refused.
+[ "${1-}" != --help ] || exec sed -n '2,/^[^#]/s/^# \{0,1\}//p' "$0"
 set -euo pipefail
 export LC_ALL=C
 cd "$(dirname "${BASH_SOURCE[0]}")/.."

@@ -7,6 +7,7 @@
 # second. A sync may take many times as long at one moment as at another, so the orders and the loop
 # go by short turns, and their figures are those of all turns.
 # usage: bench/orders.sh [FOLDER [PROGRAM]]     FOLDER: on a real disk; else the current one
+[ "${1-}" != --help ] || exec sed -n '2,/^[^#]/s/^# \{0,1\}//p' "$0"
 . "$(dirname "$0")/place.sh"
 
 python3 - "$program" "$place" <<'END'

@@ -18,6 +18,7 @@ from re import fullmatch
 
 from star_model import (DIGEST, EMPTY, STAR, Disk, Failed, Journal, audit, chain, journal_of,
                         live_of, plan, spelled)
+from usage import tell_usage
 
 ROW = ("admit", "acme", ((0, 3), (1, 4), (2, 5)))
 LEADER = (ROW, ("release", "acme", 1))
@@ -514,4 +515,5 @@ def main():
 
 
 if __name__ == "__main__":
+    tell_usage(__doc__)
     main()

@@ -28,6 +28,7 @@ from typing import Callable, NamedTuple
 import compare_planner
 from compare_planner import (Link, Network, Size, canonical_plan, least_cost, plan_cost,
                              random_hose, topology_lines)
+from usage import tell_usage
 
 os.chdir(os.path.join(os.path.dirname(os.path.abspath(__file__)), ".."))
 sys.path.insert(0, "tools")
@@ -292,4 +293,5 @@ def main():
 
 
 if __name__ == "__main__":
+    tell_usage(__doc__)
     main()

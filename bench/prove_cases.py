@@ -12,6 +12,8 @@ usage: bench/prove_cases.py star | diff - crates/cases_program/data/prove.cases
 import os
 import sys
 
+from usage import tell_usage
+
 sys.path.insert(0, os.path.join(os.path.dirname(os.path.abspath(__file__)), "..", "tools"))
 import check_certificate  # noqa: E402
 from certificate_cases import BY_HOPS, BY_LONG, LINES, STAR, apart, backbone, given  # noqa: E402
@@ -239,4 +241,5 @@ def main():
 
 
 if __name__ == "__main__":
+    tell_usage(__doc__)
     main()

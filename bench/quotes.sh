@@ -6,6 +6,7 @@
 # them, no lock can mend. All is seconds by the clock, the least of seven runs that are made by
 # turns; other processes that run meanwhile make the ratios greater.
 # usage: bench/quotes.sh [PROGRAM [SEED]]
+[ "${1-}" != --help ] || exec sed -n '2,/^[^#]/s/^# \{0,1\}//p' "$0"
 set -euo pipefail
 export LC_ALL=C
 cd "$(dirname "${BASH_SOURCE[0]}")/.."

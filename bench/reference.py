@@ -14,6 +14,8 @@ import sys
 import tempfile
 import time
 
+from usage import tell_usage
+
 LONG_ENOUGH = 2  # seconds, after which a loop is not run again
 MOST_RUNS = 20
 
@@ -47,4 +49,5 @@ def main():
 
 
 if __name__ == "__main__":
+    tell_usage(__doc__)
     main()

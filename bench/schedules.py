@@ -40,6 +40,7 @@ from functools import partial
 
 from compare_planner import FORCED, Server, random_command, random_network
 from forged import CHAINED, EMPTY, MOST_BODY, Book, Wrong, canonical, entry_of, journal_of, spelled
+from usage import tell_usage
 
 sys.path.insert(0, os.path.join(os.path.dirname(os.path.abspath(__file__)), "..", "tools"))
 import read_journal
@@ -490,5 +491,6 @@ def main():
 
 
 if __name__ == "__main__":
+    tell_usage(__doc__)
     os.chdir(os.path.join(os.path.dirname(os.path.abspath(__file__)), ".."))
     main()

@@ -18,6 +18,10 @@ import subprocess
 import sys
 import tempfile
 
+from usage import tell_usage
+
+tell_usage(__doc__)
+
 os.chdir(os.path.join(os.path.dirname(os.path.abspath(__file__)), ".."))
 sys.path.insert(0, "tools")
 import read_journal

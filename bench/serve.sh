@@ -13,6 +13,7 @@
 # the greatest of the runs, which are made by turns, and the least and greatest ratio. Ends with
 # status 1 where a reply is not as wanted.
 # usage: bench/serve.sh [FOLDER [PROGRAM]]     FOLDER: on a real disk; else the current one
+[ "${1-}" != --help ] || exec sed -n '2,/^[^#]/s/^# \{0,1\}//p' "$0"
 . "$(dirname "$0")/place.sh"
 
 PYTHONPATH=tools python3 - "$program" "$place" <<'END'

@@ -12,6 +12,7 @@
 # status 1 where a packet or an answer is not as wanted, or the follower's journal is not the
 # leader's, byte by byte.
 # usage: bench/standby.sh [FOLDER [PROGRAM]]     FOLDER: on a real disk; else the current one
+[ "${1-}" != --help ] || exec sed -n '2,/^[^#]/s/^# \{0,1\}//p' "$0"
 . "$(dirname "$0")/place.sh"
 
 python3 - "$program" "$place" <<'END'

@@ -12,6 +12,7 @@ usage: bench/stops.py | diff - crates/cases_program/data/stops.cases
 """
 
 from star_model import EMPTY, PLAIN, STAR, Disk, Failed, Journal, Server, audit, hose_of, journal_of
+from usage import tell_usage
 
 FOUR = ("acme admit a:3 b:4 c:5", "acme quote a:1 b:1", "acme take 1", "acme release 1")
 SIX = (
@@ -92,4 +93,5 @@ def main():
 
 
 if __name__ == "__main__":
+    tell_usage(__doc__)
     main()

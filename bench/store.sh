@@ -6,6 +6,7 @@
 # SHA-256 of the opening itself. What a run without a journal, and the programs without a file, take
 # is taken off. Before that, an audit is to find all VPNs of the journal and what they cost.
 # usage: bench/store.sh [PROGRAM] [DIGESTS]     DIGESTS: else it is built
+[ "${1-}" != --help ] || exec sed -n '2,/^[^#]/s/^# \{0,1\}//p' "$0"
 . "$(dirname "$0")/setup.sh"
 digests=${2:-$(bench/figures/build.sh digests)}
 

@@ -14,6 +14,7 @@ usage: bench/stream_faults.py streams | diff - crates/cases_program/data/stream_
 import sys
 
 from star_model import STAR, Disk, Journal, Server, audit
+from usage import tell_usage
 
 PIECE = 16  # bytes that a call of an input gives
 PART = 20  # bytes that a call of an audit's output takes
@@ -251,4 +252,5 @@ def main():
 
 
 if __name__ == "__main__":
+    tell_usage(__doc__)
     main()

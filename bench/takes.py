@@ -23,6 +23,8 @@ import subprocess
 import sys
 from collections import Counter
 
+from usage import tell_usage
+
 NODES = 512
 MOST = 65_536  # changes that a book keeps
 
@@ -251,4 +253,5 @@ def main():
 
 
 if __name__ == "__main__":
+    tell_usage(__doc__)
     main()

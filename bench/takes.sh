@@ -8,6 +8,7 @@
 # as a take does; by all links, as each take did before the book kept changes; and to copy these
 # changes. A program of bench/figures calls the planner itself, as takes do under the lock.
 # usage: bench/takes.sh [PROGRAM [SEED]]
+[ "${1-}" != --help ] || exec sed -n '2,/^[^#]/s/^# \{0,1\}//p' "$0"
 . "$(dirname "$0")/setup.sh"
 
 RUNS=9

@@ -2,6 +2,7 @@
 # Milliseconds that reading a topology of the greatest size takes, and the memory of the whole
 # process then. The text ends in a wrong line in place of `end`, so that it is only read.
 # usage: bench/topology.sh [PROGRAM]
+[ "${1-}" != --help ] || exec sed -n '2,/^[^#]/s/^# \{0,1\}//p' "$0"
 . "$(dirname "$0")/setup.sh"
 
 python3 - >"$work/input" <<'END'

@@ -23,6 +23,8 @@ import sys
 import tempfile
 import types
 
+from usage import tell_usage
+
 WRONG = pathlib.Path(__file__).resolve().parent.parent / "wrong"
 JOBS = ["--jobs", "1"]
 # What an answer of the kit begins with, and the column that counts it.
@@ -184,4 +186,5 @@ def main(names):
 
 
 if __name__ == "__main__":
+    tell_usage(__doc__)
     sys.exit(main(sys.argv[1:]))
