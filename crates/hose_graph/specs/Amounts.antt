@@ -5,8 +5,10 @@ use Rattle.std.specs.Prelude.{ℕ}
 abbrev pub ReservedLink : Type 0
 ReservedLink = ℕ × ℕ
 
+-- the link of a reserved link
 abbrev pub link_of : ReservedLink → ℕ
 link_of pair = pair.0
 
+-- the amount of a reserved link
 abbrev pub amount_of : ReservedLink → ℕ
 amount_of pair = pair.1

@@ -9,9 +9,11 @@ use Rattle.hose_graph.specs.Limits.{most_nodes, least_ends, most_ends, most_rate
 abbrev pub Endpoint : Type 0
 Endpoint = ℕ × ℕ
 
+-- the node of an endpoint
 abbrev pub node_of : Endpoint → ℕ
 node_of end = end.0
 
+-- the rate of an endpoint
 abbrev pub rate_of : Endpoint → ℕ
 rate_of end = end.1
 
@@ -31,7 +33,7 @@ pub record IsHose (ends : List Endpoint) : Type 0 where
   pub within : All IsEnd ends
   pub ascending : IsAscending ends
 
--- the sum of the rates
+-- the sum of the rates of these endpoints
 abbrev pub total_rate : List Endpoint → ℕ
 total_rate ends = sum_by rate_of ends
 

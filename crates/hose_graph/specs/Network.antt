@@ -34,17 +34,19 @@ pub record IsNetwork (network : Network) : Type 0 where
   pub differ : AllPairs ◌≢◌ network.nodes
   pub links : All (IsLink network) network.links
 
--- the network has room for a node, and for a link
+-- the network has room for one more node
 abbrev pub HasNodeRoom : Network → Type 0
 HasNodeRoom network = length network.nodes < most_nodes
 
+-- the network has room for one more link
 abbrev pub HasLinkRoom : Network → Type 0
 HasLinkRoom network = length network.links < most_links
 
--- a node of the network, and a link, by their numbers
+-- the number is that of a node of the network
 abbrev pub IsNodeOf : Network → ℕ → Type 0
 IsNodeOf network node = node < length network.nodes
 
+-- the number is that of a link of the network
 abbrev pub IsLinkOf : Network → ℕ → Type 0
 IsLinkOf network link = link < length network.links
 

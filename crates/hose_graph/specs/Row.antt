@@ -20,6 +20,6 @@ tight_link_of row v = slice_index_or row.tight v None
 abbrev pub IsWithinReach : Option ℕ → Type 0
 IsWithinReach distance = IfSome distance (λ d. d ≤ most_distance)
 
--- so is each of a row
+-- each distance of a row is at most the greatest
 abbrev pub HasBoundedDistances : Distances → Type 0
 HasBoundedDistances row = All IsWithinReach row.dist

@@ -54,7 +54,7 @@ Accepts None (Some new) input output number = ⊥
 Accepts (Some old) None input output number = ⊥
 Accepts (Some old) (Some new) input output number = IsNextConnection old new input output number
 
--- none is still to come
+-- no connection of the door is still to come
 abbrev pub AreUsedUp : Option Connections → Type 0
 AreUsedUp told = IfSome told (λ all. all.coming ≡ [])
 

@@ -16,9 +16,9 @@ pub record DoneState : Type 0 where
   pub input : SourceState
   pub output : SinkState
 
--- the port at which it was opened last, if it was; its connections that are still to come, each as
--- its input; how many it has accepted, those that ended and came back, its faults, and its calls
--- that are to fail
+-- a door in memory: the port at which it was opened last, if it was; its connections that are still
+-- to come, each as its input; how many it has accepted, those that ended and came back, its faults,
+-- and its calls that are to fail
 pub record DoorState : Type 0 where
   pub port : Option ℕ
   pub coming : List SourceState
@@ -50,7 +50,7 @@ mem_sink = record {
 
 -- ---- what a door tells
 
--- its frame
+-- the frame of a door in memory
 abbrev pub mem_door_frame : DoorState → Frame
 mem_door_frame door = faults_frame door.faults 0
 
@@ -64,7 +64,7 @@ outcome done = record {
   writing = done.output.faults.count;
 }
 
--- its connections
+-- the connections of a door in memory, of which it tells
 abbrev pub connections_of : DoorState → Connections
 connections_of door = record {
   accepted = door.accepted;
@@ -74,15 +74,15 @@ connections_of door = record {
 
 -- ---- what its calls do
 
--- after a call of `accept` that succeeded and gave no connection
+-- a door in memory after a call of `accept` that succeeded and gave no connection
 abbrev pub door_after_call : DoorState → DoorState
 door_after_call door = record door { failing = later_calls door.failing }
 
--- after it was opened at a port
+-- a door in memory after it was opened at a port
 abbrev pub door_after_open : ℕ → DoorState → DoorState
 door_after_open port door = record (door_after_call door) { port = Some port }
 
--- after a call that failed
+-- a door in memory after a call that failed
 abbrev pub door_after_fault : DoorState → DoorState
 door_after_fault door = record (door_after_call door) { faults = one_fault door.faults }
 
@@ -98,6 +98,6 @@ pub record IsHandedOut (old new : DoorState) (input : SourceState) (output : Sin
     accepted = old.accepted + 1;
   }
 
--- after a connection came back
+-- a door in memory after a connection came back
 abbrev pub door_after_return : DoneState → DoorState → DoorState
 door_after_return done door = record door { ended = door.ended ++ done ∷ [] }

@@ -4,14 +4,15 @@ use Rattle.hose_io.specs.Count.{one_more}
 use Rattle.hose_io.specs.Frame.{Frame}
 use Rattle.hose_io.specs.declared.faults.Faults.{Faults}
 
+-- the counts before any call has failed
 abbrev pub no_faults : Faults
 no_faults = record { count = 0; starved = 0 }
 
--- after one more call that failed
+-- the counts after one more call that failed
 abbrev pub one_fault : Faults → Faults
 one_fault faults = record faults { count = one_more faults.count }
 
--- after one more call that found no memory
+-- the counts after one more call that found no memory
 abbrev pub one_starved : Faults → Faults
 one_starved faults = record (one_fault faults) { starved = one_more faults.starved }
 

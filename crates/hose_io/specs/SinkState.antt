@@ -6,7 +6,8 @@ use Rattle.hose_io.specs.Faults.{faults_frame, no_faults, one_fault, one_starved
 use Rattle.hose_io.specs.Frame.{Frame}
 use Rattle.hose_io.specs.declared.faults.Faults.{Faults}
 
--- its bytes, the pieces that it was given, its faults, its calls that are to fail, and its number
+-- a sink in memory: its bytes, the pieces that it was given, its faults, its calls that are to
+-- fail, and its number
 pub record SinkState : Type 0 where
   pub given : List ℕ
   pub pieces : ℕ
@@ -18,7 +19,7 @@ pub record SinkState : Type 0 where
 abbrev pub fresh_sink : SinkState
 fresh_sink = record { given = []; pieces = 0; faults = no_faults; failing = []; number = 0 }
 
--- its frame
+-- the frame of a sink in memory
 abbrev pub mem_sink_frame : SinkState → Frame
 mem_sink_frame sink = faults_frame sink.faults sink.number
 

@@ -6,8 +6,8 @@ use Rattle.hose_io.specs.Frame.{Frame}
 use Rattle.hose_io.specs.Stream.{Stream}
 use Rattle.hose_io.specs.declared.faults.Faults.{Faults}
 
--- its bytes, how many it gives at most in one call, its faults, its calls that are to fail, and its
--- number
+-- a source in memory: its bytes, how many it gives at most in one call, its faults, its calls that
+-- are to fail, and its number
 pub record SourceState : Type 0 where
   pub content : Stream
   pub piece : ℕ
@@ -15,7 +15,7 @@ pub record SourceState : Type 0 where
   pub failing : List ℕ
   pub number : ℕ
 
--- its frame
+-- the frame of a source in memory
 abbrev pub mem_source_frame : SourceState → Frame
 mem_source_frame source = faults_frame source.faults source.number
 

@@ -44,7 +44,8 @@ IsPlannedAnswer network book customer hose (Admitted id cost at amounts) (Some e
     × (entry ≡ AdmitEntry customer hose amounts)
 IsPlannedAnswer network book customer hose reply entry = ⊥
 
--- the answer to an admission at a book: refused where the hose has no plan, else as above
+-- The answer to an admission at a book: refused where the hose has no plan, else that to a hose
+-- with a plan that is to be admitted.
 abbrev pub IsAdmitAnswer : Network → Book → List ℕ → List Endpoint → Reply → Option Entry → Type 0
 IsAdmitAnswer network book customer hose (Refused at side) None =
     (at ≡ book.epoch) × IsRefused network (room_of network book) hose side
@@ -120,7 +121,8 @@ IsServiceAnswer network book false link (Up told at) (Some entry) =
     × (at ≡ book.epoch + 1) × (entry ≡ UpEntry link)
 IsServiceAnswer network book down link reply entry = ⊥
 
--- the answer to a customer who gives such a command: denied where this is not the operator
+-- The answer to a customer's command to take a link out of service, where this is true, or to put
+-- it back: denied where the customer is not the operator.
 abbrev pub IsOperatorAnswer : Network → Book → List ℕ → Bool → ℕ → Reply → Option Entry → Type 0
 IsOperatorAnswer network book customer down link (Denied at) None =
     (at ≡ book.epoch) × (customer ≢ operator)

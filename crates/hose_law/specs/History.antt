@@ -49,10 +49,11 @@ book_after book (entry ∷ entries) = book_after (next_book book entry) entries
 abbrev pub book_of : ℕ → List Entry → Book
 book_of epoch history = book_after (opening_book epoch) history
 
--- the greatest epoch, and the most VPNs that may be live
+-- the greatest epoch
 abbrev pub last_epoch : ℕ
 last_epoch = limits.most_epoch
 
+-- the most VPNs that may be live
 abbrev pub most_live : ℕ
 most_live = limits.most_live
 
@@ -87,6 +88,7 @@ IsSoundFrom network book [] = ⊤
 IsSoundFrom network book (entry ∷ entries) =
     IsSoundAt network book entry × IsSoundFrom network (next_book book entry) entries
 
+-- each entry of a history that begins at an epoch is sound at the book of those before it
 abbrev pub IsSound : Network → ℕ → List Entry → Type 0
 IsSound network epoch history = IsSoundFrom network (opening_book epoch) history
 

@@ -56,11 +56,12 @@ pub record AreLiveUnreleased (epoch : ℕ) (history : List Entry) (place : ℕ) 
       ↔ IsUnreleased epoch history place vpn
   pub in_order : Rise (book_of epoch (take place history)).live
 
--- each is above a first epoch, and at most the book's
+-- the number of a VPN is above a first epoch, and at most a last one
 abbrev pub IsBetween : ℕ → ℕ → Vpn → Type 0
 IsBetween first last vpn = (first < vpn.id) × (vpn.id ≤ last)
 
--- the ids of a book that began at an epoch
+-- The ids of the live VPNs of a book that began at an epoch rise, from above this epoch up to the
+-- book's.
 pub record HasRisingIds (first : ℕ) (book : Book) : Type 0 where
   pub begun : first ≤ book.epoch
   pub rise : Rise book.live

@@ -12,17 +12,19 @@ sum_below (suc n) f = sum_below n f + f n
 abbrev pub demand : List (List ℕ) → ℕ → ℕ → ℕ
 demand matrix i j = slice_index (slice_index_or matrix i []) j
 
--- all that endpoint i of n sends, and all that it is sent
+-- all that endpoint i of n sends
 abbrev pub sent_by : ℕ → List (List ℕ) → ℕ → ℕ
 sent_by n matrix i = sum_below n (λ j. demand matrix i j)
 
+-- all that endpoint i of n is sent
 abbrev pub sent_to : ℕ → List (List ℕ) → ℕ → ℕ
 sent_to n matrix i = sum_below n (λ j. demand matrix j i)
 
--- the node and the rate of endpoint i
+-- the node of endpoint i
 abbrev pub node_at : List Endpoint → ℕ → ℕ
 node_at hose i = slice_index (map node_of hose) i
 
+-- the rate of endpoint i
 abbrev pub rate_at : List Endpoint → ℕ → ℕ
 rate_at hose i = slice_index (map rate_of hose) i
 

@@ -22,7 +22,7 @@ abbrev pub at_number : {X : Type 0} → List (Option X) → ℕ → Option X
 at_number quotes zero = None
 at_number quotes (suc index) = slice_index_or quotes index None
 
--- with this at a number
+-- what a customer holds, with this at a number
 abbrev pub with_number : {X : Type 0} → List (Option X) → ℕ → Option X → List (Option X)
 with_number quotes zero quote = quotes
 with_number quotes (suc index) quote = set quotes index quote

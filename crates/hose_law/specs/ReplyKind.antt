@@ -50,7 +50,7 @@ IsDiskKind (ForDisk at) = ⊤
 IsDiskKind ForMemory = ⊥
 IsDiskKind ForNoCommand = ⊥
 
--- 1 for a failure of the disk
+-- how many failures of the disk a reply of this kind tells: 1 or 0
 abbrev pub failures_of : ReplyKind → ℕ
 failures_of ByTheBook = 0
 failures_of (ForDisk at) = 1

@@ -62,7 +62,7 @@ WithoutMemory replies = All (λ reply. ¬ IsForMemory reply) replies
 abbrev pub WithoutDisk : List Reply → Type 0
 WithoutDisk replies = All (λ reply. ¬ IsForDisk reply) replies
 
--- 1 for a reply that is for a failure of the disk
+-- how many failures of the disk a reply tells: 1 or 0
 abbrev pub one_if_disk : Reply → ℕ
 one_if_disk reply = failures_of (kind_of reply)
 

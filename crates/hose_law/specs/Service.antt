@@ -16,10 +16,11 @@ abbrev pub links_in_service : Network → List ℕ → List Bool
 links_in_service network out =
     map (λ l. not (is_out out l)) (range_with_len 0 (length network.links))
 
--- the links that are out once a link is taken out of service, and once one is put back into it
+-- the links that are out of service once one more is taken out
 abbrev pub taken_out : List ℕ → ℕ → List ℕ
 taken_out out link = out ++ link ∷ []
 
+-- the links that are out of service once one of them is put back
 abbrev pub put_back : List ℕ → ℕ → List ℕ
 put_back out link = filter (λ other. not (other == link)) out
 
@@ -27,9 +28,11 @@ put_back out link = filter (λ other. not (other == link)) out
 abbrev pub LinkStands : Network → Book → ℕ → Bool → Type 0
 LinkStands network book link out = IsLinkOf network link × (is_out book.out link ≡ out)
 
+-- at a book this is a link of the network that is in service
 abbrev pub IsInService : Network → Book → ℕ → Type 0
 IsInService network book link = LinkStands network book link false
 
+-- at a book this is a link of the network that is out of service
 abbrev pub IsOutOfService : Network → Book → ℕ → Type 0
 IsOutOfService network book link = LinkStands network book link true
 

@@ -60,7 +60,8 @@ LoadsStay epoch history recent = (place link : ℕ)
     → ¬ IsNamedSince recent.changes (epoch + place) link
     → load_of (book_of epoch (take place history)) link ≡ load_of (book_of epoch history) link
 
--- so does whether it is out of service
+-- from each place whose epoch is at least the floor on, whether a link is out of service stays as
+-- it is where no change of a later epoch names the link
 abbrev pub ServiceStays : ℕ → List Entry → Recent → Type 0
 ServiceStays epoch history recent = (place link : ℕ)
     → place ≤ length history → recent.floor ≤ epoch + place

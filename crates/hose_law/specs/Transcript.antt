@@ -47,7 +47,7 @@ IsPlainReply IsLong reply = reply ≡ Long
 IsPlainReply Unread reply = reply ≡ Memory
 IsPlainReply line reply = ⊥
 
--- what such a line leads to
+-- the stage after a line of a session that has no place in a history
 abbrev pub stage_after : Stage → SessionLine → Stage
 stage_after Waiting line = Refused
 stage_after (Serving customer held) Leaves = Left

@@ -13,13 +13,15 @@ pub record Growth : Type 0 where
   pub start : ℕ
   pub steps : List Step
 
+-- the growth of a start node and steps
 abbrev pub growth : ℕ → List Step → Growth
 growth start steps = record { start = start; steps = steps }
 
--- the links of steps, and the nodes that they lead to
+-- the links of steps
 abbrev pub step_links : List Step → List ℕ
 step_links steps = map (λ (step : Step). step.link) steps
 
+-- the nodes that steps lead to
 abbrev pub new_nodes : List Step → List ℕ
 new_nodes steps = map (λ (step : Step). step.new) steps
 

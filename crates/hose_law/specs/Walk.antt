@@ -21,7 +21,7 @@ Joins network l u v =
 abbrev pub IsIn : List Bool → ℕ → Type 0
 IsIn set l = IsTrue (slice_index_or set l false)
 
--- all links
+-- the set of all links of the network
 abbrev pub all_links : Network → List Bool
 all_links network = replicate (length network.links) true
 
@@ -35,7 +35,7 @@ IsWalk network set u v [] = u ≡ v
 IsWalk network set u v (l ∷ walk) =
     (x : ℕ) × IsIn set l × Joins network l u x × IsWalk network set x v walk
 
--- the sum of its links' costs
+-- what a walk costs: the sum of its links' costs
 abbrev pub walk_cost : Network → List ℕ → ℕ
 walk_cost network [] = 0
 walk_cost network (l ∷ walk) = cost_of network l + walk_cost network walk

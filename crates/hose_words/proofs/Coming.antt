@@ -14,7 +14,7 @@ use Rattle.hose_io.specs.declared.source.Source.{Ghosts}
 use Rattle.hose_words.specs.Buffer.{CutsLine}
 use Rattle.hose_words.specs.Intake.{found_of, found_at_end, ShowsFound, TakesBytes, MeetsEnd, IsIntake}
 use Rattle.hose_words.specs.Lines.{Reader, is_line_feed, GivesLine, IsAfterLines, IsDropped, StopsAt, IsNext}
-use Rattle.hose_words.specs.declared.intake.Found.TheVariants as found
+use Rattle.hose_words.specs.declared.intake.FoundLine.TheVariants as found
 use Rattle.hose_words.specs.declared.lines.Line.{Line}
 use Rattle.hose_words.specs.declared.lines.LineFault.{LineFault}
 use Rattle.hose_words.specs.declared.lines.LineFault.TheVariants.{Read, TooLong}

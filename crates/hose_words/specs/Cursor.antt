@@ -8,12 +8,12 @@ pub record Position : Type 0 where
   pub left : List (List ℕ)
   pub read : ℕ
 
--- this word came
+-- the next word of a line was read, and this is the word
 pub record Took (old new : Position) (word : List ℕ) : Type 0 where
   pub cut : old.left ≡ word ∷ new.left
   pub counted : new.read ≡ old.read + 1
 
--- these words came
+-- the next words of a line were read, and these are the words
 pub record TookAll (old new : Position) (words : List (List ℕ)) : Type 0 where
   pub cut : old.left ≡ words ++ new.left
   pub counted : new.read ≡ old.read + length words

@@ -43,7 +43,7 @@ FollowsUntil tells least last follows listed (first ∷ before) word =
     ((first ≡ last) × follows before word)
     ⊎ ((first ≢ last) × FollowsUntil tells least last follows (listed ++ first ∷ []) before word)
 
--- such words are whole
+-- words up to the one that ends a list, and after that words that are whole
 abbrev pub WholeUntil : List ℕ → (List (List ℕ) → Type 0) → List (List ℕ) → Type 0
 WholeUntil last whole [] = ⊥
 WholeUntil last whole (first ∷ before) =
@@ -63,7 +63,7 @@ Follows (list word_of fine least) before word = TellsItems word_of fine (before 
 Follows (until word_of fine least last form) before word =
     FollowsUntil (TellsItems word_of fine) least last (Follows form) [] before word
 
--- such words are a whole line of the form
+-- words that may come one after the other are a whole line of the form
 abbrev pub IsWhole : Form → List (List ℕ) → Type 0
 IsWhole finish before = before ≡ []
 IsWhole anything before = ⊤
@@ -83,11 +83,11 @@ grammar_of form = record { may_follow = Follows form; is_whole = IsWhole form }
 
 -- ---- words that are known, and numbers
 
--- this word
+-- just this word, and then what a form says
 abbrev pub this : List ℕ → Form → Form
 this known form = place (λ word. word ≡ known) form
 
--- these words, one after the other
+-- just these words, one after the other, and then what a form says
 abbrev pub these : List (List ℕ) → Form → Form
 these [] form = form
 these (known ∷ more) form = this known (these more form)
@@ -104,6 +104,6 @@ Fits64 number = number < 2 ^ 64
 abbrev pub IsWithin : ℕ → ℕ → ℕ → Type 0
 IsWithin least most number = (least ≤ number) × (number ≤ most)
 
--- a number
+-- the word of a number that 64 bits hold, and then what a form says
 abbrev pub number : Form → Form
 number form = place (TellsNumber Fits64) form

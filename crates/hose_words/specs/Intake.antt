@@ -5,8 +5,8 @@ use Rattle.hose_io.specs.Calls.{HasGone}
 use Rattle.hose_io.specs.Frame.{Rose, Stays}
 use Rattle.hose_io.specs.Stream.{Gives, IsAtEnd}
 use Rattle.hose_io.specs.declared.source.Source.{Ghosts}
-use Rattle.hose_words.specs.declared.intake.Found.{Found}
-use Rattle.hose_words.specs.declared.intake.Found.TheVariants as found
+use Rattle.hose_words.specs.declared.intake.FoundLine.{FoundLine}
+use Rattle.hose_words.specs.declared.intake.FoundLine.TheVariants as found
 use Rattle.hose_words.specs.Limits.{input_limit, line_limit}
 use Rattle.hose_words.specs.declared.lines.Line.{Line}
 use Rattle.hose_words.specs.declared.lines.Line.TheVariants.{Text, Long}
@@ -26,17 +26,17 @@ reader_of source kept = record {
 }
 
 -- how a line is found, where its front was dropped already or not
-abbrev pub found_of : Bool → List ℕ → Found
+abbrev pub found_of : Bool → List ℕ → FoundLine
 found_of is_long line =
     if is_long || nat_lt line_limit (length line) then found.Long else found.Text
 
 -- how a line is found at the end of the text, where no bytes are no line
-abbrev pub found_at_end : Bool → List ℕ → Found
+abbrev pub found_at_end : Bool → List ℕ → FoundLine
 found_at_end is_long line =
     if not is_long && (length line == 0) then found.End else found_of is_long line
 
 -- what is shown of the line that was cut off last
-abbrev pub ShowsFound : Found → List ℕ → Option Line → Type 0
+abbrev pub ShowsFound : FoundLine → List ℕ → Option Line → Type 0
 ShowsFound found.End line None = ⊤
 ShowsFound found.End line (Some shown) = ⊥
 ShowsFound found.Long line None = ⊥
@@ -48,7 +48,7 @@ ShowsFound found.Text line (Some (Text bytes)) = bytes.now ≡ line
 
 -- whatever shows what was found answers a call of `next`
 abbrev pub FindsNext : {S : Type 0} → Ghosts S → Reader S → Reader S → List ℕ
-    → Result Found LineFault → Type 0
+    → Result FoundLine LineFault → Type 0
 FindsNext source old new line (Ok found) =
     (shown : Option Line) → ShowsFound found line shown → IsNext source old new (Ok shown)
 FindsNext source old new line (Err fault) = IsNext source old new (Err fault)

@@ -20,6 +20,7 @@ pub record Reader (S : Type 0) : Type 0 where
   pub fault : Option LineFault
   pub ended : Bool
 
+-- the byte is a line feed
 abbrev pub is_line_feed : ℕ → Bool
 is_line_feed byte = byte == 10
 

@@ -15,7 +15,7 @@ const LINE_FEED: u8 = b'\n';
 // `bytes[start..end]` is pending, of which the first `searched` bytes are no line feeds, and
 // `bytes[line_start..line_end]` is the line that was cut off last.
 #[derive(Drop)]
-pub(crate) struct Buffer {
+pub(crate) struct PendingBytes {
     bytes: [u8; PENDING_LIMIT],
     line_start: usize,
     line_end: usize,
@@ -24,7 +24,7 @@ pub(crate) struct Buffer {
     searched: usize,
 }
 
-impl Model for Buffer {
+impl Model for PendingBytes {
     ghost use Rattle.std.specs.Prelude.{◌-◌, slice_range};
     ghost use Rattle.hose_words.specs.Buffer.{LineBuffer};
     ghost use Rattle.hose_words.specs.declared.lines.TheConstants.{PENDING_LIMIT};
@@ -42,11 +42,11 @@ impl Model for Buffer {
     ghost invariant = { IsInOrder };
 }
 
-impl Buffer {
-    pub(crate) fn new() -> Buffer
+impl PendingBytes {
+    pub(crate) fn new() -> PendingBytes
         ensures { result.pending ≡ [] }
     {
-        Buffer {
+        PendingBytes {
             bytes: [0; PENDING_LIMIT],
             line_start: 0,
             line_end: 0,

@@ -5,28 +5,28 @@ ghost use Rattle.hose_io.specs.Stream.{IsAtEnd};
 ghost use Rattle.hose_words.specs.Buffer.{CutsLine};
 ghost use Rattle.hose_words.specs.Intake.{reader_of, found_of, found_at_end, ShowsFound, FindsNext, DropsLong, IsIntake};
 
-use crate::buffer::Buffer;
+use crate::buffer::PendingBytes;
 use crate::lines::{INPUT_LIMIT, LINE_LIMIT, Line, LineFault, PENDING_LIMIT};
 use hose_io::{Failed, Source};
 use std::marker::Model;
 
 // What a search for the next line came to. The bytes of a text are those that were cut off last.
 #[derive(Clone, Copy, Debug)]
-pub(crate) enum Found {
+pub(crate) enum FoundLine {
     End,
     Long,
     Text,
 }
 
 #[derive(Drop)]
-pub(crate) struct Intake {
-    buffer: Buffer,
+pub(crate) struct LineIntake {
+    buffer: PendingBytes,
     taken: u64,
     fault: Option<LineFault>,
     is_ended: bool,
 }
 
-impl Model for Intake {
+impl Model for LineIntake {
     ghost use Rattle.std.specs.Prelude.{◌≡◌, ◌+◌, ◌^◌, ◌<◌, ◌≤◌, ◌↔◌, Some};
     ghost use Rattle.hose_words.specs.declared.lines.LineFault.TheVariants.{TooLong};
     ghost use Rattle.hose_words.specs.Kept.{ReaderState};
@@ -46,15 +46,15 @@ impl Model for Intake {
         × ((intake.fault ≡ Some TooLong) ↔ (INPUT_LIMIT < intake.taken)) };
 }
 
-impl Intake {
-    pub(crate) fn new() -> Intake
+impl LineIntake {
+    pub(crate) fn new() -> LineIntake
         ensures pending { result.pending ≡ [] }
         ensures taken { result.taken ≡ 0 }
         ensures fault { result.fault ≡ None }
         ensures ended { IsFalse result.ended }
     {
-        Intake {
-            buffer: Buffer::new(),
+        LineIntake {
+            buffer: PendingBytes::new(),
             taken: 0,
             fault: None,
             is_ended: false,
@@ -62,7 +62,7 @@ impl Intake {
     }
 
     // Finds the next line, and takes what it needs for that.
-    pub(crate) fn advance<S: Source>(&mut self, source: &mut S) -> Result<Found, LineFault>
+    pub(crate) fn advance<S: Source>(&mut self, source: &mut S) -> Result<FoundLine, LineFault>
         requires at_end { OnTrue self.old.ended (IsAtEnd (S.content source.old)) }
         ensures next { FindsNext S.Source (reader_of source.old self.old)
             (reader_of source.new self.new) self.new.line result }
@@ -84,13 +84,13 @@ impl Intake {
         }
     }
 
-    pub(crate) fn shown(&self, found: Found) -> Option<Line<'_>>
+    pub(crate) fn shown(&self, found: FoundLine) -> Option<Line<'_>>
         ensures { ShowsFound found self.now.line result }
     {
         match found {
-            Found::End => None,
-            Found::Long => Some(Line::Long),
-            Found::Text => Some(Line::Text(self.buffer.line())),
+            FoundLine::End => None,
+            FoundLine::Long => Some(Line::Long),
+            FoundLine::Text => Some(Line::Text(self.buffer.line())),
         }
     }
 
@@ -131,21 +131,21 @@ impl Intake {
         true
     }
 
-    fn found(&self, is_long: bool) -> Found
+    fn found(&self, is_long: bool) -> FoundLine
         ensures { result ≡ found_of is_long self.now.line }
     {
         if is_long || self.buffer.line().len() > LINE_LIMIT {
-            Found::Long
+            FoundLine::Long
         } else {
-            Found::Text
+            FoundLine::Text
         }
     }
 
-    fn last(&self, is_long: bool) -> Found
+    fn last(&self, is_long: bool) -> FoundLine
         ensures { result ≡ found_at_end is_long self.now.line }
     {
         if !is_long && self.buffer.line().is_empty() {
-            Found::End
+            FoundLine::End
         } else {
             self.found(is_long)
         }

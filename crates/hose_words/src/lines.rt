@@ -4,7 +4,7 @@ ghost use Rattle.std.specs.Borrow.{sem};
 ghost use Rattle.std.specs.Io.BufRead.{Rests};
 ghost use Rattle.hose_words.specs.Limits.{input_limit, line_limit};
 
-use crate::intake::Intake;
+use crate::intake::LineIntake;
 use hose_io::Source;
 use std::marker::Model;
 
@@ -50,7 +50,7 @@ pub enum LineFault {
 #[derive(Drop)]
 pub struct LineReader<S: Source> {
     source: S,
-    intake: Intake,
+    intake: LineIntake,
 }
 
 impl<S: Source> Model for LineReader<S> {
@@ -82,7 +82,7 @@ impl<S: Source> LineReader<S> {
     {
         LineReader {
             source,
-            intake: Intake::new(),
+            intake: LineIntake::new(),
         }
     }
 

@@ -6,8 +6,8 @@ use Rattle.hose_words.specs.Intake.{reader_of, TakesBytes, MeetsEnd}
 use Rattle.hose_words.specs.Kept.{ReaderState}
 use Rattle.hose_words.specs.declared.lines.TheConstants.{INPUT_LIMIT}
 use Rattle.hose_words.proofs.Coming.{HasPassed, HasPassed-from, HasCome-more, HasCome-none, IsNext-line, IsNext-last, IsNext-fault}
-use Rattle.hose_words.proofs.intake.Intake.advance.Goals.{After-drop_long-is_long}
-use Rattle.hose_words.proofs.intake.Intake.advance.Goals as goal
+use Rattle.hose_words.proofs.intake.LineIntake.advance.Goals.{After-drop_long-is_long}
+use Rattle.hose_words.proofs.intake.LineIntake.advance.Goals as goal
 
 pub returns-in-Some-clause-next : goal.returns-in-Some-clause-next
 returns-in-Some-clause-next g c = search (rules, none_yet)

@@ -1,7 +1,7 @@
 use Rattle.std.proofs.Common.{Ok, ap, refl, rules}
 use Rattle.hose_io.specs.Calls.{none_yet}
 use Rattle.hose_words.proofs.Coming.{MeetsEnd-now}
-use Rattle.hose_words.proofs.intake.Intake.take_more.Goals as goal
+use Rattle.hose_words.proofs.intake.LineIntake.take_more.Goals as goal
 
 pub returns-then-self : goal.returns-then-self
 returns-then-self g c = search (rules, none_yet)

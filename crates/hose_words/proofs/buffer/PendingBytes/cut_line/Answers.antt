@@ -3,7 +3,7 @@ use Rattle.std.specs.List.{slice_range}
 use Rattle.hose_words.specs.Lines.{is_line_feed}
 use Rattle.hose_io.proofs.Parts.{drop-slice_range, length-slice_range}
 use Rattle.hose_words.proofs.BufferLemmas.{position_or_len-searched, take-slice_range}
-use Rattle.hose_words.proofs.buffer.Buffer.cut_line.Goals as goal
+use Rattle.hose_words.proofs.buffer.PendingBytes.cut_line.Goals as goal
 
 pub invariant_of-self : goal.invariant_of-self
 invariant_of-self c =

@@ -2,7 +2,7 @@ use Rattle.std.proofs.Common.{arith, le_trans, rules}
 use Rattle.hose_words.specs.Lines.{is_line_feed}
 use Rattle.hose_io.proofs.Parts.{appended, unwrap_or_zero-le}
 use Rattle.hose_words.proofs.BufferLemmas.{position_or_len-le-more}
-use Rattle.hose_words.proofs.buffer.Buffer.fill.Goals as goal
+use Rattle.hose_words.proofs.buffer.PendingBytes.fill.Goals as goal
 
 pub invariant_of-self : goal.invariant_of-self
 invariant_of-self g c =

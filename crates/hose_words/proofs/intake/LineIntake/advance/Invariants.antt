@@ -1,7 +1,7 @@
 use Rattle.std.proofs.Common.{◌-◌, ◌^◌}
 use Rattle.hose_words.specs.Intake.{reader_of}
 use Rattle.hose_words.proofs.Coming.{HasCome}
-use Rattle.hose_words.proofs.intake.Intake.advance.Given as goal
+use Rattle.hose_words.proofs.intake.LineIntake.advance.Given as goal
 
 abbrev pub invariant-loop-self : goal.invariant-loop-self
 invariant-loop-self g l =
