@@ -1,19 +1,19 @@
 -- The numbers of the spelling of entries, which definitions cite in place of the code's constants.
 use Rattle.std.specs.Prelude.{ℕ}
 
--- what an admission begins with
+-- the byte that an admission's spelling begins with
 abbrev pub admit_kind : ℕ
 admit_kind = 1
 
--- a release
+-- the byte that a release's spelling begins with
 abbrev pub release_kind : ℕ
 release_kind = 2
 
--- a link that is taken out of service
+-- the byte with which the spelling begins of an entry that takes a link out of service
 abbrev pub down_kind : ℕ
 down_kind = 3
 
--- a link that is put back
+-- the byte with which the spelling begins of an entry that puts a link back
 abbrev pub up_kind : ℕ
 up_kind = 4
 

@@ -40,19 +40,19 @@ ReadsWhole field MayBe view old (Ok read) = Begins field MayBe (view read) old [
 ReadsWhole {V} {X} field MayBe view old (Err fault) =
     (fault ≡ Bad) × ((value : X) → ¬ Begins field MayBe value old [])
 
--- a pair with its first number from `least` on and below `bound`, and its second from 1 to `most`
+-- a pair whose first number is from `least` on and below `bound`, and its second from 1 to `most`
 pub record IsPairFrom (bound most least : ℕ) (pair : ℕ × ℕ) : Type 0 where
   pub later : least ≤ pair.0
   pub below : pair.0 < bound
   pub amount : IsUpTo most pair.1
 
--- such pairs, each with a greater first number than the one before it
+-- pairs within these bounds, each with a greater first number than the one before it
 abbrev pub ArePairsFrom : ℕ → ℕ → ℕ → List (ℕ × ℕ) → Type 0
 ArePairsFrom bound most least [] = ⊤
 ArePairsFrom bound most least (pair ∷ pairs) =
     IsPairFrom bound most least pair × ArePairsFrom bound most (pair.0 + 1) pairs
 
--- so many such pairs
+-- pairs within these bounds, as many as they are said to be
 pub record AreCountedPairs (bound most count : ℕ) (pairs : List (ℕ × ℕ)) : Type 0 where
   pub counted : length pairs ≡ count
   pub ascending : ArePairsFrom bound most 0 pairs

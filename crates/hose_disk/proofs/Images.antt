@@ -2,7 +2,7 @@
 use Rattle.std.proofs.Common.{◌≡◌, ◌⊎◌, inl, inr, ℕ, zero, suc, ◌-◌, ◌+◌, ◌≤◌, min, List, [], ◌∷◌, ◌++◌, length, take, drop, refl, sym, ◌∙◌, ap, subst, arith, length-append, length-drop, append_assoc}
 use Rattle.std.proofs.lemmas.List.{take_at, drop_at, take_all, length-take, length-take-le}
 use Rattle.hose_disk.specs.Disk.{Torn, IsCut, StepsTo, NoneNew, Only, Elapses}
-use Rattle.hose_disk.specs.Images.{Step, idle, wrote, tried_write, cut_to, tried_cut, synced, overwritten, read_of, IsImage, LeftSince}
+use Rattle.hose_disk.specs.Images.{DiskStep, idle, wrote, tried_write, cut_to, tried_cut, synced, overwritten, read_of, IsImage, LeftSince}
 
 -- nothing of it was done
 pub torn_same : (at count : ℕ) (old : List ℕ) → Torn at count old old
@@ -40,9 +40,9 @@ torn_done at bytes old within = record {
   no_longer = omega (arith, within, length-overwritten at bytes old);
 }
 
-module _ (first : List ℕ) (calls : List Step) where
+module _ (first : List ℕ) (calls : List DiskStep) where
   -- one call more
-  pub elapses : (call : Step) → Elapses (length calls) (length (call ∷ calls)) (LeftSince first calls) (LeftSince first (call ∷ calls)) (IsImage first (call ∷ calls))
+  pub elapses : (call : DiskStep) → Elapses (length calls) (length (call ∷ calls)) (LeftSince first calls) (LeftSince first (call ∷ calls)) (IsImage first (call ∷ calls))
   elapses call = record { later = omega arith; nothing_else = else_; keeps = kept }
     where
       else_ : (t : ℕ) (image : List ℕ) → t ≤ length calls → LeftSince first (call ∷ calls) t image → LeftSince first calls t image ⊎ IsImage first (call ∷ calls) image

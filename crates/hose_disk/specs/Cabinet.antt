@@ -17,7 +17,7 @@ pub record CabinetFrame : Type 0 where
   pub out : Option (List ℕ)
   pub tells : Bool
 
--- its frame as an object of the outside, which has no number
+-- the frame of a cabinet as an object of the outside, which has no number
 abbrev pub object_of : CabinetFrame → Frame
 object_of cabinet = record { faults = cabinet.faults; number = 0; loan = [] }
 
@@ -40,7 +40,8 @@ pub record IsDiskCall {T : Type 0} (name : List ℕ) (before after : CabinetFram
   pub none_out : OnErr result (after.out ≡ before.out)
   pub tells : after.tells ≡ before.tells
 
--- the frame after a disk was put back: where its last call failed, that counts here too
+-- the frame of a cabinet after a disk was put back: where the disk's last call failed, that counts
+-- here too
 abbrev pub after_back : DiskFrame → CabinetFrame → CabinetFrame
 after_back disk cabinet = record cabinet {
   faults = if disk.has_failed then one_more cabinet.faults else cabinet.faults;

@@ -36,7 +36,7 @@ pub record IsPlaceOf {A : Type 0} (name : List ℕ) (items : List (NamedItem A))
 
 -- ---- disks
 
--- the disks that are there, and the name of the one that is out
+-- the shelf of a cabinet in memory: the disks that are there, and the name of the one that is out
 pub record ShelfState : Type 0 where
   pub disks : List (NamedItem MemState)
   pub out : Option (List ℕ)
@@ -67,8 +67,9 @@ shelf_after_putting name disk shelf = record {
 
 -- ---- cabinets
 
--- its texts, its disks, its faults, the texts that were asked for and are not there, the count of
--- the disk that was put back last, and the calls of `text` and `disk` that are to fail
+-- a cabinet in memory: its texts, its disks, its faults, the texts that were asked for and are not
+-- there, the count of the disk that was put back last, and the calls of `text` and `disk` that are
+-- to fail
 pub record CabinetState : Type 0 where
   pub texts : List (NamedItem (List ℕ))
   pub shelf : ShelfState
@@ -77,7 +78,7 @@ pub record CabinetState : Type 0 where
   pub returned : ℕ
   pub failing : List ℕ
 
--- its frame
+-- the frame of a cabinet in memory
 abbrev pub cabinet_frame : CabinetState → CabinetFrame
 cabinet_frame cabinet = record {
   faults = cabinet.faults.count;
@@ -91,31 +92,33 @@ cabinet_frame cabinet = record {
 abbrev pub text_of : CabinetState → List ℕ → Option (List ℕ)
 text_of cabinet name = item_of name cabinet.texts
 
--- the disk of a name, empty where the name is new; the one that is out is not here
+-- the disk of a name, empty where the name is new; none where it is the one that is out
 abbrev pub held_where : Option (List ℕ) → List ℕ → Option MemState → Option MemState
 held_where None name found = Some (or_empty found)
 held_where (Some out) name found = if bytes_eq out name then None else Some (or_empty found)
 
+-- the disk that a cabinet holds under a name, empty where the name is new; none where it is out
 abbrev pub held_of : CabinetState → List ℕ → Option MemState
 held_of cabinet name = held_where cabinet.shelf.out name (item_of name cabinet.shelf.disks)
 
 -- ---- what its calls do
 
--- after a call that was done
+-- a cabinet in memory after a call that was done
 abbrev pub cabinet_after_done : CabinetState → CabinetState
 cabinet_after_done cabinet = record cabinet { failing = later_calls cabinet.failing }
 
--- after a call that failed: it was to fail, or asked for a text that is not there
+-- a cabinet in memory after a call that failed: it was to fail, or asked for a text that is not
+-- there
 abbrev pub cabinet_after_fault : CabinetState → CabinetState
 cabinet_after_fault cabinet =
     record (cabinet_after_done cabinet) { faults = one_fault cabinet.faults }
 
--- after a call that found no memory
+-- a cabinet in memory after a call that found no memory
 abbrev pub cabinet_after_starving : CabinetState → CabinetState
 cabinet_after_starving cabinet =
     record (cabinet_after_done cabinet) { faults = one_starved cabinet.faults }
 
--- after a call of `text` that failed
+-- a cabinet in memory after a call of `text` that failed
 abbrev pub cabinet_after_refusal : List ℕ → CabinetState → CabinetState
 cabinet_after_refusal name cabinet = record (cabinet_after_fault cabinet) {
   absent = absent_after (text_of cabinet name) cabinet.absent;
@@ -132,7 +135,7 @@ IsMemOpening name old new (Err failed) =
     ((¬ Contains old.failing 1) × (new ≡ cabinet_after_starving old))
     ⊎ (Contains old.failing 1 × (new ≡ cabinet_after_fault old))
 
--- after a disk was put back under a name
+-- a cabinet in memory after a disk was put back under a name
 abbrev pub cabinet_after_return : List ℕ → MemState → CabinetState → CabinetState
 cabinet_after_return name disk cabinet = record cabinet {
   shelf = shelf_after_putting name disk cabinet.shelf;

@@ -11,7 +11,7 @@ pub record DiskFrame : Type 0 where
   pub opened : ℕ
   pub has_failed : Bool
 
--- its frame as an object of the outside, which has no number
+-- the frame of a disk as an object of the outside, which has no number
 abbrev pub object_frame : DiskFrame → Frame
 object_frame disk = record { faults = disk.faults; number = 0; loan = [] }
 
@@ -60,11 +60,11 @@ Told step (Some old) (Some new) = step old new
 
 -- ---- images
 
--- each image now is one of before, after a step
+-- each image that a stop may leave now is one of before, after a step
 abbrev pub StepsTo : (List ℕ → List ℕ → Type 0) → (List ℕ → Type 0) → (List ℕ → Type 0) → Type 0
 StepsTo step old new = (image : List ℕ) → new image → (was : List ℕ) × old was × step was image
 
--- each image now is one of before
+-- each image that a stop may leave now is one that it might have left before
 abbrev pub NoneNew : (List ℕ → Type 0) → (List ℕ → Type 0) → Type 0
 NoneNew old new = (image : List ℕ) → new image → old image
 

@@ -6,7 +6,7 @@ use Rattle.hose_io.specs.Faults.{no_faults, one_fault, one_starved}
 use Rattle.hose_io.specs.declared.Failed.{Failed}
 use Rattle.hose_io.specs.declared.faults.Faults.{Faults}
 use Rattle.hose_disk.specs.Disk.{DiskFrame}
-use Rattle.hose_disk.specs.Images.{Step, IsImage, LeftSince}
+use Rattle.hose_disk.specs.Images.{DiskStep, IsImage, LeftSince}
 use Rattle.hose_disk.specs.Recording.{CallRecord, with_call, reads}
 use Rattle.hose_disk.specs.declared.call.DiskCall.{DiskCall}
 use Rattle.hose_disk.specs.declared.call.DiskCall.TheVariants.{Len, Read, Write, Cut, Sync}
@@ -19,7 +19,7 @@ pub record ToFail : Type 0 where
   pub cuts : List ℕ
   pub syncs : List ℕ
 
--- those of one kind
+-- the calls of one kind that are to fail
 abbrev pub of_kind : DiskCall → ToFail → List ℕ
 of_kind Len failing = failing.lens
 of_kind Read failing = failing.reads
@@ -27,7 +27,7 @@ of_kind Write failing = failing.writes
 of_kind Cut failing = failing.cuts
 of_kind Sync failing = failing.syncs
 
--- with these of one kind, and the others as they were
+-- the calls that are to fail, with these of one kind, and the others as they were
 abbrev pub with_kind : DiskCall → ToFail → List ℕ → ToFail
 with_kind Len failing calls = record failing { lens = calls }
 with_kind Read failing calls = record failing { reads = calls }
@@ -35,16 +35,16 @@ with_kind Write failing calls = record failing { writes = calls }
 with_kind Cut failing calls = record failing { cuts = calls }
 with_kind Sync failing calls = record failing { syncs = calls }
 
--- after a call of one kind
+-- the calls that are to fail, after a call of one kind
 abbrev pub after_kind : DiskCall → ToFail → ToFail
 after_kind kind failing = with_kind kind failing (later_calls (of_kind kind failing))
 
--- none is to fail
+-- no call is to fail
 abbrev pub none_to_fail : ToFail
 none_to_fail = record { lens = []; reads = []; writes = []; cuts = []; syncs = [] }
 
--- the record of its calls, those that are to fail, the moment of its opening, its faults, and
--- whether its last call failed
+-- a disk in memory: the record of its calls, those that are to fail, the moment of its opening, its
+-- faults, and whether its last call failed
 pub record MemState : Type 0 where
   pub made : CallRecord
   pub failing : ToFail
@@ -64,16 +64,16 @@ fresh_disk bytes = record {
 
 -- ---- what it tells
 
--- its frame
+-- the frame of a disk in memory
 abbrev pub mem_disk_frame : MemState → DiskFrame
 mem_disk_frame disk =
     record { faults = disk.faults.count; opened = disk.opened; has_failed = disk.has_failed }
 
--- what a read gives
+-- what a read of a disk in memory gives
 abbrev pub content_of : MemState → Option (List ℕ)
 content_of disk = Some (reads disk.made)
 
--- how many calls are recorded
+-- how many calls a disk in memory has recorded
 abbrev pub moment_of : MemState → ℕ
 moment_of disk = length disk.made.calls
 
@@ -85,22 +85,22 @@ image_of disk = IsImage disk.made.first disk.made.calls
 abbrev pub left_since_of : MemState → ℕ → List ℕ → Type 0
 left_since_of disk = LeftSince disk.made.first disk.made.calls
 
--- it tells its content
+-- a disk in memory tells its content
 pub some_is_told : {bytes : List ℕ} → Some bytes ≡ None → ⊥
 some_is_told same = subst (λ (told : Option (List ℕ)). MatchOption told ⊥ (λ _. ⊤)) same tt
 
 -- ---- what its calls do
 
--- after a call that was done
-abbrev pub disk_after_done : DiskCall → MemState → Step → MemState
+-- a disk in memory after a call that was done
+abbrev pub disk_after_done : DiskCall → MemState → DiskStep → MemState
 disk_after_done kind disk done = record disk {
   made = with_call disk.made done;
   failing = after_kind kind disk.failing;
   has_failed = false;
 }
 
--- after a call that was to fail, and was begun
-abbrev pub disk_after_fault : DiskCall → MemState → Step → MemState
+-- a disk in memory after a call that was to fail, and was begun
+abbrev pub disk_after_fault : DiskCall → MemState → DiskStep → MemState
 disk_after_fault kind disk begun = record disk {
   made = with_call disk.made begun;
   failing = after_kind kind disk.failing;
@@ -108,7 +108,7 @@ disk_after_fault kind disk begun = record disk {
   has_failed = true;
 }
 
--- after a call that found no memory for its record; it was not begun
+-- a disk in memory after a call that found no memory for its record; it was not begun
 abbrev pub disk_after_starving : DiskCall → MemState → MemState
 disk_after_starving kind disk = record disk {
   failing = after_kind kind disk.failing;
@@ -118,7 +118,7 @@ disk_after_starving kind disk = record disk {
 
 -- A call of this kind is done where it is not to fail, and is begun where it is; or it found no
 -- memory.
-abbrev pub IsMemCall : {T : Type 0} → DiskCall → Step → Step → MemState → MemState →
+abbrev pub IsMemCall : {T : Type 0} → DiskCall → DiskStep → DiskStep → MemState → MemState →
     Result T Failed → Type 0
 IsMemCall kind done begun old new (Ok value) =
     (¬ Contains (of_kind kind old.failing) 1) × (new ≡ disk_after_done kind old done)

@@ -6,21 +6,22 @@ use Rattle.hose_io.specs.StdState.{StdSinkState, StdSourceState, sink_frame, sou
 use Rattle.hose_io.specs.declared.sink.Sink.{Ghosts as SinkGhosts}
 use Rattle.hose_io.specs.declared.source.Source.{Ghosts as SourceGhosts}
 
--- how often it has failed, the port at which it was opened last, if it was, and whether it listens
+-- a door over a port: how often it has failed, the port at which it was opened last, if it was, and
+-- whether it listens
 pub record TcpState : Type 0 where
   pub faults : ℕ
   pub port : Option ℕ
   pub listens : Bool
 
--- its frame
+-- the frame of a door over a port
 abbrev pub tcp_frame : TcpState → Frame
 tcp_frame door = record { faults = door.faults; number = 0; loan = [] }
 
--- it tells no connections
+-- a door over a port tells no connections
 abbrev pub untold_connections : Option Connections
 untold_connections = None
 
--- nor what one came to that ended
+-- a door over a port tells not what a connection came to that ended
 abbrev pub untold_connection : Option Connection
 untold_connection = None
 

@@ -32,7 +32,7 @@ link_of_two state a b =
     let distance = 1 + drawn (next_state state) 100 in
     record { a = a; b = b; capacity = 1000 + drawn state 9001; length = distance; cost = distance }
 
--- the state after that
+-- the state after a link between two nodes was drawn
 abbrev pub after_link_of_two : ℕ → ℕ
 after_link_of_two state = next_state (next_state state)
 
@@ -56,7 +56,7 @@ abbrev pub link_at : ℕ → ℕ → ℕ → Link
 link_at nodes state link =
     if joins_next nodes link then joining_link state link else further_link nodes state
 
--- the state after that
+-- the state after a link was drawn
 abbrev pub after_link : ℕ → ℕ → ℕ → ℕ
 after_link nodes state link = after_link_of_two
     (if joins_next nodes link then next_state state else next_state (next_state state))
@@ -141,7 +141,7 @@ admission_at nodes state = (
   Admit (in_order (first_ends nodes (next_state (next_state state)) (ends_at state))),
 )
 
--- the state after that
+-- the state after an admission was drawn
 abbrev pub after_admission : ℕ → ℕ
 after_admission state = after_ends (next_state (next_state state)) (ends_at state)
 
@@ -158,7 +158,7 @@ abbrev pub orders_at : ℕ → ℕ → ℕ → List Order
 orders_at nodes state hose = admission_at nodes state
     ∷ (if is_followed hose then release_at (after_admission state) hose ∷ [] else [])
 
--- the state after that
+-- the state after what is ordered for a hose was drawn
 abbrev pub after_orders : ℕ → ℕ → ℕ
 after_orders state hose =
     let after = after_admission state in

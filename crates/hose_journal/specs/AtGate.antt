@@ -19,7 +19,7 @@ pub record HasFields (bytes value body : List ℕ) : Type 0 where
   pub short : length body ≤ most_spelling
   pub is : bytes ≡ big_bytes length_bytes (length body) ++ (value ++ (body ++ gate ∷ rest))
 
--- no such fields, with a value of this length
+-- no length, value of this length and body begin these bytes with a gate after them
 abbrev pub HasNoFields : List ℕ → ℕ → Type 0
 HasNoFields bytes width = (value body : List ℕ) → length value ≡ width →
     ¬ HasFields bytes value body
@@ -32,7 +32,7 @@ pub record BeginsEntry (chained : Bool) (digest : List ℕ) (entries : List Entr
   pub is_entry : IsEntry entry
   pub is : bytes ≡ entry_bytes chained digest entries entry ++ gate ∷ rest
 
--- the record of no entry
+-- the record of no entry begins these bytes with a gate after it
 abbrev pub BeginsNoEntry : Bool → List ℕ → List Entry → List ℕ → Type 0
 BeginsNoEntry chained digest entries bytes = (entry : Entry) →
     ¬ BeginsEntry chained digest entries bytes entry

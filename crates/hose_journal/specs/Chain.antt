@@ -12,7 +12,7 @@ chain_from hash spell value [] = value
 chain_from hash spell value (item ∷ items) =
     chain_from hash spell (hash (value ++ spell item)) items
 
--- the strings that are hashed on the way
+-- the strings that are hashed for the chain value after these items, from this value on
 abbrev pub hashed_from : {X : Type 0} → (List ℕ → List ℕ) → (X → List ℕ) → List ℕ → List X →
     List (List ℕ)
 hashed_from hash spell value [] = []
@@ -33,6 +33,6 @@ pub record Collide (hash : List ℕ → List ℕ) (strings : List (List ℕ)) : 
 abbrev pub chain : List ℕ → List Entry → List ℕ
 chain digest entries = chain_from sha256 spelling digest entries
 
--- the strings whose SHA-256 is taken for it
+-- the strings whose SHA-256 is taken for the chain value of these entries
 abbrev pub hashed : List ℕ → List Entry → List (List ℕ)
 hashed digest entries = hashed_from sha256 spelling digest entries

@@ -15,6 +15,7 @@ pub data Item : Type 0 where
   entered : Entry → Item
   sealed : Item
 
+-- the item is a seal
 abbrev pub is_seal : Item → Bool
 is_seal (entered entry) = false
 is_seal sealed = true
@@ -51,6 +52,8 @@ entry_bytes chained digest entries entry =
 abbrev pub seal_bytes : List ℕ → List ℕ
 seal_bytes value = big_bytes length_bytes seal_body_bytes ++ seal_kind ∷ value
 
+-- the record of an item after these items: that of an entry, with a chain value where records have
+-- one, or that of a seal
 abbrev pub item_bytes : ℕ → List ℕ → List Item → Item → List ℕ
 item_bytes version digest before (entered entry) =
     entry_bytes (is_chained version before) digest (entries_in before) entry
@@ -61,6 +64,7 @@ abbrev pub MayFollowItems : ℕ → List Item → Item → Type 0
 MayFollowItems version before (entered entry) = IsEntry entry
 MayFollowItems version before sealed = is_chained version before ≡ false
 
+-- the format of the records of entries and seals
 abbrev pub entries_format : ℕ → List ℕ → Format Item
 entries_format version digest = record {
   bytes = item_bytes version digest;
@@ -77,6 +81,7 @@ closed_record version digest before item = item_bytes version digest before item
 
 -- ---- lists of entries
 
+-- the records of a journal, and the entries that they say
 abbrev pub entries_reader : RecordReader Item Entry
 entries_reader = record { format = entries_format; view = entries_in }
 

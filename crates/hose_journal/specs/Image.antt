@@ -27,7 +27,7 @@ AreItems format before [] = ⊤
 AreItems format before (item ∷ items) =
     format.MayBe before item × AreItems format (before ++ item ∷ []) items
 
--- the head: an open gate, the mark, the version and the digest of the topology
+-- the head of a journal: an open gate, the mark, the version and the digest of the topology
 abbrev pub head : ℕ → List ℕ → List ℕ
 head version digest = open_gate ∷ (head_mark ++ version ∷ digest)
 

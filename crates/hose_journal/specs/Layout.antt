@@ -21,7 +21,7 @@ version_place = 5
 abbrev pub plain_version : ℕ
 plain_version = 1
 
--- the version of records with them
+-- the version of records with chain values
 abbrev pub chained_version : ℕ
 chained_version = 2
 
@@ -41,7 +41,7 @@ seal_body_bytes = 33
 abbrev pub empty_bytes : ℕ
 empty_bytes = 39
 
--- the bytes of its head
+-- the bytes of a journal's head
 abbrev pub head_bytes : ℕ
 head_bytes = 38
 

@@ -15,7 +15,7 @@ use Rattle.hose_journal.specs.declared.fault.JournalFault.{JournalFault}
 use Rattle.hose_journal.specs.declared.fault.JournalFault.TheVariants.{Disk, Other, Damaged, Memory}
 use Rattle.hose_journal.specs.declared.layout.TheConstants.{BUFFER_BYTES, MOST_PART, PIECE_BYTES}
 use Rattle.hose_journal.specs.Layout.{digest_bytes, head_bytes}
-use Rattle.hose_journal.specs.declared.opening.Begun.{Begun}
+use Rattle.hose_journal.specs.declared.opening.BegunJournal.{BegunJournal}
 use Rattle.hose_journal.specs.declared.part.Found.{Found}
 use Rattle.hose_journal.specs.declared.piece.Piece.{Piece}
 use Rattle.hose_journal.specs.declared.reading.Reading.{Reading}
@@ -46,7 +46,7 @@ pub record CoversRecord (piece : Piece) (at : ℕ) : Type 0 where
   pub from : piece.from ≤ at
   pub far : (piece.len < PIECE_BYTES) ⊎ (at - piece.from + MOST_PART ≤ PIECE_BYTES)
 
--- what it has from this place on
+-- what a piece of a disk has from this place on
 abbrev pub held_from : Piece → ℕ → List ℕ
 held_from piece at = drop (at - piece.from) (take piece.len piece.bytes.items)
 
@@ -153,7 +153,7 @@ KeepsJournalFault (Err (Other kept given)) fault = fault ≡ Some (Other kept gi
 KeepsJournalFault (Err Memory) fault = fault ≡ None
 
 -- a journal whose head was read: the disk's length, and whether records have chain values
-pub record IsOpen {D : Type 0} (disk : Ghosts D) (now : D) (piece : Piece) (begun : Begun)
+pub record IsOpen {D : Type 0} (disk : Ghosts D) (now : D) (piece : Piece) (begun : BegunJournal)
     (digest : List ℕ) : Type 0 where
   pub version : ℕ
   pub is_version : IsVersion version

@@ -20,7 +20,7 @@ use std::alloc::Global;
 /// A journal that was begun: the disk's length, and whether its records have chain values from the
 /// first one on.
 #[derive(Clone, Copy)]
-pub struct Begun {
+pub struct BegunJournal {
     pub end: u64,
     pub chained: bool,
 }
@@ -67,7 +67,7 @@ fn prepare<D: Disk>(
     disk: &mut D,
     piece: &mut Piece,
     digest: &[u8; DIGEST_BYTES],
-) -> Result<Begun, JournalFault>
+) -> Result<BegunJournal, JournalFault>
     requires { length piece.old.bytes.items ≡ PIECE_BYTES }
     ensures any_moment { LeavesOnly D.Disk disk.old disk.new (IsOpened D.Disk disk.old digest.now) }
     ensures open { IfOk result (λ begun. IsOpen D.Disk disk.new piece.new begun digest.now) }
@@ -83,7 +83,7 @@ fn prepare<D: Disk>(
     let end = load_front(disk, piece)?;
     if !is_unbegun(piece.rest(0)) {
         return match check_head(piece.rest(0), digest) {
-            Ok(chained) => Ok(Begun { end, chained }),
+            Ok(chained) => Ok(BegunJournal { end, chained }),
             Err(fault) => Err(fault),
         };
     }
@@ -92,7 +92,7 @@ fn prepare<D: Disk>(
     if end <= HEAD_BYTES as u64 {
         return Err(JournalFault::Damaged { at: 0 });
     }
-    Ok(Begun { end, chained: true })
+    Ok(BegunJournal { end, chained: true })
 }
 
 // Reads the first piece, and tells the disk's length.

@@ -75,14 +75,14 @@ fn read_record(
 
 // The fields of a record after its length.
 #[derive(Clone, Copy)]
-struct Fields<'a> {
+struct RecordFields<'a> {
     value: &'a [u8],
     body: &'a [u8],
 }
 
 // The fields of the record that begins these bytes, with a value of so many bytes, where a gate
 // follows it.
-fn split_record(bytes: &[u8], width: usize) -> Option<Fields<'_>>
+fn split_record(bytes: &[u8], width: usize) -> Option<RecordFields<'_>>
     requires { width ≤ DIGEST_BYTES }
     ensures fields { IfSome result (λ fields.
         HasFields bytes.now fields.value.now fields.body.now) }
@@ -98,7 +98,7 @@ fn split_record(bytes: &[u8], width: usize) -> Option<Fields<'_>>
     if len > MOST_SPELLING || rest.len() <= len {
         return None;
     }
-    Some(Fields {
+    Some(RecordFields {
         value,
         body: &rest[..len],
     })

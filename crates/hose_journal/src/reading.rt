@@ -13,7 +13,7 @@ ghost use Rattle.hose_journal.specs.declared.layout.TheConstants.{BUFFER_BYTES, 
 use crate::fault::JournalFault;
 use crate::journal::Journal;
 use crate::layout::{DIGEST_BYTES, HEAD_BYTES, SEAL_RECORD};
-use crate::opening::Begun;
+use crate::opening::BegunJournal;
 use crate::part::{Found, begins_seal, part};
 use crate::piece::Piece;
 use hose_codec::CodecFault;
@@ -44,7 +44,7 @@ impl<D: Disk> Reading<D> {
         alloc: Global,
         disk: D,
         piece: Piece,
-        begun: Begun,
+        begun: BegunJournal,
         digest: [u8; DIGEST_BYTES],
         buffer: Vec<u8>,
     ) -> Reading<D>

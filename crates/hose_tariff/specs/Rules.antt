@@ -8,11 +8,11 @@ use Rattle.hose_graph.specs.Network.{Network}
 abbrev pub flat_cost : ℕ → ℕ
 flat_cost length = length
 
--- by `hops`: 1
+-- the cost of a length by `hops`: 1
 abbrev pub hops_cost : ℕ → ℕ
 hops_cost length = 1
 
--- by `long`: 5 and twice the length, 1,000,000 at most
+-- the cost of a length by `long`: 5 and twice the length, 1,000,000 at most
 abbrev pub long_cost : ℕ → ℕ
 long_cost length = min most_cost (5 + 2 * length)
 

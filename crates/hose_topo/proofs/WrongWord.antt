@@ -11,16 +11,16 @@ use Rattle.hose_graph.specs.declared.topology.Link.{Link}
 use Rattle.hose_graph.specs.declared.limits.TheConstants.{MOST_COST}
 use Rattle.hose_graph.proofs.NodesByName.{same_name}
 use Rattle.hose_topo.specs.TopologyText.{AddsLine, AddsLink, AddsNode, EndsText, HasLine, IsOtherNode, IsPassedOver, IsWrongLine, MayCome, TellsLink, kind_word, line_form, line_grammar, link_form, number_form, numbers_form}
-use Rattle.hose_topo.specs.declared.line.Kind.{Kind}
-use Rattle.hose_topo.specs.declared.line.Kind.TheVariants as kind
+use Rattle.hose_topo.specs.declared.line.LineKind.{LineKind}
+use Rattle.hose_topo.specs.declared.line.LineKind.TheVariants as kind
 use Rattle.hose_topo.proofs.TopologyLines.{line_same}
 
 -- ---- each choice has a word of its own
 
-abbrev kind_of : List ℕ → Kind
+abbrev kind_of : List ℕ → LineKind
 kind_of word = choice_of kind_word (kind.Node ∷ kind.Link ∷ kind.End ∷ []) kind.End word
 
-kind_back : (one : Kind) → kind_of (kind_word one) ≡ one
+kind_back : (one : LineKind) → kind_of (kind_word one) ≡ one
 kind_back kind.Node = refl
 kind_back kind.Link = refl
 kind_back kind.End = refl

@@ -8,12 +8,12 @@ use Rattle.sha2.specs.declared.Sha256.{Sha256}
 abbrev pub Hashes : Sha256 → Sha256 → List ℕ → Type 0
 Hashes old new text = (held : List ℕ) → Holds256 old held → Holds256 new (held ++ text)
 
--- no piece
+-- a hasher took nothing, in no piece
 pub Hashes-none : (hasher : Sha256) → Hashes hasher hasher []
 Hashes-none hasher = λ held holds.
     subst (λ (text : List ℕ). Holds256 hasher text) (sym (append-nil held)) holds
 
--- one piece after another
+-- a hasher took one text after another, piece by piece
 pub Hashes-next : (a b c : Sha256) (first more : List ℕ) → Hashes a b first → Hashes b c more
     → Hashes a c (first ++ more)
 Hashes-next a b c first more p q = λ held holds.

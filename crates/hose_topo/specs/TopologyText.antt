@@ -12,8 +12,8 @@ use Rattle.hose_graph.specs.Limit.{IsUpTo}
 use Rattle.hose_graph.specs.Network.{Network, IsLink, IsNodeOf, HasNodeRoom, HasLinkRoom, name_of}
 use Rattle.hose_graph.specs.declared.topology.Link.{Link}
 use Rattle.hose_graph.specs.Limits.{most_capacity, most_length, most_cost}
-use Rattle.hose_topo.specs.declared.line.Kind.{Kind}
-use Rattle.hose_topo.specs.declared.line.Kind.TheVariants as kind
+use Rattle.hose_topo.specs.declared.line.LineKind.{LineKind}
+use Rattle.hose_topo.specs.declared.line.LineKind.TheVariants as kind
 
 -- ---- what a line does
 
@@ -62,7 +62,7 @@ abbrev pub EndsText : Network → List (List ℕ) → Type 0
 EndsText network words = (words ≡ codes "end" ∷ []) × (0 < length network.nodes)
 
 -- what a line that is not passed over does, by its kind
-abbrev pub TellsLine : Network → Kind → List (List ℕ) → Network → Type 0
+abbrev pub TellsLine : Network → LineKind → List (List ℕ) → Network → Type 0
 TellsLine network kind.Node words next = AddsNode network words next
 TellsLine network kind.Link words next = AddsLink network words next
 TellsLine network kind.End words next = EndsText network words × (next ≡ network)
@@ -102,13 +102,13 @@ pub record IsTopologyText (text : List ℕ) (network : Network) (rest : List ℕ
 -- ---- what is not allowed
 
 -- the words that lines begin with
-abbrev pub kind_word : Kind → List ℕ
+abbrev pub kind_word : LineKind → List ℕ
 kind_word kind.Node = codes "node"
 kind_word kind.Link = codes "link"
 kind_word kind.End = codes "end"
 
 -- a line of this kind may come
-abbrev pub MayCome : Network → Kind → Type 0
+abbrev pub MayCome : Network → LineKind → Type 0
 MayCome network kind.Node = HasNodeRoom network
 MayCome network kind.Link = HasLinkRoom network
 MayCome network kind.End = 0 < length network.nodes
@@ -141,7 +141,7 @@ link_form network =
     (λ a. branch (IsOtherNode network a) (name_of network) (λ b. numbers_form))
 
 -- what may stand after the first word
-abbrev pub kind_form : Network → Kind → Form
+abbrev pub kind_form : Network → LineKind → Form
 kind_form network kind.Node = node_form network
 kind_form network kind.Link = link_form network
 kind_form network kind.End = finish

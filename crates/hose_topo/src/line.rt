@@ -15,20 +15,20 @@ use hose_words::{Cursor, Keyword, WrongWord};
 
 /// What a line is that is not passed over.
 #[derive(Clone, Copy, Debug)]
-pub enum Kind {
+pub enum LineKind {
     Node,
     Link,
     End,
 }
 
-impl Keyword for Kind {
+impl Keyword for LineKind {
     ghost word_of = { kind_word };
 
-    fn of(word: &[u8]) -> Option<Kind> {
+    fn of(word: &[u8]) -> Option<LineKind> {
         match word {
-            b"node" => Some(Kind::Node),
-            b"link" => Some(Kind::Link),
-            b"end" => Some(Kind::End),
+            b"node" => Some(LineKind::Node),
+            b"link" => Some(LineKind::Link),
+            b"end" => Some(LineKind::End),
             _ => None,
         }
     }
@@ -56,14 +56,14 @@ pub fn take_line(top: &mut Topology, line: &[u8]) -> Taken
         return Taken::Added;
     }
     match take_words(top, &mut words) {
-        Ok(Kind::End) => Taken::End,
+        Ok(LineKind::End) => Taken::End,
         Ok(_) => Taken::Added,
         Err(wrong) => Taken::Wrong(wrong.number),
     }
 }
 
 // Takes the words of a line that is not passed over, and says of which kind it is.
-fn take_words(top: &mut Topology, words: &mut Cursor<'_>) -> Result<Kind, WrongWord>
+fn take_words(top: &mut Topology, words: &mut Cursor<'_>) -> Result<LineKind, WrongWord>
     requires { IsNetwork top.old }
     ensures ok { IfOk result (λ kind. TellsLine top.old kind words.old.left top.new) }
     ensures wrong { IfErr result (λ wrong. IsWrong (line_form top.old) words.old wrong.number) }
@@ -71,15 +71,15 @@ fn take_words(top: &mut Topology, words: &mut Cursor<'_>) -> Result<Kind, WrongW
 {
     let kind = next_kind(top, words)?;
     match kind {
-        Kind::Node => add_node(top, words)?,
-        Kind::Link => add_link(top, words)?,
-        Kind::End => words.finish()?,
+        LineKind::Node => add_node(top, words)?,
+        LineKind::Link => add_link(top, words)?,
+        LineKind::End => words.finish()?,
     }
     Ok(kind)
 }
 
 // The kind that the next word tells, where a line of it may come.
-fn next_kind(top: &Topology, words: &mut Cursor<'_>) -> Result<Kind, WrongWord>
+fn next_kind(top: &Topology, words: &mut Cursor<'_>) -> Result<LineKind, WrongWord>
     ensures ok { IfOk result (λ kind. Took words.old words.new (kind_word kind)) }
     ensures may { IfOk result (MayCome top.now) }
     ensures wrong { IfErr result
@@ -95,13 +95,13 @@ fn next_kind(top: &Topology, words: &mut Cursor<'_>) -> Result<Kind, WrongWord>
 }
 
 // Whether a line of this kind may come.
-fn may_come(top: &Topology, kind: Kind) -> bool
+fn may_come(top: &Topology, kind: LineKind) -> bool
     ensures { IsTrue result ↔ MayCome top.now kind }
 {
     match kind {
-        Kind::Node => top.nodes() < MOST_NODES,
-        Kind::Link => top.links() < MOST_LINKS,
-        Kind::End => top.nodes() > 0,
+        LineKind::Node => top.nodes() < MOST_NODES,
+        LineKind::Link => top.links() < MOST_LINKS,
+        LineKind::End => top.nodes() > 0,
     }
 }
 
