@@ -1,17 +1,21 @@
 // The maker of rows by a heap: what fell waits in a queue, the nearest first, until its links are
 // followed.
-ghost use Rattle.std.specs.Prelude.{◌≡◌, ◌≢◌, ◌⊎◌, ℕ, ◌+◌, ◌*◌, ◌^◌, ◌<◌, ◌≤◌, ◌↔◌, None, Some, IsTrue, OnOk, length, slice_get};
+ghost use Rattle.std.specs.Prelude.{◌≡◌, ◌≢◌, ◌⊎◌, ℕ, ◌+◌, ◌*◌, ◌^◌, ◌<◌, ◌≤◌, ◌↔◌, None, Some, IfOk, IsTrue, OnOk, length, slice_get};
 ghost use Rattle.std.specs.BinaryHeap.{heap_items, heap_len};
 ghost use Rattle.hose_graph.specs.Network.{IsNetwork};
+ghost use Rattle.hose_graph.specs.Row.{HasBoundedDistances};
+ghost use Rattle.hose_law.specs.Row.{IsRow};
 ghost use Rattle.hose_law.specs.Walk.{Joins};
 ghost use Rattle.hose_paths.specs.Table.{entry, IsFound, IsBounded, CannotLower, IsSettled, Lowers, left_to_fall};
 ghost use Rattle.hose_paths.specs.Chain.{AreChains, Meets};
 ghost use Rattle.hose_paths.specs.Queue.{IsQueued, IsSettledBut, Relaxes};
 
+use crate::MadeRow;
 use crate::chains::Chains;
 use crate::entries::lower;
 use crate::settling::{RowsBy, Settling};
-use hose_graph::{Link, Topology};
+use crate::tight::mark_tight_links;
+use hose_graph::{Link, Row, Topology};
 use hose_links::LinkSet;
 use std::alloc::{AllocError, Global};
 use std::cmp::Reverse;
@@ -33,15 +37,64 @@ impl Settling for ByHeap {
         root: u32,
     ) -> Result<(), AllocError> {
         let chains = Chains::new(alloc, top)?;
-        let mut queue: Queue = BinaryHeap::new(alloc);
-        queue.push(Reverse((0, root)))?;
-        while let Some(Reverse((distance, node))) = queue.pop() {
-            if stands(dist, node, distance) {
-                follow_all(top, links, &chains, dist, &mut queue, node)?;
-            }
-        }
-        Ok(())
+        settle_along(alloc, top, links, &chains, dist, root)
     }
+}
+
+// The row of a root over a set of links, as `HeapRows` makes it, along chains that are there.
+pub(crate) fn row_along(
+    alloc: Global,
+    top: &Topology,
+    links: &LinkSet,
+    chains: &Chains,
+    root: u32,
+) -> MadeRow
+    requires places { length links.now ≡ length top.now.links }
+    requires is_node { root < length top.now.nodes }
+    requires chains { AreChains top.now (length top.now.links)
+        chains.now.last.items chains.now.from_a.items chains.now.from_b.items }
+    ensures row { IfOk result (IsRow top.now links.now root) }
+    ensures bounded { IfOk result HasBoundedDistances }
+{
+    let nodes = top.nodes() as usize;
+    let mut dist = vec![in alloc; None; nodes]?;
+    let mut tight = vec![in alloc; None; nodes]?;
+    dist[root as usize] = Some(0);
+    settle_along(alloc, top, links, chains, &mut dist, root)?;
+    mark_tight_links(top, links, &dist, &mut tight);
+    Ok(Row { root, dist, tight })
+}
+
+// Lowers entries until no link of the set can, where at first the root alone has one.
+fn settle_along(
+    alloc: Global,
+    top: &Topology,
+    links: &LinkSet,
+    chains: &Chains,
+    dist: &mut [Option<u64>],
+    root: u32,
+) -> Result<(), AllocError>
+    requires network { IsNetwork top.now }
+    requires places { length dist.old ≡ length top.now.nodes }
+    requires links { length links.now ≡ length top.now.links }
+    requires chains { AreChains top.now (length top.now.links)
+        chains.now.last.items chains.now.from_a.items chains.now.from_b.items }
+    requires bounded { IsBounded dist.old }
+    requires root { entry dist.old root ≡ Some 0 }
+    requires alone { (v : ℕ) → v ≢ root → entry dist.old v ≡ None }
+    ensures bounded { OnOk result (IsBounded dist.new) }
+    ensures found { (start : ℕ) → IsFound top.now links.now start dist.old
+        → OnOk result (IsFound top.now links.now start dist.new) }
+    ensures settled { OnOk result (IsSettled top.now links.now dist.new) }
+{
+    let mut queue: Queue = BinaryHeap::new(alloc);
+    queue.push(Reverse((0, root)))?;
+    while let Some(Reverse((distance, node))) = queue.pop() {
+        if stands(dist, node, distance) {
+            follow_all(top, links, chains, dist, &mut queue, node)?;
+        }
+    }
+    Ok(())
 }
 
 // Entries of nodes, the lowest first.

@@ -3,8 +3,8 @@ ghost use Rattle.std.specs.Prelude.{◌≡◌, IfOk, length};
 ghost use Rattle.hose_law.specs.Walk.{all_links};
 ghost use Rattle.hose_paths.specs.Rows.{AreRows};
 
-use crate::RowMaker;
-use crate::heap::HeapRows;
+use crate::chains::Chains;
+use crate::heap::row_along;
 use crate::table::RowTable;
 use hose_graph::{Row, Topology};
 use hose_links::LinkSet;
@@ -26,9 +26,10 @@ pub fn rows_of_all(alloc: Global, top: &Topology, links: &LinkSet) -> Result<Vec
     requires places { length links.now ≡ length top.now.links }
     ensures { IfOk result (λ rows. AreRows top.now links.now rows.items) }
 {
+    let chains = Chains::new(alloc, top)?;
     let mut rows = Vec::with_capacity(alloc, top.nodes() as usize)?;
     for root in 0..top.nodes() {
-        rows.push(HeapRows::new().row(alloc, top, links, root)?)?;
+        rows.push(row_along(alloc, top, links, &chains, root)?)?;
     }
     Ok(rows)
 }

@@ -8,7 +8,7 @@ ghost use Rattle.hose_law.specs.Row.{IsRow};
 ghost use Rattle.hose_plan.specs.Rooting.{IsBestRoot, IsPlanOver};
 ghost use Rattle.hose_tree.specs.Amounts.{AreOnLinks};
 
-use crate::root::{best_root, best_root_of_kept};
+use crate::root::{best_root, best_root_of_kept, row_among};
 use hose_graph::{Amounts, Hose, MOST_AMOUNT, MOST_TREE_LINKS, Row, Topology};
 use hose_links::LinkSet;
 use hose_paths::{RowMaker, row_of};
@@ -43,9 +43,14 @@ pub fn plan<R: RowMaker>(
         let row = row_of(top, links, kept, root);
         return Ok(Some(reserved_from(alloc, top, links, hose, root, row)?));
     }
-    let Some(root) = best_root(alloc, top, links, hose, rows)? else {
+    let mut made = Vec::new(alloc);
+    let Some(root) = best_root(alloc, top, links, hose, rows, &mut made)? else {
         return Ok(None);
     };
+    // Where the root is an endpoint its row is there.
+    if let Some(row) = row_among(top, links, &made, root) {
+        return Ok(Some(reserved_from(alloc, top, links, hose, root, row)?));
+    }
     let row = rows.row(alloc, top, links, root)?;
     Ok(Some(reserved_from(alloc, top, links, hose, root, &row)?))
 }

@@ -1,14 +1,16 @@
 // The root of a hose: the node from which it costs least.
-ghost use Rattle.std.specs.Prelude.{◌≡◌, ℕ, ◌+◌, ◌-◌, ◌*◌, ◌<◌, ◌≤◌, ◌^◌, length, All, IfOk, IfSome};
+ghost use Rattle.std.specs.Prelude.{◌≡◌, ℕ, ◌+◌, ◌-◌, ◌*◌, ◌<◌, ◌≤◌, ◌^◌, ◌↔◌, length, All, IfOk, IfSome, IsTrue, OnOk};
 ghost use Rattle.hose_graph.specs.Hose.{IsHose};
 ghost use Rattle.hose_graph.specs.Network.{IsNetwork};
 ghost use Rattle.hose_graph.specs.Row.{HasBoundedDistances, IsWithinReach, distance_of};
 ghost use Rattle.hose_law.specs.Plan.{AreNodes};
+ghost use Rattle.hose_law.specs.Row.{IsRow};
 ghost use Rattle.hose_paths.specs.Rows.{AreRows};
-ghost use Rattle.hose_plan.specs.Rooting.{AreLight, AreWeights, IsBestRoot, heavier, most_share};
+ghost use Rattle.hose_plan.specs.Rooting.{AreLight, AreRowsOver, AreWeights, IsBestRoot, heavier, most_share};
 ghost use Rattle.hose_root.specs.Choice.{weight_at};
+ghost use Rattle.hose_root.specs.Weight.{LeavesOut};
 
-use hose_graph::{Hose, MOST_ENDS, MOST_NODES, MOST_RATE, Row, Topology};
+use hose_graph::{Endpoint, Hose, MOST_ENDS, MOST_NODES, MOST_RATE, Row, Topology};
 use hose_links::LinkSet;
 use hose_paths::{RowMaker, row_of};
 use hose_root::choose;
@@ -16,17 +18,20 @@ use std::alloc::{AllocError, Global};
 
 /// The root of a hose over a set of links; none where no node reaches all endpoints. It is as far
 /// from an endpoint to a node as back, so the endpoints' rows give what the hose costs from each
-/// node.
+/// node. It leaves these rows in `made`.
 pub fn best_root<R: RowMaker>(
     alloc: Global,
     top: &Topology,
     links: &LinkSet,
     hose: &Hose,
     rows: &mut R,
+    made: &mut Vec<Row>,
 ) -> Result<Option<u32>, AllocError>
     requires places { length links.now ≡ length top.now.links }
     requires nodes { AreNodes top.now hose.now }
+    requires made { AreRowsOver top.now links.now made.old.items }
     ensures root { IfOk result (IsBestRoot top.now links.now hose.now) }
+    ensures made { OnOk result (AreRowsOver top.now links.now made.new.items) }
     ensures network { IsNetwork top.now }
     ensures hose { IsHose hose.now }
 {
@@ -34,7 +39,12 @@ pub fn best_root<R: RowMaker>(
     let mut weights = vec![in alloc; Some(0); top.nodes() as usize]?;
     for (node, rate) in ends {
         let row = rows.row(alloc, top, links, *node)?;
+        // One row shows that endpoints are apart, so a refusal makes no other.
+        if leaves_out(&row, ends) {
+            return Ok(None);
+        }
         add_row(&mut weights, &row, *rate);
+        made.push(row)?;
     }
     Ok(lightest(top, links, hose, &weights))
 }
@@ -60,6 +70,29 @@ pub fn best_root_of_kept(
         add_row(&mut weights, row_of(top, links, kept, node), rate);
     }
     Ok(lightest(top, links, hose, &weights))
+}
+
+/// The row of a root among some rows, where it is one of them.
+pub fn row_among<'m>(top: &Topology, links: &LinkSet, made: &'m [Row], root: u32) -> Option<&'m Row>
+    requires made { AreRowsOver top.now links.now made.now }
+    ensures { IfSome result (λ row. IsRow top.now links.now root row.now) }
+{
+    let place = made.iter().position(|row| row.root == root)?;
+    Some(&made[place])
+}
+
+// Whether an endpoint has no distance in the row.
+fn leaves_out(row: &Row, ends: &[Endpoint]) -> bool
+    ensures { IsTrue result ↔ LeavesOut row.now ends.now }
+{
+    ends.iter().any(|end| distance(row, end.0).is_none())
+}
+
+// The distance of a node in the row; none for a number that is no node's.
+fn distance(row: &Row, node: u32) -> Option<u64>
+    ensures { result ≡ distance_of row.now node }
+{
+    *row.dist.get(node as usize)?
 }
 
 // The node of the least weight, which is the root; none where no node has a weight.

@@ -20,9 +20,9 @@ const FEW_CHANGES: usize = 32;
 /// which the grounds were made, and a change is an epoch and the link that it touched: each link
 /// whose load is another by now, or that was taken out of service or put back, stands in a change
 /// of an epoch above `seen`. The changes may stand in any order; those of other epochs are passed
-/// over, and so is a number that is no link's. Where they are so many that a look at all links costs
-/// less, that is done. There is a place in service and a load for each link
-/// of the topology, the load at most the link's capacity. It takes no memory.
+/// over, and so is a number that is no link's. Where they are so many that a look at all links
+/// costs less, that is done. There is a place in service and a load for each link of the topology,
+/// the load at most the link's capacity. It takes no memory.
 pub fn grounds_hold_since(
     top: &Topology,
     service: &LinkSet,
@@ -94,8 +94,8 @@ fn are_safe_since(
         → (IsTrue result
         ↔ (grounds.now.safe ≡ safe_links (room_beside top.now service.now loads.now) hose)) }
 {
-    // A change costs about as much as two links, which stand one behind the other.
-    if changes.len() > top.links() as usize / 2 {
+    // A change costs about as much as three links, which stand one behind the other.
+    if changes.len() > top.links() as usize / 3 {
         return are_safe(top, service, loads, grounds);
     }
     for &(epoch, link) in changes {

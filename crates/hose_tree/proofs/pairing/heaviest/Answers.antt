@@ -1,7 +1,6 @@
 use Rattle.std.proofs.Common.{◌≡◌, ◌∙◌, ap, arith, length, map}
 use Rattle.hose_tree.proofs.Paired.{has_load, is_paired_off, is_within, rows_more, rows_square}
 use Rattle.hose_tree.proofs.pairing.heaviest.Goals as goal
-use Rattle.hose_tree.proofs.pairing.heaviest.Goals.{After-loop-i}
 
 pub loop-i-preserved : goal.loop-i-preserved
 loop-i-preserved c =

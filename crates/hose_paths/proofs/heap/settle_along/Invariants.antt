@@ -3,7 +3,7 @@ use Rattle.std.proofs.Common.{ℕ, ◌+◌, ◌*◌}
 use Rattle.std.specs.BinaryHeap.{heap_items, heap_len}
 use Rattle.hose_paths.specs.Table.{IsFound, IsBounded, left_to_fall}
 use Rattle.hose_paths.specs.Queue.{IsSettledBut}
-use Rattle.hose_paths.proofs.heap.ByHeapSettling.settle.Given as goal
+use Rattle.hose_paths.proofs.heap.settle_along.Given as goal
 
 abbrev pub invariant-loop-distance : goal.invariant-loop-distance
 invariant-loop-distance l = record {

@@ -5,7 +5,7 @@ use Rattle.std.proofs.lemmas.Bool.{both_ways}
 use Rattle.std.proofs.lemmas.List.Sorted.{Contains-permutation}
 use Rattle.hose_graph.proofs.Members.{contains_first}
 use Rattle.hose_paths.proofs.Following.{settled_start, taken_now, taken_stale}
-use Rattle.hose_paths.proofs.heap.ByHeapSettling.settle.Goals as goal
+use Rattle.hose_paths.proofs.heap.settle_along.Goals as goal
 
 pub loop-distance-init : goal.loop-distance-init
 loop-distance-init c =

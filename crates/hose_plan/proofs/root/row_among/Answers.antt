@@ -1,0 +1,8 @@
+-- The row at the place begins at the root.
+use Rattle.std.proofs.Common.{rules}
+use Rattle.hose_plan.proofs.Rooted.{row_found}
+use Rattle.hose_plan.proofs.root.row_among.Goals as goal
+
+pub returns : goal.returns
+returns c =
+    row_found c.args.top.now c.args.links.now c.args.made.now c.requires.made c.in_ok-place.place _ (search rules) (search rules) c.args.root (search rules)
