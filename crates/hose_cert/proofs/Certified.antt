@@ -17,7 +17,7 @@ use Rattle.hose_law.proofs.Carrying.{reservation_carries}
 use Rattle.hose_law.proofs.Cheapest.{root_within}
 use Rattle.hose_cert.specs.CertLine.{CertLine}
 use Rattle.hose_cert.specs.Certificate.{IsCertificate, numbers_in, used_in}
-use Rattle.hose_cert.specs.Rules.{Claim, Claims, DifferWithinCosts, MeetsRules, others_of, weighed_by}
+use Rattle.hose_cert.specs.Rules.{CertClaim, Claims, DifferWithinCosts, MeetsRules, others_of, weighed_by}
 use Rattle.hose_cert.proofs.Changing.{not_left_out}
 
 module _ (network : Network) (set : List Bool) (numbers : List ℕ) (differ : DifferWithinCosts network set numbers) where
@@ -44,7 +44,7 @@ module _ (network : Network) (set : List Bool) (numbers : List ℕ) (differ : Di
           sum_by-cons (λ (e : ℕ × ℕ). e.1 * slice_index numbers e.0) end ends,
         )
 
-module _ (network : Network) (lines : List CertLine) (claim : Claim) (is_network : IsNetwork network) (whole : IsCertificate network lines) (claims : Claims network lines claim)
+module _ (network : Network) (lines : List CertLine) (claim : CertClaim) (is_network : IsNetwork network) (whole : IsCertificate network lines) (claims : Claims network lines claim)
     (meets : MeetsRules network lines claim) where
   abbrev set : List Bool
   set = others_of claim.without

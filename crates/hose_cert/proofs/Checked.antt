@@ -10,7 +10,7 @@ use Rattle.hose_graph.specs.Network.{Network, IsNetwork}
 use Rattle.hose_cert.specs.CertLine.{CertLine}
 use Rattle.hose_cert.specs.Certificate.{IsCertText, IsCertificate}
 use Rattle.hose_cert.specs.Draft.{IsBody}
-use Rattle.hose_cert.specs.Rules.{Claim}
+use Rattle.hose_cert.specs.Rules.{CertClaim}
 use Rattle.hose_cert.specs.Taking.{IsAllRead, ReadsCertText, ReadsUpTo}
 use Rattle.hose_cert.specs.Verdict.{AreCheapestFound, IsVerdict, IsFoundOf, IsNoText, IsValid, IsYesOf}
 use Rattle.hose_cert.specs.declared.Verdict.{Verdict}
@@ -59,7 +59,7 @@ module _ (network : Network) (is : IsNetwork network) where
       none_found (Ok verdict) is_no all = none_then _ all (λ before after no_text _. subst (IsVerdict network (old.pending ++ before)) (sym is_no) (inl (refl, no_text)))
       none_found (Err fault) is_no all = told_any (source.content old.source) (source.content new.source) _ (λ _ _. tt)
 
-      pub none_valid : (result : Result Verdict CertFault) → OnOk result (IsAllRead source mid new) → (claim : Claim)
+      pub none_valid : (result : Result Verdict CertFault) → OnOk result (IsAllRead source mid new) → (claim : CertClaim)
           → WhereTold (source.content old.source) (source.content new.source) (λ before _. IsValid network (old.pending ++ before) claim → IfOk result (λ verdict. IsYesOf verdict claim))
       none_valid (Ok verdict) all claim = none_then _ all (λ before after no_text _ valid. absurd (no_text valid.lines valid.is_text))
       none_valid (Err fault) all claim = told_any (source.content old.source) (source.content new.source) _ (λ _ _ _. tt)
@@ -73,7 +73,7 @@ module _ (network : Network) (is : IsNetwork network) where
     none_cheapest (Err fault) is_no = tt
 
     -- a valid certificate is found so
-    pub valid_found : (verdict : Verdict) → Found verdict → (claim : Claim)
+    pub valid_found : (verdict : Verdict) → Found verdict → (claim : CertClaim)
         → WhereTold (source.content old.source) (source.content new.source) (λ before _. IsValid network (old.pending ++ before) claim → IsYesOf verdict claim)
     valid_found verdict found claim =
         WhereTold-map (source.content old.source) (source.content new.source) _ _ found (λ before _ is_found valid. found_valid network is (old.pending ++ before) verdict claim is_found valid)

@@ -4,7 +4,7 @@ use Rattle.std.proofs.lemmas.Bool.{false≢true}
 use Rattle.hose_graph.specs.Network.{Network}
 use Rattle.hose_cert.specs.CertLine.{CertLine}
 use Rattle.hose_cert.specs.Draft.{IsBody, TellsBelow}
-use Rattle.hose_cert.specs.Rules.{BreaksFirst, ChangeWithinCosts, Claim, Claims, ClaimsTree, CostAsClaimed, StartAtRoots, WeighEnough}
+use Rattle.hose_cert.specs.Rules.{BreaksFirst, ChangeWithinCosts, CertClaim, Claims, ClaimsTree, CostAsClaimed, StartAtRoots, WeighEnough}
 use Rattle.hose_cert.specs.Verdict.{IsFoundOf}
 use Rattle.hose_cert.specs.declared.Verdict.TheVariants.{No, Yes}
 use Rattle.hose_cert.specs.declared.draft.Body.{Body}
@@ -19,7 +19,7 @@ flag_on tells on = tells.0 on
 -- ---- the claim
 
 module _ (network : Network) (lines : List CertLine) (body : Body) (is : IsBody network lines body) (amounts : List (ℕ × ℕ)) (same : amounts ≡ body.pairs.items) where
-  abbrev claim : Claim
+  abbrev claim : CertClaim
   claim = record { cost = body.cost; hose = body.hose; pairs = amounts; without = body.without }
 
   claims : Claims network lines claim

@@ -25,8 +25,8 @@ use Rattle.hose_cert.specs.declared.draft.Draft.{Draft}
 use Rattle.hose_cert.specs.declared.draft.Draft.TheVariants.{Start}
 use Rattle.hose_cert.specs.declared.fault.CertFault.{CertFault}
 use Rattle.hose_cert.specs.declared.fault.CertFault.TheVariants.{Read, TooLong, Memory}
-use Rattle.hose_cert.specs.declared.reading.Step.{Step}
-use Rattle.hose_cert.specs.declared.reading.Step.TheVariants.{More, Refused, Over}
+use Rattle.hose_cert.specs.declared.reading.LineStep.{LineStep}
+use Rattle.hose_cert.specs.declared.reading.LineStep.TheVariants.{More, Refused, Over}
 use Rattle.hose_cert.proofs.Spelling.{line_once}
 
 -- ---- the lines of a text
@@ -158,7 +158,7 @@ module _ {S : Type 0} (source : Ghosts S) where
   }
 
   -- the next line came to a fault
-  pub up_to_taken : (network : Network) (draft : Draft) (old new : Reader S) (step : Result Step CertFault) → IsNextStep source network draft old new step → ReadsUpTo source old new (fault_in step)
+  pub up_to_taken : (network : Network) (draft : Draft) (old new : Reader S) (step : Result LineStep CertFault) → IsNextStep source network draft old new step → ReadsUpTo source old new (fault_in step)
   up_to_taken network draft old new (Ok step) (Ok read, next, takes) = up_to_next old new (Ok read) next
   up_to_taken network draft old new (Err fault) (Ok (Some (Text shown)), next, takes) =
       subst (λ (f : CertFault). ReadsUpTo source old new (Some f)) (sym takes) (up_to_memory old new (up_to_next old new (Ok (Some (Text shown))) next))

@@ -6,7 +6,7 @@ use Rattle.hose_words.specs.Lines.{is_line_feed}
 use Rattle.hose_graph.specs.Network.{Network, IsNetwork}
 use Rattle.hose_cert.specs.CertLine.{CertLine}
 use Rattle.hose_cert.specs.Certificate.{AreLines, left_out_in}
-use Rattle.hose_cert.specs.Rules.{BreaksFirst, Claim, Claims, HasNamed, MeetsRules}
+use Rattle.hose_cert.specs.Rules.{BreaksFirst, CertClaim, Claims, HasNamed, MeetsRules}
 use Rattle.hose_cert.specs.Verdict.{IsVerdict, IsValid, IsYesOf}
 use Rattle.hose_cert.specs.declared.Verdict.{Verdict}
 use Rattle.hose_cert.specs.declared.Verdict.TheVariants.{Yes, No}
@@ -37,7 +37,7 @@ sets_once network named one other has has' =
     ∙ same_bool (get_or one k false) (get_or other k false) (λ so. (has'.has k).1 ((has.has k).0 so)) (λ so. (has.has k).1 ((has'.has k).0 so))
     ∙ sym (get_or_default other k d false (omega (arith, below, has.places, has'.places))))
 
-pub claims_once : (network : Network) (lines : List CertLine) (one other : Claim) → Claims network lines one → Claims network lines other → one ≡ other
+pub claims_once : (network : Network) (lines : List CertLine) (one other : CertClaim) → Claims network lines one → Claims network lines other → one ≡ other
 claims_once network lines one other claims claims' =
     let fronts = sym claims.front ∙ claims'.front in
     let cost : one.cost ≡ other.cost = cc fronts in
@@ -46,7 +46,7 @@ claims_once network lines one other claims claims' =
     let without = sets_once network (left_out_in lines) one.without other.without claims.without claims'.without in
     λ i. record { cost = cost i; hose = hose i; pairs = pairs i; without = without i }
 
-breaks_no_rule : (network : Network) (lines : List CertLine) (claim : Claim) (rule : ℕ) → MeetsRules network lines claim → BreaksFirst network lines claim rule → ⊥
+breaks_no_rule : (network : Network) (lines : List CertLine) (claim : CertClaim) (rule : ℕ) → MeetsRules network lines claim → BreaksFirst network lines claim rule → ⊥
 breaks_no_rule network lines claim rule meets (inl two) = two.1 meets.tree
 breaks_no_rule network lines claim rule meets (inr (inl three)) = three.2 meets.costs
 breaks_no_rule network lines claim rule meets (inr (inr (inl four))) = four.3 meets.roots
@@ -54,7 +54,7 @@ breaks_no_rule network lines claim rule meets (inr (inr (inr (inl five)))) = fiv
 breaks_no_rule network lines claim rule meets (inr (inr (inr (inr six)))) = six.5 meets.weighs
 
 -- a valid certificate is found valid
-pub found_valid : (network : Network) → IsNetwork network → (text : List ℕ) (verdict : Verdict) (claim : Claim) → IsVerdict network text verdict → IsValid network text claim → IsYesOf verdict claim
+pub found_valid : (network : Network) → IsNetwork network → (text : List ℕ) (verdict : Verdict) (claim : CertClaim) → IsVerdict network text verdict → IsValid network text claim → IsYesOf verdict claim
 found_valid network is text (Yes hose without amounts cost) claim found valid =
     let same = lines_once network is text valid.lines found.lines valid.is_text.are found.is_text.are in
     claims_once network found.lines claim (record { cost = cost; hose = hose; pairs = amounts; without = without }) (subst (λ ls. Claims network ls claim) same valid.claims) found.claims

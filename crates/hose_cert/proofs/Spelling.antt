@@ -18,8 +18,8 @@ use Rattle.hose_cert.specs.declared.statement.Statement.{Statement}
 use Rattle.hose_words.specs.Cursor.{Position}
 use Rattle.hose_cert.specs.Statement.{statement_word}
 use Rattle.hose_cert.specs.declared.statement.TheConstants.{MOST_NUMBER}
-use Rattle.hose_cert.specs.declared.statement.Kind.{Kind}
-use Rattle.hose_cert.specs.declared.statement.Kind.TheVariants as kind
+use Rattle.hose_cert.specs.declared.statement.StatementKind.{StatementKind}
+use Rattle.hose_cert.specs.declared.statement.StatementKind.TheVariants as kind
 use Rattle.hose_cert.proofs.KindWords.{kinds_apart}
 
 -- ---- spaces
@@ -58,7 +58,7 @@ none_left (f ∷ front) (n ∷ numbers) left cut same = none_left front numbers 
 
 -- ---- kinds of lines
 
-abbrev pub kind_of : CertLine → Kind
+abbrev pub kind_of : CertLine → StatementKind
 kind_of (cost_line cost) = kind.Cost
 kind_of (hose_line hose) = kind.Hose
 kind_of (use_line pair) = kind.Use
@@ -76,7 +76,7 @@ begins network words (pot_line root from numbers) is = (_, is.0)
 begins network words end_line is = ([], is)
 
 -- so it is of this kind
-pub is_of_kind : (network : Network) (words more : List (List ℕ)) (one : Kind) (line : CertLine) → words ≡ statement_word one ∷ more → IsSpelled network words line → kind_of line ≡ one
+pub is_of_kind : (network : Network) (words more : List (List ℕ)) (one : StatementKind) (line : CertLine) → words ≡ statement_word one ∷ more → IsSpelled network words line → kind_of line ≡ one
 is_of_kind network words more one line cut is =
     let first = begins network words line is in
     kinds_apart (kind_of line) one (ap (λ ws. get_or ws 0 []) (sym first.1 ∙ cut))
@@ -84,7 +84,7 @@ is_of_kind network words more one line cut is =
 -- ---- a line says one thing
 
 -- what words say, but for the endpoints of a hose
-abbrev said_by : List (List ℕ) → Kind → CertLine
+abbrev said_by : List (List ℕ) → StatementKind → CertLine
 said_by words kind.Cost = cost_line (number_spelled (get_or words 1 []))
 said_by words kind.Hose = hose_line []
 said_by words kind.Use = use_line (number_spelled (get_or words 1 []), number_spelled (get_or words 2 []))
@@ -134,10 +134,10 @@ module _ (network : Network) (is : IsNetwork network) where
 -- ---- what is told of the words after the first one
 
 module _ (network : Network) (more : List (List ℕ)) where
-  abbrev Says : Kind → CertLine → Type 0
+  abbrev Says : StatementKind → CertLine → Type 0
   Says one line = IsSpelled network (statement_word one ∷ more) line
 
-  same_kind : (one : Kind) (line : CertLine) → Says one line → kind_of line ≡ one
+  same_kind : (one : StatementKind) (line : CertLine) → Says one line → kind_of line ≡ one
   same_kind one line is = is_of_kind network (statement_word one ∷ more) more one line refl is
 
   pub no_hose : ((hose : List (ℕ × ℕ)) → AreEndsOf network more hose → ⊥) → (line : CertLine) → Says kind.Hose line → ⊥
@@ -156,7 +156,7 @@ module _ (network : Network) (more : List (List ℕ)) where
       at other same is = absurd (cc same)
 
 -- what was told of the words after the first one is told of all
-pub told_after : (network : Network) (words more : List (List ℕ)) (one other : Kind) → words ≡ statement_word one ∷ more → one ≡ other → (told : Option Statement) → IsToldAfter network other more told → IsLineTold (IsSpelled network words) told
+pub told_after : (network : Network) (words more : List (List ℕ)) (one other : StatementKind) → words ≡ statement_word one ∷ more → one ≡ other → (told : Option Statement) → IsToldAfter network other more told → IsLineTold (IsSpelled network words) told
 told_after network words more one other cut same told is =
     subst (λ ws. IsLineTold (IsSpelled network ws) told) (sym cut) (subst (λ k. IsToldAfter network k more told) (sym same) is)
 

@@ -56,12 +56,13 @@ IsSpelled network words end_line = words ≡ codes "end" ∷ []
 abbrev pub IsSpaced : List ℕ → Type 0
 IsSpaced bytes = All (λ part. 0 < length part) (slice_split (λ byte. byte == 32) bytes)
 
--- The bytes say this.
+-- These bytes are the words of a line of a certificate, with one space between each two, and say
+-- this.
 pub record SaysLine (network : Network) (bytes : List ℕ) (line : CertLine) : Type 0 where
   pub spaced : IsSpaced bytes
   pub spelled : IsSpelled network (words_of bytes) line
 
--- The bytes are a line that says this.
+-- These bytes are a line of a certificate, not too long, that says this.
 pub record IsLine (network : Network) (bytes : List ℕ) (line : CertLine) : Type 0 where
   pub short : length bytes ≤ line_limit
   pub says : SaysLine network bytes line

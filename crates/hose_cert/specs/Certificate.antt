@@ -58,27 +58,30 @@ last_of last (line ∷ more) = last_of (Some line) more
 
 -- ---- what lines say together
 
+-- the link of the plan that a line tells, with its amount, or none
 abbrev pub used_by : CertLine → List ReservedLink
 used_by (use_line pair) = pair ∷ []
 used_by line = []
 
+-- the link that a line leaves out, or none
 abbrev pub left_out_by : CertLine → List ℕ
 left_out_by (without_line link) = link ∷ []
 left_out_by line = []
 
+-- the numbers that a line has of a root, or none
 abbrev pub numbers_by : ℕ → CertLine → List ℕ
 numbers_by root (pot_line other from numbers) = if root == other then numbers else []
 numbers_by root line = []
 
--- the links of the plan, with their amounts
+-- the links of the plan that lines tell, with their amounts
 abbrev pub used_in : List CertLine → List ReservedLink
 used_in lines = flat_map used_by lines
 
--- the links that were left out
+-- the links that lines leave out
 abbrev pub left_out_in : List CertLine → List ℕ
 left_out_in lines = flat_map left_out_by lines
 
--- the numbers of a root, one for each node
+-- the numbers that lines have of a root, one for each node
 abbrev pub numbers_in : ℕ → List CertLine → List ℕ
 numbers_in root lines = flat_map (numbers_by root) lines
 

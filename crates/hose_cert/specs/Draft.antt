@@ -98,10 +98,11 @@ IsDraftOf network lines draft.Start = lines ≡ []
 IsDraftOf network lines (draft.Cost cost) = (lines ≡ cost_line cost ∷ []) × (cost ≤ most_number)
 IsDraftOf network lines (draft.Body body) = IsBody network lines body
 
--- some lines made it
+-- some lines made this draft
 abbrev pub StandsSomehow : Network → Draft → Type 0
 StandsSomehow network draft = (lines : List CertLine) × IsDraftOf network lines draft
 
+-- after some lines this is what was read behind those of the cost and the hose
 abbrev pub IsBodySomehow : Network → Body → Type 0
 IsBodySomehow network body = (lines : List CertLine) × IsBody network lines body
 
@@ -110,11 +111,12 @@ abbrev pub IsRefusedLine : Network → List CertLine → CertLine → Type 0
 IsRefusedLine network lines line =
     (more : List CertLine) → IsCertificate network (lines ++ line ∷ more) → ⊥
 
--- a line was taken, or no certificate goes on with it
+-- a line was taken into a draft, or no certificate goes on with it
 abbrev pub TakesCertLine : Network → Draft → CertLine → Option Draft → Type 0
 TakesCertLine network old line next = (lines : List CertLine) → IsDraftOf network lines old
     → MatchOption next (IsRefusedLine network lines line) (IsDraftOf network (lines ++ line ∷ []))
 
+-- a line was taken behind those of the cost and the hose, or no certificate goes on with it
 abbrev pub TakesInto : Network → Body → CertLine → Option Body → Type 0
 TakesInto network old line next = (lines : List CertLine) → IsBody network lines old
     → MatchOption next (IsRefusedLine network lines line) (IsBody network (lines ++ line ∷ []))

@@ -6,10 +6,11 @@ use Rattle.hose_cert.specs.Certificate.{MayFollow}
 use Rattle.hose_cert.specs.declared.draft.Last.{Last}
 use Rattle.hose_cert.specs.declared.draft.Last.TheVariants as last
 
--- a line may be the first, or come after that of a cost
+-- a line may be the first one of a certificate, which tells the cost
 abbrev pub MayBeCost : Network → CertLine → Type 0
 MayBeCost network line = MayFollow network None line
 
+-- a line may come right after that of the cost
 abbrev pub MayBeHose : Network → ℕ → CertLine → Type 0
 MayBeHose network cost line = MayFollow network (Some (cost_line cost)) line
 

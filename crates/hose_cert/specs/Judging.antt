@@ -16,7 +16,8 @@ abbrev pub ChangesWithin : Network → ℕ → List ℕ → Type 0
 ChangesWithin network link numbers = (u v : ℕ) → Joins network link u v
     → slice_index numbers v ≤ slice_index numbers u + cost_of network link
 
--- where a link is not one of those that were left out
+-- the numbers at the two nodes of a link differ by no more than its cost, where the link is not one
+-- of those that were left out
 abbrev pub ChangesWithinKept : Network → List Bool → ℕ → List ℕ → Type 0
 ChangesWithinKept network without link numbers =
     IsIn (others_of without) link → ChangesWithin network link numbers

@@ -4,7 +4,7 @@ use Rattle.hose_graph.specs.Network.{Network}
 use Rattle.hose_cert.specs.CertLine.{CertLine, IsSpelled, statement_line}
 use Rattle.hose_cert.specs.Statement.{statement_word}
 use Rattle.hose_cert.specs.Limits.{most_number}
-use Rattle.hose_cert.specs.declared.statement.Kind.{Kind}
+use Rattle.hose_cert.specs.declared.statement.StatementKind.{StatementKind}
 use Rattle.hose_cert.specs.declared.statement.Statement.{Statement}
 
 -- what was read is so, or nothing is
@@ -13,7 +13,7 @@ IsLineTold Is told =
     MatchOption told ((line : CertLine) → Is line → ⊥) (λ one. Is (statement_line one))
 
 -- what was read of the words after one that tells a kind of lines is so, or nothing is
-abbrev pub IsToldAfter : Network → Kind → List (List ℕ) → Option Statement → Type 0
+abbrev pub IsToldAfter : Network → StatementKind → List (List ℕ) → Option Statement → Type 0
 IsToldAfter network kind words told =
     IsLineTold (IsSpelled network (statement_word kind ∷ words)) told
 

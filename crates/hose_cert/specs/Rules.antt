@@ -12,7 +12,7 @@ use Rattle.hose_cert.specs.Certificate.{left_out_in, numbers_in, used_in}
 
 -- what a certificate claims: that this hose cannot be carried at less than this cost, which these
 -- amounts have, by a tree without these links
-pub record Claim : Type 0 where
+pub record CertClaim : Type 0 where
   pub cost : ℕ
   pub hose : List Endpoint
   pub pairs : List ReservedLink
@@ -28,7 +28,7 @@ abbrev pub others_of : List Bool → List Bool
 others_of set = map not set
 
 -- the lines of a certificate claim this
-pub record Claims (network : Network) (lines : List CertLine) (claim : Claim) : Type 0 where
+pub record Claims (network : Network) (lines : List CertLine) (claim : CertClaim) : Type 0 where
   pub more : List CertLine
   pub front : lines ≡ cost_line claim.cost ∷ hose_line claim.hose ∷ more
   pub pairs : claim.pairs ≡ used_in lines
@@ -45,7 +45,7 @@ abbrev pub weighed_by : List ℕ → List Endpoint → ℕ
 weighed_by numbers hose =
     sum_by (λ (end : Endpoint). rate_of end * slice_index numbers (node_of end)) hose
 
-module _ (network : Network) (lines : List CertLine) (claim : Claim) where
+module _ (network : Network) (lines : List CertLine) (claim : CertClaim) where
   -- each root's numbers are so
   abbrev pub AtEachRoot : (ℕ → List ℕ → Type 0) → Type 0
   AtEachRoot Is = (root : ℕ) → root < length network.nodes → Is root (numbers_in root lines)

@@ -1,9 +1,10 @@
 -- The words that begin the lines of a certificate.
 use Rattle.std.specs.Prelude.{ℕ, List, codes}
-use Rattle.hose_cert.specs.declared.statement.Kind.{Kind}
-use Rattle.hose_cert.specs.declared.statement.Kind.TheVariants as kind
+use Rattle.hose_cert.specs.declared.statement.StatementKind.{StatementKind}
+use Rattle.hose_cert.specs.declared.statement.StatementKind.TheVariants as kind
 
-abbrev pub statement_word : Kind → List ℕ
+-- the word that begins the lines of a kind
+abbrev pub statement_word : StatementKind → List ℕ
 statement_word kind.Cost = codes "cost"
 statement_word kind.Hose = codes "hose"
 statement_word kind.Use = codes "use"

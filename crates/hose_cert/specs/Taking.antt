@@ -18,8 +18,8 @@ use Rattle.hose_cert.specs.declared.draft.Body.{Body}
 use Rattle.hose_cert.specs.declared.draft.Draft.{Draft}
 use Rattle.hose_cert.specs.declared.fault.CertFault.{CertFault}
 use Rattle.hose_cert.specs.declared.fault.CertFault.TheVariants.{Read, TooLong, Memory}
-use Rattle.hose_cert.specs.declared.reading.Step.{Step}
-use Rattle.hose_cert.specs.declared.reading.Step.TheVariants.{More, Refused, Over}
+use Rattle.hose_cert.specs.declared.reading.LineStep.{LineStep}
+use Rattle.hose_cert.specs.declared.reading.LineStep.TheVariants.{More, Refused, Over}
 
 -- ---- the reader
 
@@ -56,7 +56,7 @@ IsAllRead source old new = WhereTold (source.content old.source) (source.content
 -- ---- the next line
 
 -- what a line that is shown came to
-abbrev pub IsDraftStep : Network → Draft → List ℕ → Step → Type 0
+abbrev pub IsDraftStep : Network → Draft → List ℕ → LineStep → Type 0
 IsDraftStep network old bytes (More new) = (line : CertLine) × SaysLine network bytes line
     × ((lines : List CertLine) → IsDraftOf network lines old
     → IsDraftOf network (lines ++ line ∷ []) new)
@@ -65,7 +65,7 @@ IsDraftStep network old bytes Refused = (lines : List CertLine) → IsDraftOf ne
 IsDraftStep network old bytes (Over new) = ⊥
 
 -- what was read as the next line, and what it came to
-abbrev pub IsReadStep : Network → Draft → Result (Option Line) LineFault → Result Step CertFault
+abbrev pub IsReadStep : Network → Draft → Result (Option Line) LineFault → Result LineStep CertFault
     → Type 0
 IsReadStep network old (Ok (Some (Text line))) (Ok step) = IsDraftStep network old line.now step
 IsReadStep network old (Ok (Some (Text line))) (Err fault) = fault ≡ Memory
@@ -76,7 +76,7 @@ IsReadStep network old read step = ⊥
 
 -- the next line of a reader
 abbrev pub IsNextStep : {S : Type 0} → Ghosts S → Network → Draft → Reader S → Reader S
-    → Result Step CertFault → Type 0
+    → Result LineStep CertFault → Type 0
 IsNextStep source network draft old new step = (read : Result (Option Line) LineFault)
     × IsNext source old new read × IsReadStep network draft read step
 
@@ -117,6 +117,8 @@ PassesRead (Ok None) (Ok more) = more ≡ false
 PassesRead (Err met) (Err fault) = fault ≡ fault_of_line met
 PassesRead read passed = ⊥
 
+-- what the answer says is so of the next line that was to come: it was passed over, or there was
+-- none, or reading met a fault
 abbrev pub PassesOne : {S : Type 0} → Ghosts S → Reader S → Reader S → Result Bool CertFault
     → Type 0
 PassesOne source old new passed = (read : Result (Option Line) LineFault)

@@ -4,12 +4,12 @@ use Rattle.hose_graph.specs.Network.{Network}
 use Rattle.hose_law.specs.Cheapest.{IsCheapest}
 use Rattle.hose_cert.specs.CertLine.{CertLine}
 use Rattle.hose_cert.specs.Certificate.{IsCertText}
-use Rattle.hose_cert.specs.Rules.{BreaksFirst, Claim, Claims, MeetsRules, others_of}
+use Rattle.hose_cert.specs.Rules.{BreaksFirst, CertClaim, Claims, MeetsRules, others_of}
 use Rattle.hose_cert.specs.declared.Verdict.{Verdict}
 use Rattle.hose_cert.specs.declared.Verdict.TheVariants.{Yes, No}
 
 -- The text is a valid certificate of this claim.
-pub record IsValid (network : Network) (text : List ℕ) (claim : Claim) : Type 0 where
+pub record IsValid (network : Network) (text : List ℕ) (claim : CertClaim) : Type 0 where
   pub lines : List CertLine
   pub is_text : IsCertText network text lines
   pub claims : Claims network lines claim
@@ -18,7 +18,7 @@ pub record IsValid (network : Network) (text : List ℕ) (claim : Claim) : Type 
 -- The text is a certificate that breaks this rule first.
 pub record IsBroken (network : Network) (text : List ℕ) (rule : ℕ) : Type 0 where
   pub lines : List CertLine
-  pub claim : Claim
+  pub claim : CertClaim
   pub is_text : IsCertText network text lines
   pub claims : Claims network lines claim
   pub breaks : BreaksFirst network lines claim rule
@@ -26,11 +26,11 @@ pub record IsBroken (network : Network) (text : List ℕ) (rule : ℕ) : Type 0 
 -- of lines that stand in order this is found
 abbrev pub IsFoundOf : Network → List CertLine → Verdict → Type 0
 IsFoundOf network lines (Yes hose without amounts cost) =
-    let claim : Claim =
+    let claim : CertClaim =
     record { cost = cost; hose = hose; pairs = amounts; without = without } in
     Claims network lines claim × MeetsRules network lines claim
 IsFoundOf network lines (No rule) =
-    (claim : Claim) × Claims network lines claim × BreaksFirst network lines claim rule
+    (claim : CertClaim) × Claims network lines claim × BreaksFirst network lines claim rule
 
 -- rule 1: the text is that of a certificate
 abbrev pub IsNoText : Network → List ℕ → Type 0
@@ -44,7 +44,7 @@ IsVerdict network text (No rule) =
     ((rule ≡ 1) × IsNoText network text) ⊎ IsBroken network text rule
 
 -- the verdict is yes, to this claim
-abbrev pub IsYesOf : Verdict → Claim → Type 0
+abbrev pub IsYesOf : Verdict → CertClaim → Type 0
 IsYesOf (Yes hose without amounts cost) claim =
     claim ≡ record { cost = cost; hose = hose; pairs = amounts; without = without }
 IsYesOf (No rule) claim = ⊥

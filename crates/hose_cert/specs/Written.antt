@@ -15,7 +15,7 @@ use Rattle.hose_law.specs.Row.{IsRow}
 use Rattle.hose_law.specs.Walk.{all_links}
 use Rattle.hose_proto.specs.ReplyText.{end_text, line_of}
 use Rattle.hose_cert.specs.CertLine.{CertLine, cost_line, end_line, hose_line, numbers_from, pot_line, use_line, without_line}
-use Rattle.hose_cert.specs.Rules.{Claim}
+use Rattle.hose_cert.specs.Rules.{CertClaim}
 use Rattle.hose_cert.specs.Verdict.{IsValid}
 use Rattle.hose_cert.specs.declared.fault.ProveFault.{ProveFault}
 use Rattle.hose_cert.specs.declared.fault.ProveFault.TheVariants.{Write, Memory}
@@ -105,8 +105,8 @@ pub record IsPlanText (network : Network) (hose : List Endpoint) (plan : List Re
   pub rows : AreRootRows network row_of
   pub spelled : text ≡ certificate_text network (plan_lines network hose plan row_of)
 
--- it claims this: the plan is the hose's, with no link left out
-abbrev pub plan_claim : Network → List Endpoint → List ReservedLink → Claim
+-- what the certificate of a plan claims: the plan is the hose's, with no link left out
+abbrev pub plan_claim : Network → List Endpoint → List ReservedLink → CertClaim
 plan_claim network hose plan = record {
   cost = plan_cost network plan;
   hose = hose;

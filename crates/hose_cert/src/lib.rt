@@ -41,7 +41,7 @@ ghost use Rattle.hose_law.specs.Plan.{AreNodes};
 ghost use Rattle.hose_cert.specs.CertLine.{CertLine};
 ghost use Rattle.hose_cert.specs.Certificate.{IsCertText};
 ghost use Rattle.hose_cert.specs.Taking.{IsAllRead, ReadsUpTo, fault_in};
-ghost use Rattle.hose_cert.specs.Rules.{Claim};
+ghost use Rattle.hose_cert.specs.Rules.{CertClaim};
 ghost use Rattle.hose_cert.specs.Verdict.{AreCheapestFound, IsVerdict, IsValid, IsYesOf};
 ghost use Rattle.hose_cert.specs.Written.{Writes};
 
@@ -104,7 +104,7 @@ pub fn check_certificate<S: Source>(
     ensures all { OnOk result (IsAllRead S.Source lines.old lines.new) }
 
     // It is found valid exactly where it is so. A text has the lines of one certificate at most.
-    ensures valid { (claim : Claim)
+    ensures valid { (claim : CertClaim)
         → WhereTold (S.content lines.old.source) (S.content lines.new.source) (λ before _.
         IsValid top.now (lines.old.pending ++ before) claim
         → IfOk result (λ verdict. IsYesOf verdict claim)) }

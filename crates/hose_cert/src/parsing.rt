@@ -5,7 +5,7 @@ ghost use Rattle.hose_cert.specs.CertLine.{IsSpaced, IsSpelled, SaysLine};
 ghost use Rattle.hose_cert.specs.Reading.{AreNumbers, IsFrom, IsLineTold, IsToldAfter};
 
 use crate::fault::CertFault;
-use crate::statement::{Kind, LINE_NUMBERS, MOST_NUMBER, Pot, Statement};
+use crate::statement::{LINE_NUMBERS, MOST_NUMBER, Pot, Statement, StatementKind};
 use hose_graph::{MOST_AMOUNT, Topology};
 use hose_proto::{ReadFault, read_hose};
 use hose_words::Cursor;
@@ -48,22 +48,22 @@ fn read_words(
     ensures told { IfOk result (IsLineTold (IsSpelled top.now words.old.left)) }
     ensures memory { IfErr result (λ fault. fault ≡ CertFault.Memory) }
 {
-    let Ok(kind) = words.keyword::<Kind>() else {
+    let Ok(kind) = words.keyword::<StatementKind>() else {
         return Ok(None);
     };
     match kind {
-        Kind::Cost => Ok(read_cost(words)),
-        Kind::Hose => read_ends(alloc, top, words),
-        Kind::Use => Ok(read_use(top, words)),
-        Kind::Without => Ok(read_without(top, words)),
-        Kind::Pot => read_pot(alloc, top, words),
-        Kind::End => Ok(read_end(words)),
+        StatementKind::Cost => Ok(read_cost(words)),
+        StatementKind::Hose => read_ends(alloc, top, words),
+        StatementKind::Use => Ok(read_use(top, words)),
+        StatementKind::Without => Ok(read_without(top, words)),
+        StatementKind::Pot => read_pot(alloc, top, words),
+        StatementKind::End => Ok(read_end(words)),
     }
 }
 
 // The words after `cost`.
 fn read_cost(words: &mut Cursor<'_>) -> Option<Statement>
-    ensures { (network : Network) → IsToldAfter network Kind.Cost words.old.left result }
+    ensures { (network : Network) → IsToldAfter network StatementKind.Cost words.old.left result }
 {
     let Some(cost) = last_number(words, 0, MOST_NUMBER + 1) else {
         return None;
@@ -78,7 +78,7 @@ fn read_ends(
     words: &mut Cursor<'_>,
 ) -> Result<Option<Statement>, CertFault>
     requires { IsNetwork top.now }
-    ensures told { IfOk result (IsToldAfter top.now Kind.Hose words.old.left) }
+    ensures told { IfOk result (IsToldAfter top.now StatementKind.Hose words.old.left) }
     ensures memory { IfErr result (λ fault. fault ≡ CertFault.Memory) }
 {
     match read_hose(alloc, top, words) {
@@ -90,7 +90,7 @@ fn read_ends(
 
 // The words after `use`.
 fn read_use(top: &Topology, words: &mut Cursor<'_>) -> Option<Statement>
-    ensures { IsToldAfter top.now Kind.Use words.old.left result }
+    ensures { IsToldAfter top.now StatementKind.Use words.old.left result }
 {
     let Some(link) = next_number(words, 0, u64::from(top.links())) else {
         return None;
@@ -103,7 +103,7 @@ fn read_use(top: &Topology, words: &mut Cursor<'_>) -> Option<Statement>
 
 // The word after `without`.
 fn read_without(top: &Topology, words: &mut Cursor<'_>) -> Option<Statement>
-    ensures { IsToldAfter top.now Kind.Without words.old.left result }
+    ensures { IsToldAfter top.now StatementKind.Without words.old.left result }
 {
     let Some(link) = last_number(words, 0, u64::from(top.links())) else {
         return None;
@@ -117,7 +117,7 @@ fn read_pot(
     top: &Topology,
     words: &mut Cursor<'_>,
 ) -> Result<Option<Statement>, CertFault>
-    ensures told { IfOk result (IsToldAfter top.now Kind.Pot words.old.left) }
+    ensures told { IfOk result (IsToldAfter top.now StatementKind.Pot words.old.left) }
     ensures memory { IfErr result (λ fault. fault ≡ CertFault.Memory) }
 {
     let nodes = top.nodes();
@@ -141,7 +141,7 @@ fn read_pot(
 
 // Nothing after `end`.
 fn read_end(words: &Cursor<'_>) -> Option<Statement>
-    ensures { (network : Network) → IsToldAfter network Kind.End words.now.left result }
+    ensures { (network : Network) → IsToldAfter network StatementKind.End words.now.left result }
 {
     if is_over(words) {
         Some(Statement::End)

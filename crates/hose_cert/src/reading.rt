@@ -15,7 +15,7 @@ use std::alloc::Global;
 
 /// What the next line came to.
 #[derive(Drop)]
-pub enum Step {
+pub enum LineStep {
     /// One line more was taken.
     More(Draft),
     /// No certificate goes on so.
@@ -41,9 +41,9 @@ pub(crate) fn read_text<S: Source>(
     let mut draft = Draft::Start;
     loop {
         match take_next(alloc, top, draft, lines)? {
-            Step::More(more) => draft = more,
-            Step::Refused => return Ok(None),
-            Step::Over(last) => return Ok(last.whole(top)),
+            LineStep::More(more) => draft = more,
+            LineStep::Refused => return Ok(None),
+            LineStep::Over(last) => return Ok(last.whole(top)),
         }
     }
 }
@@ -54,29 +54,34 @@ fn take_next<S: Source>(
     top: &Topology,
     draft: Draft,
     lines: &mut LineReader<S>,
-) -> Result<Step, CertFault>
+) -> Result<LineStep, CertFault>
     requires { StandsSomehow top.now draft }
     ensures { IsNextStep S.Source top.now draft lines.old lines.new result }
 {
     match lines.next()? {
         Some(Line::Text(line)) => take_text(alloc, top, draft, line),
-        Some(Line::Long) => Ok(Step::Refused),
-        None => Ok(Step::Over(draft)),
+        Some(Line::Long) => Ok(LineStep::Refused),
+        None => Ok(LineStep::Over(draft)),
     }
 }
 
 // Takes a line that is shown into the draft.
-fn take_text(alloc: Global, top: &Topology, draft: Draft, line: &[u8]) -> Result<Step, CertFault>
+fn take_text(
+    alloc: Global,
+    top: &Topology,
+    draft: Draft,
+    line: &[u8],
+) -> Result<LineStep, CertFault>
     requires { StandsSomehow top.now draft }
     ensures step { IfOk result (IsDraftStep top.now draft line.now) }
     ensures memory { IfErr result (λ fault. fault ≡ CertFault.Memory) }
 {
     let Some(told) = read_line(alloc, top, line)? else {
-        return Ok(Step::Refused);
+        return Ok(LineStep::Refused);
     };
     match take_line(alloc, top, draft, told)? {
-        Some(more) => Ok(Step::More(more)),
-        None => Ok(Step::Refused),
+        Some(more) => Ok(LineStep::More(more)),
+        None => Ok(LineStep::Refused),
     }
 }
 

@@ -40,7 +40,7 @@ pub struct Pot {
 
 /// What the first word of a line says that it is.
 #[derive(Clone, Copy, Debug)]
-pub enum Kind {
+pub enum StatementKind {
     Cost,
     Hose,
     Use,
@@ -49,34 +49,34 @@ pub enum Kind {
     End,
 }
 
-const KINDS: [Kind; 6] = [
-    Kind::Cost,
-    Kind::Hose,
-    Kind::Use,
-    Kind::Without,
-    Kind::Pot,
-    Kind::End,
+const KINDS: [StatementKind; 6] = [
+    StatementKind::Cost,
+    StatementKind::Hose,
+    StatementKind::Use,
+    StatementKind::Without,
+    StatementKind::Pot,
+    StatementKind::End,
 ];
 
-impl Keyword for Kind {
+impl Keyword for StatementKind {
     ghost word_of = { statement_word };
 
-    fn of(word: &[u8]) -> Option<Kind> {
+    fn of(word: &[u8]) -> Option<StatementKind> {
         with_word(&KINDS, word)
     }
 }
 
-impl HasWord for Kind {
+impl HasWord for StatementKind {
     ghost word_of = { statement_word };
 
     fn word(self) -> &'static [u8] {
         match self {
-            Kind::Cost => b"cost",
-            Kind::Hose => b"hose",
-            Kind::Use => b"use",
-            Kind::Without => b"without",
-            Kind::Pot => b"pot",
-            Kind::End => b"end",
+            StatementKind::Cost => b"cost",
+            StatementKind::Hose => b"hose",
+            StatementKind::Use => b"use",
+            StatementKind::Without => b"without",
+            StatementKind::Pot => b"pot",
+            StatementKind::End => b"end",
         }
     }
 }

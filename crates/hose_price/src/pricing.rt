@@ -17,7 +17,7 @@ use std::alloc::{AllocError, Global};
 
 // A hose, and all links of the network, over which it is planned.
 #[derive(Clone, Copy)]
-struct Asked<'a> {
+struct HoseOverLinks<'a> {
     hose: &'a Hose,
     links: &'a LinkSet,
 }
@@ -36,7 +36,7 @@ impl PriceSheet {
         ensures line { IfOk result (IsLineOf self.now hose.now) }
     {
         let links = all_links(alloc, &self.top)?;
-        let asked = &Asked {
+        let asked = &HoseOverLinks {
             hose,
             links: &links,
         };
@@ -57,7 +57,7 @@ impl PriceSheet {
     fn bounds<R: RowMaker>(
         &self,
         alloc: Global,
-        asked: &Asked<'_>,
+        asked: &HoseOverLinks<'_>,
         rows: &mut R,
     ) -> Result<Option<Bounds>, AllocError>
         requires links { asked.now.links.now ≡ all_links self.now.network }
@@ -84,7 +84,7 @@ impl PriceSheet {
         &self,
         alloc: Global,
         place: usize,
-        asked: &Asked<'_>,
+        asked: &HoseOverLinks<'_>,
         bounds: &Bounds,
         rows: &mut R,
     ) -> Result<Option<Price>, AllocError>

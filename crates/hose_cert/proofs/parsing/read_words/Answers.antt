@@ -1,5 +1,5 @@
 use Rattle.hose_cert.proofs.Spelling.{told_after}
-use Rattle.hose_cert.specs.declared.statement.Kind.TheVariants as kind
+use Rattle.hose_cert.specs.declared.statement.StatementKind.TheVariants as kind
 use Rattle.hose_cert.proofs.parsing.read_words.Goals as goal
 
 pub returns-in-Cost-clause-told : goal.returns-in-Cost-clause-told
