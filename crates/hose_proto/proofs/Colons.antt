@@ -9,7 +9,7 @@ use Rattle.std.proofs.lemmas.Str.Parse.{digit_at}
 use Rattle.hose_graph.specs.Name.{IsName, is_name_byte}
 use Rattle.hose_graph.specs.Network.{Network, name_of}
 use Rattle.hose_proto.specs.Places.{end_word}
-use Rattle.hose_proto.specs.ReplyWords.{pair_word}
+use Rattle.hose_proto.specs.Fields.{pair_word}
 
 -- a name has no colon
 pub no_colon : (name : List ℕ) → IsName name → ¬ Contains name 58

@@ -5,6 +5,7 @@ use Rattle.std.proofs.lemmas.Result.{IfErr-weaker, err_from_is_err_and}
 use Rattle.hose_words.specs.Cursor.{Position, Took, IsWrong}
 use Rattle.hose_words.specs.Form.{Form, branch}
 use Rattle.hose_words.proofs.Forms.{AreApart, wrong_chosen}
+use Rattle.hose_proto.specs.Fields.{Fields}
 use Rattle.hose_proto.specs.Reading.{IsFaultOf}
 use Rattle.hose_proto.specs.declared.fault.ReadFault.{ReadFault}
 use Rattle.hose_proto.specs.declared.fault.ReadFault.TheVariants.{Bad}
@@ -22,6 +23,14 @@ pub told_wrong : {T : Type 0} {form : Form} {old : Position} {number : ℕ} (res
 told_wrong {T} {form} {old} {number} result gives is =
     let gave = err_from_is_err_and result gives in
     let told : IsFaultOf form old (Bad number) = record { word = λ other same. subst (IsWrong form old) (cc same) is } in
+    rw (gave.1, gave.2) told
+
+-- so it is whatever fields may follow
+pub told_each : {T : Type 0} {forms : Fields → Form} {old : Position} {number : ℕ} (result : Result T ReadFault) → IsErrAnd result (λ fault. fault ≡ Bad number) → ((rest : Fields) → IsWrong (forms rest) old number)
+    → IfErr result (λ fault. (rest : Fields) → IsFaultOf (forms rest) old fault)
+told_each {T} {forms} {old} {number} result gives is =
+    let gave = err_from_is_err_and result gives in
+    let told : (rest : Fields) → IsFaultOf (forms rest) old (Bad number) = λ rest. record { word = λ other same. subst (IsWrong (forms rest) old) (cc same) (is rest) } in
     rw (gave.1, gave.2) told
 
 -- what a fault tells of the words to come it tells of those before them

@@ -15,7 +15,7 @@ use Rattle.hose_graph.specs.declared.limits.TheConstants.{LEAST_ENDS}
 use Rattle.hose_graph.proofs.Ordered.{pairs_unique}
 use Rattle.hose_proto.specs.Command.{AreNewEnds}
 use Rattle.hose_proto.specs.Places.{IsHoseOf}
-use Rattle.hose_proto.specs.ReplyGrammar.{AreEnds}
+use Rattle.hose_proto.specs.Fields.{AreEnds}
 
 -- endpoints in order are at distinct nodes
 pub distinct_in_order : (ends : List (ℕ × ℕ)) → IsAscending ends → HasDistinctNodes ends

@@ -4,13 +4,13 @@ pub mod Costs
 pub mod EndWords
 pub mod EndsUntil
 pub mod Faults
+pub mod FieldLemmas
 pub mod Hoses
 pub mod ItemByItem
 pub mod Items
 pub mod NodeNames
 pub mod OneCommand
-pub mod PassingReplies
-pub mod ReadAgain
+pub mod ReplyLemmas
 pub mod Rising
-pub mod TellsBack
+pub mod Spacing
 pub mod Words

@@ -9,7 +9,8 @@ use Rattle.hose_words.proofs.Forms.{AreApart, apart_by}
 use Rattle.hose_words.proofs.Keywords.{choice_of}
 use Rattle.hose_graph.specs.Network.{Network, IsNetwork, IsLinkOf}
 use Rattle.hose_proto.specs.Command.{verb_word}
-use Rattle.hose_proto.specs.ReplyGrammar.{head_word, missing_word, service_word}
+use Rattle.hose_proto.specs.Fields.{missing_word, service_word}
+use Rattle.hose_proto.specs.ReplyLines.{head_word}
 use Rattle.hose_proto.specs.declared.head.Head.{Head}
 use Rattle.hose_proto.specs.declared.head.Head.TheVariants as head
 use Rattle.hose_proto.specs.declared.head.Missing.{Missing}
@@ -46,7 +47,7 @@ no_choice word_of choices every word None none = λ one same. every (λ other. w
 abbrev pub head_of : List ℕ → Head
 head_of word = choice_of head_word HEADS head.Bye word
 
-head_of-word : (one : Head) → head_of (head_word one) ≡ one
+pub head_of-word : (one : Head) → head_of (head_word one) ≡ one
 head_of-word head.Welcome = refl
 head_of-word other = refl
 
@@ -61,7 +62,7 @@ every_head P all = every_choice head_word HEADS head.Bye head_of-word P all (all
 abbrev pub missing_of : List ℕ → Missing
 missing_of word = choice_of missing_word (missing.Vpn ∷ missing.Quote ∷ []) missing.Quote word
 
-missing_of-word : (one : Missing) → missing_of (missing_word one) ≡ one
+pub missing_of-word : (one : Missing) → missing_of (missing_word one) ≡ one
 missing_of-word missing.Vpn = refl
 missing_of-word missing.Quote = refl
 

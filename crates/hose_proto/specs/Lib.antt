@@ -1,8 +1,8 @@
 pub mod Command
 pub mod EndWords
+pub mod Fields
 pub mod Places
 pub mod Reading
 pub mod Replies
-pub mod ReplyGrammar
+pub mod ReplyLines
 pub mod ReplyText
-pub mod ReplyWords

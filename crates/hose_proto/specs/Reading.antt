@@ -1,8 +1,8 @@
 -- What is read of the words of commands and replies.
-use Rattle.std.specs.Prelude.{◌≡◌, ◌⊎◌, ℕ, ◌+◌, ◌<◌, ◌≤◌, List, [], ◌∷◌, ◌++◌, Option, IfNone, IfSome, Any, codes, length, map}
+use Rattle.std.specs.Prelude.{◌≡◌, ◌⊎◌, ℕ, ◌+◌, ◌<◌, ◌≤◌, List, [], ◌∷◌, ◌++◌, Option, IfNone, IfSome, Any, codes, decimal, length, map}
 use Rattle.std.specs.List.Sorted.{IsStrictlyIncreasing}
 use Rattle.hose_words.specs.Cursor.{Position, IsWrong}
-use Rattle.hose_words.specs.Form.{Form, Fits64, TellsItems}
+use Rattle.hose_words.specs.Form.{Form, Fits64, TellsItems, finish, number, this}
 use Rattle.hose_words.specs.Grammar.{IsFirst}
 use Rattle.hose_graph.specs.Amounts.{ReservedLink, amount_of, link_of}
 use Rattle.hose_graph.specs.Ascending.{firsts}
@@ -17,6 +17,22 @@ use Rattle.hose_proto.specs.declared.fault.ReadFault.TheVariants.{Bad}
 -- tells nothing of them.
 pub record IsFaultOf (form : Form) (old : Position) (fault : ReadFault) : Type 0 where
   pub word : (number : ℕ) → fault ≡ Bad number → IsWrong form old number
+
+-- `at N`
+abbrev pub at_form : Form
+at_form = this (codes "at") (number finish)
+
+-- `ID at N`
+abbrev pub id_form : Form
+id_form = number at_form
+
+-- `ID cost C at N`, and what may stand after that
+abbrev pub cost_form : Form → Form
+cost_form form = number (this (codes "cost") (number (this (codes "at") (number form))))
+
+-- a number, a cost and an epoch
+abbrev pub cost_words : ℕ → ℕ → ℕ → List (List ℕ)
+cost_words id cost at = decimal id ∷ codes "cost" ∷ decimal cost ∷ codes "at" ∷ decimal at ∷ []
 
 -- an endpoint at a node of the network
 pub record IsEndOf (network : Network) (end : Endpoint) : Type 0 where

@@ -8,8 +8,7 @@ ghost use Rattle.hose_graph.specs.Ascending.{IsAscending, firsts};
 ghost use Rattle.hose_graph.specs.Network.{IsNetwork, name_of};
 ghost use Rattle.hose_proto.specs.Places.{IsHoseOf, end_word};
 ghost use Rattle.hose_proto.specs.Reading.{IsFaultOf, IsNextEnd, IsNextNode, IsNextPair, MissesEnd, TellsNext};
-ghost use Rattle.hose_proto.specs.ReplyGrammar.{amounts_form, names_form, hose_form};
-ghost use Rattle.hose_proto.specs.ReplyWords.{AreAmounts, IsSide, pair_word};
+ghost use Rattle.hose_proto.specs.Fields.{AreAmounts, IsSide, Fields, form_of, pair_word, the_amounts, the_ends, the_nodes};
 
 use crate::fault::ReadFault;
 use crate::lists::{Items, read_items};
@@ -29,7 +28,7 @@ pub(crate) fn read_amounts(
     requires { IsNetwork top.now }
     ensures told { IfOk result (λ amounts. words.old.left ≡ map pair_word amounts) }
     ensures amounts { IfOk result (AreAmounts top.now) }
-    ensures bad { IfErr result (IsFaultOf (amounts_form top.now) words.old) }
+    ensures bad { IfErr result (IsFaultOf (form_of top.now the_amounts) words.old) }
 {
     let pairs = read_items::<Pairs>(alloc, top, 1, words)?;
     let amounts = Amounts::build(alloc, &pairs)?;
@@ -80,7 +79,7 @@ pub(crate) fn read_side(
     requires { IsNetwork top.now }
     ensures told { IfOk result (λ side. words.old.left ≡ map (name_of top.now) side) }
     ensures side { IfOk result (IsSide top.now) }
-    ensures bad { IfErr result (IsFaultOf (names_form top.now) words.old) }
+    ensures bad { IfErr result (IsFaultOf (form_of top.now the_nodes) words.old) }
 {
     let nodes = read_items::<Nodes>(alloc, top, 1, words)?;
     let side = NodeList::build(alloc, &nodes)?;
@@ -128,10 +127,11 @@ pub(crate) fn read_hose(
     ensures told { IfOk result (λ hose.
         words.old.left ≡ map (end_word top.now) hose ++ codes "links" ∷ words.new.left) }
     ensures hose { IfOk result (IsHoseOf top.now) }
-    ensures later { OnOk result ((place : ℕ)
-        → IsWrong (amounts_form top.now) words.new place
-        → IsWrong (hose_form top.now) words.old place) }
-    ensures bad { IfErr result (IsFaultOf (hose_form top.now) words.old) }
+    ensures later { OnOk result ((rest : Fields) (place : ℕ)
+        → IsWrong (form_of top.now rest) words.new place
+        → IsWrong (form_of top.now (the_ends rest)) words.old place) }
+    ensures bad { IfErr result
+        (λ fault. (rest : Fields) → IsFaultOf (form_of top.now (the_ends rest)) words.old fault) }
 {
     let mut ends = Vec::new(alloc);
     while let Some(end) = next_end(top, &ends, words)? {

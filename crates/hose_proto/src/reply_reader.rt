@@ -4,12 +4,13 @@ ghost use Rattle.hose_words.specs.Cursor.{Took, TookAll, Misses, IsWrong};
 ghost use Rattle.hose_words.specs.Form.{Fits64, IsChoice, Each, anything, branch, finish, number, these, this};
 ghost use Rattle.hose_words.specs.Grammar.{IsFirst, IsFirstNotAllowed};
 ghost use Rattle.hose_words.specs.Words.{words_of};
-ghost use Rattle.hose_graph.specs.Network.{Network, IsNetwork, name_of};
+ghost use Rattle.hose_graph.specs.Network.{Network, IsLinkOf, IsNetwork, name_of};
 ghost use Rattle.hose_graph.specs.declared.command.Reply.{Reply};
-ghost use Rattle.hose_proto.specs.Reading.{IsFaultOf};
-ghost use Rattle.hose_proto.specs.ReplyGrammar.{HasLists, IsChanged, IsPriced, at_form, cost_form, id_form, priced_form, side_form, shown_form, load_form, link_state_form, changed_form, service_form, head_word, missing_word, head_form, reply_form, reply_grammar};
+ghost use Rattle.hose_proto.specs.Fields.{a_link, a_number, a_service, a_word, form_of, missing_word, no_more, the_amounts, words_of_link, words_told};
+ghost use Rattle.hose_proto.specs.Reading.{IsFaultOf, at_form, cost_form, cost_words, id_form};
+ghost use Rattle.hose_proto.specs.ReplyLines.{HasLists, IsPriced, IsReply, a_cost, an_epoch, head_form, head_word, reply_form, reply_grammar};
 ghost use Rattle.hose_graph.specs.Naming.{NamesPlaces};
-ghost use Rattle.hose_proto.specs.ReplyWords.{IsReply, cost_words, words_of_link, service_words};
+ghost use Rattle.hose_proto.specs.declared.head.Head.TheVariants.{Link, Refused, Vpn};
 
 use crate::fault::ReadFault;
 use crate::head::{Head, Missing, Service};
@@ -18,14 +19,6 @@ use crate::reply_lists::{read_amounts, read_hose, read_side};
 use hose_graph::{Reply, Topology};
 use hose_words::{Cursor, WrongWord};
 use std::alloc::Global;
-
-// What an admission, an offer and a VPN tell before their lists.
-#[derive(Clone, Copy)]
-struct Costed {
-    id: u64,
-    cost: u64,
-    at: u64,
-}
 
 /// The reply that the words of a line tell, as `put_reply` writes it, for tests and embeddings.
 pub fn read_reply(alloc: Global, top: &Topology, line: &[u8]) -> Result<Reply, ReadFault>
@@ -73,35 +66,37 @@ fn read_after(
     ensures memory { result ≡ Err ReadFault.Memory → HasLists head }
 {
     match head {
-        Head::Welcome => Ok(Reply::Welcome {
-            at: read_at(words)?,
-        }),
+        Head::Welcome => Ok(Reply::Welcome { at: epoch(words)? }),
         Head::Admitted => read_priced(alloc, top, head, words),
         Head::Quoted => read_priced(alloc, top, head, words),
         Head::Refused => read_refused(alloc, top, words),
         Head::Stale => Ok(read_stale(words)?),
-        Head::Released => Ok(read_released(words)?),
+        Head::Released => {
+            let (id, at) = read_id(words)?;
+            Ok(Reply::Released { id, at })
+        }
         Head::No => Ok(read_none(words)?),
         Head::Too => Ok(read_too_many(words)?),
         Head::Vpn => read_shown(alloc, top, words),
         Head::Link => Ok(read_link(top, words)?),
-        Head::Down => Ok(read_changed(top, head, words)?),
-        Head::Up => Ok(read_changed(top, head, words)?),
-        Head::Already => Ok(read_changed(top, head, words)?),
-        Head::Denied => Ok(Reply::Denied {
-            at: read_at(words)?,
-        }),
-        Head::Full => Ok(Reply::Full {
-            at: read_at(words)?,
-        }),
-        Head::Spent => Ok(Reply::Spent {
-            at: read_at(words)?,
-        }),
-        Head::Disk => Ok(Reply::Disk {
-            at: read_at(words)?,
-        }),
+        Head::Down => {
+            let (link, at) = read_changed(top, words)?;
+            Ok(Reply::Down { link, at })
+        }
+        Head::Up => {
+            let (link, at) = read_changed(top, words)?;
+            Ok(Reply::Up { link, at })
+        }
+        Head::Already => {
+            let (link, at) = read_changed(top, words)?;
+            Ok(Reply::Already { link, at })
+        }
+        Head::Denied => Ok(Reply::Denied { at: epoch(words)? }),
+        Head::Full => Ok(Reply::Full { at: epoch(words)? }),
+        Head::Spent => Ok(Reply::Spent { at: epoch(words)? }),
+        Head::Disk => Ok(Reply::Disk { at: epoch(words)? }),
         Head::Memory => Ok(read_alone(words, Reply::Memory)?),
-        Head::Bad => Ok(read_bad(words)?),
+        Head::Bad => Ok(Reply::Bad { word: last(words)? }),
         Head::Long => Ok(read_alone(words, Reply::Long)?),
         Head::Bye => Ok(read_alone(words, Reply::Bye)?),
     }
@@ -117,9 +112,10 @@ fn read_priced(
     requires network { IsNetwork top.now }
     requires head { IsPriced head }
     ensures ok { IfOk result (IsReply top.now (head_word head ∷ words.old.left)) }
-    ensures bad { IfErr result (IsFaultOf (priced_form top.now) words.old) }
+    ensures bad { IfErr result (IsFaultOf
+        (form_of top.now (a_cost (a_word (codes "links") the_amounts))) words.old) }
 {
-    let Costed { id, cost, at } = read_cost(words, b"links")?;
+    let (id, cost, at) = read_cost(words, b"links")?;
     let amounts = read_amounts(alloc, top, words)?;
     match head {
         Head::Admitted => Ok(Reply::Admitted {
@@ -141,7 +137,7 @@ fn read_priced(
 fn read_refused(alloc: Global, top: &Topology, words: &mut Cursor<'_>) -> Result<Reply, ReadFault>
     requires { IsNetwork top.now }
     ensures ok { IfOk result (IsReply top.now (codes "refused" ∷ words.old.left)) }
-    ensures bad { IfErr result (IsFaultOf (side_form top.now) words.old) }
+    ensures bad { IfErr result (IsFaultOf (head_form top.now Refused) words.old) }
 {
     words.expect(b"at")?;
     let at = words.number()?;
@@ -163,16 +159,6 @@ fn read_stale(words: &mut Cursor<'_>) -> Result<Reply, WrongWord>
     Ok(Reply::Stale { seen, now })
 }
 
-// After `released`.
-fn read_released(words: &mut Cursor<'_>) -> Result<Reply, WrongWord>
-    ensures ok { IfOk result (λ reply. (network : Network)
-        → IsReply network (codes "released" ∷ words.old.left) reply) }
-    ensures wrong { IfErr result (λ wrong. IsWrong id_form words.old wrong.number) }
-{
-    let (id, at) = read_id(words)?;
-    Ok(Reply::Released { id, at })
-}
-
 // After `no`.
 fn read_none(words: &mut Cursor<'_>) -> Result<Reply, WrongWord>
     ensures ok { IfOk result (λ reply. (network : Network)
@@ -182,10 +168,10 @@ fn read_none(words: &mut Cursor<'_>) -> Result<Reply, WrongWord>
 {
     let missing: Missing = words.keyword()?;
     let (number, at) = read_id(words)?;
-    Ok(match missing {
-        Missing::Vpn => Reply::NoVpn { id: number, at },
-        Missing::Quote => Reply::NoQuote { quote: number, at },
-    })
+    match missing {
+        Missing::Vpn => Ok(Reply::NoVpn { id: number, at }),
+        Missing::Quote => Ok(Reply::NoQuote { quote: number, at }),
+    }
 }
 
 // After `too`.
@@ -197,7 +183,7 @@ fn read_too_many(words: &mut Cursor<'_>) -> Result<Reply, WrongWord>
 {
     words.expect(b"many")?;
     words.expect(b"quotes")?;
-    let at = read_at(words)?;
+    let at = epoch(words)?;
     Ok(Reply::TooMany { at })
 }
 
@@ -205,9 +191,9 @@ fn read_too_many(words: &mut Cursor<'_>) -> Result<Reply, WrongWord>
 fn read_shown(alloc: Global, top: &Topology, words: &mut Cursor<'_>) -> Result<Reply, ReadFault>
     requires { IsNetwork top.now }
     ensures ok { IfOk result (IsReply top.now (codes "vpn" ∷ words.old.left)) }
-    ensures bad { IfErr result (IsFaultOf (shown_form top.now) words.old) }
+    ensures bad { IfErr result (IsFaultOf (head_form top.now Vpn) words.old) }
 {
-    let Costed { id, cost, at } = read_cost(words, b"ends")?;
+    let (id, cost, at) = read_cost(words, b"ends")?;
     let hose = read_hose(alloc, top, words)?;
     let amounts = read_amounts(alloc, top, words)?;
     Ok(Reply::Shown {
@@ -224,7 +210,7 @@ fn read_link(top: &Topology, words: &mut Cursor<'_>) -> Result<Reply, WrongWord>
     requires { IsNetwork top.now }
     ensures ok { IfOk result (IsReply top.now (codes "link" ∷ words.old.left)) }
     ensures wrong { IfErr result
-        (λ wrong. IsWrong (link_state_form top.now) words.old wrong.number) }
+        (λ wrong. IsWrong (head_form top.now Link) words.old wrong.number) }
 {
     let link = read_link_number(top, words)?;
     let (load, out, at) = read_load(top, link, words)?;
@@ -245,10 +231,13 @@ fn read_load(
     requires { link < length top.now.links }
     ensures ok { IfOk result (λ load. words.old.left
         ≡ words_of_link top.now (slice_get top.now.links link)
-        ++ codes "load" ∷ decimal load.0 ∷ service_words load.1 load.2) }
+        ++ codes "load" ∷ decimal load.0
+        ∷ words_told top.now (a_service (a_number no_more)) (load.1, (load.2, tt))) }
     ensures small { IfOk result (λ load. Fits64 load.0 × Fits64 load.2) }
     ensures wrong { IfErr result
-        (λ wrong. IsWrong (load_form top.now link) words.old wrong.number) }
+        (λ wrong. IsWrong (these (words_of_link top.now (slice_get top.now.links link))
+        (this (codes "load") (number (form_of top.now (a_service (a_number no_more))))))
+        words.old wrong.number) }
 {
     let link = top.link(link);
     read_node(top, link.a, words)?;
@@ -259,20 +248,22 @@ fn read_load(
     words.expect_number(link.cost)?;
     words.expect(b"load")?;
     let load = words.number()?;
-    let (out, at) = read_service(words)?;
+    let (out, at) = read_service(top, words)?;
     Ok((load, out, at))
 }
 
 // Whether a link is out of service, and an epoch, to the end of the line.
-fn read_service(words: &mut Cursor<'_>) -> Result<(bool, u64), WrongWord>
-    ensures ok { IfOk result (λ service. words.old.left ≡ service_words service.0 service.1) }
+fn read_service(top: &Topology, words: &mut Cursor<'_>) -> Result<(bool, u64), WrongWord>
+    ensures ok { IfOk result (λ service. words.old.left
+        ≡ words_told top.now (a_service (a_number no_more)) (service.0, (service.1, tt))) }
     ensures small { IfOk result (λ service. Fits64 service.1) }
-    ensures wrong { IfErr result (λ wrong. IsWrong service_form words.old wrong.number) }
+    ensures wrong { IfErr result (λ wrong.
+        IsWrong (form_of top.now (a_service (a_number no_more))) words.old wrong.number) }
 {
     let service: Service = words.keyword()?;
     match service {
-        Service::Out => Ok((true, read_at(words)?)),
-        Service::At => Ok((false, read_last(words)?)),
+        Service::Out => Ok((true, epoch(words)?)),
+        Service::At => Ok((false, last(words)?)),
     }
 }
 
@@ -286,31 +277,18 @@ fn read_node(top: &Topology, node: u32, words: &mut Cursor<'_>) -> Result<(), Wr
     words.expect(top.name(node).bytes())
 }
 
-// After `bad`.
-fn read_bad(words: &mut Cursor<'_>) -> Result<Reply, WrongWord>
-    ensures ok { IfOk result (λ reply. (network : Network)
-        → IsReply network (codes "bad" ∷ words.old.left) reply) }
-    ensures wrong { IfErr result (λ wrong. IsWrong (number finish) words.old wrong.number) }
-{
-    let word = read_last(words)?;
-    Ok(Reply::Bad { word })
-}
-
-// After `down`, `up` or `already`.
-fn read_changed(top: &Topology, head: Head, words: &mut Cursor<'_>) -> Result<Reply, WrongWord>
-    requires network { IsNetwork top.now }
-    requires head { IsChanged head }
-    ensures ok { IfOk result (IsReply top.now (head_word head ∷ words.old.left)) }
-    ensures wrong { IfErr result (λ wrong. IsWrong (changed_form top.now) words.old wrong.number) }
+// `L at N`, to the end of the line.
+fn read_changed(top: &Topology, words: &mut Cursor<'_>) -> Result<(u64, u64), WrongWord>
+    requires { IsNetwork top.now }
+    ensures ok { IfOk result
+        (λ link. words.old.left ≡ decimal link.0 ∷ codes "at" ∷ decimal link.1 ∷ []) }
+    ensures is_link { IfOk result (λ link. IsLinkOf top.now link.0 × Fits64 link.1) }
+    ensures wrong { IfErr result
+        (λ wrong. IsWrong (form_of top.now (a_link an_epoch)) words.old wrong.number) }
 {
     let link = read_link_number(top, words)?;
-    let at = read_at(words)?;
-    let link = u64::from(link);
-    match head {
-        Head::Down => Ok(Reply::Down { link, at }),
-        Head::Up => Ok(Reply::Up { link, at }),
-        _ => Ok(Reply::Already { link, at }),
-    }
+    let at = epoch(words)?;
+    Ok((u64::from(link), at))
 }
 
 // A reply of one word, which came.
@@ -323,11 +301,11 @@ fn read_alone(words: &mut Cursor<'_>, reply: Reply) -> Result<Reply, WrongWord>
 }
 
 // `ID cost C at N`, and this word.
-fn read_cost(words: &mut Cursor<'_>, next: &[u8]) -> Result<Costed, WrongWord>
+fn read_cost(words: &mut Cursor<'_>, next: &[u8]) -> Result<(u64, u64, u64), WrongWord>
     ensures ok { IfOk result (λ costed. TookAll words.old words.new
-        (cost_words costed.id costed.cost costed.at ++ next.now ∷ [])) }
+        (cost_words costed.0 costed.1 costed.2 ++ next.now ∷ [])) }
     ensures small { IfOk result
-        (λ costed. Fits64 costed.id × Fits64 costed.cost × Fits64 costed.at) }
+        (λ costed. Fits64 costed.0 × Fits64 costed.1 × Fits64 costed.2) }
     ensures wrong { IfErr result
         (λ wrong. IsWrong (cost_form (this next.now anything)) words.old wrong.number) }
 {
@@ -337,21 +315,21 @@ fn read_cost(words: &mut Cursor<'_>, next: &[u8]) -> Result<Costed, WrongWord>
     words.expect(b"at")?;
     let at = words.number()?;
     words.expect(next)?;
-    Ok(Costed { id, cost, at })
+    Ok((id, cost, at))
 }
 
 // `at N`, to the end of the line.
-fn read_at(words: &mut Cursor<'_>) -> Result<u64, WrongWord>
+fn epoch(words: &mut Cursor<'_>) -> Result<u64, WrongWord>
     ensures ok { IfOk result (λ at. words.old.left ≡ codes "at" ∷ decimal at ∷ []) }
     ensures small { IfOk result Fits64 }
     ensures wrong { IfErr result (λ wrong. IsWrong at_form words.old wrong.number) }
 {
     words.expect(b"at")?;
-    read_last(words)
+    last(words)
 }
 
 // A number at the end of the line.
-fn read_last(words: &mut Cursor<'_>) -> Result<u64, WrongWord>
+fn last(words: &mut Cursor<'_>) -> Result<u64, WrongWord>
     ensures ok { IfOk result (λ last. words.old.left ≡ decimal last ∷ []) }
     ensures small { IfOk result Fits64 }
     ensures wrong { IfErr result (λ wrong. IsWrong (number finish) words.old wrong.number) }
@@ -369,6 +347,6 @@ fn read_id(words: &mut Cursor<'_>) -> Result<(u64, u64), WrongWord>
     ensures wrong { IfErr result (λ wrong. IsWrong id_form words.old wrong.number) }
 {
     let id = words.number()?;
-    let at = read_at(words)?;
+    let at = epoch(words)?;
     Ok((id, at))
 }

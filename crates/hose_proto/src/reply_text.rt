@@ -1,15 +1,16 @@
 // The texts of replies on their way to a sink.
-ghost use Rattle.std.specs.Prelude.{◌≡◌, ◌≤◌, All, OnOk, ◌++◌, codes, decimal, length};
 ghost use Rattle.std.specs.List.{flat_map};
+ghost use Rattle.std.specs.Prelude.{◌≡◌, ◌≤◌, ◌++◌, ◌∷◌, [], All, OnOk, codes, decimal, length, map};
 ghost use Rattle.hose_io.specs.Count.{one_more};
 ghost use Rattle.hose_io.specs.Gather.{IsAdded};
 ghost use Rattle.hose_io.specs.Writing.{IsPut};
 ghost use Rattle.hose_graph.specs.Hose.{node_of};
 ghost use Rattle.hose_graph.specs.Network.{Network, IsLinkOf, IsNodeOf};
 ghost use Rattle.hose_graph.specs.declared.command.Reply.TheVariants.{LinkState, Refused, Shown};
-ghost use Rattle.hose_proto.specs.ReplyText.{IsShort, line_of, reply_text, priced_text, pair_text, node_text, end_text, service_text};
+ghost use Rattle.hose_proto.specs.Fields.{a_number, a_service, no_more, pair_word, words_told};
+ghost use Rattle.hose_proto.specs.ReplyLines.{IsOfKind, IsReply};
+ghost use Rattle.hose_proto.specs.ReplyText.{IsShort, line_of, node_text, reply_text, spaced};
 ghost use Rattle.hose_graph.specs.Naming.{NamesPlaces};
-ghost use Rattle.hose_proto.specs.ReplyWords.{IsOfKind, IsReply};
 ghost use Rattle.hose_words.specs.Words.{words_of};
 
 use crate::pieces::{add_ends, add_link, add_node, add_pairs};
@@ -80,21 +81,21 @@ fn add_short<S: Sink>(gather: &mut Gather, sink: &mut S, reply: &Reply)
         (reply_text network reply.now) }
 {
     match reply {
-        Reply::Welcome { at } => gather.add_numbered(sink, b"welcome at ", *at),
+        Reply::Welcome { at } => add_last(gather, sink, b"welcome at ", *at),
         Reply::Stale { seen, now } => add_numbers(gather, sink, b"stale ", *seen, b" ", *now),
         Reply::Released { id, at } => add_at(gather, sink, b"released ", *id, *at),
         Reply::NoVpn { id, at } => add_at(gather, sink, b"no vpn ", *id, *at),
         Reply::NoQuote { quote, at } => add_at(gather, sink, b"no quote ", *quote, *at),
-        Reply::TooMany { at } => gather.add_numbered(sink, b"too many quotes at ", *at),
+        Reply::TooMany { at } => add_last(gather, sink, b"too many quotes at ", *at),
         Reply::Down { link, at } => add_at(gather, sink, b"down ", *link, *at),
         Reply::Up { link, at } => add_at(gather, sink, b"up ", *link, *at),
         Reply::Already { link, at } => add_at(gather, sink, b"already ", *link, *at),
-        Reply::Denied { at } => gather.add_numbered(sink, b"denied at ", *at),
-        Reply::Full { at } => gather.add_numbered(sink, b"full at ", *at),
-        Reply::Spent { at } => gather.add_numbered(sink, b"spent at ", *at),
-        Reply::Disk { at } => gather.add_numbered(sink, b"disk at ", *at),
+        Reply::Denied { at } => add_last(gather, sink, b"denied at ", *at),
+        Reply::Full { at } => add_last(gather, sink, b"full at ", *at),
+        Reply::Spent { at } => add_last(gather, sink, b"spent at ", *at),
+        Reply::Disk { at } => add_last(gather, sink, b"disk at ", *at),
         Reply::Memory => gather.add(sink, b"memory"),
-        Reply::Bad { word } => gather.add_numbered(sink, b"bad ", *word),
+        Reply::Bad { word } => add_last(gather, sink, b"bad ", *word),
         Reply::Long => gather.add(sink, b"long"),
         Reply::Bye => gather.add(sink, b"bye"),
         Reply::Admitted { .. } => {}
@@ -105,7 +106,15 @@ fn add_short<S: Sink>(gather: &mut Gather, sink: &mut S, reply: &Reply)
     }
 }
 
-// Adds some words and the number after them, and once more.
+// Adds some words and the number after them, at the end of a line.
+fn add_last<S: Sink>(gather: &mut Gather, sink: &mut S, words: &[u8], number: u64)
+    ensures { IsAdded S.Sink gather.old sink.old gather.new sink.new
+        (words.now ++ (decimal number ++ [])) }
+{
+    gather.add_numbered(sink, words, number);
+}
+
+// Adds some words and the number after them, and once more, at the end of a line.
 fn add_numbers<S: Sink>(
     gather: &mut Gather,
     sink: &mut S,
@@ -115,16 +124,16 @@ fn add_numbers<S: Sink>(
     other: u64,
 )
     ensures { IsAdded S.Sink gather.old sink.old gather.new sink.new
-        (words.now ++ decimal number ++ more.now ++ decimal other) }
+        (words.now ++ (decimal number ++ (more.now ++ (decimal other ++ [])))) }
 {
     gather.add_numbered(sink, words, number);
     gather.add_numbered(sink, more, other);
 }
 
-// Adds some words and the number after them, and an epoch.
+// Adds some words and the number after them, and an epoch, at the end of a line.
 fn add_at<S: Sink>(gather: &mut Gather, sink: &mut S, words: &[u8], number: u64, at: u64)
     ensures { IsAdded S.Sink gather.old sink.old gather.new sink.new
-        (words.now ++ decimal number ++ codes " at " ++ decimal at) }
+        (words.now ++ (decimal number ++ spaced (codes "at" ∷ decimal at ∷ []))) }
 {
     add_numbers(gather, sink, words, number, b" at ", at);
 }
@@ -138,7 +147,8 @@ fn add_priced<S: Sink>(
     amounts: &Amounts,
 )
     ensures { IsAdded S.Sink gather.old sink.old gather.new sink.new
-        (words.now ++ decimal costed.0 ++ priced_text costed.1 costed.2 amounts.now) }
+        (words.now ++ (decimal costed.0 ++ spaced (codes "cost" ∷ decimal costed.1
+        ∷ codes "at" ∷ decimal costed.2 ∷ codes "links" ∷ map pair_word amounts.now))) }
 {
     let (id, cost, at) = costed;
     gather.add_numbered(sink, words, id);
@@ -205,12 +215,13 @@ fn add_state<S: Sink>(
 
 // Adds whether a link is out of service, and an epoch.
 fn add_service<S: Sink>(gather: &mut Gather, sink: &mut S, out: bool, at: u64)
-    ensures { IsAdded S.Sink gather.old sink.old gather.new sink.new (service_text out at) }
+    ensures { (network : Network) → IsAdded S.Sink gather.old sink.old gather.new sink.new
+        (spaced (words_told network (a_service (a_number no_more)) (out, (at, tt)))) }
 {
     if out {
-        gather.add_numbered(sink, b" out at ", at);
+        add_last(gather, sink, b" out at ", at);
     } else {
-        gather.add_numbered(sink, b" at ", at);
+        add_last(gather, sink, b" at ", at);
     }
 }
 

@@ -2,10 +2,11 @@ use Rattle.std.proofs.Common.{◌++◌, ◌∙◌, ℕ, ◌≤◌, List, length,
 use Rattle.std.specs.List.Sorted.{IsPermutation}
 use Rattle.hose_graph.specs.Hose.{MakesHose}
 use Rattle.hose_graph.specs.declared.limits.TheConstants.{LEAST_ENDS}
+use Rattle.hose_proto.specs.Fields.{form_of, no_more}
 use Rattle.hose_proto.specs.Places.{end_word}
 use Rattle.hose_proto.specs.Reading.{MissesEnd, IsNextEnd}
 use Rattle.hose_proto.proofs.EndsUntil.{end_more, wrong_end, wrong_links}
-use Rattle.hose_proto.proofs.Faults.{told_wrong}
+use Rattle.hose_proto.proofs.Faults.{told_each}
 use Rattle.hose_proto.proofs.Hoses.{hose_made, makes_hose, new_in_order, same_hose}
 use Rattle.hose_proto.proofs.Items.{ends_more}
 use Rattle.hose_proto.proofs.reply_lists.read_hose.Goals as goal
@@ -15,8 +16,8 @@ returns-in_err-end-clause-bad c =
     let network = c.args.top.now in
     let ends = c.loop-ends.ends.items in
     let misses = subst (λ others. MissesEnd network others c.loop-ends.words c.in_err-end.field-0.0.number) c.deref.ensures.value c.in_err-end.ensures.wrong in
-    told_wrong c.from_residual.result c.from_residual.ensures.1
-    (wrong_end network c.requires ends c.loop-ends.invariant.ends c.args.words.now c.loop-ends.words c.loop-ends.invariant.listing c.in_err-end.field-0.0.number misses)
+    told_each c.from_residual.result c.from_residual.ensures.1
+    (λ rest. wrong_end (form_of network rest) network c.requires ends c.loop-ends.invariant.ends c.args.words.now c.loop-ends.words (c.loop-ends.invariant.listing rest) c.in_err-end.field-0.0.number misses)
 
 pub loop-ends-preserved : goal.loop-ends-preserved
 loop-ends-preserved c =
@@ -27,7 +28,7 @@ loop-ends-preserved c =
     let next = subst (λ others. IsNextEnd network others end) c.deref.ensures.value came.1 in
     record {
       listing = rw c.in_ok-push.ensures.items
-          (end_more network c.requires ends c.loop-ends.invariant.ends c.args.words.now c.loop-ends.words c.loop-ends.invariant.listing c.next_end.new.words end came.0 next);
+          (λ rest. end_more (form_of network rest) network c.requires ends c.loop-ends.invariant.ends c.args.words.now c.loop-ends.words (c.loop-ends.invariant.listing rest) c.next_end.new.words end came.0 next);
       ends = rw c.in_ok-push.ensures.items (ends_more network ends end c.loop-ends.invariant.ends next);
     }
 
@@ -46,7 +47,7 @@ returns-clause-told c =
     let moved = subst (λ others. IsPermutation others c.in_ok-hose.hose) c.deref-2.ensures.value c.in_ok-hose.ensures.same_ends in
     let same = same_hose ends c.in_ok-hose.hose moved c.loop-ends.invariant.ends.ascending c.in_ok-hose.ensures.hose.ascending in
     let ended = rw c.in_default.is at c.in_ok-end.ensures.last in
-    c.loop-ends.invariant.listing.took.cut ∙ (λ i. map (end_word network) (same i) ++ ended.0.cut i)
+    (c.loop-ends.invariant.listing no_more).took.cut ∙ (λ i. map (end_word network) (same i) ++ ended.0.cut i)
 
 pub returns-clause-hose : goal.returns-clause-hose
 returns-clause-hose c =
@@ -56,8 +57,8 @@ returns-clause-hose c =
     hose_made network ends c.in_ok-hose.hose (new_in_order network ends c.loop-ends.invariant.ends) moved c.in_ok-hose.ensures.hose
 
 pub returns-clause-later : goal.returns-clause-later
-returns-clause-later c place wrong =
+returns-clause-later c rest place wrong =
     let ends = c.loop-ends.ends.items in
     let ended = rw c.in_default.is at c.in_ok-end.ensures.last in
-    wrong_links c.args.top.now c.requires ends c.loop-ends.invariant.ends c.args.words.now c.loop-ends.words c.loop-ends.invariant.listing c.next_end.new.words ended.0
+    wrong_links (form_of c.args.top.now rest) c.args.top.now c.requires ends c.loop-ends.invariant.ends c.args.words.now c.loop-ends.words (c.loop-ends.invariant.listing rest) c.next_end.new.words ended.0
     (subst (λ (others : List (ℕ × ℕ)). LEAST_ENDS ≤ length others) c.deref.ensures.value ended.1) place wrong

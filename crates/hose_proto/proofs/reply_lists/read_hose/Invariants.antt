@@ -1,12 +1,12 @@
 use Rattle.std.proofs.Common.{length}
-use Rattle.hose_proto.specs.ReplyGrammar.{AreEnds, hose_form}
+use Rattle.hose_proto.specs.Fields.{AreEnds, Fields, form_of, the_ends}
 use Rattle.hose_proto.specs.Places.{end_word}
 use Rattle.hose_words.proofs.Listing.{Listing}
 use Rattle.hose_proto.proofs.reply_lists.read_hose.Given as goal
 
 abbrev pub invariant-loop-ends : goal.invariant-loop-ends
 invariant-loop-ends l = record {
-  listing : Listing (end_word l.top) (hose_form l.top) l.ends.items l.fn.words l.words;
+  listing : (rest : Fields) → Listing (end_word l.top) (form_of l.top (the_ends rest)) l.ends.items l.fn.words l.words;
   ends : AreEnds l.top l.ends.items;
 }
 

@@ -9,4 +9,4 @@ returns-in_err-link-clause-wrong c = still_wrong c.from_residual.result c.from_r
 pub returns-in_err-at-clause-wrong : goal.returns-in_err-at-clause-wrong
 returns-in_err-at-clause-wrong c =
     still_wrong c.from_residual-in_err-at.result c.from_residual-in_err-at.ensures.1
-    (wrong_chosen c.in_ok-link.link c.in_ok-link.ensures.is_link (links_apart c.args.top.now c.requires.network) c.in_ok-link.ensures.ok c.in_err-at.ensures.wrong)
+    (wrong_chosen c.in_ok-link.link c.in_ok-link.ensures.is_link (links_apart c.args.top.now c.requires) c.in_ok-link.ensures.ok c.in_err-at.ensures.wrong)

@@ -1,7 +1,15 @@
+use Rattle.std.proofs.Common.{[], ◌∷◌, ◌++◌, codes, decimal, map}
 use Rattle.hose_io.proofs.Gathering.{IsAdded-next}
+use Rattle.hose_proto.specs.Fields.{pair_word}
+use Rattle.hose_proto.specs.ReplyText.{spaced}
+use Rattle.hose_proto.proofs.Spacing.{added_after, added_words, added_list}
 use Rattle.hose_proto.proofs.reply_text.add_priced.Goals as goal
 
 pub returns : goal.returns
 returns g c =
-    let rest = IsAdded-next (IsAdded-next c.add_at.ensures c.add.ensures) (rw c.pairs.ensures.value at c.add_pairs.ensures) in
-    IsAdded-next c.add_numbered.ensures rest
+    let amounts = c.args.amounts.now in
+    let costed = c.args.costed in
+    let front = codes "cost" ∷ decimal costed.1 ∷ codes "at" ∷ decimal costed.2 ∷ [] in
+    let links = codes "links" ∷ map pair_word amounts in
+    let pairs = added_list pair_word amounts (rw c.pairs.ensures.value at c.add_pairs.ensures) in
+    added_after c.args.words.now (decimal costed.0) (spaced (front ++ links)) c.add_numbered.ensures (added_words front links c.add_at.ensures (IsAdded-next c.add.ensures pairs))

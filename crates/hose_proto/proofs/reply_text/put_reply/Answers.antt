@@ -1,7 +1,7 @@
 use Rattle.std.proofs.Common.{[], ◌∷◌, length, length-append, ap, arith}
 use Rattle.hose_proto.specs.ReplyText.{reply_text}
 use Rattle.hose_io.proofs.Gathering.{IsAdded-next, IsPut-finished, one_piece-finished}
-use Rattle.hose_proto.proofs.ReadAgain.{reads_again}
+use Rattle.hose_proto.proofs.ReplyLemmas.{reads_again}
 use Rattle.hose_proto.proofs.reply_text.put_reply.Goals as goal
 
 pub returns : goal.returns

@@ -1,4 +1,4 @@
-use Rattle.hose_proto.specs.ReplyGrammar.{head_word}
+use Rattle.hose_proto.specs.ReplyLines.{head_word}
 use Rattle.hose_proto.specs.declared.head.TheConstants.{HEADS}
 use Rattle.hose_proto.proofs.Words.{every_head, no_choice}
 use Rattle.hose_proto.proofs.head.HeadKeyword.of.Goals as goal

@@ -1,7 +1,7 @@
 use Rattle.std.proofs.Common.{refl}
 use Rattle.hose_words.proofs.Exits.{still_wrong}
 use Rattle.hose_words.proofs.Forms.{wrong_place, wrong_later}
-use Rattle.hose_proto.proofs.reply_reader.read_last.Goals as goal
+use Rattle.hose_proto.proofs.reply_reader.last.Goals as goal
 
 pub returns-in_err-last-clause-wrong : goal.returns-in_err-last-clause-wrong
 returns-in_err-last-clause-wrong c = still_wrong c.from_residual.result c.from_residual.ensures.1 (wrong_place c.in_err-last.ensures.wrong)

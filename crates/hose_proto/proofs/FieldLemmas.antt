@@ -1,0 +1,173 @@
+-- Fields of lines: what they tell is found again from their words, none of these is wrong, and each is one word.
+use Rattle.std.proofs.Common.{◌≡◌, ◌∙◌, ℕ, ◌<◌, Bool, true, false, cond, suc, zero, List, [], ◌∷◌, Option, None, Some, IfSome, length, get_or, map, drop, codes, decimal, refl, sym, ap, subst, arith, append_assoc}
+use Rattle.std.specs.List.{All, slice_get}
+use Rattle.std.specs.Str.{bytes_eq}
+use Rattle.std.proofs.lemmas.Bool.{false≢true}
+use Rattle.std.proofs.lemmas.Option.{slice_get-get_or}
+use Rattle.hose_words.specs.Form.{Fits64}
+use Rattle.hose_words.proofs.Passing.{Passes, pass_branch, pass_finish, pass_list, pass_place, pass_these, pass_until}
+use Rattle.hose_words.proofs.Spaced.{AreWords, AreWords-map, AreWords-append, IsWord, IsWord-allowed, IsWord-known, IsWord-decimal, IsWord-colon, is_plain}
+use Rattle.hose_graph.specs.Hose.{IsEnd}
+use Rattle.hose_graph.specs.Name.{is_name_byte}
+use Rattle.hose_graph.specs.Network.{Network, IsNetwork, IsLink, name_of}
+use Rattle.hose_graph.specs.declared.limits.TheConstants.{LEAST_ENDS}
+use Rattle.hose_graph.specs.declared.topology.Link.{Link}
+use Rattle.hose_proto.specs.Fields.{Fields, no_more, a_word, a_number, a_link, a_link_told, a_missing, a_service, the_amounts, the_nodes, the_ends, Values, words_told, AreSound, AreAmounts, AreEnds, form_of, missing_word, pair_word, words_of_link}
+use Rattle.hose_proto.specs.Places.{IsHoseOf, end_word}
+use Rattle.hose_proto.specs.declared.head.Missing.{Missing}
+use Rattle.hose_proto.specs.declared.head.Missing.TheVariants as missing
+use Rattle.hose_proto.specs.declared.head.Service.TheVariants as service
+use Rattle.hose_proto.proofs.Back.{end_spelled, ends_back, front_is, front_of, map_back, node_back, node_named, number_back, number_spelled, pair_back, pair_spelled, rest_is, rest_of, unequal}
+use Rattle.hose_proto.proofs.EndsUntil.{ends_no_links}
+use Rattle.hose_proto.proofs.Items.{amounts_closed, ends_closed, side_closed}
+use Rattle.hose_proto.proofs.Words.{links_apart, missing_apart, missing_of, missing_of-word, services_apart}
+
+no_link : Link
+no_link = record { a = 0; b = 0; capacity = 0; length = 0; cost = 0 }
+
+abbrev is_links : List ℕ → Bool
+is_links word = bytes_eq word (codes "links")
+
+-- what the words of fields tell
+abbrev pub values_in : Network → (fields : Fields) → List (List ℕ) → Values fields
+values_in network no_more words = tt
+values_in network (a_word known fields) words = values_in network fields (drop 1 words)
+values_in network (a_number fields) words = (number_spelled (get_or words 0 []), values_in network fields (drop 1 words))
+values_in network (a_link fields) words = (number_spelled (get_or words 0 []), values_in network fields (drop 1 words))
+values_in network (a_link_told fields) words = (number_spelled (get_or words 0 []), values_in network fields (drop 7 words))
+values_in network (a_missing fields) words = (missing_of (get_or words 0 []), values_in network fields (drop 1 words))
+values_in network (a_service fields) words =
+    cond (bytes_eq (get_or words 0 []) (codes "out")) (true, values_in network fields (drop 2 words)) (false, values_in network fields (drop 1 words))
+values_in network the_amounts words = map pair_spelled words
+values_in network the_nodes words = map (node_named network) words
+values_in network (the_ends fields) words = (map (end_spelled network) (front_of is_links words), values_in network fields (rest_of is_links words))
+
+-- the words that stand so in a line are words
+abbrev pub are_known : Fields → Bool
+are_known no_more = true
+are_known (a_word [] fields) = false
+are_known (a_word (byte ∷ bytes) fields) = cond (is_plain (byte ∷ bytes)) (are_known fields) false
+are_known (a_number fields) = are_known fields
+are_known (a_link fields) = are_known fields
+are_known (a_link_told fields) = are_known fields
+are_known (a_missing fields) = are_known fields
+are_known (a_service fields) = are_known fields
+are_known the_amounts = true
+are_known the_nodes = true
+are_known (the_ends fields) = are_known fields
+
+both : (one other : Bool) → cond one other false ≡ true → (one ≡ true) × (other ≡ true)
+both true other is = (refl, is)
+both false other is = absurd (false≢true is)
+
+-- what holds of all holds at each place
+IfSome-place : {X : Type 0} (P : X → Type 0) (xs : List X) (i : ℕ) → All P xs → IfSome (slice_get xs i) P
+IfSome-place P [] i all = tt
+IfSome-place P (x ∷ xs) zero all = all 0 x (omega arith)
+IfSome-place P (x ∷ xs) (suc i) all = IfSome-place P xs i (λ k d below. all (suc k) d (omega arith))
+
+module _ (network : Network) (is : IsNetwork network) where
+  -- the number of a link
+  few : {link : ℕ} → link < length network.links → Fits64 link
+  few below = omega (arith, is.few_links)
+
+  -- ---- found again
+
+  amounts_back : (amounts : List (ℕ × ℕ)) → AreAmounts network amounts → map pair_spelled (map pair_word amounts) ≡ amounts
+  amounts_back amounts are = map_back pair_word pair_spelled amounts (λ k d below. pair_back (get_or amounts k d) (few (are.links k d below)) (are.numbers k d below))
+
+  hose_back : (hose : List (ℕ × ℕ)) → IsHoseOf network hose → map (end_spelled network) (map (end_word network) hose) ≡ hose
+  hose_back hose are = ends_back network is hose (λ k d below. record { is_end = are.is_hose.within k d below; is_node = are.nodes k d below })
+
+  -- no endpoint's word ends the endpoints, and `links` does
+  no_links_pass : (hose : List (ℕ × ℕ)) → All (λ word. is_links word ≡ false) (map (end_word network) hose)
+  no_links_pass hose = λ k d below. unequal (get_or (map (end_word network) hose) k d) (codes "links") (ends_no_links network hose k d below)
+
+  -- what fields tell is found again from their words
+  pub values_back : (fields : Fields) (values : Values fields) → AreSound network fields values → values_in network fields (words_told network fields values) ≡ values
+  values_back no_more values sound = refl
+  values_back (a_word known fields) values sound = values_back fields values sound
+  values_back (a_number fields) (value, values) (small, sound) = λ i. (number_back value small i, values_back fields values sound i)
+  values_back (a_link fields) (link, values) (there, sound) = λ i. (number_back link (few there) i, values_back fields values sound i)
+  values_back (a_link_told fields) (link, values) (there, sound) =
+      rw (slice_get-get_or network.links link no_link there) (λ i. (number_back link (few there) i, values_back fields values sound i))
+  values_back (a_missing fields) (kind, values) sound = λ i. (missing_of-word kind i, values_back fields values sound i)
+  values_back (a_service fields) (true, values) sound = λ i. (true, values_back fields values sound i)
+  values_back (a_service fields) (false, values) sound = λ i. (false, values_back fields values sound i)
+  values_back the_amounts amounts are = amounts_back amounts are
+  values_back the_nodes side are = map_back (name_of network) (node_named network) side (λ k d below. node_back network (get_or side k d) is (are.nodes k d below))
+  values_back (the_ends fields) (hose, values) (are, sound) =
+      let links = codes "links" in
+      let words = words_told network fields values in
+      let front = ap (map (end_spelled network)) (front_is is_links (map (end_word network) hose) links words (no_links_pass hose) refl) ∙ hose_back hose are in
+      let rest = ap (values_in network fields) (rest_is is_links (map (end_word network) hose) links words (no_links_pass hose) refl) ∙ values_back fields values sound in
+      λ i. (front i, rest i)
+
+  -- ---- not wrong
+
+  -- the words of fields pass their grammar
+  pub values_pass : (fields : Fields) (values : Values fields) → AreSound network fields values → Passes (form_of network fields) (words_told network fields values)
+  values_pass no_more values sound = pass_finish
+  values_pass (a_word known fields) values sound = pass_place refl (values_pass fields values sound)
+  values_pass (a_number fields) (value, values) (small, sound) = pass_place (value, refl, small) (values_pass fields values sound)
+  values_pass (a_link fields) (link, values) (there, sound) = pass_branch link there (links_apart network is) (values_pass fields values sound)
+  values_pass (a_link_told fields) (link, values) (there, sound) =
+      pass_branch link there (links_apart network is)
+      (pass_these (words_of_link network (slice_get network.links link)) (form_of network fields) (words_told network fields values) (values_pass fields values sound))
+  values_pass (a_missing fields) (kind, values) sound = pass_branch kind tt missing_apart (values_pass fields values sound)
+  values_pass (a_service fields) (true, values) sound = pass_branch service.Out tt services_apart (pass_place refl (values_pass fields values sound))
+  values_pass (a_service fields) (false, values) sound = pass_branch service.At tt services_apart (values_pass fields values sound)
+  values_pass the_amounts amounts are = pass_list (amounts_closed network) are.some are
+  values_pass the_nodes side are = pass_list (side_closed network) are.some are
+  values_pass (the_ends fields) (hose, values) (are, sound) =
+      pass_until (end_word network) (AreEnds network) LEAST_ENDS (codes "links") (form_of network fields) (words_told network fields values) (ends_closed network) (values_pass fields values sound)
+      hose (ends_no_links network hose) are.is_hose.counted.enough (record { few = are.is_hose.counted.few; within = are.is_hose.within; ascending = are.is_hose.ascending; nodes = are.nodes })
+
+  -- ---- words
+
+  IsWord-node : (node : ℕ) → node < length network.nodes → IsWord (name_of network node)
+  IsWord-node node below =
+      let named = is.names node [] below in
+      IsWord-allowed is_name_byte (name_of network node) refl refl named.allowed (omega (arith, named.some))
+
+  IsWord-pair : (pair : ℕ × ℕ) → (pair.0 < length network.links) × Fits64 pair.1 → IsWord (pair_word pair)
+  IsWord-pair pair within =
+      subst IsWord (sym (append_assoc (decimal pair.0) (codes ":") (decimal pair.1)))
+      (IsWord-colon (decimal pair.0) (decimal pair.1) (IsWord-decimal pair.0 (few within.0)) (IsWord-decimal pair.1 within.1))
+
+  IsWord-end : (end : ℕ × ℕ) → (end.0 < length network.nodes) × IsEnd end → IsWord (end_word network end)
+  IsWord-end end within =
+      subst IsWord (sym (append_assoc (name_of network end.0) (codes ":") (decimal end.1)))
+      (IsWord-colon (name_of network end.0) (decimal end.1) (IsWord-node end.0 within.0) (IsWord-decimal end.1 (omega (arith, within.1.rate))))
+
+  IsWord-missing : (kind : Missing) → IsWord (missing_word kind)
+  IsWord-missing missing.Vpn = IsWord-known (codes "vpn") refl (omega arith)
+  IsWord-missing missing.Quote = IsWord-known (codes "quote") refl (omega arith)
+
+  AreWords-link : (link : Option Link) → IfSome link (IsLink network) → AreWords (words_of_link network link)
+  AreWords-link None is_link = tt
+  AreWords-link (Some link) is_link =
+      let within = is_link.in_range in
+      (IsWord-node link.a within.a, (IsWord-node link.b within.b, (IsWord-known (codes "capacity") refl (omega arith), (IsWord-decimal link.capacity (omega (arith, within.capacity)), (IsWord-known (codes "cost") refl (omega arith), (IsWord-decimal link.cost (omega (arith, within.cost)), tt))))))
+
+  -- each of the words of fields is one word
+  pub values_words : (fields : Fields) (values : Values fields) → are_known fields ≡ true → AreSound network fields values → AreWords (words_told network fields values)
+  values_words no_more values known sound = tt
+  values_words (a_word [] fields) values known sound = absurd (false≢true known)
+  values_words (a_word (byte ∷ bytes) fields) values known sound =
+      let each = both (is_plain (byte ∷ bytes)) (are_known fields) known in
+      (IsWord-known (byte ∷ bytes) each.0 (omega arith), values_words fields values each.1 sound)
+  values_words (a_number fields) (value, values) known (small, sound) = (IsWord-decimal value small, values_words fields values known sound)
+  values_words (a_link fields) (link, values) known (there, sound) = (IsWord-decimal link (few there), values_words fields values known sound)
+  values_words (a_link_told fields) (link, values) known (there, sound) =
+      (IsWord-decimal link (few there), AreWords-append (words_of_link network (slice_get network.links link)) (words_told network fields values) (AreWords-link (slice_get network.links link) (IfSome-place (IsLink network) network.links link is.links)) (values_words fields values known sound))
+  values_words (a_missing fields) (kind, values) known sound = (IsWord-missing kind, values_words fields values known sound)
+  values_words (a_service fields) (true, values) known sound =
+      (IsWord-known (codes "out") refl (omega arith), (IsWord-known (codes "at") refl (omega arith), values_words fields values known sound))
+  values_words (a_service fields) (false, values) known sound = (IsWord-known (codes "at") refl (omega arith), values_words fields values known sound)
+  values_words the_amounts amounts known are = AreWords-map pair_word amounts IsWord-pair (λ k d below. (are.links k d below, are.numbers k d below))
+  values_words the_nodes side known are = AreWords-map (name_of network) side IsWord-node are.nodes
+  values_words (the_ends fields) (hose, values) known (are, sound) =
+      AreWords-append (map (end_word network) hose) (codes "links" ∷ words_told network fields values)
+      (AreWords-map (end_word network) hose IsWord-end (λ k d below. (are.nodes k d below, are.is_hose.within k d below)))
+      (IsWord-known (codes "links") refl (omega arith), values_words fields values known sound)
