@@ -8,7 +8,7 @@ use lib.ListN.{get_elem?}
 use Rattle.atomic_table.specs.Table.{State}
 use Rattle.atomic_table.proofs.Lists.{set_else, at_snoc}
 use Rattle.hose_turn.specs.declared.view.View.{View}
-use Rattle.hose_turn.specs.declared.pass.TheConstants.{ALL_SHARES}
+use Rattle.hose_turn.specs.Limits.{all_shares}
 use Rattle.hose_turn.specs.Line.{share_of, one_if, holding, bit, turning, HasOwnTicket, IsTicketQueue}
 use Rattle.hose_turn.proofs.Sums.{sum_set, sum_below, sum_none, sum_has}
 use Rattle.hose_turn.proofs.Seats.{seats_stay, only, only_seat, was_theirs, no_some, not_on, num}
@@ -117,7 +117,7 @@ module _ {S : Type 0} (R : S → Type 0) where
       }
 
   -- fewer hold tickets than there are shares
-  pub few_hold : (s : Table) (line : IsTicketQueue R s) → line.drawn ≤ line.serving + ALL_SHARES
+  pub few_hold : (s : Table) (line : IsTicketQueue R s) → line.drawn ≤ line.serving + all_shares
   few_hold s line =
       let a = sum_below holding share_of s.views (λ seat view is. one_if-le view.ticket view.share (line.each seat view is).spent) in let b = line.shares in let c = line.holders in omega arith
 
@@ -250,7 +250,7 @@ module _ {S : Type 0} (R : S → Type 0) where
       }
 
   -- the first pass has the turn, at a table with no value yet
-  pub line_opens : (word ticket : ℕ) (view : View) → ticket < 2 ^ 64 → view.share ≡ ALL_SHARES → view.ticket ≡ Some ticket → view.has_turn ≡ true
+  pub line_opens : (word ticket : ℕ) (view : View) → ticket < 2 ^ 64 → view.share ≡ all_shares → view.ticket ≡ Some ticket → view.has_turn ≡ true
       → IsTicketQueue R record { words = word ∷ (ticket + 1) % 2 ^ 64 ∷ ticket ∷ []; homes = none ∷ []; views = view ∷ [] }
   line_opens word ticket view small all held on =
       let one : one_if view.ticket ≡ 1 = ap one_if held in let turned : bit view.has_turn ≡ 1 = ap bit on in record {
@@ -272,7 +272,7 @@ module _ {S : Type 0} (R : S → Type 0) where
       }
 
   -- who has all shares is the last
-  pub others_spent : (s : Table) (line : IsTicketQueue R s) (seat : ℕ) (mine : View) → get_elem? s.views seat ≡ some mine → mine.share ≡ ALL_SHARES
+  pub others_spent : (s : Table) (line : IsTicketQueue R s) (seat : ℕ) (mine : View) → get_elem? s.views seat ≡ some mine → mine.share ≡ all_shares
       → (other : ℕ) (theirs : View) → other ≢ seat → get_elem? s.views other ≡ some theirs → theirs.share ≡ 0
   others_spent s line seat mine at all other theirs apart there =
       let none_left : View = record mine { share = 0 } in
@@ -280,7 +280,7 @@ module _ {S : Type 0} (R : S → Type 0) where
       let b = sum_has share_of (set s.views seat none_left) other theirs (set_else s.views seat other none_left apart ∙ there) in let c = line.shares in omega arith
 
   -- what the last one finds
-  pub line_ends : (s : Table) (line : IsTicketQueue R s) (seat : ℕ) (mine : View) → get_elem? s.views seat ≡ some mine → mine.share ≡ ALL_SHARES → mine.ticket ≡ None
+  pub line_ends : (s : Table) (line : IsTicketQueue R s) (seat : ℕ) (mine : View) → get_elem? s.views seat ≡ some mine → mine.share ≡ all_shares → mine.ticket ≡ None
       → (value : S) × (s.homes ≡ some (Some value) ∷ []) × R value
   line_ends s line seat mine at all bare = line.home (sum_none turning s.views (λ other theirs there. dite (ℕ_discrete other seat)
       (λ same. turning-none (line.each other theirs there) (ap (λ (z : View). z.ticket) (some-injective theirs mine (sym there ∙ (ap (λ (k : ℕ). get_elem? s.views k) same ∙ at))) ∙ bare))

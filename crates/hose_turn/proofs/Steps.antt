@@ -2,7 +2,7 @@
 use Rattle.std.proofs.Common.{◌≡◌, ◌⊎◌, inl, inr, ℕ, ◌+◌, ◌%◌, ◌^◌, ◌<◌, ◌≤◌, ◌==◌, true, false, List, [], ◌∷◌, ◌++◌, length, get_or, set, sym, refl, ap, ◌∙◌, subst, ⊎_elim, arith, Option, Some, None, get_or-set_other, get_or-set_same}
 use mathlib.Core.Logic.{dite}
 use mathlib.Core.List.{IsPrefix}
-use mathlib.Core.Option.{none, some, some-injective, some-ne-none}
+use mathlib.Core.Option.{none, some, some-injective}
 use mathlib.Core.Option as maybe
 use native.Mathlib.Decide.{dec_le}
 use lib.ListN.{get_elem?}
@@ -14,7 +14,7 @@ use Rattle.atomic_table.proofs.Lists.{set_again, one_turn}
 use Rattle.hose_graph.specs.declared.entry.Entry.{Entry}
 use Rattle.hose_turn.specs.declared.view.View.{View}
 use Rattle.hose_turn.specs.declared.view.Origin.{Origin}
-use Rattle.hose_turn.specs.declared.pass.TheConstants.{ALL_SHARES}
+use Rattle.hose_turn.specs.Limits.{all_shares}
 use Rattle.hose_turn.specs.Places.{HasPlaces, HasSomePlaces}
 use Rattle.hose_turn.specs.Faults.{end_of_count, IsFloored}
 use Rattle.hose_turn.specs.Known.{HasWholeHistory}
@@ -293,7 +293,7 @@ module _ {S : Type 0} (stands : Origin → List Entry → S → Type 0) (faults 
       let queued = opened.line.each seat me.0 at in absurd (no_some (sym (queued.spent (ap share_of new)) ∙ ap (λ (z : View). z.ticket) new))) rule
 
   -- what the last pass finds
-  ends : (turn : TableId) (seat : ℕ) (view : View) → view.share ≡ ALL_SHARES → view.ticket ≡ None → (s : Table) → Rule s → get_elem? s.views seat ≡ some view
+  ends : (turn : TableId) (seat : ℕ) (view : View) → view.share ≡ all_shares → view.ticket ≡ None → (s : Table) → Rule s → get_elem? s.views seat ≡ some view
       → (value : S) × (s.homes ≡ some (Some value) ∷ []) × ((history : List Entry) × HasWholeHistory stands (known_of turn view) history value) × ((view.faults ≤ faults value) ⊎ (end_of_count ≤ faults value))
   ends turn seat view all bare s rule at =
       let live : 0 < view.share = omega arith in
@@ -317,7 +317,7 @@ module _ {S : Type 0} (stands : Origin → List Entry → S → Type 0) (faults 
       )
 
   -- what is found in the slot as the lock is closed
-  pub closes : (turn : TableId) (seat : ℕ) (view : View) → view.share ≡ ALL_SHARES → view.ticket ≡ None → (words : List ℕ) (slots : List (Option S)) → Final (Seen Rule seat view) words slots
+  pub closes : (turn : TableId) (seat : ℕ) (view : View) → view.share ≡ all_shares → view.ticket ≡ None → (words : List ℕ) (slots : List (Option S)) → Final (Seen Rule seat view) words slots
       → (slot : Option S) → get_elem? slots 0 ≡ some slot
       → (value : S) × (slot ≡ Some value) × ((history : List Entry) × HasWholeHistory stands (known_of turn view) history value) × ((view.faults ≤ faults value) ⊎ (end_of_count ≤ faults value))
   closes turn seat view all bare words slots last slot is =

@@ -4,7 +4,7 @@ use mathlib.Core.List.{IsPrefix}
 pub use Rattle.atomic_table.specs.Seated.{TableId}
 use Rattle.hose_graph.specs.declared.entry.Entry.{Entry}
 use Rattle.hose_turn.specs.declared.view.Origin.{Origin}
-use Rattle.hose_turn.specs.declared.pass.TheConstants.{ALL_SHARES}
+use Rattle.hose_turn.specs.Limits.{all_shares}
 use Rattle.hose_turn.specs.Places.{HasPlaces, HasSomePlaces}
 
 -- the lock that the pass is of, what was fixed when it was made, the pass's share, the beginning of
@@ -22,7 +22,7 @@ abbrev pub first_known : TableId → Origin → Known
 first_known turn origin = record {
   turn = turn;
   origin = origin;
-  share = ALL_SHARES;
+  share = all_shares;
   seen = origin.since;
   own = [];
   faults = 0;

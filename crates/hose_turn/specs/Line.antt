@@ -6,7 +6,7 @@ use mathlib.Core.Option.{some}
 use lib.ListN.{get_elem?}
 use Rattle.atomic_table.specs.Table.{State}
 use Rattle.hose_turn.specs.declared.view.View.{View}
-use Rattle.hose_turn.specs.declared.pass.TheConstants.{ALL_SHARES}
+use Rattle.hose_turn.specs.Limits.{all_shares}
 
 -- how many shares the pass has
 abbrev pub share_of : View → ℕ
@@ -50,7 +50,7 @@ pub record IsTicketQueue {S : Type 0} (IsRight : S → Type 0) (state : State (O
   pub three_words : length state.words ≡ 3
   pub ticket_word : slice_index state.words 1 ≡ drawn % 2 ^ 64
   pub serving_word : slice_index state.words 2 ≡ serving % 2 ^ 64
-  pub shares : sum_by share_of state.views ≤ ALL_SHARES
+  pub shares : sum_by share_of state.views ≤ all_shares
   pub holders : drawn ≡ serving + sum_by holding state.views
   pub each : (seat : ℕ) (view : View) → get_elem? state.views seat ≡ some view
       → HasOwnTicket serving drawn owner seat view

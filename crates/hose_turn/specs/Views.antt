@@ -4,7 +4,7 @@ use Rattle.atomic_table.specs.Seated.{TableId}
 use Rattle.hose_graph.specs.declared.entry.Entry.{Entry}
 use Rattle.hose_turn.specs.declared.view.View.{View}
 use Rattle.hose_turn.specs.declared.view.Origin.{Origin}
-use Rattle.hose_turn.specs.declared.pass.TheConstants.{ALL_SHARES}
+use Rattle.hose_turn.specs.Limits.{all_shares}
 use Rattle.hose_turn.specs.Known.{Known}
 use Rattle.hose_turn.specs.Places.{HasSomePlaces}
 
@@ -38,7 +38,7 @@ unborn = record nobody { ticket = Some 0 }
 abbrev pub opener : Origin → ℕ → ℕ → View
 opener origin ticket floor = record nobody {
   origin = origin;
-  share = ALL_SHARES;
+  share = all_shares;
   ticket = Some ticket;
   has_turn = true;
   seen = origin.since;
@@ -50,7 +50,7 @@ abbrev pub view_of : List View → View
 view_of [] = nobody
 view_of (view ∷ views) = view
 
--- what callers see of it
+-- what callers see of a pass
 abbrev pub known_of : TableId → View → Known
 known_of turn view = record {
   turn = turn;

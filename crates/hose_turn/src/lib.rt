@@ -27,6 +27,6 @@ mod rule;
 mod turn;
 mod view;
 
-pub use pass::{ALL_SHARES, Held, Pass};
+pub use pass::{ALL_SHARES, Held, Pass, law_limit};
 pub use turn::Turn;
 pub use view::{Origin, Stands};

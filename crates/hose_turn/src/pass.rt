@@ -2,6 +2,7 @@
 //! it.
 ghost use Rattle.std.specs.Prelude.{◌≡◌, ◌<◌, ◌≤◌, true, [], ◌∷◌, length, None};
 ghost use Rattle.hose_turn.specs.Known.{HasOwnPlaces};
+ghost use Rattle.hose_turn.specs.Limits.{all_shares};
 ghost use Rattle.hose_turn.specs.Places.{HasSomePlaces};
 ghost use Rattle.hose_turn.specs.Views.{known_of, IsAtRest};
 
@@ -13,6 +14,11 @@ use std::marker::Model;
 /// The shares of all passes of one lock together. Who has all of them is the only pass left, and
 /// may close the lock.
 pub const ALL_SHARES: u64 = 1_000_000;
+
+/// The number is the literal that definitions cite.
+pub fn law_limit()
+    ensures all_shares { ALL_SHARES ≡ all_shares }
+{}
 
 /// The right to take part in the turns of one lock. It has no bytes, and may go to another thread.
 ///
