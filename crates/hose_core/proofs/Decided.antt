@@ -1,5 +1,5 @@
 -- What was decided of a hose at a ledger, and what becomes of it.
-use Rattle.std.proofs.Common.{◌≡◌, ◌∙◌, ℕ, Bool, List, Option, None, Some, MatchResult, Result, Ok, Err, IfOk, refl, ap, subst}
+use Rattle.std.proofs.Common.{◌≡◌, ◌∙◌, ℕ, Bool, List, Option, None, Some, MatchResult, Result, refl, ap, subst}
 use Rattle.hose_graph.specs.Hose.{IsHose}
 use Rattle.hose_graph.specs.Naming.{NamesPlaces}
 use Rattle.hose_graph.specs.Network.{IsNetwork, Network}
@@ -14,14 +14,13 @@ use Rattle.hose_law.specs.History.{book_of}
 use Rattle.hose_law.specs.Quotes.{Held}
 use Rattle.hose_law.specs.Room.{Room, first_links, room_of}
 use Rattle.hose_law.proofs.Bounds.{reserved_ranges}
-use Rattle.hose_plan.specs.Planning.{IsDecision, IsSoundDecision, NamesNodes, room_beside}
+use Rattle.hose_plan.specs.Planning.{IsDecision, IsSoundDecision, room_beside}
 use Rattle.hose_plan.specs.declared.decision.Grounds.{Grounds}
 use Rattle.hose_plan.specs.declared.decision.Decision.{Decision}
 use Rattle.hose_plan.specs.declared.decision.Decision.TheVariants.{Plan, Refused}
 use Rattle.hose_book.specs.declared.books.Books.{Ghosts}
 use Rattle.hose_book.specs.declared.books.Committed.TheVariants.{Done}
 use Rattle.hose_book.specs.Ledger.{Ledger}
-use Rattle.hose_core.specs.Claiming.{HasRanges, IsDecisionAt}
 use Rattle.hose_core.specs.Holding.{IsMadeAt}
 use Rattle.hose_core.specs.Planning.{AdmitsAtOnce, IsNotPlanned, IsPlannedFor}
 use Rattle.hose_core.specs.declared.quotes.Quote.{Quote}
@@ -29,25 +28,6 @@ use Rattle.hose_core.specs.Stepping.{AnswersBy, HasStepped, committed_of}
 use Rattle.hose_core.proofs.Answering.{answered_same, answers_without}
 use Rattle.hose_core.proofs.Stepped.{stepped_by}
 use Rattle.hose_core.proofs.Told.{told_step}
-
--- the amounts of a sound decision are in their ranges
-ranges_of : (network : Network) → IsNetwork network → (book : Book) (hose : List (ℕ × ℕ)) → IsHose hose → (decision : Decision) → IsSoundDecision network (room_of network book) hose decision → HasRanges decision
-ranges_of network is book hose is_hose (Plan grounds amounts cost) sound = reserved_ranges network is (room_of network book).links hose amounts is_hose sound.on_tree
-ranges_of network is book hose is_hose (Refused side) sound = tt
-
--- what is known of a decision, in one
-pub decision_at : {E : Type 0} (here ledger : Ledger) (hose : List (ℕ × ℕ)) (result : Result Decision E) → here ≡ ledger → IsNetwork here.network
-    → IfOk result (IsDecision here.network (room_of here.network here.book) hose) → IfOk result (IsSoundDecision here.network (room_of here.network here.book) hose)
-    → IfOk result (NamesNodes here.network) → IfOk result (λ _. IsHose hose) → IfOk result (IsDecisionAt ledger hose)
-decision_at here ledger hose (Err error) same is decision sound names is_hose = tt
-decision_at here ledger hose (Ok decided) same is decision sound names is_hose =
-    subst (λ (l : Ledger). IsDecisionAt l hose decided) same (record {
-      is_hose = is_hose;
-      is = decision;
-      sound = sound;
-      ranges = ranges_of here.network is here.book hose is_hose decided sound;
-      names = names;
-    })
 
 -- ---- an admission at once
 
@@ -85,7 +65,7 @@ module _ {K R : Type 0} (books : Ghosts K R) (old : K) (customer : List ℕ) (ho
   was = books.ledger old
 
   -- so there is nothing to be entered
-  pub refused_admits : (at : ℕ) (side : List ℕ) → at ≡ was.book.epoch → IsRefused was.network (room_of was.network was.book) hose side → NamesPlaces was.network (reply.Refused at side)
+  refused_admits : (at : ℕ) (side : List ℕ) → at ≡ was.book.epoch → IsRefused was.network (room_of was.network was.book) hose side → NamesPlaces was.network (reply.Refused at side)
       → AdmitsAtOnce books old old customer hose (reply.Refused at side) None
   refused_admits at side is refused names = record {
     step = λ epoch history held here. refuse_step books old old epoch history customer held hose here at side is refused refl;
@@ -96,7 +76,7 @@ module _ {K R : Type 0} (books : Ghosts K R) (old : K) (customer : List ℕ) (ho
   }
 
   -- nor where memory was wanting
-  pub starved_admits : AdmitsAtOnce books old old customer hose reply.Memory None
+  starved_admits : AdmitsAtOnce books old old customer hose reply.Memory None
   starved_admits = record {
     step = λ epoch history held here. told_step books old epoch history customer held here (command.Admit hose) reply.Memory (tt, refl, refl, refl);
     cheapest = tt;
@@ -104,6 +84,12 @@ module _ {K R : Type 0} (books : Ghosts K R) (old : K) (customer : List ℕ) (ho
     none = refl;
     enters = tt;
   }
+
+  -- so where nothing was planned
+  pub unplanned_admits : (answer : Reply) → IsNotPlanned was.network was.book hose answer → AdmitsAtOnce books old old customer hose answer None
+  unplanned_admits reply.Memory none = starved_admits
+  unplanned_admits (reply.Refused at side) none = refused_admits at side none.0 none.1 none.2
+  unplanned_admits answer none = absurd none
 
 -- ---- a quote
 

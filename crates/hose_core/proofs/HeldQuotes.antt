@@ -13,7 +13,7 @@ use Rattle.hose_graph.specs.declared.limits.TheConstants.{MOST_QUOTES}
 use Rattle.hose_law.specs.Answer.{with_entry}
 use Rattle.hose_law.specs.History.{book_of}
 use Rattle.hose_law.specs.Quotes.{Held, HeldQuote, Holdings, at_number, free_number, none_held, with_held, with_number}
-use Rattle.hose_law.proofs.Numbers.{at_none_held, at_with_other, at_with_same, length_with, same_free}
+use Rattle.hose_law.proofs.Numbers.{at_none_held, at_with_other, at_with_same, length_with, same_free, some_at}
 use Rattle.hose_book.specs.Ledger.{Ledger}
 use Rattle.hose_core.specs.Holding.{AreHeld, AreKept, FitsQuote, HoldsNow, IsMadeAt, IsQuoteOf, AllQuotes, WasMadeBefore, quotes_in}
 use Rattle.hose_core.specs.Planning.{HasTold}
@@ -45,6 +45,9 @@ module _ (network : Network) (epoch : ℕ) (history next : List Entry) (front : 
 
   pub held_longer : (held : Held) (quotes : List (Option Quote)) → AreHeld network epoch history held quotes → AreHeld network epoch next held quotes
   held_longer held quotes are = record { numbers = are.numbers; each = λ number. fits_longer (at_number held number) (at_number quotes number) (are.each number) }
+
+pub held_on : {network : Network} {epoch : ℕ} {history next : List Entry} {held : Held} {quotes : List (Option Quote)} → IsPrefix history next → AreHeld network epoch history held quotes → AreHeld network epoch next held quotes
+held_on {network} {epoch} {history} {next} {held} {quotes} prefix are = held_longer network epoch history next (front_prefix history next prefix) held quotes are
 
 -- ---- one more or one less
 
@@ -78,6 +81,10 @@ module _ (network : Network) (epoch : ℕ) (history : List Entry) (held : Held) 
 
   pub some_alike : (number : ℕ) (quote : Quote) → at_number quotes number ≡ Some quote → (there : HeldQuote) × (at_number held number ≡ Some there) × IsQuoteOf network epoch history there quote
   some_alike number quote some = something_from (at_number held number) (at_number quotes number) quote (are.each number) some
+
+  -- under a number that there is
+  pub held_there : (number : ℕ) (quote : Quote) → at_number quotes number ≡ Some quote → (1 ≤ number) × (number ≤ length quotes) × ((there : HeldQuote) × (at_number held number ≡ Some there) × IsQuoteOf network epoch history there quote)
+  held_there number quote some = let range = some_at quotes number quote some in (range.0, range.1, some_alike number quote some)
 
   -- with the same at a number
   pub held_with : (number : ℕ) (one : Option HeldQuote) (quote : Option Quote) → 1 ≤ number → number ≤ length quotes → FitsQuote network epoch history one quote

@@ -2,8 +2,8 @@ mod Answering
 mod Customers
 pub mod Decided
 pub mod Earlier
-mod HeldQuotes
-mod Leading
+pub mod HeldQuotes
+pub mod Leading
 mod PlannedEntries
 mod ReleasedEntries
 mod ServiceEntries

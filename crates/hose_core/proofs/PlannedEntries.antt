@@ -9,13 +9,17 @@ use Rattle.hose_law.specs.Answer.{IsPlannedAnswer}
 use Rattle.hose_law.specs.Cheapest.{IsCheapest}
 use Rattle.hose_law.specs.Decision.{CanBeReserved, IsAllowed, IsPlanned}
 use Rattle.hose_law.specs.Room.{room_of}
+use Rattle.hose_law.proofs.CanonicalPlans.{planned_sound}
 use Rattle.hose_law.proofs.Cheapest.{canonical_cheapest}
 use Rattle.hose_law.specs.Book.{Book}
 use Rattle.hose_law.specs.History.{IsSoundAt, last_epoch, most_live}
 use Rattle.hose_law.specs.Plan.{plan_cost}
 use Rattle.hose_book.specs.declared.books.Books.{Ghosts}
 use Rattle.hose_book.specs.Ledger.{Ledger}
+use Rattle.hose_plan.specs.Planning.{allowed_links}
 use Rattle.hose_core.specs.Claiming.{IsPlannedEntry}
+use Rattle.hose_core.specs.Holding.{IsMadeAt}
+use Rattle.hose_core.specs.declared.quotes.Quote.{Quote}
 use Rattle.hose_core.specs.Stepping.{AdmitsCheapest, AnswersBy, Goes, IsToldAs, TellsPlan}
 use Rattle.hose_core.proofs.Answering.{answers_entered, answers_without}
 
@@ -60,6 +64,14 @@ pub told_entry : (ledger : Ledger) (customer : List ℕ) (hose plan told : List 
     → CanBeReserved ledger.network (room_of ledger.network ledger.book) hose plan → IsPlannedEntry ledger customer hose told (Admit customer hose plan)
 told_entry ledger customer hose plan told same planned sound =
     subst (λ (p : List (ℕ × ℕ)). IsPlannedEntry ledger customer hose p (Admit customer hose plan)) (sym same) (record { admits = refl; planned = planned; sound = sound })
+
+-- a quote that was made at a ledger has the plan of its hose there, which can be reserved
+pub made_entry : (ledger : Ledger) → IsNetwork ledger.network → (customer : List ℕ) (quote : Quote) (told : List (ℕ × ℕ)) → told ≡ quote.amounts → IsMadeAt ledger.network ledger.book quote
+    → IsPlannedEntry ledger customer quote.hose told (Admit customer quote.hose quote.amounts)
+made_entry ledger is customer quote told same made =
+    let here = room_of ledger.network ledger.book in
+    let set = allowed_links here quote.grounds in
+    told_entry ledger customer quote.hose quote.amounts told same (set, made.decision.0) (planned_sound ledger.network is here quote.hose set quote.amounts made.is_hose made.decision.0)
 
 -- What is planned at a book is a cheapest way to carry the hose over the links that are allowed there.
 planned_cheapest : (network : Network) → IsNetwork network → (book : Book) (hose plan : List (ℕ × ℕ)) → IsPlanned network (room_of network book) hose plan

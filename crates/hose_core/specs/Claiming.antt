@@ -1,16 +1,12 @@
 -- Claims: all the memory that the entry of a take, a release or an order of the operator needs.
-use Rattle.std.specs.Prelude.{◌≡◌, ℕ, Bool, List, Some, ⊤}
+use Rattle.std.specs.Prelude.{◌≡◌, ℕ, Bool, List, Some}
 use Rattle.hose_graph.specs.Amounts.{ReservedLink}
-use Rattle.hose_graph.specs.Hose.{Endpoint, IsHose}
-use Rattle.hose_graph.specs.Ranges.{AreInRanges}
+use Rattle.hose_graph.specs.Hose.{Endpoint}
 use Rattle.hose_graph.specs.declared.entry.Entry.{Entry}
 use Rattle.hose_law.specs.Decision.{CanBeReserved, IsPlanned}
 use Rattle.hose_law.specs.Room.{room_of}
 use Rattle.hose_law.specs.Service.{service_entry}
 use Rattle.hose_book.specs.Ledger.{Ledger}
-use Rattle.hose_plan.specs.Planning.{IsDecision, IsSoundDecision, NamesNodes}
-use Rattle.hose_plan.specs.declared.decision.Decision.{Decision}
-use Rattle.hose_plan.specs.declared.decision.Decision.TheVariants.{Plan, Refused}
 use Rattle.hose_graph.specs.declared.entry.Entry.TheVariants.{Admit, Release}
 use Rattle.hose_book.specs.declared.books.Books.{Ghosts}
 use Rattle.hose_core.specs.declared.claim.Claim.{Claim}
@@ -41,19 +37,3 @@ pub record IsPlannedEntry (ledger : Ledger) (customer : List ℕ) (hose : List E
   pub admits : entry ≡ Admit customer hose plan
   pub planned : IsPlanned ledger.network (room_of ledger.network ledger.book) hose plan
   pub sound : CanBeReserved ledger.network (room_of ledger.network ledger.book) hose plan
-
--- ---- decisions
-
--- the amounts of what is admitted are in the ranges of an entry's numbers
-abbrev pub HasRanges : Decision → Type 0
-HasRanges (Plan grounds amounts cost) = AreInRanges amounts
-HasRanges (Refused side) = ⊤
-
--- the decision on a hose at a ledger
-pub record IsDecisionAt (ledger : Ledger) (hose : List Endpoint) (decision : Decision) :
-    Type 0 where
-  pub is_hose : IsHose hose
-  pub is : IsDecision ledger.network (room_of ledger.network ledger.book) hose decision
-  pub sound : IsSoundDecision ledger.network (room_of ledger.network ledger.book) hose decision
-  pub ranges : HasRanges decision
-  pub names : NamesNodes ledger.network decision

@@ -1,18 +1,16 @@
 // Admitting a hose at once.
 ghost use Rattle.std.specs.Prelude.{◌≡◌, option_map};
 ghost use Rattle.hose_graph.specs.Network.{IsNetwork};
-ghost use Rattle.hose_graph.specs.Ranges.{AreInRanges};
-ghost use Rattle.hose_law.specs.Decision.{CanBeReserved, IsPlanned};
-ghost use Rattle.hose_law.specs.Plan.{AreNodes, plan_cost};
-ghost use Rattle.hose_law.specs.Room.{room_of};
+ghost use Rattle.hose_law.specs.Plan.{AreNodes};
+ghost use Rattle.hose_core.specs.Holding.{IsMadeAt};
 ghost use Rattle.hose_core.specs.Planning.{AdmitsAtOnce};
 
-use crate::deciding::decide_now;
 use crate::entering::enter_planned;
+use crate::planning::plan_now;
+use crate::quotes::Quote;
 use hose_book::Books;
-use hose_graph::{Amounts, Entry, Hose, Name, Reply};
+use hose_graph::{Entry, Hose, Name, Reply};
 use hose_paths::RowMaker;
-use hose_plan::Decision;
 use std::alloc::Global;
 use std::snapshot::Snapshot;
 
@@ -30,37 +28,30 @@ pub fn admit_now<K: Books, R: RowMaker>(
     ensures { AdmitsAtOnce K.Books books.old books.new customer.now hose result.0
         (option_map (λ entry. entry.value) result.1) }
 {
-    match decide_now(alloc, books, &hose, rows) {
-        Err(_) => (Reply::Memory, None),
-        Ok(Decision::Refused { side }) => {
-            let at = books.book().epoch();
-            (Reply::Refused { at, side }, None)
-        }
-        Ok(Decision::Plan { amounts, cost, .. }) => {
-            admit_planned(alloc, books, customer, hose, amounts, cost)
-        }
+    match plan_now(alloc, books, hose, rows) {
+        Err(reply) => (reply, None),
+        Ok(quote) => admit_planned(alloc, books, customer, quote),
     }
 }
 
-// Admits a hose with its plan and what that costs.
+// Admits a hose that was planned at these books.
 fn admit_planned<K: Books>(
     alloc: Global,
     books: &mut K,
     customer: &Name,
-    hose: Hose,
-    amounts: Amounts,
-    cost: u64,
+    quote: Quote,
 ) -> (Reply, Option<Snapshot<Entry>>)
     requires network { IsNetwork (K.ledger books.old).network }
-    requires planned { IsPlanned (K.ledger books.old).network
-        (room_of (K.ledger books.old).network (K.ledger books.old).book) hose amounts }
-    requires sound { CanBeReserved (K.ledger books.old).network
-        (room_of (K.ledger books.old).network (K.ledger books.old).book) hose amounts }
-    requires ranges { AreInRanges amounts }
-    requires cost { cost ≡ plan_cost (K.ledger books.old).network amounts }
-    ensures { AdmitsAtOnce K.Books books.old books.new customer.now hose result.0
+    requires made { IsMadeAt (K.ledger books.old).network (K.ledger books.old).book quote }
+    ensures { AdmitsAtOnce K.Books books.old books.new customer.now quote.hose result.0
         (option_map (λ entry. entry.value) result.1) }
 {
+    let Quote {
+        hose,
+        amounts,
+        cost,
+        ..
+    } = quote;
     let Ok(told) = amounts.copy(alloc) else {
         return (Reply::Memory, None);
     };

@@ -15,9 +15,7 @@
 mod admitting;
 mod by_customer;
 mod claim;
-mod deciding;
 mod entering;
-mod laws;
 mod planning;
 mod quotes;
 mod releasing;
@@ -28,8 +26,7 @@ mod telling;
 
 pub use admitting::admit_now;
 pub use claim::{Claim, claim_release, claim_service, claim_take};
-pub use laws::{law_quotes, law_step};
-pub use planning::plan_beside;
+pub use planning::{BookView, plan_beside};
 pub use quotes::{Quote, Quotes};
 pub use releasing::release_now;
 pub use serving::service_now;

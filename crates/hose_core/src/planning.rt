@@ -1,5 +1,6 @@
 // Planning a hose: a quote, or a reply.
 ghost use Rattle.std.specs.Prelude.{◌≡◌, MatchResult, length};
+ghost use Rattle.hose_graph.specs.Network.{IsNetwork};
 ghost use Rattle.hose_law.specs.Book.{Book, loads_of};
 ghost use Rattle.hose_law.specs.Plan.{AreNodes};
 ghost use Rattle.hose_law.specs.Room.{first_links};
@@ -22,35 +23,58 @@ pub fn plan_now<K: Books, R: RowMaker>(
     rows: &mut R,
 ) -> Result<Quote, Reply>
     requires { AreNodes (K.ledger books.now).network hose }
-    ensures { MatchResult result
+    ensures planned { MatchResult result
         (IsPlannedFor (K.ledger books.now).network (K.ledger books.now).book hose)
         (IsNotPlanned (K.ledger books.now).network (K.ledger books.now).book hose) }
+    ensures network { IsNetwork (K.ledger books.now).network }
 {
     let book = books.book();
     let (top, service, loads) = (book.topology(), book.service(), book.loads());
-    plan_beside(alloc, top, service, loads, book.epoch(), hose, rows)
+    let seen = BookView {
+        top,
+        service,
+        loads,
+        epoch: book.epoch(),
+    };
+    plan_beside(alloc, seen, hose, rows)
 }
 
-/// The plan of a hose over the links that a book had in service at an epoch, and beside its loads
-/// there, wherever that book is now; or the reply where it has none. The set has a place for each
-/// link, there is a load for each, at most its capacity, and the hose's endpoints are nodes of the
-/// topology.
+/// What a plan sees of a book: its topology, the links that it has in service, a load for each, and
+/// its epoch. It may be of a book that has gone on since.
+#[derive(Drop)]
+pub struct BookView<'a> {
+    pub top: &'a Topology,
+    pub service: &'a LinkSet,
+    pub loads: &'a [u64],
+    pub epoch: u64,
+}
+
+/// The plan of a hose over the links that a book had in service, and beside its loads, wherever
+/// that book is now; or the reply where it has none. The set has a place for each link, there is a
+/// load for each, at most its capacity, and the hose's endpoints are nodes of the topology.
 pub fn plan_beside<R: RowMaker>(
     alloc: Global,
-    top: &Topology,
-    service: &LinkSet,
-    loads: &[u64],
-    epoch: u64,
+    seen: BookView<'_>,
     hose: Hose,
     rows: &mut R,
 ) -> Result<Quote, Reply>
-    requires places { length service.now ≡ length top.now.links }
-    requires loads { AreCarried top.now loads.now }
-    requires nodes { AreNodes top.now hose }
-    ensures { (book : Book) → service.now ≡ first_links top.now book
-        → loads.now ≡ loads_of top.now book → epoch ≡ book.epoch
-        → MatchResult result (IsPlannedFor top.now book hose) (IsNotPlanned top.now book hose) }
+    requires places { length seen.service.now ≡ length seen.top.now.links }
+    requires loads { AreCarried seen.top.now seen.loads.now }
+    requires nodes { AreNodes seen.top.now hose }
+    ensures planned { (book : Book)
+        → seen.entry.service.now ≡ first_links seen.entry.top.now book
+        → seen.entry.loads.now ≡ loads_of seen.entry.top.now book
+        → seen.entry.epoch ≡ book.epoch
+        → MatchResult result (IsPlannedFor seen.entry.top.now book hose)
+        (IsNotPlanned seen.entry.top.now book hose) }
+    ensures network { IsNetwork seen.entry.top.now }
 {
+    let BookView {
+        top,
+        service,
+        loads,
+        epoch,
+    } = seen;
     // What holds of each network is told by any of its calls.
     let _nodes = top.nodes();
     match decide(alloc, top, service, loads, &hose, rows) {
