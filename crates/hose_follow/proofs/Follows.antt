@@ -1,36 +1,38 @@
 -- What a follower has is a beginning of the leader's list, after any events.
-use Rattle.std.proofs.Common.{◌≡◌, ◌∙◌, ℕ, ◌+◌, ◌≤◌, max, List, [], ◌∷◌, ◌++◌, Option, None, Some, length, take, refl, sym, ap, subst, inl, inr, arith, All, Contains, length-append}
+use Rattle.std.proofs.Common.{◌≡◌, ◌∙◌, ℕ, ◌+◌, ◌≤◌, max, List, [], ◌∷◌, ◌++◌, Option, None, Some, Result, length, refl, sym, ap, subst, inl, inr, arith, All, Contains, length-append}
 use Rattle.std.specs.List.{slice_get}
 use Rattle.std.specs.Option.{IfSome}
-use Rattle.std.proofs.lemmas.List.{take-append-le, length-take-le}
+use Rattle.std.proofs.lemmas.List.{take-append-le}
 use Rattle.std.proofs.lemmas.List.Elements.{All-contains, All-nil, All-weaker, All-push}
 use Rattle.std.proofs.lemmas.Option.{slice_get_within}
+use Rattle.std.specs.Prelude.{⊤}
 use mathlib.Core.List.{IsPrefix}
+use Rattle.hose_io.specs.declared.Failed.{Failed}
 use Rattle.hose_graph.specs.Network.{Network}
 use Rattle.hose_graph.specs.declared.entry.Entry.{Entry}
 use Rattle.hose_law.specs.Book.{Book}
 use Rattle.hose_law.specs.History.{IsDecided, IsDecidedAt, IsSoundAt, book_of}
-use Rattle.hose_law.proofs.Fronts.{front_of, prefix_push}
+use Rattle.hose_law.proofs.Fronts.{prefix_push}
 use Rattle.hose_law.proofs.Scripts.{decided_push}
 use Rattle.hose_book.specs.Ledger.{Ledger}
 use Rattle.hose_book.specs.declared.books.Committed.{Committed}
 use Rattle.hose_book.specs.declared.books.Committed.TheVariants as committed
-use Rattle.hose_codec.specs.Spelling.{IsEntry, spelling}
-use Rattle.hose_codec.proofs.Entries.{same_entry}
+use Rattle.hose_codec.specs.Spelling.{IsEntry}
 use Rattle.hose_disk.specs.declared.disk.Disk.{Ghosts}
 use Rattle.hose_journal.specs.Chain.{chain}
 use Rattle.hose_journal.specs.Image.{Meaning, listed}
-use Rattle.hose_store.specs.Commit.{IsLeft}
+use Rattle.hose_store.specs.Commit.{Closes, IsLeft}
 use Rattle.hose_store.specs.Recovery.{IsHistoryOf, IsRecoveredAs, digest_of}
 use Rattle.hose_store.specs.Store.{HasHistory, IsAmid, IsHistoryWith, Kept}
-use Rattle.hose_follow.specs.Event.{Event, accepts, sends, offers, stops, stops_within}
+use Rattle.hose_follow.specs.Event.{Event, accepts, sends, offers, stops, closes, stops_within}
 use Rattle.hose_follow.specs.Offering.{Brings, Enters, IsDue, IsOffered, epoch_of}
 use Rattle.hose_follow.specs.Packet.{Packet, packet_after}
-use Rattle.hose_follow.specs.World.{Happens, IsBeginning, IsFollowing, IsOfLeader, IsReopened, IsSentOf, Lead, World, packet_at, told_after}
+use Rattle.hose_follow.specs.Replication.{Happens, IsBeginning, IsFollowing, IsOfLeader, IsReopened, IsSentOf, Lead, Replication, packet_at, told_after}
 use Rattle.hose_follow.specs.declared.answers.Offered.{Offered}
 use Rattle.hose_follow.specs.declared.answers.Offered.TheVariants.{Have, Want, Differs, Memory, Unsound, Disk}
 use Rattle.hose_law.proofs.Epochs.{epoch_is}
-use Rattle.hose_follow.proofs.Beginnings.{all_at, decided_sound, get_longer, legal_front, prefix_next, sound_next}
+use Rattle.hose_follow.proofs.Beginnings.{decided_sound, get_longer, legal_front}
+use Rattle.hose_follow.proofs.Sent.{IsNext, next_brought, next_sent, next_sound}
 
 -- an image's list, where an image stands for one list only
 listed_same : (one other : List Entry) → listed one ≡ listed other → one ≡ other
@@ -47,57 +49,36 @@ module _ {D : Type 0} (disk : Ghosts D) (network : Network) where
       let fronts = take-append-le place leader more (omega (arith, within)) in
       (place, entry, get_longer leader more place entry there, is ∙ ap (λ (l : List Entry). packet_after network l entry) (sym fronts))
 
-  epoch_own : (world : World D) (following : IsFollowing disk network world) → epoch_of world.store ≡ length following.own
-  epoch_own world following = epoch_is world.store.ledger.book following.own following.has.book
+  epoch_own : (state : Replication D) (following : IsFollowing disk network state) → epoch_of state.store ≡ length following.own
+  epoch_own state following = epoch_is state.store.ledger.book following.own following.has.book
 
   -- the entry of a packet that was sent and has the follower's next epoch
-  pub record IsNext (world : World D) (own : List Entry) (packet : Packet) : Type 0 where
-    pub entry : Entry
-    pub is : packet ≡ packet_after network own entry
-    pub is_entry : IsEntry entry
-    pub prefix : IsPrefix (own ++ entry ∷ []) world.leader
-
-  next_of : (world : World D) (packet : Packet) (following : IsFollowing disk network world) → Contains world.sent packet → packet.epoch ≡ epoch_of world.store + 1 → IsNext world following.own packet
-  next_of world packet following there epoch =
-      let (place, entry, here, is) = All-contains (IsSentOf network world.leader) world.sent packet following.sent there in
-      let own = following.own in
-      let within = slice_get_within world.leader place entry here in
-      let size : length (take place world.leader) ≡ place = length-take-le place world.leader (omega (arith, within)) in
-      let at : place ≡ length own = omega (arith, epoch, epoch_own world following, ap (λ (p : Packet). p.epoch) is, size) in
-      let fronts : take place world.leader ≡ own = ap (λ (n : ℕ). take n world.leader) at ∙ front_of own world.leader following.begins in
-      record {
-        entry = entry;
-        is = is ∙ ap (λ (l : List Entry). packet_after network l entry) fronts;
-        is_entry = all_at IsEntry world.leader place entry following.leader.spelled here;
-        prefix = prefix_next own world.leader entry following.begins (subst (λ (n : ℕ). slice_get world.leader n ≡ Some entry) at here);
-      }
+  next_of : (state : Replication D) (packet : Packet) (following : IsFollowing disk network state) → Contains state.sent packet → packet.epoch ≡ epoch_of state.store + 1 → IsNext network state.leader following.own packet
+  next_of state packet following there epoch =
+      next_sent network state.leader following.own packet following.leader following.begins (All-contains (IsSentOf network state.leader) state.sent packet following.sent there) (omega (arith, epoch, epoch_own state following))
 
   -- what the packet of a due entry brings is that entry
-  brought : (world : World D) (packet : Packet) (entry : Entry) (following : IsFollowing disk network world) → Contains world.sent packet → IsDue disk world.store packet → Brings world.store.ledger packet entry
-      → IsPrefix (following.own ++ entry ∷ []) world.leader
-  brought world packet entry following there due brings =
-      let next = next_of world packet following there due.epoch in
-      let spelled : packet.body ≡ spelling next.entry = ap (λ (p : Packet). p.body) next.is in
-      let same = same_entry next.entry entry packet.body (record { is_entry = next.is_entry; spelled = spelled }) brings.spells in
-      subst (λ (e : Entry). IsPrefix (following.own ++ e ∷ []) world.leader) same next.prefix
+  brought : (state : Replication D) (packet : Packet) (entry : Entry) (following : IsFollowing disk network state) → Contains state.sent packet → IsDue disk state.store packet → Brings state.store.ledger packet entry
+      → IsPrefix (following.own ++ entry ∷ []) state.leader
+  brought state packet entry following there due brings = next_brought network state.leader following.own packet entry (next_of state packet following there due.epoch) brings.spells
 
   -- ---- the answers that never come
 
-  pub never_differs : (world : World D) (packet : Packet) (at : ℕ) (own given : List ℕ) (left : Kept D) → IsFollowing disk network world → Contains world.sent packet → ¬ IsOffered disk world.store packet (Differs at own given) left
-  never_differs world packet at own given left following there (other, _) =
-      let next = next_of world packet following there other.epoch in
+  pub never_differs : (state : Replication D) (packet : Packet) (at : ℕ) (own given : List ℕ) (left : Kept D) → IsFollowing disk network state → Contains state.sent packet → ¬ IsOffered disk state.store packet (Differs at own given) left
+  never_differs state packet at own given left following there (other, _) =
+      let next = next_of state packet following there other.epoch in
       let mine : own ≡ chain (digest_of network) following.own =
       other.own following.own following.doubt following.has ∙ ap (λ (n : Network). chain (digest_of n) following.own) following.is_network in
       other.differs (other.given ∙ ap (λ (p : Packet). p.chain) next.is ∙ sym mine)
 
-  pub never_unsound : (world : World D) (packet : Packet) (epoch : ℕ) (left : Kept D) → IsFollowing disk network world → Contains world.sent packet → ¬ IsOffered disk world.store packet (Unsound epoch) left
-  never_unsound world packet epoch left following there (due, none, _, _) =
-      let next = next_of world packet following there due.epoch in
-      let sound = sound_next network following.own world.leader next.entry next.prefix following.leader.legal in
+  pub never_unsound : (state : Replication D) (packet : Packet) (epoch : ℕ) (left : Kept D) → IsFollowing disk network state → Contains state.sent packet → ¬ IsOffered disk state.store packet (Unsound epoch) left
+  never_unsound state packet epoch left following there (due, none, _, _) =
+      let next = next_of state packet following there due.epoch in
+      let sound = next_sound network state.leader following.own packet following.leader next in
       let here = subst (λ (book : Book). IsSoundAt network book next.entry) (sym following.has.book) sound in
       none next.entry (record {
         spells = record { is_entry = next.is_entry; spelled = ap (λ (p : Packet). p.body) next.is };
-        sound = subst (λ (n : Network). IsSoundAt n world.store.ledger.book next.entry) (sym following.is_network) here;
+        sound = subst (λ (n : Network). IsSoundAt n state.store.ledger.book next.entry) (sym following.is_network) here;
       })
 
   -- ---- images
@@ -112,41 +93,48 @@ module _ {D : Type 0} (disk : Ghosts D) (network : Network) where
   of_leader leader own doubt writing told image begins doubtful written low (inr (inl stands)) = with_one leader own doubt told image doubtful low stands
   of_leader leader own doubt writing told image begins doubtful written low (inr (inr stands)) = with_one leader own writing told image written low stands
 
-  pub image_of : (world : World D) (image : List ℕ) → IsFollowing disk network world → disk.may_leave world.store.journal.disk image → IsOfLeader network world.leader world.told image
-  image_of world image following left =
+  pub image_of : (state : Replication D) (image : List ℕ) → IsFollowing disk network state → disk.may_leave state.store.journal.disk image → IsOfLeader network state.leader state.told image
+  image_of state image following left =
       let amid = subst (λ (n : Network). IsAmid n following.own following.doubt None image) following.is_network (following.has.images image left) in
-      of_leader world.leader following.own following.doubt None world.told image following.begins following.doubtful tt following.told amid
+      of_leader state.leader following.own following.doubt None state.told image following.begins following.doubtful tt following.told amid
 
   module _ (only_now : (now : D) (image : List ℕ) → disk.left_since now (disk.moment now) image → disk.may_leave now image) where
-    kept_image : (world : World D) (left : Kept D) (image : List ℕ) → IsFollowing disk network world → left ≡ world.store → disk.left_since left.journal.disk (disk.moment world.store.journal.disk) image → IsOfLeader network world.leader world.told image
-    kept_image world left image following same is =
-        let here = subst (λ (store : Kept D). disk.left_since store.journal.disk (disk.moment world.store.journal.disk) image) same is in
-        image_of world image following (only_now world.store.journal.disk image here)
+    kept_image : (state : Replication D) (left : Kept D) (image : List ℕ) → IsFollowing disk network state → left ≡ state.store → disk.left_since left.journal.disk (disk.moment state.store.journal.disk) image → IsOfLeader network state.leader state.told image
+    kept_image state left image following same is =
+        let here = subst (λ (store : Kept D). disk.left_since store.journal.disk (disk.moment state.store.journal.disk) image) same is in
+        image_of state image following (only_now state.store.journal.disk image here)
 
-    entered_image : (world : World D) (packet : Packet) (entry : Entry) (result : Committed) (left : Kept D) (image : List ℕ) → IsFollowing disk network world → Contains world.sent packet → Enters disk world.store packet entry result left
-        → disk.left_since left.journal.disk (disk.moment world.store.journal.disk) image → IsOfLeader network world.leader world.told image
-    entered_image world packet entry result left image following there enters is =
-        let prefix = brought world packet entry following there enters.due enters.brings in
+    entered_image : (state : Replication D) (packet : Packet) (entry : Entry) (result : Committed) (left : Kept D) (image : List ℕ) → IsFollowing disk network state → Contains state.sent packet → Enters disk state.store packet entry result left
+        → disk.left_since left.journal.disk (disk.moment state.store.journal.disk) image → IsOfLeader network state.leader state.told image
+    entered_image state packet entry result left image following there enters is =
+        let prefix = brought state packet entry following there enters.due enters.brings in
         let run = enters.went.any_moment following.own following.doubt following.has in
         let amid = subst (λ (n : Network). IsAmid n following.own following.doubt (Some entry) image) following.is_network (run.each image is) in
-        of_leader world.leader following.own following.doubt (Some entry) world.told image following.begins following.doubtful prefix following.told amid
+        of_leader state.leader following.own following.doubt (Some entry) state.told image following.begins following.doubtful prefix following.told amid
 
     -- at each moment within an offer
-    pub moment_of : (world : World D) (packet : Packet) (answer : Offered) (left : Kept D) (image : List ℕ) → IsFollowing disk network world → Contains world.sent packet → IsOffered disk world.store packet answer left
-        → disk.left_since left.journal.disk (disk.moment world.store.journal.disk) image → IsOfLeader network world.leader world.told image
-    moment_of world packet (Have n) left image following there (inl past) is = kept_image world left image following past.same is
-    moment_of world packet (Have n) left image following there (inr (entry, _, enters)) is = entered_image world packet entry committed.Done left image following there enters is
-    moment_of world packet (Want n) left image following there offered is = kept_image world left image following offered.2 is
-    moment_of world packet (Differs at own given) left image following there offered is = kept_image world left image following offered.1 is
-    moment_of world packet Memory left image following there offered is = kept_image world left image following offered.2 is
-    moment_of world packet (Unsound epoch) left image following there offered is = kept_image world left image following offered.3 is
-    moment_of world packet (Disk at) left image following there (entry, _, enters) is = entered_image world packet entry committed.Disk left image following there enters is
+    pub moment_of : (state : Replication D) (packet : Packet) (answer : Offered) (left : Kept D) (image : List ℕ) → IsFollowing disk network state → Contains state.sent packet → IsOffered disk state.store packet answer left
+        → disk.left_since left.journal.disk (disk.moment state.store.journal.disk) image → IsOfLeader network state.leader state.told image
+    moment_of state packet (Have n) left image following there (inl past) is = kept_image state left image following past.same is
+    moment_of state packet (Have n) left image following there (inr (entry, _, enters)) is = entered_image state packet entry committed.Done left image following there enters is
+    moment_of state packet (Want n) left image following there offered is = kept_image state left image following offered.2 is
+    moment_of state packet (Differs at own given) left image following there offered is = kept_image state left image following offered.1 is
+    moment_of state packet Memory left image following there offered is = kept_image state left image following offered.2 is
+    moment_of state packet (Unsound epoch) left image following there offered is = kept_image state left image following offered.3 is
+    moment_of state packet (Disk at) left image following there (entry, _, enters) is = entered_image state packet entry committed.Disk left image following there enters is
+
+  -- at each moment of an orderly closing
+  closing_image : (state : Replication D) (left : D) (image : List ℕ) → IsFollowing disk network state → (result : Result ⊤ Failed) → Closes disk state.store left result → disk.left_since left (disk.moment state.store.journal.disk) image → IsOfLeader network state.leader state.told image
+  closing_image state left image following result closed since =
+      let run = closed.any_moment following.own following.doubt following.has in
+      let amid = subst (λ (n : Network). IsAmid n following.own following.doubt None image) following.is_network (run.each image since) in
+      of_leader state.leader following.own following.doubt None state.told image following.begins following.doubtful tt following.told amid
 
   -- ---- an answer more
 
-  goes_on : (world : World D) (left : Kept D) (told : ℕ) (own : List Entry) (doubt : Option Entry) → IsFollowing disk network world → left.ledger.network ≡ network → HasHistory disk left own doubt → IsPrefix own world.leader
-      → IfSome doubt (λ entry. IsPrefix (own ++ entry ∷ []) world.leader) → told ≤ length own → IsFollowing disk network (record world { store = left; told = told })
-  goes_on world left told own doubt following is_network has begins doubtful low = record {
+  goes_on : (state : Replication D) (left : Kept D) (told : ℕ) (own : List Entry) (doubt : Option Entry) → IsFollowing disk network state → left.ledger.network ≡ network → HasHistory disk left own doubt → IsPrefix own state.leader
+      → IfSome doubt (λ entry. IsPrefix (own ++ entry ∷ []) state.leader) → told ≤ length own → IsFollowing disk network (record state { store = left; told = told })
+  goes_on state left told own doubt following is_network has begins doubtful low = record {
     leader = following.leader;
     sent = following.sent;
     is_network = is_network;
@@ -158,63 +146,63 @@ module _ {D : Type 0} (disk : Ghosts D) (network : Network) where
     told = low;
   }
 
-  still : (world : World D) (left : Kept D) (told : ℕ) (following : IsFollowing disk network world) → left ≡ world.store → told ≤ length following.own → IsFollowing disk network (record world { store = left; told = told })
-  still world left told following same low =
-      goes_on world left told following.own following.doubt following (ap (λ (store : Kept D). store.ledger.network) same ∙ following.is_network)
+  still : (state : Replication D) (left : Kept D) (told : ℕ) (following : IsFollowing disk network state) → left ≡ state.store → told ≤ length following.own → IsFollowing disk network (record state { store = left; told = told })
+  still state left told following same low =
+      goes_on state left told following.own following.doubt following (ap (λ (store : Kept D). store.ledger.network) same ∙ following.is_network)
       (subst (λ (store : Kept D). HasHistory disk store following.own following.doubt) (sym same) following.has) following.begins following.doubtful low
 
-  failed : (world : World D) (packet : Packet) (entry : Entry) (left : Kept D) (following : IsFollowing disk network world) → Contains world.sent packet → (enters : Enters disk world.store packet entry committed.Disk left)
-      → IsLeft disk following.own following.doubt entry committed.Disk left → IsFollowing disk network (record world { store = left })
-  failed world packet entry left following there enters (inl has) =
-      goes_on world left world.told following.own following.doubt following (ap (λ (l : Ledger). l.network) enters.went.commits ∙ following.is_network) has following.begins following.doubtful following.told
-  failed world packet entry left following there enters (inr (inl has)) =
-      goes_on world left world.told following.own None following (ap (λ (l : Ledger). l.network) enters.went.commits ∙ following.is_network) has following.begins tt following.told
-  failed world packet entry left following there enters (inr (inr has)) =
-      goes_on world left world.told following.own (Some entry) following (ap (λ (l : Ledger). l.network) enters.went.commits ∙ following.is_network) has following.begins
-      (brought world packet entry following there enters.due enters.brings) following.told
+  failed : (state : Replication D) (packet : Packet) (entry : Entry) (left : Kept D) (following : IsFollowing disk network state) → Contains state.sent packet → (enters : Enters disk state.store packet entry committed.Disk left)
+      → IsLeft disk following.own following.doubt entry committed.Disk left → IsFollowing disk network (record state { store = left })
+  failed state packet entry left following there enters (inl has) =
+      goes_on state left state.told following.own following.doubt following (ap (λ (l : Ledger). l.network) enters.went.commits ∙ following.is_network) has following.begins following.doubtful following.told
+  failed state packet entry left following there enters (inr (inl has)) =
+      goes_on state left state.told following.own None following (ap (λ (l : Ledger). l.network) enters.went.commits ∙ following.is_network) has following.begins tt following.told
+  failed state packet entry left following there enters (inr (inr has)) =
+      goes_on state left state.told following.own (Some entry) following (ap (λ (l : Ledger). l.network) enters.went.commits ∙ following.is_network) has following.begins
+      (brought state packet entry following there enters.due enters.brings) following.told
 
-  answered : (world : World D) (packet : Packet) (answer : Offered) (left : Kept D) (following : IsFollowing disk network world) → Contains world.sent packet → IsOffered disk world.store packet answer left
-      → IsFollowing disk network (record world { store = left; told = told_after world.told answer })
-  answered world packet (Have n) left following there (inl past) = still world left (max world.told n) following past.same (max_low world.told n (length following.own) following.told (omega (arith, past.own, epoch_own world following)))
-  answered world packet (Have n) left following there (inr (entry, is, enters)) =
+  answered : (state : Replication D) (packet : Packet) (answer : Offered) (left : Kept D) (following : IsFollowing disk network state) → Contains state.sent packet → IsOffered disk state.store packet answer left
+      → IsFollowing disk network (record state { store = left; told = told_after state.told answer })
+  answered state packet (Have n) left following there (inl past) = still state left (max state.told n) following past.same (max_low state.told n (length following.own) following.told (omega (arith, past.own, epoch_own state following)))
+  answered state packet (Have n) left following there (inr (entry, is, enters)) =
       let own = following.own in
       let size : length (own ++ entry ∷ []) ≡ length own + 1 = length-append own (entry ∷ []) in
-      goes_on world left (max world.told n) (own ++ entry ∷ []) None following (ap (λ (l : Ledger). l.network) enters.went.commits ∙ following.is_network)
-      (enters.went.left own following.doubt following.has) (brought world packet entry following there enters.due enters.brings) tt
-      (max_low world.told n (length (own ++ entry ∷ [])) (omega (arith, size, following.told)) (omega (arith, size, is, enters.due.epoch, epoch_own world following)))
-  answered world packet (Want n) left following there offered = still world left world.told following offered.2 following.told
-  answered world packet (Differs at own given) left following there offered = still world left world.told following offered.1 following.told
-  answered world packet Memory left following there offered = still world left world.told following offered.2 following.told
-  answered world packet (Unsound epoch) left following there offered = still world left world.told following offered.3 following.told
-  answered world packet (Disk at) left following there (entry, _, enters) =
-      failed world packet entry left following there enters (enters.went.left following.own following.doubt following.has)
+      goes_on state left (max state.told n) (own ++ entry ∷ []) None following (ap (λ (l : Ledger). l.network) enters.went.commits ∙ following.is_network)
+      (enters.went.left own following.doubt following.has) (brought state packet entry following there enters.due enters.brings) tt
+      (max_low state.told n (length (own ++ entry ∷ [])) (omega (arith, size, following.told)) (omega (arith, size, is, enters.due.epoch, epoch_own state following)))
+  answered state packet (Want n) left following there offered = still state left state.told following offered.2 following.told
+  answered state packet (Differs at own given) left following there offered = still state left state.told following offered.1 following.told
+  answered state packet Memory left following there offered = still state left state.told following offered.2 following.told
+  answered state packet (Unsound epoch) left following there offered = still state left state.told following offered.3 following.told
+  answered state packet (Disk at) left following there (entry, _, enters) =
+      failed state packet entry left following there enters (enters.went.left following.own following.doubt following.has)
 
   -- ---- the leader's events
 
-  accepted : (world : World D) (entry : Entry) → IsFollowing disk network world → IsEntry entry → IsDecidedAt network (book_of 0 world.leader) entry → IsFollowing disk network (record world { leader = world.leader ++ entry ∷ [] })
-  accepted world entry following spelled decided = record {
+  accepted : (state : Replication D) (entry : Entry) → IsFollowing disk network state → IsEntry entry → IsDecidedAt network (book_of 0 state.leader) entry → IsFollowing disk network (record state { leader = state.leader ++ entry ∷ [] })
+  accepted state entry following spelled decided = record {
     leader = record {
-      legal = decided_push network 0 0 world.leader entry following.leader.legal decided (decided_sound network (book_of 0 world.leader) entry decided);
-      spelled = All-push IsEntry world.leader entry following.leader.spelled spelled;
+      legal = decided_push network 0 0 state.leader entry following.leader.legal decided (decided_sound network (book_of 0 state.leader) entry decided);
+      spelled = All-push IsEntry state.leader entry following.leader.spelled spelled;
     };
-    sent = All-weaker (IsSentOf network world.leader) (IsSentOf network (world.leader ++ entry ∷ [])) (sent_longer world.leader (entry ∷ [])) world.sent following.sent;
+    sent = All-weaker (IsSentOf network state.leader) (IsSentOf network (state.leader ++ entry ∷ [])) (sent_longer state.leader (entry ∷ [])) state.sent following.sent;
     is_network = following.is_network;
     own = following.own;
     doubt = following.doubt;
     has = following.has;
-    begins = prefix_push following.own world.leader entry following.begins;
+    begins = prefix_push following.own state.leader entry following.begins;
     doubtful = longer following.doubt following.doubtful;
     told = following.told;
   }
     where
-      longer : (doubt : Option Entry) → IfSome doubt (λ (e : Entry). IsPrefix (following.own ++ e ∷ []) world.leader) → IfSome doubt (λ (e : Entry). IsPrefix (following.own ++ e ∷ []) (world.leader ++ entry ∷ []))
+      longer : (doubt : Option Entry) → IfSome doubt (λ (e : Entry). IsPrefix (following.own ++ e ∷ []) state.leader) → IfSome doubt (λ (e : Entry). IsPrefix (following.own ++ e ∷ []) (state.leader ++ entry ∷ []))
       longer None none = tt
-      longer (Some e) prefix = prefix_push (following.own ++ e ∷ []) world.leader entry prefix
+      longer (Some e) prefix = prefix_push (following.own ++ e ∷ []) state.leader entry prefix
 
-  sent_one : (world : World D) (place : ℕ) (entry : Entry) → IsFollowing disk network world → slice_get world.leader place ≡ Some entry → IsFollowing disk network (record world { sent = world.sent ++ packet_at network world.leader place entry ∷ [] })
-  sent_one world place entry following there = record {
+  sent_one : (state : Replication D) (place : ℕ) (entry : Entry) → IsFollowing disk network state → slice_get state.leader place ≡ Some entry → IsFollowing disk network (record state { sent = state.sent ++ packet_at network state.leader place entry ∷ [] })
+  sent_one state place entry following there = record {
     leader = following.leader;
-    sent = All-push (IsSentOf network world.leader) world.sent (packet_at network world.leader place entry) following.sent (place, entry, there, refl);
+    sent = All-push (IsSentOf network state.leader) state.sent (packet_at network state.leader place entry) following.sent (place, entry, there, refl);
     is_network = following.is_network;
     own = following.own;
     doubt = following.doubt;
@@ -230,23 +218,25 @@ module _ {D : Type 0} (disk : Ghosts D) (network : Network) where
     read_of : (was : D) (image : List ℕ) (history : List Entry) → disk.content was ≡ Some image → IfSome (disk.content was) (IsHistoryOf network history) → IsHistoryOf network history image
     read_of was image history holds read = subst (λ (content : Option (List ℕ)). IfSome content (IsHistoryOf network history)) holds read
 
-    reopened : (world : World D) (image : List ℕ) (store : Kept D) → IsFollowing disk network world → IsOfLeader network world.leader world.told image → IsReopened disk network image store → IsFollowing disk network (record world { store = store })
-    reopened world image store following of (was, holds, opened) =
+    reopened : (state : Replication D) (image : List ℕ) (store : Kept D) → IsFollowing disk network state → IsOfLeader network state.leader state.told image → IsReopened disk network image store → IsFollowing disk network (record state { store = store })
+    reopened state image store following of (was, holds, opened) =
         let stands = read_of was image opened.history holds opened.read in
         let same = listed_same of.list opened.history (once image (listed of.list) (listed opened.history) of.stands stands) in
-        goes_on world store world.told opened.history None following opened.network opened.has
-        (subst (λ (l : List Entry). IsPrefix l world.leader) same of.begins) tt (subst (λ (l : List Entry). world.told ≤ length l) same of.told)
+        goes_on state store state.told opened.history None following opened.network opened.has
+        (subst (λ (l : List Entry). IsPrefix l state.leader) same of.begins) tt (subst (λ (l : List Entry). state.told ≤ length l) same of.told)
 
     module _ (only_now : (now : D) (image : List ℕ) → disk.left_since now (disk.moment now) image → disk.may_leave now image) where
-      happens : (old new : World D) (event : Event D) → IsFollowing disk network old → Happens disk network old event new → IsFollowing disk network new
+      happens : (old new : Replication D) (event : Event D) → IsFollowing disk network old → Happens disk network old event new → IsFollowing disk network new
       happens old new (accepts entry) following (spelled, decided, is) = subst (IsFollowing disk network) (sym is) (accepted old entry following spelled decided)
       happens old new (sends place) following (entry, there, is) = subst (IsFollowing disk network) (sym is) (sent_one old place entry following there)
       happens old new (offers packet answer) following (there, offered, is) = subst (IsFollowing disk network) (sym is) (answered old packet answer new.store following there offered)
       happens old new (stops image) following (left, opened, is) = subst (IsFollowing disk network) (sym is) (reopened old image new.store following (image_of old image following left) opened)
+      happens old new (closes left image) following (closed, since, opened, is) =
+          subst (IsFollowing disk network) (sym is) (reopened old image new.store following (closing_image old left image following closed.0 closed.1 since) opened)
       happens old new (stops_within packet answer left image) following (there, offered, since, opened, is) =
           subst (IsFollowing disk network) (sym is) (reopened old image new.store following (moment_of only_now old packet answer left image following there offered since) opened)
 
-      pub follows : (old new : World D) (events : List (Event D)) → IsFollowing disk network old → Lead disk network old events new → IsFollowing disk network new
+      pub follows : (old new : Replication D) (events : List (Event D)) → IsFollowing disk network old → Lead disk network old events new → IsFollowing disk network new
       follows old new [] following is = subst (IsFollowing disk network) (sym is) following
       follows old new (event ∷ events) following (middle, one, more) = follows middle new events (happens old middle event following one) more
 
@@ -256,10 +246,10 @@ module _ {D : Type 0} (disk : Ghosts D) (network : Network) where
   none_sent leader [] none = All-nil (IsSentOf network leader)
   none_sent leader (packet ∷ sent) none = absurd (cc none)
 
-  pub begun : (world : World D) → IsBeginning disk network world → IsFollowing disk network world
-  begun world beginning = record {
+  pub begun : (state : Replication D) → IsBeginning disk network state → IsFollowing disk network state
+  begun state beginning = record {
     leader = beginning.leader;
-    sent = none_sent world.leader world.sent beginning.sent;
+    sent = none_sent state.leader state.sent beginning.sent;
     is_network = beginning.is_network;
     own = beginning.own;
     doubt = None;
@@ -269,5 +259,5 @@ module _ {D : Type 0} (disk : Ghosts D) (network : Network) where
     told = omega (arith, beginning.told);
   }
 
-  pub legal : (world : World D) (following : IsFollowing disk network world) → IsDecided network 0 0 following.own
-  legal world following = legal_front network following.own world.leader following.begins following.leader.legal
+  pub legal : (state : Replication D) (following : IsFollowing disk network state) → IsDecided network 0 0 following.own
+  legal state following = legal_front network following.own state.leader following.begins following.leader.legal

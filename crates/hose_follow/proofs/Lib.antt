@@ -5,5 +5,6 @@ mod Exchanges
 mod Follows
 mod Offers
 mod Packets
+pub mod Sent
 mod Shipped
 pub mod Splits

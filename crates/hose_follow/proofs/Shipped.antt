@@ -101,22 +101,24 @@ module _ {S D : Type 0} (sink : SinkGhosts S) (disk : DiskGhosts D) where
     module _ (start : Gathered) (before : S) (old : Replay D) (gather : Gathered) (output : S) (has : HasAdded sink disk was network from start before old gather output) where
       -- no entry was left
       pub added_all : (new : Replay D) → HasEntries network (disk.content was) has.entries → HasReplayed disk was network new has.entries (Ok None) → HasAddedAll sink disk was network from start before new gather output
-      added_all new held (replaying, read, count, opened) = record {
+      added_all new held (replaying, read, count, opened, kept) = record {
         has = record { entries = has.entries; replaying = replaying; added = has.added };
         held = held;
         read = read;
         count = count;
         opened = opened;
+        kept = kept;
       }
 
       -- a fault was met
       pub added_until : (new : Replay D) (fault : StoreFault) → HasEntries network (disk.content was) has.entries → HasReplayed disk was network new has.entries (Err fault) → HasAddedUpTo sink disk was network from start before new.reading.disk gather output fault
-      added_until new fault held (refused, opened) = record {
+      added_until new fault held (refused, opened, kept) = record {
         entries = has.entries;
         held = held;
         added = has.added;
         refused = refused;
         opened = opened;
+        kept = kept;
       }
 
       -- one entry more was read
@@ -167,10 +169,10 @@ module _ {S D : Type 0} (sink : SinkGhosts S) (disk : DiskGhosts D) where
           → Ships sink disk first now was replay.reading.disk network from (shipped_of added sent count)
       shipped (Ok value) (Err error) count all finished counted =
           let put = IsPut-finished (Err error) all.has.added finished in
-          (record { entries = all.has.entries; held = all.held; out = put.err }, put.met.failed refl)
+          (record { entries = all.has.entries; held = all.held; out = put.err }, put.met.failed refl, all.kept)
       shipped (Err fault) (Err error) count up finished counted =
           let put = IsPut-finished (Err error) up.added finished in
-          (record { entries = up.entries; held = up.held; out = put.err }, put.met.failed refl)
+          (record { entries = up.entries; held = up.held; out = put.err }, put.met.failed refl, up.kept)
       shipped (Ok value) (Ok done) count all finished counted =
           let put = IsPut-finished (Ok done) all.has.added finished in (
             record {
@@ -181,6 +183,7 @@ module _ {S D : Type 0} (sink : SinkGhosts S) (disk : DiskGhosts D) where
             },
             put.met.ok,
             all.count,
+            all.kept,
           )
       shipped (Err fault) (Ok done) count up finished counted =
           let put = IsPut-finished (Ok done) up.added finished in

@@ -16,6 +16,9 @@ pub data Event (D : Type 0) : Type 0 where
   offers : Packet → Offered → Event D
   -- between two offers the follower stops, and opens what this image holds
   stops : List ℕ → Event D
+  -- the follower closes its store, which leaves this disk, and opens what this image holds: what
+  -- closing left, or what a stop at any moment of it might have left
+  closes : D → List ℕ → Event D
   -- within an offer, at any moment of it, the follower stops, and opens what this image holds; this
   -- is the store that the offer would have left
   stops_within : Packet → Offered → Kept D → List ℕ → Event D

@@ -11,4 +11,4 @@ pub mod Offering
 pub mod Packet
 pub mod Shipping
 pub mod Splitting
-pub mod World
+pub mod Replication

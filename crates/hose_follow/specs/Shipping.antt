@@ -13,7 +13,7 @@ use Rattle.hose_journal.specs.Moments.{KeepsCount}
 use Rattle.hose_store.specs.Entries.{HasEntries}
 use Rattle.hose_store.specs.Opening.{IsRefusedStore}
 use Rattle.hose_store.specs.Recovery.{IsHistoryOf}
-use Rattle.hose_store.specs.Replaying.{IsOnlyOpened, IsReplaying}
+use Rattle.hose_store.specs.Replaying.{IsOnlyOpened, IsReplaying, KeepsRead}
 use Rattle.hose_store.specs.declared.fault.StoreFault.{StoreFault}
 use Rattle.hose_store.specs.declared.replay.Replay.{Replay}
 use Rattle.hose_follow.specs.Packet.{packets_bytes, packets_from}
@@ -37,18 +37,20 @@ pub record ShipsAll {D : Type 0} (disk : DiskGhosts D) (was : D) (network : Netw
   pub out : puts (packets_bytes (packets_from network from history))
 
 module _ {S D : Type 0} (sink : SinkGhosts S) (disk : DiskGhosts D) (before after : S) where
-  -- What shipping comes to. At a fault the packets of the entries that were read before it are out,
-  -- or a part of them where the sink failed.
+  -- What shipping comes to. At a fault packets of entries with which the journal begins are out, or
+  -- a part of such packets where the sink failed. Where the journal was read to its end, or the
+  -- sink failed, what is read of the disk is as before, and no seal was written.
   abbrev pub Ships : D → D → Network → ℕ → Result ℕ ShipFault → Type 0
   Ships was left network from (Ok count) =
       ShipsAll disk was network from (Grows (sink.content before) (sink.content after)) count
       × (sink.frame after ≡ sink.frame before) × KeepsCount disk was left
+      × KeepsRead disk was left network
   Ships was left network from (Err (Store fault)) =
       ShipsUpTo disk was network from (Grows (sink.content before) (sink.content after))
       × (sink.frame after ≡ sink.frame before) × IsRefusedStore disk was left network fault
   Ships was left network from (Err Write) =
       ShipsUpTo disk was network from (GrowsInPart (sink.content before) (sink.content after))
-      × Rose (sink.frame before) (sink.frame after)
+      × Rose (sink.frame before) (sink.frame after) × KeepsRead disk was left network
 
 -- what came of adding packets and of sending them
 abbrev pub shipped_of : Result ⊤ StoreFault → Result ⊤ Failed → ℕ → Result ℕ ShipFault
@@ -74,6 +76,7 @@ module _ {S D : Type 0} (sink : SinkGhosts S) (disk : DiskGhosts D) (was : D) (n
     pub read : IfSome (disk.content was) (IsHistoryOf network has.entries)
     pub count : KeepsCount disk was replay.reading.disk
     pub opened : IsOnlyOpened disk was replay.reading.disk network
+    pub kept : KeepsRead disk was replay.reading.disk network
 
   -- those of the entries before a fault went into it
   pub record HasAddedUpTo (left : D) (gather : Gathered) (after : S) (fault : StoreFault) :
@@ -84,6 +87,7 @@ module _ {S D : Type 0} (sink : SinkGhosts S) (disk : DiskGhosts D) (was : D) (n
         (packets_bytes (packets_from network from entries))
     pub refused : IsRefusedStore disk was left network fault
     pub opened : IsOnlyOpened disk was left network
+    pub kept : KeepsRead disk was left network
 
   -- One entry more was read, or none was left, or a fault was met.
   abbrev pub AddsNext : Replay D → Gathered → S → Result Bool StoreFault → Type 0

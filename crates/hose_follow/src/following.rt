@@ -59,7 +59,7 @@ struct Intake {
 }
 
 /// Offers the packets of an input to a store, one after another, and writes the line of each
-/// answer, as one piece, before it goes on.
+/// answer.
 pub fn follow<S: Source, O: Sink, D: Disk>(
     alloc: Global,
     source: &mut S,

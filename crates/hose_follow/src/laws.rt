@@ -8,42 +8,42 @@ ghost use Rattle.hose_follow.specs.Event.{Event};
 ghost use Rattle.hose_follow.specs.Offering.{AreOffered, IsOffered};
 ghost use Rattle.hose_follow.specs.Packet.{Packet};
 ghost use Rattle.hose_follow.specs.Splitting.{IsSplit};
-ghost use Rattle.hose_follow.specs.World.{IsBeginning, IsFollowing, IsOfLeader, Lead, World};
+ghost use Rattle.hose_follow.specs.Replication.{IsBeginning, IsFollowing, IsOfLeader, Lead, Replication};
 ghost use Rattle.hose_follow.specs.declared.answers.Offered.{Offered};
 
 use hose_disk::Disk;
 use hose_graph::Topology;
 use hose_store::{Premises, law_one_meaning};
 
-/// Whatever a leader and its follower do, and whatever becomes of the packets between them and of
-/// the follower's disk: the follower has a beginning of the leader's list, and so has each image of
-/// its disk at each moment, with all that a `have` told; and no packet that was sent is answered as
-/// one of another history, or as unsound.
+/// Whatever a leader and its follower do, whenever the follower is stopped or closed, and whatever
+/// becomes of the packets between them and of the follower's disk: the follower has a beginning of
+/// the leader's list, and so has each image of its disk at each moment, with all that a `have`
+/// told; and no packet that was sent is answered as one of another history, or as unsound.
 pub fn law_following<D: Disk>(top: &Topology)
-    ensures begins { (world : World D) →
-        IsBeginning D.Disk top.now world → IsFollowing D.Disk top.now world }
-    ensures stays { (old new : World D) → (events : List (Event D)) →
+    ensures begins { (state : Replication D) →
+        IsBeginning D.Disk top.now state → IsFollowing D.Disk top.now state }
+    ensures stays { (old new : Replication D) → (events : List (Event D)) →
         IsFollowing D.Disk top.now old → Lead D.Disk top.now old events new →
         IsFollowing D.Disk top.now new }
     // What the follower has is a legal history.
-    ensures legal { (world : World D) → (following : IsFollowing D.Disk top.now world) →
+    ensures legal { (state : Replication D) → (following : IsFollowing D.Disk top.now state) →
         IsDecided top.now 0 0 following.own }
-    ensures images { (world : World D) → (image : List ℕ) →
-        IsFollowing D.Disk top.now world → D.may_leave world.store.journal.disk image →
-        IsOfLeader top.now world.leader world.told image }
+    ensures images { (state : Replication D) → (image : List ℕ) →
+        IsFollowing D.Disk top.now state → D.may_leave state.store.journal.disk image →
+        IsOfLeader top.now state.leader state.told image }
     // At each moment within an offer an image is one of the leader, too.
-    ensures moments { (world : World D) → (packet : Packet) → (answer : Offered) →
-        (left : Kept D) → (image : List ℕ) → IsFollowing D.Disk top.now world →
-        Contains world.sent packet → IsOffered D.Disk world.store packet answer left →
-        D.left_since left.journal.disk (D.moment world.store.journal.disk) image →
-        IsOfLeader top.now world.leader world.told image }
-    ensures never_differs { (world : World D) → (packet : Packet) → (at : ℕ) →
-        (own given : List ℕ) → (left : Kept D) → IsFollowing D.Disk top.now world →
-        Contains world.sent packet →
-        ¬ IsOffered D.Disk world.store packet (Offered.Differs at own given) left }
-    ensures never_unsound { (world : World D) → (packet : Packet) → (epoch : ℕ) →
-        (left : Kept D) → IsFollowing D.Disk top.now world → Contains world.sent packet →
-        ¬ IsOffered D.Disk world.store packet (Offered.Unsound epoch) left }
+    ensures moments { (state : Replication D) → (packet : Packet) → (answer : Offered) →
+        (left : Kept D) → (image : List ℕ) → IsFollowing D.Disk top.now state →
+        Contains state.sent packet → IsOffered D.Disk state.store packet answer left →
+        D.left_since left.journal.disk (D.moment state.store.journal.disk) image →
+        IsOfLeader top.now state.leader state.told image }
+    ensures never_differs { (state : Replication D) → (packet : Packet) → (at : ℕ) →
+        (own given : List ℕ) → (left : Kept D) → IsFollowing D.Disk top.now state →
+        Contains state.sent packet →
+        ¬ IsOffered D.Disk state.store packet (Offered.Differs at own given) left }
+    ensures never_unsound { (state : Replication D) → (packet : Packet) → (epoch : ℕ) →
+        (left : Kept D) → IsFollowing D.Disk top.now state → Contains state.sent packet →
+        ¬ IsOffered D.Disk state.store packet (Offered.Unsound epoch) left }
 {
     // What an image stands for, it stands for alone.
     law_one_meaning(top);

@@ -10,7 +10,9 @@ use Rattle.hose_journal.specs.declared.prepared.Ready.{Ready}
 use Rattle.hose_journal.specs.declared.reading.Reading.{Reading}
 use Rattle.hose_journal.specs.Entries.{AreAllowed, Item, front_of}
 use Rattle.hose_journal.specs.Moments.{KeepsCount, LeavesOnly}
-use Rattle.hose_journal.specs.Opening.{IsOpened, KeepsDisk, KeepsList}
+use Rattle.hose_journal.specs.Image.{IsClosed}
+use Rattle.hose_journal.specs.Layout.{chained_version}
+use Rattle.hose_journal.specs.Opening.{IsOpened, KeepsDisk, KeepsList, KeepsOrBegins}
 use Rattle.hose_journal.specs.Reading.{IsReadUpTo, OnlyRead, Reads}
 use Rattle.hose_journal.proofs.OneList.{no_fewer}
 use Rattle.hose_store.specs.declared.fault.StoreFault.{StoreFault}
@@ -18,7 +20,7 @@ use Rattle.hose_store.specs.declared.replay.Replay.{Replay}
 use Rattle.hose_store.specs.Entries.{BeginsWith, HasEntries}
 use Rattle.hose_store.specs.Opening.{HasGiven, IsAtOpening, IsStopped}
 use Rattle.hose_store.specs.Recovery.{IsHistoryOf, IsSoundAfter, digest_of}
-use Rattle.hose_store.specs.Replaying.{GivesNext, HasReplayed, IsOnlyOpened, IsReplaying}
+use Rattle.hose_store.specs.Replaying.{GivesNext, HasReplayed, IsOnlyOpened, IsReplaying, KeepsRead}
 use Rattle.hose_store.proofs.Histories.{sound_items}
 use Rattle.hose_store.proofs.Openings.{at_opening, opened_then, read_history, refused_entries}
 use Rattle.hose_store.proofs.Readings.{only_next, stopped_later}
@@ -98,6 +100,7 @@ module _ {D : Type 0} (disk : Ghosts D) where
       keeps = replaying.keeps;
       count = count ∙ replaying.count;
       list = replaying.list;
+      version = replaying.version;
       only = all_only;
     }
 
@@ -113,16 +116,25 @@ module _ {D : Type 0} (disk : Ghosts D) where
       keeps = keeps_later was replaying.opened new.reading.disk replaying.keeps all_only;
     }
 
+    keeps_read : KeepsRead disk was new.reading.disk network
+    keeps_read = at replaying.list replaying.version
+      where
+        at : KeepsList (disk.content was) (disk.content replaying.opened) (digest_of network) → KeepsOrBegins (disk.content was) (disk.content replaying.opened) (digest_of network) → KeepsRead disk was new.reading.disk network
+        at (inl same) version = inl (all_only.same ∙ same)
+        at (inr list) (inl same) = inl (all_only.same ∙ same)
+        at (inr list) (inr begun) = inr (list.0, subst (λ (content : Option (List ℕ)). IfSome content (IsClosed (front_of chained_version (digest_of network) []))) (sym all_only.same) begun)
+
     pub replayed : (result : Result (Option Ready) StoreFault) → GivesNext disk new.book new.reading entries result → OnOk result (KeepsCount disk old.reading.disk new.reading.disk) → IfErr result (IsStopped disk old.reading.disk new.reading.disk old.book.network)
         → HasReplayed disk was network new entries result
     replayed (Ok (Some ready)) (entry, is, given) count stopped = (entry, is, replayed_on (entries ++ entry ∷ []) given count)
-    replayed (Ok None) (given, closed) count stopped = (replayed_on entries given count, replayed_all given closed, count ∙ replaying.count, opened_only)
+    replayed (Ok None) (given, closed) count stopped = (replayed_on entries given count, replayed_all given closed, count ∙ replaying.count, opened_only, keeps_read)
     replayed (Err fault) next count stopped = (
       refused_entries disk was replaying.opened new.reading.disk network fault size untold replaying.keeps replaying.list all_only.same
           (opened_then disk was replaying.opened new.reading.disk (digest_of network) counts replaying.run all_only)
           (stopped_later disk replaying.opened old.reading.disk new.reading.disk network fault replaying.only
           (subst (λ (n : Network). IsStopped disk old.reading.disk new.reading.disk n fault) replaying.is_network stopped)),
       opened_only,
+      keeps_read,
     )
       where
         size : length (digest_of network) ≡ DIGEST_BYTES

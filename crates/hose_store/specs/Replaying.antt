@@ -1,12 +1,15 @@
 -- Reading the entries of a journal one after another, each judged by the book of those before it.
-use Rattle.std.specs.Prelude.{◌≡◌, List, [], ◌∷◌, ◌++◌, Option, Some, None, IfSome, IsTrue, Result, Ok, Err, ⊤}
+use Rattle.std.specs.Prelude.{◌≡◌, ◌⊎◌, List, [], ◌∷◌, ◌++◌, Option, Some, None, IfSome, IsTrue, Result, Ok, Err, ⊤}
 use Rattle.hose_graph.specs.Network.{Network}
 use Rattle.hose_graph.specs.declared.entry.Entry.{Entry}
 use Rattle.hose_book.specs.Ledger.{Ledger}
 use Rattle.hose_disk.specs.declared.disk.Disk.{Ghosts}
+use Rattle.hose_journal.specs.Entries.{front_of}
+use Rattle.hose_journal.specs.Image.{IsClosed, IsUnbegun}
 use Rattle.hose_journal.specs.Journal.{IsReady}
+use Rattle.hose_journal.specs.Layout.{chained_version}
 use Rattle.hose_journal.specs.Moments.{KeepsCount, LeavesOnly}
-use Rattle.hose_journal.specs.Opening.{IsOpened, KeepsDisk, KeepsList}
+use Rattle.hose_journal.specs.Opening.{IsOpened, KeepsDisk, KeepsList, KeepsOrBegins}
 use Rattle.hose_journal.specs.Reading.{OnlyRead}
 use Rattle.hose_journal.specs.declared.prepared.Ready.{Ready}
 use Rattle.hose_journal.specs.declared.reading.Reading.{Reading}
@@ -26,7 +29,15 @@ pub record IsReplaying {D : Type 0} (disk : Ghosts D) (was : D) (network : Netwo
   pub keeps : KeepsDisk disk was opened
   pub count : KeepsCount disk was replay.reading.disk
   pub list : KeepsList (disk.content was) (disk.content opened) (digest_of network)
+  pub version : KeepsOrBegins (disk.content was) (disk.content opened) (digest_of network)
   pub only : OnlyRead disk opened replay.reading.disk
+
+-- What is read of a disk is as before; or none was begun there, and it is a journal of the newest
+-- version without a record. So no seal was written.
+abbrev pub KeepsRead : {D : Type 0} → Ghosts D → D → D → Network → Type 0
+KeepsRead disk was now network = (disk.content now ≡ disk.content was)
+    ⊎ (IfSome (disk.content was) IsUnbegun
+    × IfSome (disk.content now) (IsClosed (front_of chained_version (digest_of network) [])))
 
 -- what was done to a disk: at every moment an image is one of before, or stands for what the disk
 -- stood for, and its count did not fall
@@ -44,9 +55,11 @@ HasReplayed disk was network new entries (Ok (Some ready)) = (entry : Entry)
 HasReplayed disk was network new entries (Ok None) = IsReplaying disk was network new entries
     × IfSome (disk.content was) (IsHistoryOf network entries)
     × KeepsCount disk was new.reading.disk × IsOnlyOpened disk was new.reading.disk network
+    × KeepsRead disk was new.reading.disk network
 HasReplayed disk was network new entries (Err fault) =
     IsRefusedStore disk was new.reading.disk network fault
     × IsOnlyOpened disk was new.reading.disk network
+    × KeepsRead disk was new.reading.disk network
 
 -- what a call that reads on gives of the book and the reading, where the entries before were given
 abbrev pub GivesNext : {D : Type 0} → Ghosts D → Ledger → Reading D → List Entry

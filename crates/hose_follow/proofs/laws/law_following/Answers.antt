@@ -2,24 +2,24 @@ use Rattle.hose_follow.proofs.Follows.{begun, follows, image_of, legal, moment_o
 use Rattle.hose_follow.proofs.laws.law_following.Goals as goal
 
 pub returns-clause-begins : goal.returns-clause-begins
-returns-clause-begins g c = λ world beginning. begun g.D.Disk c.args.top.now world beginning
+returns-clause-begins g c = λ state beginning. begun g.D.Disk c.args.top.now state beginning
 
 pub returns-clause-stays : goal.returns-clause-stays
 returns-clause-stays g c = λ old new events following lead.
     follows g.D.Disk c.args.top.now c.law_one_meaning.ensures g.met.D.Disk.only_now old new events following lead
 
 pub returns-clause-legal : goal.returns-clause-legal
-returns-clause-legal g c = λ world following. legal g.D.Disk c.args.top.now world following
+returns-clause-legal g c = λ state following. legal g.D.Disk c.args.top.now state following
 
 pub returns-clause-images : goal.returns-clause-images
-returns-clause-images g c = λ world image following left. image_of g.D.Disk c.args.top.now world image following left
+returns-clause-images g c = λ state image following left. image_of g.D.Disk c.args.top.now state image following left
 
 pub returns-clause-moments : goal.returns-clause-moments
-returns-clause-moments g c = λ world packet answer left image following there offered since.
-    moment_of g.D.Disk c.args.top.now g.met.D.Disk.only_now world packet answer left image following there offered since
+returns-clause-moments g c = λ state packet answer left image following there offered since.
+    moment_of g.D.Disk c.args.top.now g.met.D.Disk.only_now state packet answer left image following there offered since
 
 pub returns-clause-never_differs : goal.returns-clause-never_differs
-returns-clause-never_differs g c = λ world packet at own given left following there. never_differs g.D.Disk c.args.top.now world packet at own given left following there
+returns-clause-never_differs g c = λ state packet at own given left following there. never_differs g.D.Disk c.args.top.now state packet at own given left following there
 
 pub returns-clause-never_unsound : goal.returns-clause-never_unsound
-returns-clause-never_unsound g c = λ world packet epoch left following there. never_unsound g.D.Disk c.args.top.now world packet epoch left following there
+returns-clause-never_unsound g c = λ state packet epoch left following there. never_unsound g.D.Disk c.args.top.now state packet epoch left following there

@@ -1,6 +1,6 @@
 use Rattle.std.proofs.Common.{List, ℕ, [], rules, subst}
 use Rattle.hose_journal.specs.Moments.{LeavesOnly}
-use Rattle.hose_journal.specs.Opening.{IsOpened, KeepsList}
+use Rattle.hose_journal.specs.Opening.{IsOpened, KeepsList, KeepsOrBegins}
 use Rattle.hose_journal.specs.Reading.{Reads}
 use Rattle.hose_store.proofs.Histories.{is_digest}
 use Rattle.hose_store.proofs.Openings.{at_opening, refused_open}
@@ -21,6 +21,7 @@ returns-in-Ok-open-clause-opened g c =
       keeps = c.in-Ok-open.ensures.keeps;
       count = c.in-Ok-open.ensures.count;
       list = subst (λ (digest : List ℕ). KeepsList (disk.content old) (disk.content reading.disk) digest) is c.in-Ok-open.ensures.list;
+      version = subst (λ (digest : List ℕ). KeepsOrBegins (disk.content old) (disk.content reading.disk) digest) is c.in-Ok-open.ensures.version;
       only = only_none disk reading.disk (g.met.D.Disk.only_now reading.disk);
     }
 
