@@ -1,4 +1,4 @@
 mod Entries
-mod Passes
+pub mod Passes
 mod Recently
 mod Turned

@@ -3,7 +3,7 @@ use Rattle.std.proofs.Common.{◌≡◌, ◌⊎◌, inl, inr, ℕ, ◌+◌, ◌<
 use Rattle.std.specs.List.{slice_get}
 use Rattle.std.proofs.lemmas.Bool.Decides.{nat_tests}
 use Rattle.std.proofs.lemmas.List.{get_or_append_left, length-append}
-use Rattle.std.proofs.lemmas.List.Elements.{All-cons, All-nil}
+use Rattle.std.proofs.lemmas.List.Elements.{All-cons, All-nil, All-weaker}
 use Rattle.std.proofs.lemmas.Option.{get_or_from_slice_get, slice_get-get_or, slice_get_within}
 use Rattle.std.proofs.Math.Seq.{get_or-append_seam, take-append_seam}
 use mathlib.Core.List.{IsPrefix}
@@ -13,11 +13,9 @@ use Rattle.hose_graph.specs.declared.command.Command.{Command}
 use Rattle.hose_graph.specs.declared.command.Reply.{Reply}
 use Rattle.hose_graph.specs.Network.{Network}
 use Rattle.hose_law.specs.Answer.{IsStepOf, with_entry}
-use Rattle.hose_law.specs.Book.{Book}
-use Rattle.hose_law.specs.History.{IsDecidedAt, book_after, book_of, next_book, opening_book}
+use Rattle.hose_law.specs.History.{IsDecidedAt, book_of}
 use Rattle.hose_law.specs.Quotes.{Held}
 use Rattle.hose_law.proofs.Fronts.{front_of, prefix_length, prefix_on, prefix_same}
-use Rattle.hose_law.proofs.LiveIds.{next_epoch}
 use Rattle.hose_law.proofs.Transcripts.{front_longer}
 use Rattle.hose_book.specs.Commit.{IsMet}
 use Rattle.hose_book.specs.declared.books.Committed.{Committed}
@@ -173,3 +171,7 @@ entry_longer network history longer place (rest, same) at = record {
 
     front : take place history ≡ take place longer
     front = front_longer history longer place (rest, same) (omega (arith, within))
+
+-- and so at all places
+pub entries_longer : (network : Network) (history longer : List Entry) (places : List ℕ) → IsPrefix history longer → All (HasEntryAt network history) places → All (HasEntryAt network longer) places
+entries_longer network history longer places prefix all = All-weaker (HasEntryAt network history) (HasEntryAt network longer) (λ place there. entry_longer network history longer place prefix there) places all

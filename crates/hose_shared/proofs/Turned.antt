@@ -19,6 +19,7 @@ use Rattle.hose_book.specs.Ledger.{Ledger}
 use Rattle.hose_book.specs.declared.books.Committed.{Committed}
 use Rattle.hose_book.specs.declared.books.Committed.TheVariants.{Done, Disk}
 use Rattle.hose_core.specs.Stepping.{Goes, HasStepped, StepsAtEach, committed_of, history_with}
+use Rattle.hose_core.proofs.Leading.{decided as entry_decided, leads as step_leads}
 use Rattle.hose_disk.specs.Disk.{object_frame}
 use Rattle.hose_disk.specs.declared.disk.Disk.{Ghosts}
 use Rattle.hose_store.specs.Commit.{Went, store_books}
@@ -85,13 +86,15 @@ others_joined known (Some entry) = (refl, refl, refl, refl)
 
 module _ {D : Type 0} (disk : Ghosts D) (Begins : List Entry → KeptStore D → Type 0) (origin : Origin) (history : List Entry) (old new : KeptStore D) (customer : List ℕ) (held : Held) (command : Command) (answer : Reply)
     (stood : StandsShared disk Begins origin history old) (stepped : HasStepped (store_books disk) old new 0 history customer held command answer)
-    (law : IfSome stepped.entry (IsDecidedAt old.ledger.network (book_of 0 history)) × (stepped.next ≡ history_with history stepped.entry (committed_of answer)))
     (network : new.ledger.network ≡ old.ledger.network) where
   abbrev pub joined : Option Entry
   joined = joined_of stepped.entry (committed_of answer)
 
   leads : stepped.next ≡ with_entry history joined
-  leads = law.1 ∙ history_joined history stepped.entry (committed_of answer)
+  leads = step_leads old.ledger.network 0 history customer held command answer stepped.entry stepped.next stepped.after stepped.step ∙ history_joined history stepped.entry (committed_of answer)
+
+  was_decided : IfSome stepped.entry (IsDecidedAt old.ledger.network (book_of 0 history))
+  was_decided = entry_decided old.ledger.network 0 history customer held command answer stepped.entry stepped.next stepped.after stepped.step stepped.sound
 
   goes_on : (entry : Option Entry) → Goes (store_books disk) old answer entry new → IfSome entry (IsDecidedAt old.ledger.network (book_of 0 history))
       → GoesOn (store_books disk) IsDecidedAt origin.network origin.since stood.first (history_with history entry (committed_of answer)) new
@@ -117,7 +120,7 @@ module _ {D : Type 0} (disk : Ghosts D) (Begins : List Entry → KeptStore D →
     first = stood.first;
     begins = stood.begins;
     goes_on = subst (λ (all : List Entry). GoesOn (store_books disk) IsDecidedAt origin.network origin.since stood.first all new)
-        (history_joined history stepped.entry (committed_of answer)) (goes_on stepped.entry stepped.goes law.0);
+        (history_joined history stepped.entry (committed_of answer)) (goes_on stepped.entry stepped.goes was_decided);
     epoch = stood.epoch;
     network = network ∙ stood.network;
     book = stepped.book ∙ ap (book_of 0) leads;
@@ -137,7 +140,7 @@ module _ {D : Type 0} (disk : Ghosts D) (Begins : List Entry → KeptStore D →
       let seen : pass.seen ≡ with_entry known.seen joined = ap (λ (k : Known). k.seen) left ∙ pass_joined known joined in
       let decided : IfSome joined (IsDecidedAt top (book_of 0 known.seen)) =
       subst (λ (n : Network). IfSome joined (IsDecidedAt n (book_of 0 known.seen))) same
-      (subst (λ (all : List Entry). IfSome joined (IsDecidedAt old.ledger.network (book_of 0 all))) (sym here) (if_joined (IsDecidedAt old.ledger.network (book_of 0 history)) stepped.entry (committed_of answer) law.0)) in
+      (subst (λ (all : List Entry). IfSome joined (IsDecidedAt old.ledger.network (book_of 0 all))) (sym here) (if_joined (IsDecidedAt old.ledger.network (book_of 0 history)) stepped.entry (committed_of answer) was_decided)) in
       let step : IsStepOf old.ledger.network 0 history customer held command answer stepped.entry (with_entry history joined) stepped.after =
       subst (λ (next : List Entry). IsStepOf old.ledger.network 0 history customer held command answer stepped.entry next stepped.after) leads stepped.step in
       record {
@@ -205,19 +208,18 @@ turn_above {disk = disk} {old = old} {new = new} {answer = answer} begun turn =
     omega (arith, met_above (object_frame (disk.frame old.journal.disk)) (object_frame (disk.frame new.journal.disk)) (committed_of answer) turn.met, begun.floor)
 
 module _ {D : Type 0} {disk : Ghosts D} {Begins : List Entry → KeptStore D → Type 0} {known : Known} {floor epoch : ℕ} {old new : KeptStore D} {told : Option Entry} {customer : List ℕ} {held : Held} {command : Command} {answer : Reply}
-    (begun : BeginsTurn disk Begins known floor epoch old) (turn : AnswersTurn disk known.seen old new told customer held command answer)
-    (law : IfSome turn.stepped.entry (IsDecidedAt old.ledger.network (book_of 0 known.seen)) × (turn.stepped.next ≡ history_with known.seen turn.stepped.entry (committed_of answer))) where
+    (begun : BeginsTurn disk Begins known floor epoch old) (turn : AnswersTurn disk known.seen old new told customer held command answer) where
   abbrev entered : Option Entry
   entered = joined_of turn.stepped.entry (committed_of answer)
 
   -- the store stands for what was seen, and the entry that joined it
   turn_stands : StandsShared disk Begins known.origin (with_entry known.seen entered) new
-  turn_stands = stands_after disk Begins known.origin known.seen old new customer held command answer begun.stands turn.stepped law turn.network
+  turn_stands = stands_after disk Begins known.origin known.seen old new customer held command answer begun.stands turn.stepped turn.network
 
   -- which is the one that is told
   turn_told : IfSome entered (λ one. told ≡ Some one)
   turn_told = elim turn.joined [
-    | inl stays ↦ subst (λ (joined : Option Entry). IfSome joined (λ one. told ≡ Some one)) (sym (none_where_same disk Begins known.origin known.seen old new customer held command answer begun.stands turn.stepped law turn.network stays)) tt
+    | inl stays ↦ subst (λ (joined : Option Entry). IfSome joined (λ one. told ≡ Some one)) (sym (none_where_same disk Begins known.origin known.seen old new customer held command answer begun.stands turn.stepped turn.network stays)) tt
     | inr told ↦ told
   ]
 
@@ -237,7 +239,7 @@ module _ {D : Type 0} {disk : Ghosts D} {Begins : List Entry → KeptStore D →
     -- the pass that gave the turn on
     turn_steps : pass ≡ record (with_joined known entered) { faults = (with_joined known entered).faults + rise floor (faults_in disk new) } → StepsAt top customer held command answer known.seen known pass
     turn_steps left =
-        steps_at disk Begins known.origin known.seen old new customer held command answer begun.stands turn.stepped law turn.network top same is known pass (rise floor (faults_in disk new)) refl left places rises_by
+        steps_at disk Begins known.origin known.seen old new customer held command answer begun.stands turn.stepped turn.network top same is known pass (rise floor (faults_in disk new)) refl left places rises_by
 
     pub none_steps : told ≡ None → pass ≡ record known { faults = known.faults + rise floor (faults_in disk new) } → StepsAt top customer held command answer known.seen known pass
     none_steps none left =

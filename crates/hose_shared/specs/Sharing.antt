@@ -9,10 +9,12 @@ pub record SharedBook : Type 0 where
   pub turn : TableId
   pub network : Network
 
--- the pass is one of the shared book
+-- The pass is one of the shared book. Its own places are some that it has seen, each once, as are
+-- those of every pass.
 pub record IsPassOf (shared : SharedBook) (pass : Known) : Type 0 where
   pub turn : pass.turn ≡ shared.turn
   pub network : pass.origin.network ≡ shared.network
+  pub places : HasOwnPlaces pass
 
 -- The pass is the one that it was, with its share. It has seen what it had seen, and maybe more,
 -- and has met no fewer faults. Its own places are some that it has seen, each once.

@@ -14,11 +14,10 @@ use crate::kept::Begun;
 use crate::shared::Shared;
 use hose_core::{Quote, admit_now, claim_take};
 use hose_disk::Disk;
-use hose_graph::{Hose, Name, Reply};
+use hose_graph::{Hose, Reply};
 use hose_paths::RowMaker;
 use hose_pool::{Gate, Point};
 use hose_turn::Pass;
-use std::alloc::Global;
 use std::sync::Wait;
 
 // How often an admission is planned outside of the lock.
@@ -28,81 +27,9 @@ impl<D: Disk, B: Begun<D>> Shared<D, B> {
     /// Admits a hose: `Admitted`, `Refused`, `Spent`, `Full`, `Disk` or `Memory`. Its endpoints are
     /// nodes of the network. It is planned outside of the lock, and then taken; where the plan has
     /// gone stale by then it is planned again, and after three times under the lock.
-    pub fn admit<W: Wait, R: RowMaker, G: Gate>(
+    pub fn admit<W: Wait, G: Gate, R: RowMaker>(
         &self,
-        rt: &W,
-        alloc: Global,
-        pass: Pass,
-        customer: &Name,
-        hose: Hose,
-        rows: &mut R,
-        gate: &G,
-        session: u64,
-    ) -> (Reply, Pass)
-        requires of { IsPassOf self.now pass }
-        requires nodes { AreNodes self.now.network hose }
-        ensures steps { (held : HeldQuotes) → StepsAlong self.now.network customer.now held
-            (Command.Admit hose) result.0 pass result.1 }
-        ensures names { NamesPlaces self.now.network result.0 }
-    {
-        pass.law_places();
-        let mut pass = pass;
-        let mut hose = hose;
-        for _ in 0..TRIES {
-            let (planned, seen) = self.plan(rt, alloc, pass, hose, rows);
-            let quote = match planned {
-                Ok(quote) => quote,
-                Err(reply) => return (reply, seen),
-            };
-            gate.at(Point::Planned { session });
-            let caller = Caller {
-                rt,
-                alloc,
-                customer,
-            };
-            let (tried, later) = self.take_planned(caller, seen, quote);
-            pass = later;
-            match tried {
-                Ok(reply) => return (reply, pass),
-                Err(same) => hose = same,
-            }
-        }
-        let caller = Caller {
-            rt,
-            alloc,
-            customer,
-        };
-        self.admit_in_turn(caller, pass, hose, rows)
-    }
-
-    // Takes a plan that was made of all that the pass has seen. Where it is stale by now, its hose
-    // comes back.
-    fn take_planned<W: Wait>(
-        &self,
-        caller: Caller<'_, W>,
-        pass: Pass,
-        quote: Quote,
-    ) -> (Result<Reply, Hose>, Pass)
-        requires of { IsPassOf self.now pass }
-        requires planned { IsMadeAt self.now.network (book_of 0 pass.seen) quote }
-        ensures { IsTried self.now.network caller.entry.customer.now quote.hose pass result.1
-            result.0 }
-    {
-        pass.law_places();
-        let Ok(claim) = claim_take(caller.alloc, caller.customer, &quote) else {
-            return (Ok(Reply::Memory), pass);
-        };
-        let (reply, pass) = self.take_claimed(caller.rt, pass, &quote, claim);
-        if is_stale(&reply) {
-            return (Err(quote.hose), pass);
-        }
-        (Ok(reply), pass)
-    }
-
-    // Plans a hose and admits it, all under the lock.
-    fn admit_in_turn<W: Wait, R: RowMaker>(
-        &self,
-        caller: Caller<'_, W>,
+        caller: &Caller<'_, W, G>,
         pass: Pass,
         hose: Hose,
         rows: &mut R,
@@ -110,12 +37,70 @@ impl<D: Disk, B: Begun<D>> Shared<D, B> {
         requires of { IsPassOf self.now pass }
         requires nodes { AreNodes self.now.network hose }
         ensures steps { (held : HeldQuotes) → StepsAlong self.now.network
-            caller.entry.customer.now held (Command.Admit hose) result.0 pass result.1 }
+            caller.now.customer.now held (Command.Admit hose) result.0 pass result.1 }
         ensures names { NamesPlaces self.now.network result.0 }
     {
-        let (mut held, start) = self.begin_turn(caller.rt, pass);
+        let mut pass = pass;
+        let mut hose = hose;
+        for _ in 0..TRIES {
+            let (planned, seen) = self.plan(caller.context, pass, hose, rows);
+            let quote = match planned {
+                Ok(quote) => quote,
+                Err(reply) => return (reply, seen),
+            };
+            caller.context.gate.at(Point::Planned {
+                session: caller.session,
+            });
+            let (tried, later) = self.take_planned(caller, seen, quote);
+            pass = later;
+            match tried {
+                Ok(reply) => return (reply, pass),
+                Err(same) => hose = same,
+            }
+        }
+        self.admit_in_turn(caller, pass, hose, rows)
+    }
+
+    // Takes a plan that was made of all that the pass has seen. Where it is stale by now, its hose
+    // comes back.
+    fn take_planned<W: Wait, G: Gate>(
+        &self,
+        caller: &Caller<'_, W, G>,
+        pass: Pass,
+        quote: Quote,
+    ) -> (Result<Reply, Hose>, Pass)
+        requires of { IsPassOf self.now pass }
+        requires planned { IsMadeAt self.now.network (book_of 0 pass.seen) quote }
+        ensures { IsTried self.now.network caller.now.customer.now quote.hose pass result.1
+            result.0 }
+    {
+        let Ok(claim) = claim_take(caller.context.alloc, caller.customer, &quote) else {
+            return (Ok(Reply::Memory), pass);
+        };
+        let (reply, pass) = self.take_claimed(caller.context.rt, pass, &quote, claim);
+        if is_stale(&reply) {
+            return (Err(quote.hose), pass);
+        }
+        (Ok(reply), pass)
+    }
+
+    // Plans a hose and admits it, all under the lock.
+    fn admit_in_turn<W: Wait, G: Gate, R: RowMaker>(
+        &self,
+        caller: &Caller<'_, W, G>,
+        pass: Pass,
+        hose: Hose,
+        rows: &mut R,
+    ) -> (Reply, Pass)
+        requires of { IsPassOf self.now pass }
+        requires nodes { AreNodes self.now.network hose }
+        ensures steps { (held : HeldQuotes) → StepsAlong self.now.network
+            caller.now.customer.now held (Command.Admit hose) result.0 pass result.1 }
+        ensures names { NamesPlaces self.now.network result.0 }
+    {
+        let (mut held, start) = self.begin_turn(caller.context.rt, pass);
         let store = &mut held.value_mut().store;
-        let (reply, entry) = admit_now(caller.alloc, store, caller.customer, hose, rows);
+        let (reply, entry) = admit_now(caller.context.alloc, store, caller.customer, hose, rows);
         (reply, self.end_turn(held, start, entry))
     }
 }

@@ -14,10 +14,8 @@ ghost use Rattle.hose_shared.specs.Turns.{AnswersTurn, BeginsTurn, StepsAt, faul
 
 use crate::kept::{Begun, Kept};
 use crate::shared::Shared;
-use hose_core::law_step;
 use hose_disk::Disk;
 use hose_graph::Entry;
-use hose_store::Store;
 use hose_turn::{Held, Pass, Stands};
 use std::snapshot::Snapshot;
 use std::sync::Wait;
@@ -72,7 +70,6 @@ impl<D: Disk, B: Begun<D>> Shared<D, B> {
             answer → StepsAt self.now.network customer quotes command answer (holder held).seen
             (holder held) result }
     {
-        law_step::<Store<D>>();
         let TurnStart { epoch, was: _ } = start;
         match entry {
             None => self.turn.unlock(held),

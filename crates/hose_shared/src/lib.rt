@@ -8,8 +8,9 @@
 //! ```
 //! let (shared, mut pass) = Shared::<_, AnyStore>::new(alloc, store)?;
 //! let other = shared.split(&mut pass);      // for another thread
-//! let (reply, mut pass) =
-//!     shared.admit(rt, alloc, pass, &customer, hose, &mut PlainRows::new(), &PlainGate, 1);
+//! let context = Context { rt, alloc, gate: &PlainGate };
+//! let caller = Caller { context: &context, session: 1, customer: &customer };
+//! let (reply, mut pass) = shared.admit(&caller, pass, hose, &mut PlainRows::new());
 //! shared.join(&mut pass, other);
 //! let (closed, disk, book) = shared.close(pass).close();
 //! ```
@@ -20,14 +21,12 @@ mod asking;
 mod caller;
 mod entering;
 mod kept;
-mod laws;
 mod operating;
 mod planning;
 mod quoting;
 mod shared;
 mod taking;
 
-pub use caller::Caller;
+pub use caller::{Caller, Context};
 pub use kept::{AnyStore, Begun, Kept};
-pub use laws::law_passes;
 pub use shared::Shared;

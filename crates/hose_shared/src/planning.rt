@@ -8,26 +8,25 @@ ghost use Rattle.hose_tree.specs.Amounts.{AreCarried};
 ghost use Rattle.hose_core.specs.Planning.{IsNotPlanned, IsPlannedFor};
 ghost use Rattle.hose_shared.specs.Sharing.{HasSeenMore, IsPassOf};
 
+use crate::caller::Context;
 use crate::kept::Begun;
 use crate::shared::Shared;
 use hose_book::Books;
-use hose_core::{Quote, plan_beside};
+use hose_core::{BookView, Quote, plan_beside};
 use hose_disk::Disk;
 use hose_graph::{Hose, Reply};
 use hose_links::LinkSet;
 use hose_paths::RowMaker;
 use hose_turn::Pass;
-use std::alloc::Global;
 use std::sync::Wait;
 
 impl<D: Disk, B: Begun<D>> Shared<D, B> {
     /// The plan of a hose over the links in service at a place of the history, which the pass has
     /// seen then, and beside the loads there; or the reply where it has none. It is made outside of
     /// the lock.
-    pub(crate) fn plan<W: Wait, R: RowMaker>(
+    pub(crate) fn plan<W: Wait, G, R: RowMaker>(
         &self,
-        rt: &W,
-        alloc: Global,
+        context: &Context<'_, W, G>,
         pass: Pass,
         hose: Hose,
         rows: &mut R,
@@ -39,16 +38,21 @@ impl<D: Disk, B: Begun<D>> Shared<D, B> {
             MatchResult result.0 (IsPlannedFor self.now.network book hose)
             (IsNotPlanned self.now.network book hose) }
     {
-        pass.law_places();
+        let alloc = context.alloc;
         let Ok(mut loads) = Vec::from_elem(alloc, 0, self.topology.links() as usize) else {
             return (Err(Reply::Memory), pass);
         };
         let Ok(mut service) = LinkSet::new(alloc, self.topology.links()) else {
             return (Err(Reply::Memory), pass);
         };
-        let (epoch, pass) = self.look(rt, pass, &mut service, &mut loads);
-        let top = &self.topology;
-        let planned = plan_beside(alloc, top, &service, &loads, epoch, hose, rows);
+        let (epoch, pass) = self.look(context.rt, pass, &mut service, &mut loads);
+        let seen = BookView {
+            top: &self.topology,
+            service: &service,
+            loads: &loads,
+            epoch,
+        };
+        let planned = plan_beside(alloc, seen, hose, rows);
         (planned, pass)
     }
 

@@ -11,19 +11,20 @@ ghost use Rattle.hose_shared.specs.Sharing.{IsPassOf};
 use crate::caller::Caller;
 use crate::kept::Begun;
 use crate::shared::Shared;
-use hose_core::{Quotes, law_quotes};
+use hose_core::Quotes;
 use hose_disk::Disk;
 use hose_graph::{Hose, Reply};
 use hose_paths::RowMaker;
+use hose_pool::Gate;
 use hose_turn::Pass;
 use std::sync::Wait;
 
 impl<D: Disk, B: Begun<D>> Shared<D, B> {
     /// Plans a hose outside of the lock, and holds the plan under the customer's lowest free
     /// number: `Quoted`, `TooMany`, `Refused` or `Memory`. The quotes were made along this pass.
-    pub fn quote<W: Wait, R: RowMaker>(
+    pub fn quote<W: Wait, G: Gate, R: RowMaker>(
         &self,
-        caller: Caller<'_, W>,
+        caller: &Caller<'_, W, G>,
         pass: Pass,
         quotes: &mut Quotes,
         hose: Hose,
@@ -39,15 +40,14 @@ impl<D: Disk, B: Begun<D>> Shared<D, B> {
             pass result.1 quotes.new }
         ensures names { NamesPlaces self.now.network result.0 }
     {
-        law_quotes();
         let Some(number) = quotes.free() else {
-            let (at, pass) = self.now(caller.rt, pass);
+            let (at, pass) = self.now(caller.context.rt, pass);
             return (Reply::TooMany { at }, pass);
         };
-        let (planned, pass) = self.plan(caller.rt, caller.alloc, pass, hose, rows);
+        let (planned, pass) = self.plan(caller.context, pass, hose, rows);
         match planned {
             Err(reply) => (reply, pass),
-            Ok(quote) => (quotes.hold(caller.alloc, number, quote), pass),
+            Ok(quote) => (quotes.hold(caller.context.alloc, number, quote), pass),
         }
     }
 }

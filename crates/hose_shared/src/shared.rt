@@ -16,7 +16,7 @@ use crate::kept::{Begun, Kept};
 use hose_book::Books;
 use hose_disk::Disk;
 use hose_graph::Topology;
-use hose_store::{Decided, Store, law_run};
+use hose_store::Store;
 use hose_turn::{ALL_SHARES, Pass, Turn};
 use std::alloc::{AllocError, Global};
 use std::marker::{Model, PhantomData};
@@ -110,6 +110,7 @@ impl<D: Disk, B: Begun<D>> Shared<D, B> {
         requires share { 2 ≤ pass.old.share }
         ensures kept { pass.new ≡ record pass.old { share = pass.old.share - 1 } }
         ensures given { result ≡ record pass.old { share = 1; own = []; faults = 0 } }
+        ensures both { IsPassOf self.now pass.new × IsPassOf self.now result }
     {
         self.turn.split(pass)
     }
@@ -140,7 +141,6 @@ impl<D: Disk, B: Begun<D>> Shared<D, B> {
         ensures faults { (pass.faults ≤ (D.frame result.journal.disk).faults)
             ⊎ (end_of_count ≤ (D.frame result.journal.disk).faults) }
     {
-        law_run::<D, Decided>();
         self.turn.close(pass).store
     }
 }

@@ -14,9 +14,10 @@ ghost use Rattle.hose_shared.specs.Turns.{StepsInTurn};
 use crate::caller::Caller;
 use crate::kept::Begun;
 use crate::shared::Shared;
-use hose_core::{Claim, Quote, Quotes, claim_take, law_quotes, take_now};
+use hose_core::{Claim, Quote, Quotes, claim_take, take_now};
 use hose_disk::Disk;
 use hose_graph::Reply;
+use hose_pool::Gate;
 use hose_store::Store;
 use hose_turn::Pass;
 use std::snapshot::Snapshot;
@@ -25,9 +26,9 @@ use std::sync::Wait;
 impl<D: Disk, B: Begun<D>> Shared<D, B> {
     /// Admits what a customer was quoted under a number, which is free then: `Admitted`, `NoQuote`,
     /// `Stale`, `Spent`, `Full`, `Disk` or `Memory`. The quotes were made along this pass.
-    pub fn take<W: Wait>(
+    pub fn take<W: Wait, G: Gate>(
         &self,
-        caller: Caller<'_, W>,
+        caller: &Caller<'_, W, G>,
         pass: Pass,
         quotes: &mut Quotes,
         quote: u64,
@@ -36,23 +37,21 @@ impl<D: Disk, B: Begun<D>> Shared<D, B> {
         requires quotes { (held : HeldQuotes)
             × AreHeld self.now.network 0 pass.seen held quotes.old }
         ensures steps { (held : HeldQuotes) → AreHeld self.now.network 0 pass.seen held quotes.old
-            → StepsHolding self.now.network caller.entry.customer.now held (Command.Take quote)
+            → StepsHolding self.now.network caller.now.customer.now held (Command.Take quote)
             result.0 pass result.1 quotes.new }
         // Of a stale quote both numbers are of this history, and other entries came after it.
         ensures stale { (seen now : ℕ) → result.0 ≡ Reply.Stale seen now
             → (seen < now) × (now ≤ length result.1.seen) }
         ensures names { NamesPlaces self.now.network result.0 }
     {
-        law_quotes();
-        pass.law_places();
         let Some(held) = quotes.held(quote) else {
-            let (at, pass) = self.now(caller.rt, pass);
+            let (at, pass) = self.now(caller.context.rt, pass);
             return (Reply::NoQuote { quote, at }, pass);
         };
-        let Ok(claim) = claim_take(caller.alloc, caller.customer, held) else {
+        let Ok(claim) = claim_take(caller.context.alloc, caller.customer, held) else {
             return (Reply::Memory, pass);
         };
-        let answered = self.take_claimed(caller.rt, pass, held, claim);
+        let answered = self.take_claimed(caller.context.rt, pass, held, claim);
         quotes.clear(quote);
         answered
     }

@@ -12,7 +12,7 @@ use Rattle.hose_shared.proofs.shared.Shared.admit.Goals as goal
 pub returns-in-Err-clause-steps : goal.returns-in-Err-clause-steps
 returns-in-Err-clause-steps g c = λ held.
     let network = c.args.self.now.network in
-    let customer = c.args.customer.now in
+    let customer = c.args.caller.now.customer.now in
     let seen = c.plan-planned.result.1 in
     let hose = c.args.hose in
     let none : IsNotPlanned network (book_of 0 seen.seen) c.loop.hose c.in-Err.reply = rw c.in-Err.is at c.plan-planned.ensures.planned in
@@ -37,13 +37,13 @@ loop-preserved g c =
     let network = c.args.self.now.network in
     let seen = c.plan-planned.result.1 in
     let planned : IsPlannedFor network (book_of 0 seen.seen) c.loop.hose c.in-Ok.quote = rw c.in-Ok.is at c.plan-planned.ensures.planned in
-    let tried : IsTried network c.args.customer.now c.in-Ok.quote.hose seen c.take_planned-tried.result.1 (Err c.in-Err-tried.same) = rw c.in-Err-tried.is at c.take_planned-tried.ensures in
+    let tried : IsTried network c.args.caller.now.customer.now c.in-Ok.quote.hose seen c.take_planned-tried.result.1 (Err c.in-Err-tried.same) = rw c.in-Err-tried.is at c.take_planned-tried.ensures in
     (tried.0 ∙ planned.of ∙ c.loop.invariant.0, more_on c.args.pass c.loop.pass c.take_planned-tried.result.1 c.loop.invariant.1 (more_on c.loop.pass seen c.take_planned-tried.result.1 c.plan-planned.ensures.more tried.1))
 
 pub returns-in-Ok-tried-clause-steps : goal.returns-in-Ok-tried-clause-steps
 returns-in-Ok-tried-clause-steps g c = λ held.
     let network = c.args.self.now.network in
-    let customer = c.args.customer.now in
+    let customer = c.args.caller.now.customer.now in
     let seen = c.plan-planned.result.1 in
     let later = c.take_planned-tried.result.1 in
     let quote = c.in-Ok.quote in
@@ -56,7 +56,7 @@ returns-in-Ok-tried-clause-steps g c = λ held.
 pub returns-clause-steps : goal.returns-clause-steps
 returns-clause-steps g c = λ held.
     let network = c.args.self.now.network in
-    let customer = c.args.customer.now in
+    let customer = c.args.caller.now.customer.now in
     let answer = c.admit_in_turn.result.0 in
     let later = c.admit_in_turn.result.1 in
     subst (λ (hose : List Endpoint). StepsAlong network customer held (Admit hose) answer c.args.pass later) c.loop.invariant.0

@@ -15,14 +15,14 @@ admit_now-reply-requires g c =
 pub end_turn-requires-clause-answers : goal.end_turn-requires-clause-answers
 end_turn-requires-clause-answers g c =
     let same = ap (λ (k : _). k.store) (c.value_mut.ensures.value ∙ sym c.begin_turn-held.ensures.value) in
-    let customer = c.args.caller.customer.now in
+    let customer = c.args.caller.now.customer.now in
     let called = c.admit_now-reply.ensures in
     (customer, none_held, Admit c.args.hose, c.admit_now-reply.result.0, admit_turn c.begin_turn-held.ensures.begins same called.answered _ customer none_held c.args.hose called)
 
 pub returns-clause-steps : goal.returns-clause-steps
 returns-clause-steps g c = λ held.
     let same = ap (λ (k : _). k.store) (c.value_mut.ensures.value ∙ sym c.begin_turn-held.ensures.value) in
-    let customer = c.args.caller.customer.now in
+    let customer = c.args.caller.now.customer.now in
     let called = c.admit_now-reply.ensures in
     along_of _ customer held _ _ _ _ _ c.begin_turn-held.ensures.more
     (c.end_turn.ensures customer held (Admit c.args.hose) c.admit_now-reply.result.0 (admit_turn c.begin_turn-held.ensures.begins same called.answered _ customer held c.args.hose called))

@@ -3,6 +3,7 @@ use Rattle.hose_graph.specs.Network.{Network}
 use Rattle.hose_law.specs.History.{IsDecidedAt}
 use Rattle.hose_book.specs.GoingOn.{GoesOn}
 use Rattle.hose_store.specs.Commit.{store_books}
+use Rattle.hose_store.proofs.Standing.{run_stands}
 use Rattle.hose_shared.proofs.shared.Shared.close.Goals as goal
 
 pub returns-clause-history : goal.returns-clause-history
@@ -13,6 +14,6 @@ returns-clause-history g c =
       history = told.0;
       whole = record { stood = stood; since = told.1.since; seen = told.1.seen; own = told.1.own };
       stands = λ beginning was since network begun.
-          c.law_run.ensures beginning was c.args.pass.origin.since told.0 stood.first c.close.result.store (begun stood.first stood.begins)
+          run_stands g.D.Disk IsDecidedAt (g.D.Disk.may_leave was) beginning c.args.pass.origin.since stood.first told.0 c.close.result.store (begun stood.first stood.begins)
           (subst (λ (n : Network). GoesOn (store_books g.D.Disk) IsDecidedAt n c.args.pass.origin.since stood.first told.0 c.close.result.store) (sym network) stood.goes_on);
     }

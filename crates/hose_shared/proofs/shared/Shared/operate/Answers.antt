@@ -12,17 +12,17 @@ returns-then-not-is_operator-clause-steps g c = λ held.
     let new = c.now-at.result.1 in
     let at = c.now-at.ensures.epoch ∙ sym (epoch_of new.seen) in
     stays_along held c.now-at.ensures.more refl
-    (order_denied c.args.self.now.network new.seen c.args.caller.customer.now held c.args.down c.args.link c.now-at.result.0 at (λ same. false≢true (sym c.if-not-is_operator.true ∙ c.is_operator-is_operator.ensures.1 same)))
+    (order_denied c.args.self.now.network new.seen c.args.caller.now.customer.now held c.args.down c.args.link c.now-at.result.0 at (λ same. false≢true (sym c.if-not-is_operator.true ∙ c.is_operator-is_operator.ensures.1 same)))
 
 pub returns-in_default-clause-steps : goal.returns-in_default-clause-steps
 returns-in_default-clause-steps g c = λ held.
     let mine = c.is_operator-is_operator.ensures.0 c.if-not-is_operator.false in
-    stays_along held (more_same c.args.pass c.law_places.ensures) refl (order_starved c.args.self.now.network c.args.pass.seen c.args.caller.customer.now held c.args.down c.args.link mine)
+    stays_along held (more_same c.args.pass c.requires.of.places) refl (order_starved c.args.self.now.network c.args.pass.seen c.args.caller.now.customer.now held c.args.down c.args.link mine)
 
 pub end_turn-requires-clause-answers : goal.end_turn-requires-clause-answers
 end_turn-requires-clause-answers g c =
     let same = ap (λ (k : _). k.store) (c.value_mut.ensures.value ∙ sym c.begin_turn-held.ensures.value) in
-    let customer = c.args.caller.customer.now in
+    let customer = c.args.caller.now.customer.now in
     let called = c.service_now-reply.ensures in
     let mine = c.is_operator-is_operator.ensures.0 c.if-not-is_operator.false in
     let entered = ap Some (c.of-entry.ensures ∙ c.entry.ensures ∙ c.in-Ok.ensures.entry) in (
@@ -36,7 +36,7 @@ end_turn-requires-clause-answers g c =
 pub returns-clause-steps : goal.returns-clause-steps
 returns-clause-steps g c = λ held.
     let same = ap (λ (k : _). k.store) (c.value_mut.ensures.value ∙ sym c.begin_turn-held.ensures.value) in
-    let customer = c.args.caller.customer.now in
+    let customer = c.args.caller.now.customer.now in
     let called = c.service_now-reply.ensures in
     let mine = c.is_operator-is_operator.ensures.0 c.if-not-is_operator.false in
     let entered = ap Some (c.of-entry.ensures ∙ c.entry.ensures ∙ c.in-Ok.ensures.entry) in

@@ -9,7 +9,7 @@ pub end_turn-requires-clause-answers : goal.end_turn-requires-clause-answers
 end_turn-requires-clause-answers g c =
     let now = ap (λ (k : _). k.store) (sym c.begin_turn-held.ensures.value) in
     let same = ap (λ (k : _). k.store) (c.value.ensures ∙ sym c.begin_turn-held.ensures.value) in
-    let customer = c.args.caller.customer.now in
+    let customer = c.args.caller.now.customer.now in
     let told = c.show_now-reply.ensures in
     (customer, none_held, Show c.args.id, c.show_now-reply.result, reads_turn c.begin_turn-held.ensures.begins same now customer none_held (Show c.args.id) told.step told.met)
 
@@ -17,7 +17,7 @@ pub returns-clause-steps : goal.returns-clause-steps
 returns-clause-steps g c = λ held.
     let now = ap (λ (k : _). k.store) (sym c.begin_turn-held.ensures.value) in
     let same = ap (λ (k : _). k.store) (c.value.ensures ∙ sym c.begin_turn-held.ensures.value) in
-    let customer = c.args.caller.customer.now in
+    let customer = c.args.caller.now.customer.now in
     let told = c.show_now-reply.ensures in
     along_of _ customer held _ _ _ _ _ c.begin_turn-held.ensures.more
     (c.end_turn.ensures customer held (Show c.args.id) c.show_now-reply.result (reads_turn c.begin_turn-held.ensures.begins same now customer held (Show c.args.id) told.step told.met))

@@ -6,7 +6,7 @@ use Rattle.hose_shared.proofs.shared.Shared.take_planned.Goals as goal
 
 pub returns-in_default : goal.returns-in_default
 returns-in_default g c = (
-  λ held. stays_along held (more_same c.args.pass c.law_places.ensures) refl (tt, refl, refl, refl),
+  λ held. stays_along held (more_same c.args.pass c.requires.of.places) refl (tt, refl, refl, refl),
   tt,
 )
 
@@ -14,12 +14,12 @@ pub take_claimed-reply-requires-clause-quote : goal.take_claimed-reply-requires-
 take_claimed-reply-requires-clause-quote g c =
     let quote = c.args.quote in
     let one : HeldQuote = record { hose = quote.hose; place = length c.args.pass.seen } in
-    (one, quote_there c.args.self.now.network c.args.pass.seen c.args.caller.customer.now [] quote.hose quote (record { of = refl; made = c.requires.planned }))
+    (one, quote_there c.args.self.now.network c.args.pass.seen c.args.caller.now.customer.now [] quote.hose quote (record { of = refl; made = c.requires.planned }))
 
 pub returns-then-is_stale : goal.returns-then-is_stale
 returns-then-is_stale g c =
     let network = c.args.self.now.network in
-    let customer = c.args.caller.customer.now in
+    let customer = c.args.caller.now.customer.now in
     let quote = c.args.quote in
     let pass = c.args.pass in
     let one : HeldQuote = record { hose = quote.hose; place = length pass.seen } in
@@ -31,7 +31,7 @@ returns-then-is_stale g c =
 pub returns : goal.returns
 returns g c =
     let network = c.args.self.now.network in
-    let customer = c.args.caller.customer.now in
+    let customer = c.args.caller.now.customer.now in
     let quote = c.args.quote in
     let pass = c.args.pass in
     let answer = c.take_claimed-reply.result.0 in
