@@ -1,0 +1,4 @@
+pub mod Inputs
+pub mod Retold
+pub mod StillReading
+pub mod Talks

@@ -1,0 +1,171 @@
+-- Lines of a talk, one after another.
+use Rattle.std.proofs.Common.{◌≡◌, ◌≢◌, ◌∙◌, ◌↔◌, ℕ, ◌≤◌, ◌<◌, ◌+◌, arith, List, [], ◌∷◌, ◌++◌, None, Some, Result, Ok, Err, true, false, refl, sym, ap, subst, take}
+use Rattle.std.specs.List.{flat_map}
+use Rattle.hose_io.specs.Stream.{Grows}
+use Rattle.hose_io.specs.Writing.{GrowsInPart}
+use Rattle.hose_io.proofs.Streams.{Grows-nil, Grows-append}
+use Rattle.hose_io.specs.declared.sink.Sink.{Ghosts as SinkGhosts}
+use Rattle.hose_io.specs.declared.source.Source.{Ghosts as SourceGhosts}
+use Rattle.hose_words.specs.Lines.{IsNext, Reader, StopsAfterLines}
+use Rattle.hose_words.specs.Reading.{ReadsOn}
+use Rattle.hose_words.specs.Saying.{IsAllTaken, IsLeftOver, SaysUpTo, StopsReading}
+use Rattle.hose_words.specs.declared.lines.TheConstants.{INPUT_LIMIT}
+use Rattle.hose_words.specs.declared.lines.Line.{Line}
+use Rattle.hose_words.specs.declared.lines.LineFault.{LineFault}
+use Rattle.hose_words.specs.declared.lines.LineFault.TheVariants as line_fault
+use Rattle.hose_words.proofs.Saying.{flat_map-last, met_fault, rose_now, said_all, said_enough, said_more, said_none, said_until, takes_line}
+use Rattle.hose_talk.specs.Said.{ComesOn}
+use Rattle.hose_talk.specs.Talk.{AllOut, Exchanges, HasTalked, KeepsFault, LastCut, TakesReply, TalksByReader, TalksUpTo}
+use Rattle.hose_talk.specs.TalkFaults.{of_line}
+use Rattle.hose_talk.specs.declared.answers.Answers.{Ghosts}
+use Rattle.hose_talk.specs.declared.talking.TalkEnd.TheVariants as talk_end
+use Rattle.hose_talk.specs.declared.talking.TalkFault.{TalkFault}
+use Rattle.hose_talk.specs.declared.talking.TalkFault.TheVariants as talk_fault
+use Rattle.hose_talk.proofs.StillReading.{IsStillReading, source_held}
+
+-- what did not end at the limit is within it
+pub within_limit : {T : Type 0} (value : T) (taken : ℕ) → (◌≡◌ {A = Result T TalkFault} (Ok value) (Err talk_fault.TooLong)) ↔ (INPUT_LIMIT < taken) → taken ≤ INPUT_LIMIT
+within_limit value taken is = let less : ¬ (INPUT_LIMIT < taken) = λ more. cc (is.1 more) in omega (arith, less)
+
+pub one_past : (taken : ℕ) → taken ≤ INPUT_LIMIT → taken ≤ INPUT_LIMIT + 1
+one_past taken below = omega (arith, below)
+
+pub not_past : {T : Type 0} (value : T) (taken : ℕ) → taken ≤ INPUT_LIMIT → (◌≡◌ {A = Result T TalkFault} (Ok value) (Err talk_fault.TooLong)) ↔ (INPUT_LIMIT < taken)
+not_past value taken below = ((λ is. absurd (cc is)), (λ more. absurd (omega (arith, below, more))))
+
+module _ {A R S O : Type 0} (by : Ghosts A R) (source : SourceGhosts S) (sink : SinkGhosts O) where
+  -- a line that was read was answered
+  pub answered_line : (old new : Reader S) (now last : A) (shown : Line) (reply : R) (puts : List ℕ → Type 0) → IsNext source old new (Ok (Some shown)) → ((from : by.origin) → ComesOn (by.says (by.about now)) (by.comes from) shown now last reply)
+      → by.about last ≡ by.about now → puts (by.text (by.about last) reply) → TakesReply by source sink old new now last puts
+  answered_line old new now last shown reply puts next answers about out = record {
+    reply = reply;
+    answers = λ from lines replies came.
+        let more = answers from lines replies came in
+        (more.0, takes_line source old new shown (λ bytes. by.says (by.about now) lines bytes more.0) next more.1, more.2);
+    out = subst (λ (subject : by.subject). puts (by.text subject reply)) about out;
+    progress = next.progress;
+  }
+
+  -- reading met a fault
+  pub exchanges_read : (old new : Reader S) (output : O) (now : A) (met : LineFault) → old.fault ≡ None → IsNext source old new (Err met) → Exchanges by source sink old new output output now now (Err (of_line met))
+  exchanges_read old new output now line_fault.Read none next = (met_fault source old new line_fault.Read none next, rose_now source old new none (next.read refl), refl, refl)
+  exchanges_read old new output now line_fault.TooLong none next = (met_fault source old new line_fault.TooLong none next, refl, refl)
+
+  -- ---- line after line
+
+  module _ (from : by.origin) where
+    pub nothing_talked : (reader : Reader S) (output : O) (first : A) → by.comes from [] [] first → HasTalked by source sink from reader reader output output first first
+    nothing_talked reader output first begins = record {
+      lines = [];
+      replies = [];
+      said = said_none (by.says (by.about first)) reader.pending (source.content reader.source);
+      comes = begins;
+      out = Grows-nil (sink.content output);
+    }
+
+    module _ (start now new : Reader S) (before middle after : O) (first was last : A) (about : by.about was ≡ by.about first) (talked : HasTalked by source sink from start now before middle first was) (still : IsStillReading source sink start now before middle)
+        (goes_on : by.over was ≡ false) where
+      abbrev Taken : (List ℕ → Type 0) → Type 0
+      Taken puts = TakesReply by source sink now new was last puts
+
+      abbrev Says : List by.said → List ℕ → by.said → Type 0
+      Says = by.says (by.about first)
+
+      abbrev text : R → List ℕ
+      text = by.text (by.about first)
+
+      abbrev UpTo : (List ℕ → List ℕ → List ℕ → Type 0) → (List R → Type 0) → Type 0
+      UpTo = TalksUpTo (λ stops lines. SaysUpTo source start new Says lines stops) (by.comes from) last
+
+      -- a line more is answered
+      pub talked_more : Taken (Grows (sink.content middle) (sink.content after)) → HasTalked by source sink from start new before after first last
+      talked_more taken =
+          let more = taken.answers from talked.lines talked.replies talked.comes in
+          record {
+            lines = talked.lines ++ more.0 ∷ [];
+            replies = talked.replies ++ taken.reply ∷ [];
+            said = said_more source Says start now new talked.lines talked.said still.reads more.0 (λ bytes. by.says (by.about was) talked.lines bytes more.0) more.1 (λ bytes is. subst (λ (subject : by.subject). by.says subject talked.lines bytes more.0) about is);
+            comes = more.2;
+            out = subst (Grows (sink.content before) (sink.content after)) (sym (flat_map-last text talked.replies taken.reply))
+                (Grows-append (sink.content before) (sink.content middle) (sink.content after) (flat_map text talked.replies) (text taken.reply) talked.out
+                (subst (λ (subject : by.subject). Grows (sink.content middle) (sink.content after) (by.text subject taken.reply)) about taken.out));
+          }
+
+      -- a line more is taken, and its reply is cut off
+      talked_cut : Taken (GrowsInPart (sink.content middle) (sink.content after)) → UpTo IsLeftOver (LastCut text sink before after)
+      talked_cut taken =
+          let more = taken.answers from talked.lines talked.replies talked.comes in
+          let out = subst (λ (subject : by.subject). GrowsInPart (sink.content middle) (sink.content after) (by.text subject taken.reply)) about taken.out in
+          record {
+            lines = talked.lines ++ more.0 ∷ [];
+            replies = talked.replies ++ taken.reply ∷ [];
+            said = said_enough source Says start new _
+                (said_more source Says start now new talked.lines talked.said still.reads more.0 (λ bytes. by.says (by.about was) talked.lines bytes more.0) more.1 (λ bytes is. subst (λ (subject : by.subject). by.says subject talked.lines bytes more.0) about is));
+            comes = more.2;
+            out = (
+              talked.replies,
+              taken.reply,
+              refl,
+              out.0,
+              out.1,
+              Grows-append (sink.content before) (sink.content middle) (sink.content after) (flat_map text talked.replies) (take out.0 (text taken.reply)) talked.out out.2,
+            );
+          }
+
+      -- no line more is taken
+      talked_up_to : (stops : List ℕ → List ℕ → List ℕ → Type 0) → SaysUpTo source start new Says talked.lines stops → after ≡ middle → last ≡ was → UpTo stops (AllOut text sink before after)
+      talked_up_to stops said same stays = record {
+        lines = talked.lines;
+        replies = talked.replies;
+        said = said;
+        comes = subst (by.comes from talked.lines talked.replies) (sym stays) talked.comes;
+        out = subst (λ (o : O). Grows (sink.content before) (sink.content o) (flat_map text talked.replies)) (sym same) talked.out;
+      }
+
+      held_on : ReadsOn source now new → new.fault ≢ Some line_fault.Read → source.frame new.source ≡ source.frame start.source
+      held_on reads unread = reads.unfailed unread ∙ source_held source sink start now before middle still
+
+      still_open : last ≡ was → by.over last ≡ false
+      still_open stays = ap by.over stays ∙ goes_on
+
+      -- reading met a fault, and nothing more is out
+      until : (met : LineFault) → StopsReading source now new met → after ≡ middle → last ≡ was → UpTo (StopsAfterLines met) (AllOut text sink before after)
+      until met stops same stays = talked_up_to (StopsAfterLines met) (said_until source Says start now new talked.lines talked.said still.reads met still.none stops) same stays
+
+      -- a fault ends it
+      pub talks_fault : (why : TalkFault) → ReadsOn source now new → Exchanges by source sink now new middle after was last (Err why) → TalksByReader by source sink from start new before after first last (Err why)
+      talks_fault talk_fault.Read reads line = ((until line_fault.Read line.0 line.2 line.3, still_open line.3), rw (source_held source sink start now before middle still) at line.1, ap sink.frame line.2 ∙ still.held)
+      talks_fault talk_fault.TooLong reads line = ((until line_fault.TooLong line.0 line.1 line.2, still_open line.2), held_on reads (λ read. cc (line.0.kept, read)), ap sink.frame line.1 ∙ still.held)
+      talks_fault talk_fault.Write reads line = (talked_cut line.0, held_on reads (λ read. cc (line.1, read)), rw still.held at line.2)
+
+      -- no line is left
+      pub talks_all : ReadsOn source now new → Exchanges by source sink now new middle after was last (Ok false) → TalksByReader by source sink from start new before after first last (Ok talk_end.Input)
+      talks_all reads line = (
+        (talked_up_to IsAllTaken (said_all source Says start now new talked.lines talked.said still.reads line.0) line.2 line.3, still_open line.3),
+        held_on reads (λ read. cc (line.1, read)),
+        ap sink.frame line.2 ∙ still.held,
+      )
+
+    -- no line is answered any more
+    pub talks_over : (start now : Reader S) (before middle : O) (first was : A) → HasTalked by source sink from start now before middle first was → IsStillReading source sink start now before middle → by.over was ≡ true
+        → TalksByReader by source sink from start now before middle first was (Ok talk_end.Over)
+    talks_over start now before middle first was talked still over = (
+      (
+        record {
+          lines = talked.lines;
+          replies = talked.replies;
+          said = said_enough source (by.says (by.about first)) start now talked.lines talked.said;
+          comes = talked.comes;
+          out = talked.out;
+        },
+        over,
+      ),
+      source_held source sink start now before middle still,
+      still.held,
+    )
+
+  -- the fault that ended it is kept
+  pub keeps_fault : (start now new : Reader S) (before middle after : O) (was last : A) → IsStillReading source sink start now before middle → (why : TalkFault) → Exchanges by source sink now new middle after was last (Err why) → KeepsFault start new (Err why)
+  keeps_fault start now new before middle after was last still talk_fault.Read line = (line.0.kept, still.reads.ended line.0.before_end)
+  keeps_fault start now new before middle after was last still talk_fault.TooLong line = (line.0.kept, still.reads.ended line.0.before_end)
+  keeps_fault start now new before middle after was last still talk_fault.Write line = line.1
