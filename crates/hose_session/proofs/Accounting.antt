@@ -15,14 +15,17 @@ use Rattle.hose_law.proofs.Fronts.{prefix_length, prefix_same}
 use Rattle.hose_turn.specs.Known.{Known}
 use Rattle.hose_turn.specs.declared.view.Origin.{Origin}
 use Rattle.hose_session.specs.Accounts.{AccountFor, AreServedAlong, none_served, one_served, ComeTo, IsServedAlong}
-use Rattle.hose_session.specs.Session.{IsSession, ServesSession, Telling, TellsOf}
+use Rattle.hose_session.specs.Session.{IsSession, ServesSession}
+use Rattle.hose_session.specs.SessionLines.{SaysAfter}
+use Rattle.hose_talk.specs.Talk.{Telling, TellsOf}
+use Rattle.hose_law.specs.Transcript.{SessionLine}
 use Rattle.hose_session.specs.declared.ending.SessionEnd.{SessionEnd}
 use Rattle.hose_session.specs.declared.ending.SessionEnd.TheVariants as session_end
 use Rattle.hose_session.proofs.Completing.{session_moved}
 
 -- what the input of a connection says
-abbrev says_of : Network → Connection → Telling
-says_of network connection = TellsOf network (Some (record { taken = []; left = connection.taken ++ connection.left })) (Some (record { taken = connection.taken; left = connection.left }))
+abbrev says_of : Network → Connection → Telling SessionLine
+says_of network connection = TellsOf (SaysAfter network) (Some (record { taken = []; left = connection.taken ++ connection.left })) (Some (record { taken = connection.taken; left = connection.left }))
 
 -- ---- a longer history
 
@@ -96,11 +99,11 @@ one_accounts source sink connections connection old new input input' output outp
     ended : Option Stream
     ended = Some (record { taken = connection.taken; left = connection.left })
 
-    session : IsSession network new.seen (length old.seen) (TellsOf network (source.content input) (source.content input')) (Some []) (Some connection.given) (0 < connection.reading) (0 < connection.writing) end serves.replies serves.own
-    session = session_moved network new.seen new.seen (prefix_same new.seen) (length old.seen) (TellsOf network (source.content input) (source.content input')) (TellsOf network (source.content input) (source.content input')) (λ stops lines says. says) (Some []) (Some connection.given) _ _ _ _
+    session : IsSession network new.seen (length old.seen) (TellsOf (SaysAfter network) (source.content input) (source.content input')) (Some []) (Some connection.given) (0 < connection.reading) (0 < connection.writing) end serves.replies serves.own
+    session = session_moved network new.seen new.seen (prefix_same new.seen) (length old.seen) (TellsOf (SaysAfter network) (source.content input) (source.content input')) (TellsOf (SaysAfter network) (source.content input) (source.content input')) (λ stops lines says. says) (Some []) (Some connection.given) _ _ _ _
         (failed_once (source.frame input) (source.frame input') connection.reading is.unread is.reading) (failed_once (sink.frame output) (sink.frame output') connection.writing is.unwritten is.writing) end serves.replies serves.own
-        (subst (λ (o : Option (List ℕ)). IsSession network new.seen (length old.seen) (TellsOf network (source.content input) (source.content input')) o (Some connection.given) (Rose (source.frame input) (source.frame input')) (Rose (sink.frame output) (sink.frame output')) end serves.replies serves.own) is.empty
-        (subst (λ (o : Option (List ℕ)). IsSession network new.seen (length old.seen) (TellsOf network (source.content input) (source.content input')) (sink.content output) o (Rose (source.frame input) (source.frame input')) (Rose (sink.frame output) (sink.frame output')) end serves.replies serves.own) is.given serves.session))
+        (subst (λ (o : Option (List ℕ)). IsSession network new.seen (length old.seen) (TellsOf (SaysAfter network) (source.content input) (source.content input')) o (Some connection.given) (Rose (source.frame input) (source.frame input')) (Rose (sink.frame output) (sink.frame output')) end serves.replies serves.own) is.empty
+        (subst (λ (o : Option (List ℕ)). IsSession network new.seen (length old.seen) (TellsOf (SaysAfter network) (source.content input) (source.content input')) (sink.content output) o (Rose (source.frame input) (source.frame input')) (Rose (sink.frame output) (sink.frame output')) end serves.replies serves.own) is.given serves.session))
 
     given : Gives fresh ended bytes
     given = subst (λ (s : Option Stream). Gives fresh s bytes) is.served (subst (λ (s : Option Stream). Gives s (source.content input') bytes) is.fresh gives)
@@ -110,8 +113,8 @@ one_accounts source sink connections connection old new input input' output outp
       from = length old.seen;
       later = prefix_length old.origin.since old.seen began;
       end = end;
-      session = subst (λ (s : Option Stream). IsSession network new.seen (length old.seen) (TellsOf network fresh s) (Some []) (Some connection.given) (0 < connection.reading) (0 < connection.writing) end serves.replies serves.own) is.served
-          (subst (λ (s : Option Stream). IsSession network new.seen (length old.seen) (TellsOf network s (source.content input')) (Some []) (Some connection.given) (0 < connection.reading) (0 < connection.writing) end serves.replies serves.own) is.fresh session);
+      session = subst (λ (s : Option Stream). IsSession network new.seen (length old.seen) (TellsOf (SaysAfter network) fresh s) (Some []) (Some connection.given) (0 < connection.reading) (0 < connection.writing) end serves.replies serves.own) is.served
+          (subst (λ (s : Option Stream). IsSession network new.seen (length old.seen) (TellsOf (SaysAfter network) s (source.content input')) (Some []) (Some connection.given) (0 < connection.reading) (0 < connection.writing) end serves.replies serves.own) is.fresh session);
       too_long = subst (λ (b : List ℕ). (end ≡ session_end.TooLong) ↔ (INPUT_LIMIT < length b)) (sym given.taken) too_long;
     }
 

@@ -1,35 +1,30 @@
--- A whole session, over what is behind the borrow of its input, and to its end.
-use Rattle.std.proofs.Common.{◌≡◌, ◌⊎◌, inl, inr, ℕ, ◌<◌, List, [], ◌∷◌, ◌++◌, length, codes, MutBor, Option, None, Some, refl, sym, ap, subst, ◌∙◌, arith, length-append}
+-- A session in other words, at a longer history, and to its end.
+use Rattle.std.proofs.Common.{◌≡◌, ◌⊎◌, inl, inr, ℕ, ◌<◌, List, [], ◌∷◌, ◌++◌, length, codes, Option, None, Some, refl, sym, ap, subst, ◌∙◌, arith, length-append}
 use Rattle.std.specs.List.{before_first}
 use mathlib.Core.List.{IsPrefix}
-use Rattle.hose_io.specs.Frame.{Frame, Rose}
 use Rattle.hose_io.specs.Stream.{Gives, Stream}
-use Rattle.hose_io.specs.declared.source.Source.{Ghosts as SourceGhosts}
-use Rattle.hose_io.specs.declared.sink.Sink.{Ghosts as SinkGhosts}
 use Rattle.hose_words.specs.Grammar.{IsFirstNotAllowed}
-use Rattle.hose_words.specs.Lines.{Reader, is_line_feed}
-use Rattle.hose_words.specs.Saying.{SayLines, no_line, one_more, SaysUpTo}
+use Rattle.hose_words.specs.Lines.{is_line_feed}
+use Rattle.hose_words.specs.Saying.{SayLines, no_line, one_more}
 use Rattle.hose_words.specs.Words.{words_of}
 use Rattle.hose_words.specs.declared.lines.TheConstants.{INPUT_LIMIT}
-use Rattle.hose_words.proofs.OnReading.{WhereTold-map}
 use Rattle.hose_graph.specs.Network.{Network}
 use Rattle.hose_graph.specs.declared.entry.Entry.{Entry}
 use Rattle.hose_graph.specs.declared.command.Reply.{Reply}
 use Rattle.hose_law.specs.Transcript.{SessionLine, Stage}
 use Rattle.hose_law.specs.Transcript.SessionLine.{Greets, Asks, Leaves, IsBad, IsLong, Unread}
-use Rattle.hose_law.proofs.Fronts.{prefix_same}
 use Rattle.hose_law.proofs.Transcripts.{transcript_longer}
 use Rattle.hose_turn.specs.Known.{Known}
-use Rattle.hose_session.specs.Session.{AnswersUpTo, IsGreeted, IsSession, ServesAlong, ServesSession, Telling, TellsOf}
+use Rattle.hose_session.specs.Session.{AnswersUpTo, IsGreeted, IsSession, ServesAlong}
+use Rattle.hose_talk.specs.Talk.{Telling, TellsOf}
 use Rattle.hose_session.specs.SessionLines.{SaysAfter, SaysFirst, greeting_grammar}
-use Rattle.hose_session.specs.Exchanges.{ServesLines}
 use Rattle.hose_session.specs.declared.ending.SessionEnd.{SessionEnd}
 use Rattle.hose_session.specs.declared.ending.SessionEnd.TheVariants as session_end
 use Rattle.hose_session.proofs.Conversing.{BeginSo, IsGreets, begins_so}
 
 -- ---- in other words, and at a longer history
 
-module _ (network : Network) (history longer : List Entry) (prefix : IsPrefix history longer) (from : ℕ) (tells other : Telling) (moved : (stops : List ℕ → List ℕ → List ℕ → Type 0) (lines : List SessionLine) → tells stops lines → other stops lines) where
+module _ (network : Network) (history longer : List Entry) (prefix : IsPrefix history longer) (from : ℕ) (tells other : Telling SessionLine) (moved : (stops : List ℕ → List ℕ → List ℕ → Type 0) (lines : List SessionLine) → tells stops lines → other stops lines) where
   answers_moved : (stops : List ℕ → List ℕ → List ℕ → Type 0) (ends : Stage → Type 0) (puts : List Reply → Type 0) (replies : List Reply) (own : List ℕ) → AnswersUpTo network history from tells stops ends puts replies own
       → AnswersUpTo network longer from other stops ends puts replies own
   answers_moved stops ends puts replies own answers = record {
@@ -51,35 +46,6 @@ module _ (network : Network) (history longer : List Entry) (prefix : IsPrefix hi
   session_moved before after R R' W W' read wrote session_end.Read replies own is = (answers_moved _ _ _ replies own is.0, read is.1)
   session_moved before after R R' W W' read wrote session_end.TooLong replies own is = answers_moved _ _ _ replies own is
   session_moved before after R R' W W' read wrote session_end.Write replies own is = (answers_moved _ _ _ replies own is.0, wrote is.1)
-
--- what is read through a borrow is read of what is behind it, and from a start where nothing is pending
-pub session_behind : {T O : Type 0} (other : SourceGhosts T) (source : SourceGhosts (MutBor T)) (sink : SinkGhosts O) (network : Network) (start now : Reader (MutBor T)) (input behind : T) (output output' : O) (old new : Known) (end : SessionEnd)
-    → ((b : MutBor T) → source.content b ≡ other.content b.now) → ((b : MutBor T) → source.frame b ≡ record (other.frame b.now) { loan = b.ghost_name ∷ (other.frame b.now).loan })
-    → start.source.now ≡ input → now.source.now ≡ behind → start.pending ≡ [] → ServesLines source sink network start now output output' old new end → ServesSession other sink network input behind output output' old new end
-session_behind {T} {O} other source sink network start now input behind output output' old new end content frame front back none serves = record {
-  replies = serves.replies;
-  own = serves.own;
-  session = session_moved network new.seen new.seen (prefix_same new.seen) (length old.seen) (λ stops lines. SaysUpTo source start now (SaysAfter network) lines stops) (TellsOf network (other.content input) (other.content behind)) moved (sink.content output) (sink.content output') _ _ _ _ rose (λ wrote. wrote) end
-      serves.replies serves.own serves.session;
-  entries = serves.entries;
-  same = serves.same;
-  owns = serves.owns;
-  disks = serves.disks;
-}
-  where
-    moved : (stops : List ℕ → List ℕ → List ℕ → Type 0) (lines : List SessionLine) → SaysUpTo source start now (SaysAfter network) lines stops → TellsOf network (other.content input) (other.content behind) stops lines
-    moved stops lines says =
-        let told = WhereTold-map (source.content start.source) (source.content now.source) _ (λ text left. (rest : List ℕ) × SayLines (SaysAfter network) text lines rest × stops text rest left) says
-        (λ was left said. subst (λ (p : List ℕ). (rest : List ℕ) × SayLines (SaysAfter network) (p ++ was) lines rest × stops (p ++ was) rest left) none said) in
-        subst (λ (c : Option Stream). TellsOf network (other.content input) c stops lines) (content now.source ∙ ap other.content back)
-        (subst (λ (c : Option Stream). TellsOf network c (source.content now.source) stops lines) (content start.source ∙ ap other.content front) told)
-
-    rose : Rose (source.frame start.source) (source.frame now.source) → Rose (other.frame input) (other.frame behind)
-    rose more =
-        let shown : Rose (record (other.frame start.source.now) { loan = start.source.ghost_name ∷ (other.frame start.source.now).loan }) (record (other.frame now.source.now) { loan = now.source.ghost_name ∷ (other.frame now.source.now).loan }) =
-        subst (λ (f : Frame). Rose f (record (other.frame now.source.now) { loan = now.source.ghost_name ∷ (other.frame now.source.now).loan })) (frame start.source) (subst (λ (f : Frame). Rose (source.frame start.source) f) (frame now.source) more) in
-        let inner : Rose (other.frame start.source.now) (other.frame now.source.now) = record { rose = shown.rose } in
-        subst (λ (b : T). Rose (other.frame input) (other.frame b)) back (subst (λ (b : T). Rose (other.frame b) (other.frame now.source.now)) front inner)
 
 -- ---- a greeting is not refused
 
@@ -112,7 +78,7 @@ greeting_alone bytes name (IsBad word) greets says = absurd (whole (subst (λ (w
 
 -- a session whose input begins with a greeting is served to its end, where nothing fails
 pub session_complete : (network : Network) (was now : Option Stream) (bytes : List ℕ) (before after : Option (List ℕ)) (R W : Type 0) (old new : Known) (end : SessionEnd) → Gives was now bytes → (end ≡ session_end.TooLong → INPUT_LIMIT < length bytes)
-    → ServesAlong network (TellsOf network was now) before after R W old new end → IsGreeted was → ¬ R → ¬ W → (end ≡ session_end.End) ⊎ (end ≡ session_end.Bye)
+    → ServesAlong network (TellsOf (SaysAfter network) was now) before after R W old new end → IsGreeted was → ¬ R → ¬ W → (end ≡ session_end.End) ⊎ (end ≡ session_end.Bye)
 session_complete network None now bytes before after R W old new end gives too_long serves greeted no_read no_write = absurd greeted
 session_complete network (Some was) None bytes before after R W old new end gives too_long serves greeted no_read no_write = absurd gives
 session_complete network (Some was) (Some now) bytes before after R W old new end gives too_long serves greeted no_read no_write = at end too_long serves.session
@@ -120,7 +86,7 @@ session_complete network (Some was) (Some now) bytes before after R W old new en
     text : List ℕ
     text = was.left
 
-    at : (end : SessionEnd) → (end ≡ session_end.TooLong → INPUT_LIMIT < length bytes) → IsSession network new.seen (length old.seen) (TellsOf network (Some was) (Some now)) before after R W end serves.replies serves.own
+    at : (end : SessionEnd) → (end ≡ session_end.TooLong → INPUT_LIMIT < length bytes) → IsSession network new.seen (length old.seen) (TellsOf (SaysAfter network) (Some was) (Some now)) before after R W end serves.replies serves.own
         → (end ≡ session_end.End) ⊎ (end ≡ session_end.Bye)
     at session_end.End too_long is = inl refl
     at session_end.Bye too_long is = inr refl

@@ -1,38 +1,40 @@
 -- Lines of a session, one after the other, to its end.
-use Rattle.std.proofs.Common.{◌≡◌, inl, inr, ℕ, All, List, [], ◌∷◌, ◌++◌, length, take, Option, None, refl, sym, ap, subst, ◌∙◌, arith, append-nil, append_assoc}
+use Rattle.std.proofs.Common.{◌≡◌, ◌≢◌, ◌↔◌, inl, inr, ℕ, Bool, false, List, [], ◌∷◌, ◌++◌, length, Result, Ok, Err, refl, sym, ap, subst, ◌∙◌, arith, append-nil, append_assoc}
 use Rattle.std.specs.Prelude.{⊤}
 use Rattle.std.proofs.lemmas.List.Elements.{All-append, All-nil}
-use mathlib.Core.List.{IsPrefix}
-use Rattle.hose_io.specs.Frame.{Frame, Rose}
-use Rattle.hose_io.specs.Stream.{Grows}
-use Rattle.hose_io.specs.Writing.{GrowsInPart}
+use Rattle.hose_io.specs.Frame.{Rose}
 use Rattle.hose_io.specs.declared.source.Source.{Ghosts as SourceGhosts}
 use Rattle.hose_io.specs.declared.sink.Sink.{Ghosts as SinkGhosts}
-use Rattle.hose_io.proofs.Streams.{Grows-append, Grows-nil}
-use Rattle.hose_words.specs.Lines.{Reader, StopsAfterLines}
-use Rattle.hose_words.specs.Reading.{ReadsOn, WhereTold}
-use Rattle.hose_words.specs.Saying.{IsAllTaken, IsLeftOver, SayLines, SaysUpTo, StopsReading}
-use Rattle.hose_words.specs.declared.lines.LineFault.{LineFault}
-use Rattle.hose_words.specs.declared.lines.LineFault.TheVariants as line_fault
-use Rattle.hose_words.proofs.Saying.{flat_map-last, said_all, said_enough, said_more, said_none, said_until}
+use Rattle.hose_words.specs.declared.lines.Line.{Line}
+use Rattle.hose_talk.specs.Talk.{LastCut, TalksTo, TalksUpTo, TellsOf}
+use Rattle.hose_talk.specs.declared.talking.TalkEnd.{TalkEnd}
+use Rattle.hose_talk.specs.declared.talking.TalkEnd.TheVariants as talk_end
+use Rattle.hose_talk.specs.declared.talking.TalkFault.{TalkFault}
+use Rattle.hose_talk.specs.declared.talking.TalkFault.TheVariants as talk_fault
+use Rattle.hose_talk.proofs.Retold.{talks_as}
 use Rattle.hose_graph.specs.Network.{Network}
 use Rattle.hose_graph.specs.declared.entry.Entry.{Entry}
 use Rattle.hose_graph.specs.declared.command.Reply.{Reply}
-use Rattle.hose_law.specs.Quotes.{Held}
 use Rattle.hose_law.specs.Transcript.{IsSessionStep, IsTranscript, no_line, line_more, SessionLine, Stage}
 use Rattle.hose_law.specs.Transcript.SessionLine.{Greets, Asks, Leaves, IsBad, IsLong, Unread}
 use Rattle.hose_law.specs.Transcript.Stage.{Left, Refused, Serving, Waiting}
 use Rattle.hose_law.proofs.Scripts.{disks_push}
 use Rattle.hose_law.proofs.Transcripts.{transcript_longer}
-use Rattle.hose_proto.specs.Replies.{CutsLast, texts_of}
+use Rattle.hose_proto.specs.Replies.{CutsLast}
 use Rattle.hose_proto.specs.ReplyText.{line_of, reply_text}
 use Rattle.hose_shared.specs.Along.{HasEntryAt}
 use Rattle.hose_shared.specs.Sharing.{IsSamePass}
 use Rattle.hose_turn.specs.Known.{Known}
-use Rattle.hose_session.specs.Session.{AnswersUpTo, IsSession, WasLeft, MayGoOn, WasRefused, IsServing, IsWaiting}
-use Rattle.hose_session.specs.SessionLines.{SaysAfter, SaysFirst, SaysLater}
-use Rattle.hose_session.specs.Exchanges.{EndsAt, GoesAlong, HasServed, IsExchange, NoneComes, ServesLines, AnswersInSession}
+use Rattle.hose_session.specs.Ending.{end_after, over_at}
+use Rattle.hose_session.specs.Exchanges.{AnswersAt, ComesAlong, GoesAlong, IsAt, IsExchange, IsPhaseAt, SaysAt, ShownSays}
+use Rattle.hose_session.specs.Session.{AnswersUpTo, IsServing, IsSession, IsWaiting, MayGoOn, ServesSession, WasLeft, WasRefused}
+use Rattle.hose_session.specs.SessionLines.{SaysAfter}
+use Rattle.hose_session.specs.declared.client.Client.{Client}
+use Rattle.hose_session.specs.declared.client.Phase.{Phase}
+use Rattle.hose_session.specs.declared.client.Phase.TheVariants as phase
+use Rattle.hose_session.specs.declared.client.Progress.{Progress}
 use Rattle.hose_session.specs.declared.ending.SessionEnd.{SessionEnd}
+use Rattle.hose_shared.proofs.Passes.{entries_longer, same_on}
 use Rattle.hose_session.specs.declared.ending.SessionEnd.TheVariants as session_end
 
 -- ---- lines that came
@@ -79,21 +81,17 @@ module _ (network : Network) (history : List Entry) where
   begins_so from no_line = refl
   begins_so from (line_more {lines} {stage = stage} {next = next} line reply added before step) = step_begins lines stage next line reply _ _ added step (begins_so from before)
 
-  -- what a line says after the greeting
-  pub says_later : (from : ℕ) (customer : List ℕ) (held : Held) (lines : List SessionLine) (replies : List Reply) (place : ℕ) (own : List ℕ)
-      → IsTranscript network 0 history from lines replies (Serving customer held) place own → (bytes : List ℕ) (said : SessionLine) → SaysLater network bytes said → SaysAfter network lines bytes said
-  says_later from customer held lines replies place own transcript bytes said says =
-      let begun = begins_so from transcript in subst (λ (l : List SessionLine). SaysAfter network l bytes said) (sym begun.2) says
+  -- what a line may say where a transcript has come to a stage is what it says after its lines
+  says_there : (stage : Stage) (lines : List SessionLine) → BeginSo lines stage → (bytes : List ℕ) (said : SessionLine) → SaysAt network stage bytes said → SaysAfter network lines bytes said
+  says_there Waiting lines begun bytes said says = subst (λ (l : List SessionLine). SaysAfter network l bytes said) (sym begun) says
+  says_there (Serving customer held) lines begun bytes said says = subst (λ (l : List SessionLine). SaysAfter network l bytes said) (sym begun.2) says
+  says_there Refused lines begun bytes said says = absurd says
+  says_there Left lines begun bytes said says = absurd says
 
 -- ---- a pass that goes on
 
--- what is true of passes that go on
-pub record PassLaws : Type 0 where
-  pub goes_on : (one two three : Known) → IsSamePass one two → IsSamePass two three → IsSamePass one three
-  pub entries : (network : Network) (history longer : List Entry) (places : List ℕ) → IsPrefix history longer → All (HasEntryAt network history) places → All (HasEntryAt network longer) places
-
-module _ (laws : PassLaws) (network : Network) where
-  abbrev along_none : (pass : Known) → IsSamePass pass pass → GoesAlong network pass pass [] [] Waiting []
+module _ (network : Network) where
+  along_none : (pass : Known) → IsSamePass pass pass → GoesAlong network pass pass [] [] Waiting []
   along_none pass same = record {
     last = length pass.seen;
     transcript = no_line;
@@ -112,145 +110,108 @@ module _ (laws : PassLaws) (network : Network) where
         last = step.0;
         transcript = line_more said reply exchange.added (transcript_longer network 0 old.seen new.seen exchange.same.seen (length first.seen) along.transcript) step.2;
         reached = step.1;
-        entries = All-append (HasEntryAt network new.seen) own exchange.added (laws.entries network old.seen new.seen own exchange.same.seen along.entries) exchange.entries;
-        same = laws.goes_on first old new along.same exchange.same;
+        entries = All-append (HasEntryAt network new.seen) own exchange.added (entries_longer network old.seen new.seen own exchange.same.seen along.entries) exchange.entries;
+        same = same_on first old new along.same exchange.same;
         owns = exchange.own ∙ ap (λ (o : List ℕ). o ++ exchange.added) along.owns ∙ append_assoc first.own own exchange.added;
         disks = omega (arith, along.disks, exchange.faults, disks_push replies reply);
       }
 
-  module _ {S O : Type 0} (source : SourceGhosts S) (sink : SinkGhosts O) (start now new : Reader S) (begun output output' : O) (first old pass : Known) (stage : Stage) (Is : List ℕ → SessionLine → Type 0) (reads : ReadsOn source start now) where
-    abbrev Served : Type 0
-    Served = HasServed source start now network first old stage (sink.content begun) (sink.content output)
+  -- nothing has come yet
+  pub comes_none : (pass : Known) → IsSamePass pass pass → ComesAlong network pass (record { pass = pass; phase = phase.Waiting }) [] []
+  comes_none pass same = record { stage = Waiting; own = []; along = along_none pass same; at = refl }
 
-    abbrev Fit : Served → Type 0
-    Fit served = (bytes : List ℕ) (said : SessionLine) → Is bytes said → SaysAfter network served.lines bytes said
-
-    said_after : (served : Served) → Fit served → (puts : List ℕ → Type 0) (next : Stage) (answered : AnswersInSession source now new network old pass Is stage puts next)
-        → WhereTold (source.content start.source) (source.content new.source) (λ was left. SayLines (SaysAfter network) (start.pending ++ was) (served.lines ++ answered.said ∷ []) (new.pending ++ left))
-    said_after served fit puts next answered = said_more source (SaysAfter network) start now new served.lines served.said reads answered.said (λ bytes. Is bytes answered.said) answered.line (λ bytes is. fit bytes answered.said is)
-
-    abbrev Comes : SessionEnd → Type 0
-    Comes = ServesLines source sink network start new begun output' first pass
-
-    abbrev UpTo : (List ℕ → List ℕ → List ℕ → Type 0) → (Stage → Type 0) → (List Reply → Type 0) → List Reply → List ℕ → Type 0
-    UpTo = AnswersUpTo network pass.seen (length first.seen) (λ stops lines. SaysUpTo source start new (SaysAfter network) lines stops)
-
-    abbrev Out : List Reply → Type 0
-    Out replies = Grows (sink.content begun) (sink.content output') (texts_of network replies)
-
-    abbrev Answered : (List ℕ → Type 0) → Stage → Type 0
-    Answered puts next = AnswersInSession source now new network old pass Is stage puts next
-
-    abbrev PutsWhole : List ℕ → Type 0
-    PutsWhole = Grows (sink.content output) (sink.content output')
-
-    abbrev PutsPart : List ℕ → Type 0
-    PutsPart = GrowsInPart (sink.content output) (sink.content output')
-
-    out_more : (served : Served) (next : Stage) (answered : Answered PutsWhole next) → Out (served.replies ++ answered.reply ∷ [])
-    out_more served next answered = subst (Grows (sink.content begun) (sink.content output')) (sym (flat_map-last (λ reply. line_of (reply_text network reply)) served.replies answered.reply))
-        (Grows-append (sink.content begun) (sink.content output) (sink.content output') (texts_of network served.replies) (line_of (reply_text network answered.reply)) served.out answered.out)
-
-    went : (served : Served) (puts : List ℕ → Type 0) (next : Stage) (answered : Answered puts next) → GoesAlong network first pass (served.lines ++ answered.said ∷ []) (served.replies ++ answered.reply ∷ []) next (served.own ++ answered.exchange.added)
-    went served puts next answered = along_more first old pass served.lines served.replies stage next served.own answered.said answered.reply served.along answered.exchange
-
-    -- a line more
-    pub served_more : (served : Served) → Fit served → (next : Stage) → Answered PutsWhole next → HasServed source start new network first pass next (sink.content begun) (sink.content output')
-    served_more served fit next answered = record {
-      lines = served.lines ++ answered.said ∷ [];
-      replies = served.replies ++ answered.reply ∷ [];
-      own = served.own ++ answered.exchange.added;
-      said = said_after served fit PutsWhole next answered;
-      along = went served PutsWhole next answered;
-      out = out_more served next answered;
-    }
-
-    -- which is the last one
-    last_up_to : (served : Served) → Fit served → (puts : List ℕ → Type 0) (next : Stage) (answered : Answered puts next) (ends : Stage → Type 0) → ends next → (outs : List Reply → Type 0) → outs (served.replies ++ answered.reply ∷ [])
-        → UpTo IsLeftOver ends outs (served.replies ++ answered.reply ∷ []) (served.own ++ answered.exchange.added)
-    last_up_to served fit puts next answered ends is outs out =
-        let more = went served puts next answered in
+  -- one line more comes
+  pub comes_on : (first : Known) (old new : Progress) (line : Line) (reply : Reply) (lines : List SessionLine) (replies : List Reply) → ComesAlong network first old lines replies
+      → ((stage : Stage) → IsAt network old stage → AnswersAt network old.pass new stage line reply)
+      → (said : SessionLine) × ShownSays (SaysAfter network lines) line said × ComesAlong network first new (lines ++ said ∷ []) (replies ++ reply ∷ [])
+  comes_on first old new line reply lines replies comes answers =
+      let one = answers comes.stage comes.at in (
+        one.said,
+        (λ bytes shows. says_there network old.pass.seen comes.stage lines (begins_so network old.pass.seen (length first.seen) comes.along.transcript) bytes one.said (one.says bytes shows)),
         record {
-          lines = served.lines ++ answered.said ∷ [];
-          stage = next;
-          last = more.last;
-          said = said_enough source (SaysAfter network) start new (served.lines ++ answered.said ∷ []) (said_after served fit puts next answered);
-          transcript = more.transcript;
-          ended = is;
-          out = out;
-        }
+          stage = one.next;
+          own = comes.own ++ one.exchange.added;
+          along = along_more first old.pass new.pass lines replies comes.stage one.next comes.own one.said reply comes.along one.exchange;
+          at = one.at;
+        },
+      )
 
-    -- its reply is out
-    last_answered : (served : Served) → Fit served → (next : Stage) (ends : Stage → Type 0) → ends next → (answered : Answered PutsWhole next) → UpTo IsLeftOver ends Out (served.replies ++ answered.reply ∷ []) (served.own ++ answered.exchange.added)
-    last_answered served fit next ends is answered = last_up_to served fit PutsWhole next answered ends is Out (out_more served next answered)
+-- ---- a talk that ended
 
-    -- or the output failed in it
-    last_cut : (served : Served) → Fit served → (next : Stage) (answered : Answered PutsPart next)
-        → UpTo IsLeftOver (λ s. ⊤) (CutsLast network (sink.content begun) (sink.content output')) (served.replies ++ answered.reply ∷ []) (served.own ++ answered.exchange.added)
-    last_cut served fit next answered = last_up_to served fit PutsPart next answered (λ s. ⊤) tt (CutsLast network (sink.content begun) (sink.content output')) (
-      served.replies,
-      answered.reply,
-      refl,
-      (
-        answered.out.0,
-        answered.out.1,
-        Grows-append (sink.content begun) (sink.content output) (sink.content output') (texts_of network served.replies) (take answered.out.0 (line_of (reply_text network answered.reply))) served.out answered.out.2,
-      ),
-    )
+-- the talk of a session that is so far
+module _ {S O : Type 0} (network : Network) (source : SourceGhosts S) (sink : SinkGhosts O) (input input' : S) (output output' : O) (first pass : Known) where
+  abbrev pub Talks : Phase → Result TalkEnd TalkFault → Type 0
+  Talks at = TalksTo source sink (TellsOf (SaysAfter network) (source.content input) (source.content input')) (λ lines replies progress. ComesAlong network first progress lines replies) (λ progress. over_at progress.phase) (λ reply. line_of (reply_text network reply)) input input' output output'
+      (record { pass = pass; phase = at })
 
-    -- no line was answered any more
-    none_more : (served : Served) (stops : List ℕ → List ℕ → List ℕ → Type 0) (ends : Stage → Type 0) → SaysUpTo source start new (SaysAfter network) served.lines stops → ends stage → output' ≡ output → pass ≡ old
-        → UpTo stops ends Out served.replies served.own
-    none_more served stops ends says is same stays = record {
-      lines = served.lines;
-      stage = stage;
-      last = served.along.last;
-      said = says;
-      transcript = subst (λ (k : Known). IsTranscript network 0 k.seen (length first.seen) served.lines served.replies stage served.along.last served.own) (sym stays) served.along.transcript;
-      ended = is;
-      out = subst (λ (o : O). Grows (sink.content begun) (sink.content o) (texts_of network served.replies)) (sym same) served.out;
-    }
+  abbrev Serves : SessionEnd → Type 0
+  Serves = ServesSession source sink network input input' output output' first pass
 
-    module _ (served : Served) (fit : Fit served) (none : now.fault ≡ None) (held : sink.frame output ≡ sink.frame begun) where
-      source_held : source.frame now.source ≡ source.frame start.source
-      source_held = reads.unfailed (λ read. absurd (cc (none, read)))
+  module _ (at : Phase) (stops : List ℕ → List ℕ → List ℕ → Type 0) (puts : List Reply → Type 0)
+      (talks : TalksUpTo (TellsOf (SaysAfter network) (source.content input) (source.content input')) (λ lines replies progress. ComesAlong network first progress lines replies) (record { pass = pass; phase = at }) stops puts) where
+    up_to : (ends : Stage → Type 0) → ends talks.comes.stage → (outs : List Reply → Type 0) → outs talks.replies → AnswersUpTo network pass.seen (length first.seen) (TellsOf (SaysAfter network) (source.content input) (source.content input')) stops ends outs talks.replies talks.comes.own
+    up_to ends is outs out = record { lines = talks.lines; stage = talks.comes.stage; last = talks.comes.along.last; said = talks.said; transcript = talks.comes.along.transcript; ended = is; out = out }
 
-      stayed : pass ≡ old → GoesAlong network first pass served.lines served.replies stage served.own
-      stayed stays = subst (λ (k : Known). GoesAlong network first k served.lines served.replies stage served.own) (sym stays) served.along
+    serves : (end : SessionEnd)
+        → IsSession network pass.seen (length first.seen) (TellsOf (SaysAfter network) (source.content input) (source.content input')) (sink.content output) (sink.content output') (Rose (source.frame input) (source.frame input')) (Rose (sink.frame output) (sink.frame output')) end talks.replies talks.comes.own → Serves end
+    serves end session = record { replies = talks.replies; own = talks.comes.own; session = session; entries = talks.comes.along.entries; same = talks.comes.along.same; owns = talks.comes.along.owns; disks = talks.comes.along.disks }
 
-      over : (ends : Stage → Type 0) → ends stage → NoneComes source sink network now new output output' old pass Is stage → UpTo IsAllTaken ends Out served.replies served.own
-      over ends is comes = none_more served IsAllTaken ends (said_all source (SaysAfter network) start now new served.lines served.said reads comes.0) is comes.2 comes.3
+  serving : (client : Client) (stage : Stage) → IsPhaseAt network pass.seen (phase.Serving client) stage → IsServing stage
+  serving client stage (held, same, are) = subst IsServing (sym same) tt
 
-      broke : (fault : LineFault) → MayGoOn stage → StopsReading source now new fault → output' ≡ output → pass ≡ old → UpTo (StopsAfterLines fault) MayGoOn Out served.replies served.own
-      broke fault is stops same stays = none_more served (StopsAfterLines fault) MayGoOn (said_until source (SaysAfter network) start now new served.lines served.said reads fault none stops) is same stays
+  may_go_on : (at : Phase) (stage : Stage) → over_at at ≡ false → IsPhaseAt network pass.seen at stage → MayGoOn stage
+  may_go_on phase.Waiting stage goes is = inl is
+  may_go_on (phase.Serving client) stage goes is = inr (serving client stage is)
+  may_go_on phase.Refused stage goes is = absurd (cc goes)
+  may_go_on phase.Left stage goes is = absurd (cc goes)
 
-      comes : (end : SessionEnd) {lines : List SessionLine} {replies : List Reply} {stage : Stage} {own : List ℕ} → GoesAlong network first pass lines replies stage own
-          → IsSession network pass.seen (length first.seen) (λ stops lines. SaysUpTo source start new (SaysAfter network) lines stops) (sink.content begun) (sink.content output') (Rose (source.frame start.source) (source.frame new.source))
-          (Rose (sink.frame begun) (sink.frame output')) end replies own → Comes end
-      comes end {replies = replies} {own = own} along session = record { replies = replies; own = own; session = session; entries = along.entries; same = along.same; owns = along.owns; disks = along.disks }
+  -- the last reply is cut off
+  cut : (replies : List Reply) → LastCut (λ reply. line_of (reply_text network reply)) sink output output' replies → CutsLast network (sink.content output) (sink.content output') replies
+  cut replies (whole, reply, same, count, less, grows) = (whole, reply, same, (count, less, grows))
 
-      -- the session ends
-      pub ends_so : (end : SessionEnd) → EndsAt source sink network now new output output' old pass Is stage end → Comes end
-      ends_so session_end.End ends = comes session_end.End (stayed ends.1.3) (over IsServing ends.0 ends.1)
-      ends_so session_end.Bye ends = comes session_end.Bye (went served PutsWhole Left ends.0) (last_answered served fit Left WasLeft refl ends.0)
-      ends_so session_end.NoHello (inl ends) = comes session_end.NoHello (stayed ends.1.3) (inr (over IsWaiting ends.0 ends.1))
-      ends_so session_end.NoHello (inr ends) = comes session_end.NoHello (went served PutsWhole Refused ends.0) (inl (last_answered served fit Refused WasRefused refl ends.0))
-      ends_so session_end.Read ends =
-          comes session_end.Read (stayed ends.4) (broke line_fault.Read ends.0 ends.1 ends.3 ends.4, subst (λ (f : Frame). Rose f (source.frame new.source)) source_held ends.2)
-      ends_so session_end.TooLong ends = comes session_end.TooLong (stayed ends.3) (broke line_fault.TooLong ends.0 ends.1 ends.2 ends.3)
-      ends_so session_end.Write ends =
-          comes session_end.Write (went served PutsPart ends.0.0 ends.0.1) (last_cut served fit ends.0.0 ends.0.1, subst (λ (f : Frame). Rose f (sink.frame output')) held ends.2)
+  -- a session that ended so was served so
+  pub serves_so : (at : Phase) (ended : Result TalkEnd TalkFault) → Talks at ended → Serves (end_after at ended)
+  serves_so phase.Waiting (Ok talk_end.Input) talks = serves phase.Waiting _ _ talks.0.0 session_end.NoHello (inr (up_to phase.Waiting _ _ talks.0.0 IsWaiting talks.0.0.comes.at _ talks.0.0.out))
+  serves_so (phase.Serving client) (Ok talk_end.Input) talks = serves (phase.Serving client) _ _ talks.0.0 session_end.End (up_to (phase.Serving client) _ _ talks.0.0 IsServing (serving client talks.0.0.comes.stage talks.0.0.comes.at) _ talks.0.0.out)
+  serves_so phase.Refused (Ok talk_end.Input) talks = absurd (cc talks.0.1)
+  serves_so phase.Left (Ok talk_end.Input) talks = absurd (cc talks.0.1)
+  serves_so phase.Waiting (Ok talk_end.Over) talks = absurd (cc talks.0.1)
+  serves_so (phase.Serving client) (Ok talk_end.Over) talks = absurd (cc talks.0.1)
+  serves_so phase.Refused (Ok talk_end.Over) talks = serves phase.Refused _ _ talks.0.0 session_end.NoHello (inl (up_to phase.Refused _ _ talks.0.0 WasRefused talks.0.0.comes.at _ talks.0.0.out))
+  serves_so phase.Left (Ok talk_end.Over) talks = serves phase.Left _ _ talks.0.0 session_end.Bye (up_to phase.Left _ _ talks.0.0 WasLeft talks.0.0.comes.at _ talks.0.0.out)
+  serves_so at (Err talk_fault.Read) talks = serves at _ _ talks.0.0 session_end.Read (up_to at _ _ talks.0.0 MayGoOn (may_go_on at talks.0.0.comes.stage talks.0.1 talks.0.0.comes.at) _ talks.0.0.out, talks.1)
+  serves_so at (Err talk_fault.TooLong) talks = serves at _ _ talks.0.0 session_end.TooLong (up_to at _ _ talks.0.0 MayGoOn (may_go_on at talks.0.0.comes.stage talks.0.1 talks.0.0.comes.at) _ talks.0.0.out)
+  serves_so at (Err talk_fault.Write) talks = serves at _ _ talks.0 session_end.Write (up_to at _ _ talks.0 (λ stage. ⊤) tt (CutsLast network (sink.content output) (sink.content output')) (cut talks.0.replies talks.0.out), talks.2)
 
-  -- nothing is served yet, and a first line may say what a first line says
-  abbrev pub served_none : {S : Type 0} (source : SourceGhosts S) (start : Reader S) (content : Option (List ℕ)) (pass : Known) → IsSamePass pass pass → HasServed source start start network pass pass Waiting content content
-  served_none source start content pass same = record {
-    lines = [];
-    replies = [];
-    own = [];
-    said = said_none (SaysAfter network) start.pending (source.content start.source);
-    along = along_none pass same;
-    out = Grows-nil content;
-  }
+  -- but for a fault of the input it has not failed, and neither has the output
+  pub reading_held : (at : Phase) (ended : Result TalkEnd TalkFault) → Talks at ended → end_after at ended ≢ session_end.Read → source.frame input' ≡ source.frame input
+  reading_held at (Ok talk_end.Input) talks other = talks.1
+  reading_held at (Ok talk_end.Over) talks other = talks.1
+  reading_held at (Err talk_fault.Read) talks other = absurd (other refl)
+  reading_held at (Err talk_fault.TooLong) talks other = talks.1
+  reading_held at (Err talk_fault.Write) talks other = talks.1
 
-  pub first_fits : (bytes : List ℕ) (said : SessionLine) → SaysFirst bytes said → SaysAfter network [] bytes said
-  first_fits bytes said says = says
+  pub writing_held : (at : Phase) (ended : Result TalkEnd TalkFault) → Talks at ended → end_after at ended ≢ session_end.Write → sink.frame output' ≡ sink.frame output
+  writing_held at (Ok talk_end.Input) talks other = talks.2
+  writing_held at (Ok talk_end.Over) talks other = talks.2
+  writing_held at (Err talk_fault.Read) talks other = talks.2
+  writing_held at (Err talk_fault.TooLong) talks other = talks.2
+  writing_held at (Err talk_fault.Write) talks other = absurd (other refl)
+
+  -- in the words of who held the talk, on the network that there was
+  pub talks_there : {A : Type 0} (last : A) (Comes : List SessionLine → List Reply → A → Type 0) (over : A → Bool) (at : Phase) (there : Network) → there ≡ network
+      → ((lines : List SessionLine) (replies : List Reply) → Comes lines replies last → ComesAlong network first (record { pass = pass; phase = at }) lines replies) → over last ≡ over_at at → (ended : Result TalkEnd TalkFault)
+      → TalksTo source sink (TellsOf (SaysAfter there) (source.content input) (source.content input')) Comes over (λ reply. line_of (reply_text there reply)) input input' output output' last ended → Talks at ended
+  talks_there last Comes over at there same follows is ended talks =
+      talks_as source sink (TellsOf (SaysAfter network) (source.content input) (source.content input')) (TellsOf (SaysAfter network) (source.content input) (source.content input')) Comes (λ lines replies progress. ComesAlong network first progress lines replies) over (λ progress. over_at progress.phase) (λ reply. line_of (reply_text network reply)) input input' output output' last (record { pass = pass; phase = at }) (λ stops lines says. says) follows is ended
+      (subst (λ (n : Network). TalksTo source sink (TellsOf (SaysAfter n) (source.content input) (source.content input')) Comes over (λ reply. line_of (reply_text n reply)) input input' output output' last ended) same talks)
+
+-- a session ends as its input is too long exactly where its talk does
+pub too_long_so : (at : Phase) (ended : Result TalkEnd TalkFault) (P : Type 0) → (ended ≡ Err talk_fault.TooLong) ↔ P → (end_after at ended ≡ session_end.TooLong) ↔ P
+too_long_so phase.Waiting (Ok end) P is = ((λ same. absurd (cc same)), (λ long. absurd (cc (is.1 long))))
+too_long_so (phase.Serving client) (Ok end) P is = ((λ same. absurd (cc same)), (λ long. absurd (cc (is.1 long))))
+too_long_so phase.Refused (Ok end) P is = ((λ same. absurd (cc same)), (λ long. absurd (cc (is.1 long))))
+too_long_so phase.Left (Ok end) P is = ((λ same. absurd (cc same)), (λ long. absurd (cc (is.1 long))))
+too_long_so at (Err talk_fault.Read) P is = ((λ same. absurd (cc same)), (λ long. absurd (cc (is.1 long))))
+too_long_so at (Err talk_fault.TooLong) P is = ((λ same. is.0 refl), (λ long. refl))
+too_long_so at (Err talk_fault.Write) P is = ((λ same. absurd (cc same)), (λ long. absurd (cc (is.1 long))))

@@ -1,7 +1,6 @@
 -- Exchanges along a pass.
 use Rattle.std.proofs.Common.{◌≡◌, inl, inr, ℕ, ◌+◌, ◌<◌, ◌≤◌, List, [], length, take, Option, refl, sym, ap, subst, arith, append-nil, Bor, ◌∙◌}
 use Rattle.std.proofs.lemmas.List.Elements.{All-nil}
-use mathlib.Core.List.{IsPrefix}
 use Rattle.hose_words.specs.Lines.{Shows}
 use Rattle.hose_words.specs.declared.lines.TheConstants.{LINE_LIMIT}
 use Rattle.hose_words.specs.declared.lines.Line.{Line}
@@ -25,11 +24,14 @@ use Rattle.hose_law.proofs.Steps.{step_keeps}
 use Rattle.hose_core.specs.Holding.{AreHeld}
 use Rattle.hose_core.specs.Stepping.{committed_for, committed_of}
 use Rattle.hose_core.specs.declared.quotes.Quote.{Quote}
+use Rattle.hose_core.proofs.HeldQuotes.{held_on}
 use Rattle.hose_shared.specs.Along.{HasEntryAt, StepsAlong, StepsHolding}
 use Rattle.hose_shared.specs.Sharing.{HasSeenMore, IsSamePass}
 use Rattle.hose_turn.specs.Known.{Known}
-use Rattle.hose_session.specs.Exchanges.{IsExchange, ServesClientOn}
+use Rattle.hose_session.specs.Exchanges.{AnswersAt, IsExchange, ServesClientOn, ShownSays}
+use Rattle.hose_session.specs.SessionLines.{SaysFirst, SaysLater}
 use Rattle.hose_session.specs.declared.client.Client.{Client}
+use Rattle.hose_session.specs.declared.client.Phase.TheVariants as phase
 
 -- what is known of a line that is shown holds of its bytes
 pub text_is : (Is : List ℕ → Type 0) (line : Line) (text : Bor (List ℕ)) → line ≡ Text text → Is text.now → (bytes : List ℕ) → Shows line bytes → (length bytes ≤ LINE_LIMIT) × Is bytes
@@ -68,12 +70,12 @@ module _ (network : Network) (old new : Known) (customer : List ℕ) (held : Hel
 
 -- a command that leaves the quotes as they are, which are held at a longer history too
 pub keeping_exchange : (network : Network) (old new : Known) (client : Client) (held : Held) (command one : Command) (answer : Reply) → command ≡ one → ¬ ChangesHeld one → StepsAlong network client.name held one answer old new
-    → (IsPrefix old.seen new.seen → AreHeld network 0 old.seen held client.quotes → AreHeld network 0 new.seen held client.quotes) → AreHeld network 0 old.seen held client.quotes
+    → AreHeld network 0 old.seen held client.quotes
     → ServesClientOn network old new client client held (Asks command) answer
-keeping_exchange network old new client held command one answer is others along longer are = subst (λ (c : Command). ServesClientOn network old new client client held (Asks c) answer) (sym is) (record {
+keeping_exchange network old new client held command one answer is others along are = subst (λ (c : Command). ServesClientOn network old new client client held (Asks c) answer) (sym is) (record {
   left = along.left;
   exchange = along_exchange network old new client.name held one answer along;
-  holds = subst (λ (h : Held). AreHeld network 0 new.seen h client.quotes) (sym (kept network old new client.name held one answer along others)) (longer along.same.seen are);
+  holds = subst (λ (h : Held). AreHeld network 0 new.seen h client.quotes) (sym (kept network old new client.name held one answer along others)) (held_on along.same.seen are);
   name = refl;
 })
 
@@ -146,3 +148,37 @@ greeted_exchange network old new customer at is more = record {
   own = more.own ∙ sym (append-nil old.own);
   faults = omega (arith, more.same.faults);
 }
+
+-- ---- what a line comes to
+
+module _ (network : Network) (old new : Known) (line : Line) (reply : Reply) where
+  -- a client was served on
+  pub served_at : (client client' : Client) (held : Held) (said : SessionLine) → ShownSays (SaysLater network) line said → ServesClientOn network old new client client' held said reply
+      → AnswersAt network old (record { pass = new; phase = phase.Serving client' }) (Serving client.name held) line reply
+  served_at client client' held said says serves = record {
+    said = said;
+    next = Serving client.name serves.left;
+    says = says;
+    exchange = serves.exchange;
+    at = (serves.left, ap (λ (name : List ℕ). Serving name serves.left) (sym serves.name), serves.holds);
+  }
+
+  -- a customer was greeted
+  pub greeted_at : (client : Client) (customer : List ℕ) → client ≡ record { name = customer; quotes = none_held } → AreHeld network 0 new.seen none_held none_held → ShownSays SaysFirst line (Greets customer)
+      → IsExchange network old new Waiting (Greets customer) reply (Serving customer none_held) → AnswersAt network old (record { pass = new; phase = phase.Serving client }) Waiting line reply
+  greeted_at client customer is none says exchange = record {
+    said = Greets customer;
+    next = Serving customer none_held;
+    says = says;
+    exchange = exchange;
+    at = (none_held, ap (λ (c : Client). Serving c.name none_held) (sym is), subst (λ (c : Client). AreHeld network 0 new.seen none_held c.quotes) (sym is) none);
+  }
+
+  -- a first line was refused
+  pub refused_at : (said : SessionLine) → ShownSays SaysFirst line said → IsExchange network old new Waiting said reply StageRefused → AnswersAt network old (record { pass = new; phase = phase.Refused }) Waiting line reply
+  refused_at said says exchange = record { said = said; next = StageRefused; says = says; exchange = exchange; at = refl }
+
+  -- a customer left
+  pub left_at : (customer : List ℕ) (held : Held) → ShownSays (SaysLater network) line Leaves → IsExchange network old new (Serving customer held) Leaves reply Left
+      → AnswersAt network old (record { pass = new; phase = phase.Left }) (Serving customer held) line reply
+  left_at customer held says exchange = record { said = Leaves; next = Left; says = says; exchange = exchange; at = refl }

@@ -1,5 +1,4 @@
-mod Accounting
+pub mod Accounting
 mod Completing
 mod Conversing
 mod Exchanging
-mod Telling

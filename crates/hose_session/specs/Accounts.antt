@@ -9,7 +9,9 @@ use Rattle.hose_graph.specs.declared.entry.Entry.{Entry}
 use Rattle.hose_graph.specs.declared.command.Reply.{Reply}
 use Rattle.hose_law.specs.Script.{disks_in}
 use Rattle.hose_turn.specs.Known.{Known}
-use Rattle.hose_session.specs.Session.{IsSession, TellsOf}
+use Rattle.hose_talk.specs.Talk.{TellsOf}
+use Rattle.hose_session.specs.Session.{IsSession}
+use Rattle.hose_session.specs.SessionLines.{SaysAfter}
 use Rattle.hose_session.specs.declared.ending.SessionEnd.{SessionEnd}
 use Rattle.hose_session.specs.declared.ending.SessionEnd.TheVariants.{TooLong}
 
@@ -38,7 +40,7 @@ pub record IsServedAlong (network : Network) (history : List Entry) (since : ℕ
   pub from : ℕ
   pub later : since ≤ from
   pub end : SessionEnd
-  pub session : IsSession network history from (TellsOf network
+  pub session : IsSession network history from (TellsOf (SaysAfter network)
       (Some (record { taken = []; left = connection.taken ++ connection.left }))
       (Some (record { taken = connection.taken; left = connection.left })))
       (Some []) (Some connection.given) (0 < connection.reading) (0 < connection.writing) end

@@ -1,34 +1,25 @@
 -- Exchanges: a line of a session and its reply, one after another.
-use Rattle.std.specs.Prelude.{◌≡◌, ◌⊎◌, ◌↔◌, ℕ, ◌+◌, ◌<◌, ◌≤◌, All, List, ◌++◌, length, Option, None, Result, Ok, Err}
-use Rattle.hose_io.specs.Frame.{Rose, Stays}
-use Rattle.hose_io.specs.Stream.{Grows}
-use Rattle.hose_io.specs.Writing.{GrowsInPart}
-use Rattle.hose_io.specs.declared.source.Source.{Ghosts as SourceGhosts}
-use Rattle.hose_io.specs.declared.sink.Sink.{Ghosts as SinkGhosts}
-use Rattle.hose_words.specs.Lines.{Reader, Shows}
-use Rattle.hose_words.specs.Reading.{ReadsOn, WhereTold}
-use Rattle.hose_words.specs.Saying.{IsOver, SayLines, SaysUpTo, StopsReading, TakesLine}
-use Rattle.hose_words.specs.Limits.{input_limit}
+use Rattle.std.specs.Prelude.{◌≡◌, ℕ, ◌+◌, ◌≤◌, All, Bool, true, List, ◌++◌, length, Option, None, Some, Result, Ok, Err}
+use Rattle.hose_words.specs.Lines.{Shows}
 use Rattle.hose_words.specs.declared.lines.Line.{Line}
-use Rattle.hose_words.specs.declared.lines.LineFault.TheVariants as line_fault
 use Rattle.hose_graph.specs.Network.{Network}
 use Rattle.hose_graph.specs.declared.command.Reply.{Reply}
+use Rattle.hose_graph.specs.declared.entry.Entry.{Entry}
 use Rattle.hose_law.specs.Quotes.{Held}
 use Rattle.hose_law.specs.Script.{disks_in, one_if_disk}
 use Rattle.hose_law.specs.Transcript.{IsPlainReply, IsSessionStep, IsTranscript, SessionLine, Stage}
 use Rattle.hose_law.specs.Transcript.SessionLine.{Greets}
-use Rattle.hose_law.specs.Transcript.Stage.{Left, Refused, Serving}
+use Rattle.hose_law.specs.Transcript.Stage.{Left, Refused, Serving, Waiting}
 use Rattle.hose_core.specs.Holding.{AreHeld}
-use Rattle.hose_proto.specs.Replies.{texts_of}
-use Rattle.hose_proto.specs.ReplyText.{line_of, reply_text}
 use Rattle.hose_shared.specs.Along.{HasEntryAt}
 use Rattle.hose_shared.specs.Sharing.{IsPassOf, IsSamePass, SharedBook}
 use Rattle.hose_turn.specs.Known.{Known}
-use Rattle.hose_session.specs.Session.{MayGoOn, IsServing, IsWaiting, ServesAlong}
-use Rattle.hose_session.specs.SessionLines.{SaysAfter, SaysFirst}
+use Rattle.hose_session.specs.Ending.{over_at}
+use Rattle.hose_session.specs.SessionLines.{SaysFirst, SaysLater}
 use Rattle.hose_session.specs.declared.client.Client.{Client}
-use Rattle.hose_session.specs.declared.ending.SessionEnd.{SessionEnd}
-use Rattle.hose_session.specs.declared.ending.SessionEnd.TheVariants as session_end
+use Rattle.hose_session.specs.declared.client.Phase.{Phase}
+use Rattle.hose_session.specs.declared.client.Phase.TheVariants as phase
+use Rattle.hose_session.specs.declared.client.Progress.{Progress}
 
 -- An exchange: a line was answered while a pass went on, from each place that it had seen, at one
 -- that it has seen then.
@@ -61,68 +52,45 @@ IsGreetedBy line (Ok name) = ShownSays SaysFirst line (Greets name)
 IsGreetedBy line (Err reply) = (said : SessionLine) × ShownSays SaysFirst line said
     × IsPlainReply said reply
 
--- the last reply of a session that ends so is out, or the output failed in it
-abbrev pub SaysLast : {O : Type 0} → SinkGhosts O → O → O → List ℕ → SessionEnd → SessionEnd
-    → Type 0
-SaysLast sink output output' text end told =
-    ((told ≡ end) × Grows (sink.content output) (sink.content output') text
-    × (sink.frame output' ≡ sink.frame output))
-    ⊎ ((told ≡ session_end.Write)
-    × GrowsInPart (sink.content output) (sink.content output') text
-    × Rose (sink.frame output) (sink.frame output'))
+-- ---- how far a session is
 
--- ---- at a reader
+-- a phase is so far at a history: its customer's quotes are those that it holds
+abbrev pub IsPhaseAt : Network → List Entry → Phase → Stage → Type 0
+IsPhaseAt network history phase.Waiting stage = stage ≡ Waiting
+IsPhaseAt network history (phase.Serving client) stage = (held : Held)
+    × (stage ≡ Serving client.name held) × AreHeld network 0 history held client.quotes
+IsPhaseAt network history phase.Refused stage = stage ≡ Refused
+IsPhaseAt network history phase.Left stage = stage ≡ Left
 
--- The first line that was to come was read and answered. `puts` says how much is out of the line of
--- its reply.
-pub record AnswersInSession {S : Type 0} (source : SourceGhosts S) (lines lines' : Reader S)
-    (network : Network) (old new : Known) (Is : List ℕ → SessionLine → Type 0) (stage : Stage)
-    (puts : List ℕ → Type 0) (next : Stage) : Type 0 where
+-- a session is so far at what its pass has seen
+abbrev pub IsAt : Network → Progress → Stage → Type 0
+IsAt network progress stage = IsPhaseAt network progress.pass.seen progress.phase stage
+
+-- what a line may say at a stage
+abbrev pub SaysAt : Network → Stage → List ℕ → SessionLine → Type 0
+SaysAt network Waiting bytes said = SaysFirst bytes said
+SaysAt network (Serving customer held) bytes said = SaysLater network bytes said
+SaysAt network Refused bytes said = ⊥
+SaysAt network Left bytes said = ⊥
+
+-- a line was answered at a stage while a pass went on, and the session is so far then
+pub record AnswersAt (network : Network) (old : Known) (new : Progress) (stage : Stage)
+    (line : Line) (reply : Reply) : Type 0 where
   pub said : SessionLine
-  pub reply : Reply
-  pub line : TakesLine source lines lines' (λ bytes. Is bytes said)
-  pub exchange : IsExchange network old new stage said reply next
-  pub out : puts (line_of (reply_text network reply))
+  pub next : Stage
+  pub says : ShownSays (SaysAt network stage) line said
+  pub exchange : IsExchange network old new.pass stage said reply next
+  pub at : IsAt network new next
 
-module _ {S O : Type 0} (source : SourceGhosts S) (sink : SinkGhosts O) (network : Network)
-    (lines lines' : Reader S) (output output' : O) (old new : Known)
-    (Is : List ℕ → SessionLine → Type 0) (stage : Stage) where
-  -- the next line was answered, and the session goes on from it so
-  abbrev pub SessionGoesOn : Stage → Type 0
-  SessionGoesOn next = AnswersInSession source lines lines' network old new Is stage
-      (Grows (sink.content output) (sink.content output')) next
-      × (lines'.fault ≡ None) × (sink.frame output' ≡ sink.frame output)
+-- it can be served: its pass is one of the shared book, and it is at a stage
+abbrev pub CanBeServed : SharedBook → Progress → Type 0
+CanBeServed shared progress =
+    IsPassOf shared progress.pass × (stage : Stage) × IsAt shared.network progress stage
 
-  -- no line was to come
-  abbrev pub NoneComes : Type 0
-  NoneComes = IsOver source lines lines' × (lines'.fault ≡ None) × (output' ≡ output) × (new ≡ old)
-
-  -- The session ends at the next line: it is the last, or no greeting; or there is none; or reading
-  -- met a fault before its end; or the output failed in the reply.
-  abbrev pub EndsAt : SessionEnd → Type 0
-  EndsAt session_end.End = IsServing stage × NoneComes
-  EndsAt session_end.Bye = SessionGoesOn Left
-  EndsAt session_end.NoHello = (IsWaiting stage × NoneComes) ⊎ SessionGoesOn Refused
-  EndsAt session_end.Read = MayGoOn stage × StopsReading source lines lines' line_fault.Read
-      × Rose (source.frame lines.source) (source.frame lines'.source)
-      × (output' ≡ output) × (new ≡ old)
-  EndsAt session_end.TooLong = MayGoOn stage
-      × StopsReading source lines lines' line_fault.TooLong × (output' ≡ output) × (new ≡ old)
-  EndsAt session_end.Write = ((next : Stage)
-      × AnswersInSession source lines lines' network old new Is stage
-      (GrowsInPart (sink.content output) (sink.content output')) next)
-      × (lines'.fault ≡ None) × Rose (sink.frame output) (sink.frame output')
-
--- A session asked for its next line: the input was read on, and ends it so exactly where it gave
--- more than 1 GiB. The pass is still one of the shared book, and the output is the same object.
-pub record AsksForLine {S O T : Type 0} (source : SourceGhosts S) (sink : SinkGhosts O)
-    (shared : SharedBook) (lines lines' : Reader S) (output output' : O) (pass : Known)
-    (result : Result T SessionEnd) : Type 0 where
-  pub too_long : (result ≡ Err session_end.TooLong) ↔ (input_limit < lines'.taken)
-  pub reads_on : ReadsOn source lines lines'
-  pub limit : lines'.taken ≤ input_limit + 1
-  pub of : IsPassOf shared pass
-  pub stays : Stays (sink.frame output) (sink.frame output')
+-- no line is answered any more
+abbrev pub is_over : Option Progress → Bool
+is_over (Some progress) = over_at progress.phase
+is_over None = true
 
 -- ---- from the start on
 
@@ -137,23 +105,10 @@ pub record GoesAlong (network : Network) (old new : Known) (lines : List Session
   pub owns : new.own ≡ old.own ++ own
   pub disks : old.faults + disks_in replies ≤ new.faults
 
--- Lines that were to come were answered, each by a reply that is out.
-pub record HasServed {S : Type 0} (source : SourceGhosts S) (start now : Reader S)
-    (network : Network) (old new : Known) (stage : Stage) (before after : Option (List ℕ))
-    : Type 0 where
-  pub lines : List SessionLine
-  pub replies : List Reply
+-- what the lines of a session that is so far and their replies have come to
+pub record ComesAlong (network : Network) (first : Known) (progress : Progress)
+    (lines : List SessionLine) (replies : List Reply) : Type 0 where
+  pub stage : Stage
   pub own : List ℕ
-  pub said : WhereTold (source.content start.source) (source.content now.source) (λ was left.
-      SayLines (SaysAfter network) (start.pending ++ was) lines (now.pending ++ left))
-  pub along : GoesAlong network old new lines replies stage own
-  pub out : Grows before after (texts_of network replies)
-
--- what a session that reads lines from a start on comes to
-abbrev pub ServesLines : {S O : Type 0} → SourceGhosts S → SinkGhosts O → Network → Reader S
-    → Reader S → O → O → Known → Known → SessionEnd → Type 0
-ServesLines source sink network start now output output' =
-    ServesAlong network (λ stops lines. SaysUpTo source start now (SaysAfter network) lines stops)
-    (sink.content output) (sink.content output')
-    (Rose (source.frame start.source) (source.frame now.source))
-    (Rose (sink.frame output) (sink.frame output'))
+  pub along : GoesAlong network first progress.pass lines replies stage own
+  pub at : IsAt network progress stage

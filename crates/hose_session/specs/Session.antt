@@ -6,10 +6,10 @@ use Rattle.hose_io.specs.Stream.{Grows, Stream}
 use Rattle.hose_io.specs.declared.source.Source.{Ghosts as SourceGhosts}
 use Rattle.hose_io.specs.declared.sink.Sink.{Ghosts as SinkGhosts}
 use Rattle.hose_words.specs.Lines.{StopsAfterLines, is_line_feed}
-use Rattle.hose_words.specs.Reading.{WhereTold}
-use Rattle.hose_words.specs.Saying.{IsAllTaken, IsLeftOver, SayLines}
+use Rattle.hose_words.specs.Saying.{IsAllTaken, IsLeftOver}
 use Rattle.hose_words.specs.Limits.{input_limit}
 use Rattle.hose_words.specs.declared.lines.LineFault.TheVariants as line_fault
+pub use Rattle.hose_talk.specs.Talk.{Telling, TellsOf}
 use Rattle.hose_graph.specs.Network.{Network}
 use Rattle.hose_graph.specs.declared.entry.Entry.{Entry}
 use Rattle.hose_graph.specs.declared.command.Reply.{Reply}
@@ -50,21 +50,12 @@ MayGoOn stage = IsWaiting stage ⊎ IsServing stage
 
 -- ---- what is answered
 
--- what a text says, as far as it is answered: these lines; the relation says how the text stands to
--- what comes after them and to what is left of it
-abbrev pub Telling : Type 1
-Telling = (List ℕ → List ℕ → List ℕ → Type 0) → List SessionLine → Type 0
-
--- what a source gave says
-abbrev pub TellsOf : Network → Option Stream → Option Stream → Telling
-TellsOf network old new stops lines = WhereTold old new (λ text left.
-    (rest : List ℕ) × SayLines (SaysAfter network) text lines rest × stops text rest left)
-
 -- Lines were answered along a history from a place on, as far as `stops` and `ends` say. `puts`
 -- says how much is out of the replies.
-pub record AnswersUpTo (network : Network) (history : List Entry) (from : ℕ) (tells : Telling)
-    (stops : List ℕ → List ℕ → List ℕ → Type 0) (ends : Stage → Type 0)
-    (puts : List Reply → Type 0) (replies : List Reply) (own : List ℕ) : Type 0 where
+pub record AnswersUpTo (network : Network) (history : List Entry) (from : ℕ)
+    (tells : Telling SessionLine) (stops : List ℕ → List ℕ → List ℕ → Type 0)
+    (ends : Stage → Type 0) (puts : List Reply → Type 0) (replies : List Reply) (own : List ℕ) :
+    Type 0 where
   pub lines : List SessionLine
   pub stage : Stage
   pub last : ℕ
@@ -73,7 +64,7 @@ pub record AnswersUpTo (network : Network) (history : List Entry) (from : ℕ) (
   pub ended : ends stage
   pub out : puts replies
 
-module _ (network : Network) (history : List Entry) (from : ℕ) (tells : Telling)
+module _ (network : Network) (history : List Entry) (from : ℕ) (tells : Telling SessionLine)
     (before after : Option (List ℕ)) (ReadFails WriteFails : Type 0) where
   -- all replies are out
   abbrev pub AllRepliesOut : List Reply → Type 0
@@ -106,7 +97,7 @@ module _ (network : Network) (history : List Entry) (from : ℕ) (tells : Tellin
 -- were answered along the history that the pass has seen since. The session's entries are the
 -- pass's own, and no others that it had not before; each was decided and costs least at its place.
 -- Failures of the disk were told no more often than the pass has met faults.
-pub record ServesAlong (network : Network) (tells : Telling) (before after : Option (List ℕ))
+pub record ServesAlong (network : Network) (tells : Telling SessionLine) (before after : Option (List ℕ))
     (ReadFails WriteFails : Type 0) (old new : Known) (end : SessionEnd) : Type 0 where
   pub replies : List Reply
   pub own : List ℕ
@@ -121,7 +112,7 @@ pub record ServesAlong (network : Network) (tells : Telling) (before after : Opt
 abbrev pub ServesSession : {S O : Type 0} → SourceGhosts S → SinkGhosts O → Network → S → S → O → O
     → Known → Known → SessionEnd → Type 0
 ServesSession source sink network input input' output output' =
-    ServesAlong network (TellsOf network (source.content input) (source.content input'))
+    ServesAlong network (TellsOf (SaysAfter network) (source.content input) (source.content input'))
     (sink.content output) (sink.content output') (Rose (source.frame input) (source.frame input'))
     (Rose (sink.frame output) (sink.frame output'))
 

@@ -19,6 +19,7 @@ pub record IsGreeting (line name : List ℕ) : Type 0 where
 abbrev pub greeting_form : Form
 greeting_form = this (codes "hello") (place IsName finish)
 
+-- the grammar of the line that greets
 abbrev pub greeting_grammar : Grammar
 greeting_grammar = grammar_of greeting_form
 

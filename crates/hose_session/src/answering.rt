@@ -1,73 +1,126 @@
 // What is answered to a customer.
-ghost use Rattle.std.specs.Prelude.{◌≡◌, List, ℕ};
-ghost use Rattle.std.specs.Borrow.{Bor};
+ghost use Rattle.std.specs.Prelude.{◌≡◌, false};
 ghost use Rattle.hose_graph.specs.Naming.{AsksOf, NamesPlaces};
-ghost use Rattle.hose_io.specs.Frame.{Stays};
 ghost use Rattle.hose_io.specs.Writing.{IsPut};
 ghost use Rattle.hose_law.specs.Quotes.{Held};
-ghost use Rattle.hose_law.specs.Transcript.{SessionLine};
+ghost use Rattle.hose_law.specs.Transcript.{SessionLine, Stage};
+ghost use Rattle.hose_law.specs.Transcript.Stage.{Serving, Waiting};
 ghost use Rattle.hose_core.specs.Holding.{AreHeld};
 ghost use Rattle.hose_proto.specs.ReplyText.{line_of, reply_text};
 ghost use Rattle.hose_shared.specs.Sharing.{IsPassOf};
-ghost use Rattle.hose_session.specs.SessionLines.{IsBye, SaysLater};
-ghost use Rattle.hose_session.specs.Exchanges.{SaysLast, ShownSays, ServesClientOn};
+ghost use Rattle.hose_session.specs.Ending.{over_at};
+ghost use Rattle.hose_session.specs.Exchanges.{AnswersAt, IsAt, ServesClientOn};
 
-use crate::client::Client;
-use crate::ending::SessionEnd;
-use crate::reading::read_asked;
-use hose_core::law_quotes;
+use crate::client::{Client, Phase, Progress};
+use crate::reading::{greeting_of, is_bye, read_asked};
 use hose_disk::Disk;
 use hose_graph::{Command, Reply};
 use hose_io::{Failed, Sink};
 use hose_paths::RowMaker;
 use hose_pool::{Gate, Point};
 use hose_proto::{ReadFault, put_reply};
-use hose_shared::{Begun, Caller, Shared, law_passes};
+use hose_shared::{Begun, Caller, Context, Shared};
 use hose_turn::Pass;
 use hose_words::Line;
-use std::alloc::Global;
 use std::sync::Wait;
 
-/// A session, but for its streams, its rows and its pass: what it waits with, where it takes
-/// memory, the shared book, the gate that it passes, and its number there.
+/// A session, but for its streams, its rows and its pass: what it is answered with, the shared
+/// book, and its number at the gate.
 #[derive(Drop)]
 pub struct Session<'a, W, D: Disk, B: Begun<D>, G: Gate> {
-    pub rt: &'a W,
-    pub alloc: Global,
+    pub context: &'a Context<'a, W, G>,
     pub shared: &'a Shared<D, B>,
-    pub gate: &'a G,
     pub number: u64,
 }
 
 impl<'a, W: Wait, D: Disk, B: Begun<D>, G: Gate> Session<'a, W, D, B, G> {
-    /// The reply to a line that comes after the greeting and is not `bye`.
-    pub fn answer_line<R: RowMaker>(
+    /// The reply to a line, and how far the session is then.
+    pub fn reply_to<R: RowMaker>(
         &self,
-        pass: Pass,
-        client: &mut Client,
+        progress: Progress,
         line: Line<'_>,
         rows: &mut R,
-    ) -> (Reply, Pass)
-        requires of { IsPassOf self.now.shared.now pass }
-        requires quotes { (held : Held)
-            × AreHeld self.now.shared.now.network 0 pass.seen held client.old.quotes }
-        requires no_bye { (text : Bor (List ℕ)) → line ≡ Line.Text text → ¬ IsBye text.now }
-        ensures exchange { (held : Held)
-            → AreHeld self.now.shared.now.network 0 pass.seen held client.old.quotes
-            → (said : SessionLine)
-            × ShownSays (SaysLater self.now.shared.now.network) line.entry said
-            × ServesClientOn self.now.shared.now.network pass result.1 client.old client.new held
-            said result.0 }
+    ) -> (Reply, Progress)
+        requires of { IsPassOf self.now.shared.now progress.pass }
+        requires at { (stage : Stage) × IsAt self.now.shared.now.network progress stage }
+        requires goes_on { over_at progress.phase ≡ false }
+        ensures answers { (stage : Stage) → IsAt self.now.shared.now.network progress stage
+            → AnswersAt self.now.shared.now.network progress.pass result.1 stage line.entry
+            result.0 }
+        ensures of { IsPassOf self.now.shared.now result.1.pass }
         ensures names { NamesPlaces self.now.shared.now.network result.0 }
     {
-        law_passes(&pass);
+        let Progress { pass, phase } = progress;
+        match phase {
+            Phase::Waiting => self.greet(pass, line),
+            Phase::Serving(client) => self.answer_line(pass, client, line, rows),
+            Phase::Refused => unreachable!(),
+            Phase::Left => unreachable!(),
+        }
+    }
+
+    // The reply to the first line.
+    fn greet(&self, pass: Pass, line: Line<'_>) -> (Reply, Progress)
+        requires of { IsPassOf self.now.shared.now pass }
+        ensures answers { AnswersAt self.now.shared.now.network pass result.1 Waiting line.entry
+            result.0 }
+        ensures of { IsPassOf self.now.shared.now result.1.pass }
+        ensures names { NamesPlaces self.now.shared.now.network result.0 }
+    {
+        match greeting_of(line) {
+            Ok(name) => {
+                let (at, pass) = self.shared.now(self.context.rt, pass);
+                let phase = Phase::Serving(Client::new(name));
+                (Reply::Welcome { at }, Progress { pass, phase })
+            }
+            Err(reply) => {
+                let phase = Phase::Refused;
+                (reply, Progress { pass, phase })
+            }
+        }
+    }
+
+    // The reply to a line that comes after the greeting.
+    fn answer_line<R: RowMaker>(
+        &self,
+        pass: Pass,
+        client: Client,
+        line: Line<'_>,
+        rows: &mut R,
+    ) -> (Reply, Progress)
+        requires of { IsPassOf self.now.shared.now pass }
+        requires quotes { (held : Held)
+            × AreHeld self.now.shared.now.network 0 pass.seen held client.quotes }
+        ensures answers { (held : Held)
+            → AreHeld self.now.shared.now.network 0 pass.seen held client.quotes
+            → AnswersAt self.now.shared.now.network pass result.1 (Serving client.name held)
+            line.entry result.0 }
+        ensures of { IsPassOf self.now.shared.now result.1.pass }
+        ensures names { NamesPlaces self.now.shared.now.network result.0 }
+    {
         let Line::Text(text) = line else {
-            return (Reply::Long, pass);
+            let phase = Phase::Serving(client);
+            return (Reply::Long, Progress { pass, phase });
         };
-        match read_asked(self.alloc, self.shared.topology(), text) {
-            Ok(command) => self.answer(pass, client, command, rows),
-            Err(ReadFault::Bad { word }) => (Reply::Bad { word }, pass),
-            Err(ReadFault::Memory) => (Reply::Memory, pass),
+        match read_asked(self.context.alloc, self.shared.topology(), text) {
+            Ok(command) => {
+                let mut client = client;
+                let (reply, pass) = self.answer(pass, &mut client, command, rows);
+                let phase = Phase::Serving(client);
+                (reply, Progress { pass, phase })
+            }
+            Err(ReadFault::Bad { word }) => {
+                if is_bye(text) {
+                    let phase = Phase::Left;
+                    return (Reply::Bye, Progress { pass, phase });
+                }
+                let phase = Phase::Serving(client);
+                (Reply::Bad { word }, Progress { pass, phase })
+            }
+            Err(ReadFault::Memory) => {
+                let phase = Phase::Serving(client);
+                (Reply::Memory, Progress { pass, phase })
+            }
         }
     }
 
@@ -89,32 +142,21 @@ impl<'a, W: Wait, D: Disk, B: Begun<D>, G: Gate> Session<'a, W, D, B, G> {
             (SessionLine.Asks command) result.0 }
         ensures names { NamesPlaces self.now.shared.now.network result.0 }
     {
-        law_quotes();
         let (shared, customer) = (self.shared, client.name);
-        let (rt, alloc) = (self.rt, self.alloc);
         let caller = Caller {
-            rt,
-            alloc,
+            context: self.context,
+            session: self.number,
             customer: &customer,
         };
         match command {
-            Command::Admit(hose) => shared.admit(
-                rt,
-                alloc,
-                pass,
-                &customer,
-                hose,
-                rows,
-                self.gate,
-                self.number,
-            ),
-            Command::Quote(hose) => shared.quote(caller, pass, &mut client.quotes, hose, rows),
-            Command::Take(quote) => shared.take(caller, pass, &mut client.quotes, quote),
-            Command::Release(id) => shared.release(caller, pass, id),
-            Command::Show(id) => shared.show(caller, pass, id),
-            Command::Link(link) => shared.link(rt, pass, link),
-            Command::Down(link) => shared.operate(caller, pass, link, true),
-            Command::Up(link) => shared.operate(caller, pass, link, false),
+            Command::Admit(hose) => shared.admit(&caller, pass, hose, rows),
+            Command::Quote(hose) => shared.quote(&caller, pass, &mut client.quotes, hose, rows),
+            Command::Take(quote) => shared.take(&caller, pass, &mut client.quotes, quote),
+            Command::Release(id) => shared.release(&caller, pass, id),
+            Command::Show(id) => shared.show(&caller, pass, id),
+            Command::Link(link) => shared.link(&caller, pass, link),
+            Command::Down(link) => shared.operate(&caller, pass, link, true),
+            Command::Up(link) => shared.operate(&caller, pass, link, false),
         }
     }
 }
@@ -127,22 +169,9 @@ impl<'a, W, D: Disk, B: Begun<D>, G: Gate> Session<'a, W, D, B, G> {
             (line_of (reply_text self.now.shared.now.network reply.now)) result }
     {
         put_reply(output, self.shared.topology(), reply)?;
-        self.gate.at(Point::Answered {
+        self.context.gate.at(Point::Answered {
             session: self.number,
         });
         Ok(())
-    }
-
-    /// Writes the last reply of a session that ends so; or it ends as the output fails in it.
-    pub fn say_last<O: Sink>(&self, output: &mut O, reply: &Reply, end: SessionEnd) -> SessionEnd
-        requires { NamesPlaces self.now.shared.now.network reply.now }
-        ensures says { SaysLast O.Sink output.old output.new
-            (line_of (reply_text self.now.shared.now.network reply.now)) end result }
-        ensures output { Stays (O.frame output.old) (O.frame output.new) }
-    {
-        if self.say(output, reply).is_err() {
-            return SessionEnd::Write;
-        }
-        end
     }
 }

@@ -1,7 +1,5 @@
 // How a session ends.
 
-use hose_words::LineFault;
-
 /// How a session ended.
 #[derive(Clone, Copy, Debug, PartialEq, Eq)]
 pub enum SessionEnd {
@@ -17,18 +15,4 @@ pub enum SessionEnd {
     Write,
     /// The input gave more than 1 GiB.
     TooLong,
-}
-
-impl From<LineFault> for SessionEnd {
-    ghost use Rattle.std.specs.Prelude.{◌≡◌};
-    ghost use Rattle.hose_session.specs.Ending.{end_of};
-
-    ghost from_gives = { λ fault end. end ≡ end_of fault };
-
-    fn from(fault: LineFault) -> SessionEnd {
-        match fault {
-            LineFault::Read => SessionEnd::Read,
-            LineFault::TooLong => SessionEnd::TooLong,
-        }
-    }
 }

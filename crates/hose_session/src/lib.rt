@@ -6,19 +6,19 @@
 //! the shared book, whose places never go back.
 //!
 //! ```
-//! let (end, pass) = serve_session(
-//!     rt, alloc, &mut source, &mut sink, &shared, pass, 1, &mut PlainRows::new(), &PlainGate,
-//! );
+//! let context = Context { rt, alloc, gate: &PlainGate };
+//! let session = Session { context: &context, shared: &shared, number: 1 };
+//! let rows = &mut PlainRows::new();
+//! let (end, pass) = serve_session(session, &mut source, &mut sink, pass, rows);
 //! ```
 #![tactic(auto)]
 
 mod answering;
 mod client;
 mod ending;
-mod laws;
 mod reading;
 mod session;
 
+pub use answering::Session;
 pub use ending::SessionEnd;
-pub use laws::law_accounts;
 pub use session::serve_session;

@@ -1,6 +1,5 @@
 // The lines of a session.
-ghost use Rattle.std.specs.Prelude.{◌≡◌, ◌↔◌, ℕ, [], Err, IfErr, IfOk, IsFalse, IsTrue, List};
-ghost use Rattle.std.specs.Borrow.{Bor};
+ghost use Rattle.std.specs.Prelude.{◌≡◌, ◌↔◌, ℕ, [], Err, IfErr, IfOk, IsTrue};
 ghost use Rattle.hose_words.specs.Grammar.{IsFirst, IsFirstNotAllowed};
 ghost use Rattle.hose_words.specs.Form.{IsChoice};
 ghost use Rattle.hose_words.specs.Words.{words_of};
@@ -41,26 +40,14 @@ fn read_greeting(line: &[u8]) -> Result<Name, WrongWord>
 }
 
 /// Whether the only word of a line is `bye`.
-pub fn says_bye(line: Line<'_>) -> bool
-    ensures bye { IsTrue result
-        → (text : Bor (List ℕ)) × (line.entry ≡ Line.Text text) × IsBye text.now }
-    ensures none { IsFalse result
-        → (text : Bor (List ℕ)) → line.entry ≡ Line.Text text → ¬ IsBye text.now }
-{
-    match line {
-        Line::Text(text) => is_bye(text),
-        Line::Long => false,
-    }
-}
-
-fn is_bye(line: &[u8]) -> bool
+pub fn is_bye(line: &[u8]) -> bool
     ensures { IsTrue result ↔ IsBye line.now }
 {
     let mut words = Cursor::new(line);
     words.expect(b"bye").is_ok() && words.finish().is_ok()
 }
 
-/// What a line asks for that is not `bye`.
+/// What a line asks for after the greeting.
 pub fn read_asked(alloc: Global, top: &Topology, line: &[u8]) -> Result<Command, ReadFault>
     ensures ok { IfOk result (IsCommand top.now (words_of line.now)) }
     ensures bad { (word : ℕ) → result ≡ Err (ReadFault.Bad word)

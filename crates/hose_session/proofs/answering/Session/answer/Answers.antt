@@ -3,19 +3,19 @@ use Rattle.hose_session.proofs.answering.Session.answer.Goals as goal
 
 pub returns-in-Admit-clause-exchange : goal.returns-in-Admit-clause-exchange
 returns-in-Admit-clause-exchange g c = λ held are.
-    keeping_exchange _ c.args.pass _ c.args.client.now held _ _ _ c.in-Admit.is (λ other. other) (c.admit.ensures.steps held) (c.law_quotes.ensures.longer _ 0 _ _ held _) are
+    keeping_exchange _ c.args.pass _ c.args.client.now held _ _ _ c.in-Admit.is (λ other. other) (c.admit.ensures.steps held) are
 
 pub returns-in-Release-clause-exchange : goal.returns-in-Release-clause-exchange
 returns-in-Release-clause-exchange g c = λ held are.
-    keeping_exchange _ c.args.pass _ c.args.client.now held _ _ _ c.in-Release.is (λ other. other) (c.release.ensures.steps held) (c.law_quotes.ensures.longer _ 0 _ _ held _) are
+    keeping_exchange _ c.args.pass _ c.args.client.now held _ _ _ c.in-Release.is (λ other. other) (c.release.ensures.steps held) are
 
 pub returns-in-Show-clause-exchange : goal.returns-in-Show-clause-exchange
 returns-in-Show-clause-exchange g c = λ held are.
-    keeping_exchange _ c.args.pass _ c.args.client.now held _ _ _ c.in-Show.is (λ other. other) (c.show.ensures.steps held) (c.law_quotes.ensures.longer _ 0 _ _ held _) are
+    keeping_exchange _ c.args.pass _ c.args.client.now held _ _ _ c.in-Show.is (λ other. other) (c.show.ensures.steps held) are
 
 pub returns-in-Link-clause-exchange : goal.returns-in-Link-clause-exchange
 returns-in-Link-clause-exchange g c = λ held are.
-    keeping_exchange _ c.args.pass _ c.args.client.now held _ _ _ c.in-Link.is (λ other. other) (c.link.ensures.steps c.args.client.now.name held) (c.law_quotes.ensures.longer _ 0 _ _ held _) are
+    keeping_exchange _ c.args.pass _ c.args.client.now held _ _ _ c.in-Link.is (λ other. other) (c.link.ensures.steps c.args.client.now.name held) are
 
 pub returns-in-Quote-clause-exchange : goal.returns-in-Quote-clause-exchange
 returns-in-Quote-clause-exchange g c = λ held are.
@@ -27,8 +27,8 @@ returns-in-Take-clause-exchange g c = λ held are.
 
 pub returns-in-Down-clause-exchange : goal.returns-in-Down-clause-exchange
 returns-in-Down-clause-exchange g c = λ held are.
-    keeping_exchange _ c.args.pass _ c.args.client.now held _ _ _ c.in-Down.is (λ other. other) (c.operate.ensures.steps held) (c.law_quotes.ensures.longer _ 0 _ _ held _) are
+    keeping_exchange _ c.args.pass _ c.args.client.now held _ _ _ c.in-Down.is (λ other. other) (c.operate.ensures.steps held) are
 
 pub returns-in-Up-clause-exchange : goal.returns-in-Up-clause-exchange
 returns-in-Up-clause-exchange g c = λ held are.
-    keeping_exchange _ c.args.pass _ c.args.client.now held _ _ _ c.in-Up.is (λ other. other) (c.operate-in-Up.ensures.steps held) (c.law_quotes.ensures.longer _ 0 _ _ held _) are
+    keeping_exchange _ c.args.pass _ c.args.client.now held _ _ _ c.in-Up.is (λ other. other) (c.operate-in-Up.ensures.steps held) are

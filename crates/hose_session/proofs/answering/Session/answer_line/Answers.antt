@@ -7,39 +7,43 @@ use Rattle.hose_words.specs.declared.lines.Line.{Line}
 use Rattle.hose_graph.specs.Network.{Network}
 use Rattle.hose_law.specs.Transcript.SessionLine.{Asks, IsBad, IsLong, Unread}
 use Rattle.hose_proto.specs.Command.{IsCommand, TakesMemory, command_grammar, verb_word}
+use Rattle.hose_shared.proofs.Passes.{more_same}
 use Rattle.hose_session.specs.SessionLines.{IsBye}
-use Rattle.hose_session.proofs.Exchanging.{bad_exchange, long_exchange, memory_exchange, text_is}
+use Rattle.hose_session.proofs.Exchanging.{bad_exchange, bye_exchange, left_at, long_exchange, memory_exchange, served_at, text_is}
 use Rattle.hose_session.proofs.answering.Session.answer_line.Goals as goal
 
-pub returns-in_default-clause-exchange : goal.returns-in_default-clause-exchange
-returns-in_default-clause-exchange g c = λ held are. (
-  IsLong,
-  (λ bytes shows. subst (λ (l : Line). Shows l bytes) c.in_default.is shows),
-  long_exchange c.args.self.now.shared.now.network c.args.pass c.law_passes.ensures.stays c.args.client.now held are,
-)
+pub returns-in_default-clause-answers : goal.returns-in_default-clause-answers
+returns-in_default-clause-answers g c = λ held are.
+    let network = c.args.self.now.shared.now.network in
+    served_at network c.args.pass c.args.pass c.args.line _ c.args.client c.args.client held IsLong (λ bytes shows. subst (λ (l : Line). Shows l bytes) c.in_default.is shows)
+    (long_exchange network c.args.pass (more_same c.args.pass c.requires.of.places).same c.args.client held are)
 
-pub returns-in-Ok-clause-exchange : goal.returns-in-Ok-clause-exchange
-returns-in-Ok-clause-exchange g c = λ held are.
-    let asks = subst (λ (n : Network). IsCommand n (words_of c.in-Text.text.now) c.in-Ok.command) c.topology.ensures.value c.in-Ok.ensures.ok in (
-      Asks c.in-Ok.command,
-      text_is (λ bytes. IsCommand c.args.self.now.shared.now.network (words_of bytes) c.in-Ok.command) c.args.line c.in-Text.text c.in-Text.is asks,
-      c.answer.ensures.exchange held are,
-    )
+pub returns-in-Ok-clause-answers : goal.returns-in-Ok-clause-answers
+returns-in-Ok-clause-answers g c = λ held are.
+    let network = c.args.self.now.shared.now.network in
+    let asks = subst (λ (n : Network). IsCommand n (words_of c.in-Text.text.now) c.in-Ok.command) c.topology.ensures.value c.in-Ok.ensures.ok in
+    served_at network c.args.pass c.answer-reply.result.1 c.args.line _ c.args.client c.answer-reply.new.client held (Asks c.in-Ok.command)
+    (text_is (λ bytes. IsCommand network (words_of bytes) c.in-Ok.command) c.args.line c.in-Text.text c.in-Text.is asks) (c.answer-reply.ensures.exchange held are)
 
-pub returns-in-Err-Bad-clause-exchange : goal.returns-in-Err-Bad-clause-exchange
-returns-in-Err-Bad-clause-exchange g c = λ held are.
+pub returns-then-is_bye-clause-answers : goal.returns-then-is_bye-clause-answers
+returns-then-is_bye-clause-answers g c = λ held are.
+    let network = c.args.self.now.shared.now.network in
+    left_at network c.args.pass c.args.pass c.args.line _ c.args.client.name held (text_is IsBye c.args.line c.in-Text.text c.in-Text.is (c.is_bye.ensures.0 c.if-is_bye.true))
+    (bye_exchange network c.args.pass (more_same c.args.pass c.requires.of.places).same c.args.client.name held)
+
+pub returns-else-is_bye-clause-answers : goal.returns-else-is_bye-clause-answers
+returns-else-is_bye-clause-answers g c = λ held are.
+    let network = c.args.self.now.shared.now.network in
     let word : ℕ = c.in-Err-Bad.word in
     let wrong = subst (λ (n : Network). IsFirstNotAllowed (command_grammar n) [] (words_of c.in-Text.text.now) word) c.topology.ensures.value (c.read_asked.ensures.bad word (c.in-Err-Bad.is ∙ ap Err c.in-Err-Bad.field-0-is)) in
-    let says = text_is (λ bytes. (¬ IsBye bytes) × IsFirstNotAllowed (command_grammar c.args.self.now.shared.now.network) [] (words_of bytes) word) c.args.line c.in-Text.text c.in-Text.is
-    (c.requires.no_bye c.in-Text.text c.in-Text.is, wrong) in (
-      IsBad word,
-      (λ bytes shows. let here = says bytes shows in (here.0, here.1.0, here.1.1)),
-      bad_exchange c.args.self.now.shared.now.network c.args.pass c.law_passes.ensures.stays c.args.client.now held are word _ (search rules),
-    )
+    let says = text_is (λ bytes. (¬ IsBye bytes) × IsFirstNotAllowed (command_grammar network) [] (words_of bytes) word) c.args.line c.in-Text.text c.in-Text.is
+    ((λ bye. cc (c.is_bye.ensures.1 bye, c.if-is_bye.false)), wrong) in
+    served_at network c.args.pass c.args.pass c.args.line _ c.args.client c.args.client held (IsBad word) (λ bytes shows. let here = says bytes shows in (here.0, here.1.0, here.1.1))
+    (bad_exchange network c.args.pass (more_same c.args.pass c.requires.of.places).same c.args.client held are word _ (search rules))
 
-pub returns-in-Err-Memory-clause-exchange : goal.returns-in-Err-Memory-clause-exchange
-returns-in-Err-Memory-clause-exchange g c = λ held are. (
-  Unread,
-  text_is (λ bytes. IsFirst (IsChoice TakesMemory verb_word) (words_of bytes)) c.args.line c.in-Text.text c.in-Text.is (c.read_asked.ensures.memory (c.in-Err-Memory.is ∙ ap Err c.in-Err-Memory.field-0-is)),
-  memory_exchange c.args.self.now.shared.now.network c.args.pass c.law_passes.ensures.stays c.args.client.now held are,
-)
+pub returns-in-Err-Memory-clause-answers : goal.returns-in-Err-Memory-clause-answers
+returns-in-Err-Memory-clause-answers g c = λ held are.
+    let network = c.args.self.now.shared.now.network in
+    served_at network c.args.pass c.args.pass c.args.line _ c.args.client c.args.client held Unread
+    (text_is (λ bytes. IsFirst (IsChoice TakesMemory verb_word) (words_of bytes)) c.args.line c.in-Text.text c.in-Text.is (c.read_asked.ensures.memory (c.in-Err-Memory.is ∙ ap Err c.in-Err-Memory.field-0-is)))
+    (memory_exchange network c.args.pass (more_same c.args.pass c.requires.of.places).same c.args.client held are)
