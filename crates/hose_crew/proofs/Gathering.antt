@@ -8,6 +8,7 @@ use Rattle.hose_io.specs.declared.Failed.{Failed}
 use Rattle.hose_io.specs.declared.door.Door.{Ghosts as DoorGhosts}
 use Rattle.hose_law.proofs.Fronts.{prefix_same}
 use Rattle.hose_session.specs.Accounts.{AccountFor}
+use Rattle.hose_shared.specs.Sharing.{IsPassOf, SharedBook}
 use Rattle.hose_turn.specs.Known.{HasOwnPlaces, Known}
 use Rattle.hose_crew.specs.Crew.{AreServed, ServesDoor}
 use Rattle.hose_crew.specs.Desk.{AreArrived, HasStopped, started_at}
@@ -19,15 +20,19 @@ all_first P first rest all = all 0 first (omega arith)
 pub all_rest : {A : Type 0} (P : A → Type 0) (first : A) (rest : List A) → All P (first ∷ rest) → All P rest
 all_rest P first rest all = λ place else below. all (suc place) else (omega (arith, below))
 
+-- a pass that is the first one but for its share is one of the same book
+pub still_of : (shared : SharedBook) (first pass : Known) → pass ≡ record first { share = pass.share } → IsPassOf shared first → IsPassOf shared pass
+still_of shared first pass same of = record { turn = ap (λ (p : Known). p.turn) same ∙ of.turn; network = ap (λ (p : Known). p.origin.network) same ∙ of.network; places = subst HasOwnPlaces (sym same) of.places }
+
 -- no worker has given up its place
-pub none_gathered : (workers : ℕ) (first pass : Known) (parts : ℕ) → pass ≡ record first { share = pass.share } → pass.share + workers ≡ first.share → parts ≡ 0 → HasOwnPlaces pass → IsGathered workers first pass parts
+pub none_gathered : (workers : ℕ) (first pass : Known) (parts : ℕ) → pass ≡ record first { share = pass.share } → pass.share + workers ≡ first.share → parts ≡ 0 → HasOwnPlaces first → IsGathered workers first pass parts
 none_gathered workers first pass parts same left none places = record {
   turn = ap (λ (p : Known). p.turn) same;
   origin = ap (λ (p : Known). p.origin) same;
   share = omega (arith, left, none);
   seen = subst (λ (p : Known). IsPrefix first.seen p.seen) (sym same) (prefix_same first.seen);
   faults = omega (arith, ap (λ (p : Known). p.faults) same);
-  places = places;
+  places = subst HasOwnPlaces (sym same) places;
 }
 
 -- and no connection came back
@@ -37,11 +42,12 @@ none_returned start (Some was) total count pass none account = ([], rw (append-n
 
 module _ {L In Out Done : Type 0} (door : DoorGhosts L In Out Done) (was mid now : L) (connections total count workers parts : ℕ) (old new : Known) (stopped : Result ⊤ Failed)
     (gathered : IsGathered workers old new parts) (whole : parts ≡ workers) (all : count ≡ total) (few : total ≤ connections)
-    (frame : door.frame now ≡ door.frame mid) where
+    (frame : door.frame now ≡ door.frame mid) (port : door.opened_at now ≡ door.opened_at was) where
   -- all are back
   pub serves : HasStopped (started_at door was connections) (door.frame mid) (door.told mid) total stopped → AreArrived (door.told was) (door.told mid) total → AreBack (door.told mid) (door.told now) count new → ServesDoor door was now connections old new stopped
   serves stops arrived back = record {
     met = subst (λ (f : Frame). Met (door.frame was) f stopped) (sym frame) stops.met;
+    port = port;
     same = record {
       turn = gathered.turn;
       origin = gathered.origin;

@@ -7,6 +7,7 @@ use Rattle.hose_io.specs.declared.source.Source.{Ghosts as SourceGhosts}
 use Rattle.hose_graph.specs.Network.{Network}
 use Rattle.hose_graph.specs.declared.entry.Entry.{Entry}
 use Rattle.hose_graph.specs.declared.command.Reply.{Reply}
+use Rattle.hose_law.specs.Transcript.{SessionLine}
 use Rattle.hose_session.specs.Accounts.{AccountFor, ComeTo}
 use Rattle.hose_session.specs.Session.{IsSession, ServesSession, Telling}
 use Rattle.hose_session.specs.declared.ending.SessionEnd.{SessionEnd}
@@ -20,7 +21,7 @@ grown old (Some was) None text told grows = absurd grows
 grown old (Some was) (Some given) text told grows = (given, refl)
 
 -- whatever ended a session, what its output was given is told
-session_given : (network : Network) (history : List Entry) (from : ℕ) (tells : Telling) (old : List ℕ) (before new : Option (List ℕ)) (R W : Type 0) (end : SessionEnd) (replies : List Reply) (own : List ℕ)
+session_given : (network : Network) (history : List Entry) (from : ℕ) (tells : Telling SessionLine) (old : List ℕ) (before new : Option (List ℕ)) (R W : Type 0) (end : SessionEnd) (replies : List Reply) (own : List ℕ)
     → before ≡ Some old → IsSession network history from tells before new R W end replies own → (given : List ℕ) × (new ≡ Some given)
 session_given network history from tells old before new R W session_end.End replies own told is = grown old before new _ told is.out
 session_given network history from tells old before new R W session_end.Bye replies own told is = grown old before new _ told is.out

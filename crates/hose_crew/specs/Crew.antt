@@ -38,5 +38,6 @@ AreServed (Some was) (Some now) count pass result = HaveBeenServed was now count
 pub record ServesDoor {L In Out Done T : Type 0} (door : DoorGhosts L In Out Done) (was now : L)
     (count : ℕ) (old new : Known) (result : Result T Failed) : Type 0 where
   pub met : Met (door.frame was) (door.frame now) result
+  pub port : door.opened_at now ≡ door.opened_at was
   pub same : IsSamePass old new
   pub served : AreServed (door.told was) (door.told now) count new result

@@ -8,10 +8,12 @@ use Rattle.hose_io.specs.declared.door.Door.{Ghosts as DoorGhosts}
 use Rattle.hose_io.specs.declared.sink.Sink.{Ghosts as SinkGhosts}
 use Rattle.hose_io.specs.declared.source.Source.{Ghosts as SourceGhosts}
 
--- what a door was at the start, and how many connections are to be accepted
+-- what a door was at the start, with the port at which it was opened, and how many connections are
+-- to be accepted
 pub record Started : Type 0 where
   pub frame : Frame
   pub told : Option Connections
+  pub port : Option ℕ
   pub connections : ℕ
 
 -- so it is with a door that is to accept so many connections
@@ -19,6 +21,7 @@ abbrev pub started_at : {L In Out Done : Type 0} → DoorGhosts L In Out Done �
 started_at door was connections = record {
   frame = door.frame was;
   told = door.told was;
+  port = door.opened_at was;
   connections = connections;
 }
 
@@ -63,6 +66,7 @@ pub record IsDesk {L In Out Done : Type 0} (door : DoorGhosts L In Out Done) (st
   pub few : desk.accepted ≤ desk.connections
   pub total : desk.total ≡ desk.accepted
   pub arrived : AreArrived start.told (door.told desk.door) desk.accepted
+  pub port : door.opened_at desk.door ≡ start.port
   pub goes : GoesSo start (door.frame desk.door) (door.told desk.door) desk.accepted desk.stopped
 
 -- The ends of a connection that was accepted: nothing was taken or given, and they tell so where

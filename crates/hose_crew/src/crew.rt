@@ -8,12 +8,11 @@ ghost use Rattle.hose_crew.specs.Desk.{AreArrived, HasStopped, started_at};
 ghost use Rattle.hose_crew.specs.Hands.{AreBack, HasWorked, HaveWorked, IsGathered, IsIdle, MayServe};
 
 use crate::desk::{Closed, Desk, LockedDesk, Start};
-use crate::hand::{Context, Gathered, Hand, Place, Work};
+use crate::hand::{Gathered, Hand, Place, Work};
 use hose_disk::Disk;
 use hose_io::{Door, Failed};
 use hose_pool::{Gate, MOST_WORKERS};
-use hose_session::law_accounts;
-use hose_shared::{Begun, Shared, law_passes};
+use hose_shared::{Begun, Context, Shared};
 use hose_turn::Pass;
 use std::alloc::{AllocError, Global};
 use std::marker::Model;
@@ -92,7 +91,6 @@ impl<L: Door + Send, N: Start + Send + Sync> Crew<L, N> {
         ensures { ServesDoor L.Door door result.door self.connections pass result.pass
             result.accepting }
     {
-        law_passes(&pass);
         let Crew {
             mut hands,
             connections,
@@ -172,6 +170,7 @@ fn serve_all<
     ensures stopped { HasStopped N.start (L.frame result.door) (L.told result.door)
         result.tally.total result.stopped }
     ensures arrived { AreArrived N.start.told (L.told result.door) result.tally.total }
+    ensures port { L.opened_at result.door ≡ N.start.port }
     ensures few { result.tally.total ≤ N.start.connections }
 {
     let mut desk = serve_at_once(work, first, desk, hands);
@@ -244,9 +243,8 @@ fn gather<D: Disk, B: Begun<D>, L: Door, N: Start>(
     ensures gathered { IsGathered N.parts first.now.value result.0 N.parts }
     ensures back { AreBack (L.told left.door) (L.told result.1) left.tally.total result.0 }
     ensures frame { L.frame result.1 ≡ L.frame left.door }
+    ensures port { L.opened_at result.1 ≡ L.opened_at left.door }
 {
-    law_accounts::<L::In, L::Out>();
-    left.pass.law_places();
     let was = Snapshot::of(&left.door);
     let mut gathered = left;
     for hand in hands {

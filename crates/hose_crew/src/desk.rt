@@ -20,6 +20,7 @@ impl Start for Brand {
     ghost start = { record {
       frame = record { faults = 0; number = 0; loan = [] };
       told = None;
+      port = None;
       connections = 0;
     } };
 }
@@ -110,6 +111,7 @@ impl<L: Door, N: Start> Desk<L, N> {
         ensures stopped { HasStopped N.start (L.frame result.door) (L.told result.door)
             result.tally.total result.stopped }
         ensures arrived { AreArrived N.start.told (L.told result.door) result.tally.total }
+        ensures port { L.opened_at result.door ≡ N.start.port }
         ensures few { result.tally.total ≤ N.start.connections }
     {
         let Desk {

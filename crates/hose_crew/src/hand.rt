@@ -12,22 +12,14 @@ use hose_disk::Disk;
 use hose_io::Door;
 use hose_paths::{RowMaker, RowTable, TableRows};
 use hose_pool::Gate;
-use hose_session::{law_accounts, serve_session};
-use hose_shared::{Begun, Shared, law_passes};
+use hose_session::{Session, serve_session};
+use hose_shared::{Begun, Context, Shared};
 use hose_turn::Pass;
 use std::alloc::{AllocError, Global};
 use std::marker::Model;
 use std::snapshot::Snapshot;
 use std::sync::Wait;
 use std::sync::ledger::{Book as Tally, Share};
-
-/// What a crew serves with: threads and waiting, memory, and the gate that its sessions pass.
-#[derive(Drop)]
-pub struct Context<'a, W, G> {
-    pub rt: &'a W,
-    pub alloc: Global,
-    pub gate: &'a G,
-}
 
 /// What all workers of a crew are given: its context, the book that they share, and the rows that
 /// all sessions plan with.
@@ -115,23 +107,17 @@ impl<'a, W: Wait, D: Disk, B: Begun<D>, G: Gate> Work<'a, W, D, B, G> {
             × (L.came_to result.0 ≡ Some connection)
             × AccountFor (connections ++ connection ∷ []) result.1 }
     {
-        law_accounts::<L::In, L::Out>();
         let Accepted {
             session,
             mut input,
             mut output,
         } = one;
-        let (_, pass) = serve_session(
-            self.context.rt,
-            self.context.alloc,
-            &mut input,
-            &mut output,
-            self.shared,
-            pass,
-            session,
-            rows,
-            self.context.gate,
-        );
+        let session = Session {
+            context: &self.context,
+            shared: self.shared,
+            number: session,
+        };
+        let (_, pass) = serve_session(session, &mut input, &mut output, pass, rows);
         (L::done(input, output), pass)
     }
 }
@@ -151,7 +137,6 @@ fn serve_one_by_one<W: Wait, D: Disk, B: Begun<D>, G: Gate, L: Door, N: Start, A
     ensures room { vec_capacity ended.new ≡ vec_capacity ended.old }
     ensures over { A.is_over from.new }
 {
-    law_passes(&place.pass);
     // The first pass is there for the clauses alone.
     let _ = first;
     let mut rows = TableRows::new(work.table);
@@ -178,8 +163,6 @@ impl<L: Door, N: Start> Hand<L, N> {
         requires share { (place.parts ≡ 1) × (place.amount ≡ 0) }
         ensures works { HasWorked L.came_to N.start first.now.value self.new }
     {
-        law_passes(&place.pass);
-        law_accounts::<L::In, L::Out>();
         // The first pass is there for the clauses alone.
         let _ = first;
         self.place = Some(place);
@@ -228,8 +211,8 @@ impl<L: Door, N: Start> Hand<L, N> {
         ensures back { AreBack (L.told was.now.value) (L.told gathered.new.door)
             gathered.new.share.amount gathered.new.pass }
         ensures frame { L.frame gathered.new.door ≡ L.frame gathered.old.door }
+        ensures port { L.opened_at gathered.new.door ≡ L.opened_at gathered.old.door }
     {
-        law_accounts::<L::In, L::Out>();
         let Hand { place, ended } = self;
         if let Some(place) = place {
             shared.join(&mut gathered.pass, place.pass);
@@ -246,6 +229,7 @@ fn give_back<L: Door>(door: &mut L, ended: Vec<L::Done>)
     requires may { AllMayComeBack (L.told door.old) (map L.came_to ended.items) }
     ensures back { AllComeBack (L.told door.old) (L.told door.new) (map L.came_to ended.items) }
     ensures frame { L.frame door.new ≡ L.frame door.old }
+    ensures port { L.opened_at door.new ≡ L.opened_at door.old }
 {
     for done in ended {
         door.back(done);

@@ -15,4 +15,5 @@ mod hand;
 
 pub use crew::{Crew, CrewEnd};
 pub use desk::Start;
-pub use hand::{Context, Work};
+pub use hand::Work;
+pub use hose_shared::Context;

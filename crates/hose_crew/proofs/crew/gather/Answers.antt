@@ -1,4 +1,5 @@
 use Rattle.std.proofs.Common.{refl, rules}
+use Rattle.hose_session.proofs.Accounting.{none_accounts}
 use Rattle.hose_crew.specs.Hands.{HasWorked}
 use Rattle.hose_crew.proofs.Gathering.{all_rest, none_gathered, none_returned}
 use Rattle.hose_crew.proofs.crew.gather.Goals as goal
@@ -9,10 +10,11 @@ loop-hand-init g c =
       search rules,
       search rules,
       search rules,
-      none_gathered _ _ c.args.left.pass c.args.left.share.parts asked.pass (search rules) asked.share.0 c.law_places.ensures,
+      none_gathered _ _ c.args.left.pass c.args.left.share.parts asked.pass (search rules) asked.share.0 asked.of.places,
       search rules,
       refl,
-      none_returned g.N.Start.start.told (g.L.Door.told c.args.left.door) c.args.left.tally.total c.args.left.share.amount c.args.left.pass asked.share.1 (c.law_accounts.ensures.none c.args.left.pass (search rules)),
+      none_returned g.N.Start.start.told (g.L.Door.told c.args.left.door) c.args.left.tally.total c.args.left.share.amount c.args.left.pass asked.share.1 (none_accounts c.args.left.pass (search rules)),
+      refl,
       refl,
     )
 
@@ -23,6 +25,7 @@ loop-hand-preserved g c =
       search rules,
       search rules,
       all_rest Worked c.in-Some.hand c.next.new.self.rest.items (rw step at c.loop-hand.invariant.2),
+      search rules,
       search rules,
       search rules,
       search rules,

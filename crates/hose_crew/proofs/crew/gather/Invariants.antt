@@ -12,3 +12,4 @@ invariant-loop-hand g l =
     × (l.gathered.tally.total ≡ l.fn.left.tally.total)
     × AreBack (g.L.Door.told l.fn.left.door) (g.L.Door.told l.gathered.door) l.gathered.share.amount l.gathered.pass
     × (g.L.Door.frame l.gathered.door ≡ g.L.Door.frame l.fn.left.door)
+    × (g.L.Door.opened_at l.gathered.door ≡ g.L.Door.opened_at l.fn.left.door)

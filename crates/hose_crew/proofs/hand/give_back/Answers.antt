@@ -4,7 +4,7 @@ use Rattle.hose_crew.proofs.GivingBack.{may_next, none_back}
 use Rattle.hose_crew.proofs.hand.give_back.Goals as goal
 
 pub loop-done-init : goal.loop-done-init
-loop-done-init g c = (search rules, search rules, none_back (g.L.Door.told c.args.door.now), search rules, refl)
+loop-done-init g c = (search rules, search rules, none_back (g.L.Door.told c.args.door.now), search rules, refl, refl)
 
 pub back-requires : goal.back-requires
 back-requires g c =

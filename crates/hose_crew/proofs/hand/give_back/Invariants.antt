@@ -9,3 +9,4 @@ invariant-loop-done g l =
     × AllComeBack (g.L.Door.told l.initial.door) (g.L.Door.told l.door) (map g.L.Door.came_to l.yielded)
     × (l.fn.ended.items ≡ l.yielded ++ l.done-iterator.rest.items)
     × (g.L.Door.frame l.door ≡ g.L.Door.frame l.initial.door)
+    × (g.L.Door.opened_at l.door ≡ g.L.Door.opened_at l.initial.door)

@@ -1,4 +1,5 @@
 use Rattle.std.proofs.Common.{rules}
+use Rattle.hose_session.proofs.Accounting.{joined_account}
 use Rattle.hose_crew.proofs.GivingBack.{back_all}
 use Rattle.hose_crew.proofs.hand.Hand.end.Goals as goal
 
@@ -7,4 +8,4 @@ returns-in-Some-clause-back g c =
     let start = g.N.Start.start.told in
     let works = c.requires.worked.works in
     back_all start _ _ c.args.gathered.now.tally.total _ c.args.gathered.now.pass c.requires.worked.place.pass _ c.requires.arrived c.requires.back works.accounts _ _ _ (search rules) (search rules)
-    (λ connections others one other. c.law_accounts.ensures.joined connections others _ _ _ one other (search rules) (search rules) (search rules) (search rules) (search rules) (search rules))
+    (λ connections others one other. joined_account connections others _ _ _ one other (search rules) (search rules) (search rules) (search rules) (search rules) (search rules))
