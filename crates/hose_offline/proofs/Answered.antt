@@ -1,5 +1,6 @@
 -- What a follower's answers make of the history of its store.
-use Rattle.std.proofs.Common.{◌≡◌, ◌∙◌, inl, inr, ℕ, ◌+◌, List, [], ◌∷◌, ◌++◌, Option, None, Some, length, length-append, append_assoc, append-nil, refl, sym, ap, subst, arith}
+use Rattle.std.proofs.Common.{◌≡◌, ◌∙◌, inl, inr, ℕ, ◌+◌, List, [], ◌∷◌, ◌++◌, Option, None, Some, length, length-append, append_assoc, append-nil, refl, sym, ap, subst, arith, Contains}
+use Rattle.std.proofs.lemmas.List.Elements.{Contains-append_left, Contains-push}
 use mathlib.Core.List.{IsPrefix}
 use Rattle.hose_graph.specs.Network.{Network}
 use Rattle.hose_graph.specs.declared.entry.Entry.{Entry}
@@ -18,7 +19,7 @@ use Rattle.hose_follow.specs.Offering.{AreOffered, Brings, Enters, IsDue, IsOffe
 use Rattle.hose_follow.specs.Packet.{Packet, packets_bytes}
 use Rattle.hose_follow.specs.declared.answers.Offered.{Offered}
 use Rattle.hose_follow.specs.declared.answers.Offered.TheVariants.{Have, Want, Differs, Memory, Unsound, Disk}
-use Rattle.hose_offline.specs.Following.{AnswersAt, ArePacketsAnswered, BringsAt, IsDueAt, none_yet, packet_more}
+use Rattle.hose_offline.specs.Following.{AnswersAt, ArePacketsAnswered, BringsAt, IsBrought, IsDueAt, none_yet, packet_more}
 use Rattle.hose_offline.proofs.Packets.{some_bytes}
 
 -- where no byte was taken no packet was answered
@@ -26,14 +27,14 @@ pub none_answered : (network : Network) (since : List Entry) (packets : List Pac
 none_answered network since packets answers history rest none_yet same = refl
 none_answered network since packets answers history rest (packet_more packet answer before at) same = absurd (some_bytes _ packet rest same)
 
-module _ {D : Type 0} (disk : Ghosts D) (first : Kept D) (since : List Entry) where
-  -- packets that were offered were answered so by a history, which the store has then
+module _ {D : Type 0} (disk : Ghosts D) (first : Kept D) (since : List Entry) (all : List Packet) where
+  -- packets that were offered, each one of these, were answered so by a history, which the store has then
   pub record Leads (packets : List Packet) (answers : List Offered) (now : Kept D) : Type 0 where
     pub history : List Entry
     pub doubt : Option Entry
     pub same_network : now.ledger.network ≡ first.ledger.network
     pub has : HasHistory disk now history doubt
-    pub goes_on : GoesOn (store_books disk) IsSoundAt first.ledger.network since first history now
+    pub goes_on : GoesOn (store_books disk) (IsBrought all) first.ledger.network since first history now
     pub answered : ArePacketsAnswered first.ledger.network since packets answers history
     pub begins : IsPrefix since history
 
@@ -64,6 +65,15 @@ module _ {D : Type 0} (disk : Ghosts D) (first : Kept D) (since : List Entry) wh
           (subst (λ (n : Network). IsSoundAt n (book_of 0 on.history) entry) (sym on.same_network) is.sound);
     }
 
+    of_packet : (packet : Packet) (entry : Entry) → Contains all packet → IsDue disk middle packet → Brings middle.ledger packet entry → IsBrought all first.ledger.network (book_of 0 on.history) entry
+    of_packet packet entry offered is bring = record {
+      sound = (brings packet entry bring).sound;
+      packet = packet;
+      offered = offered;
+      epoch = omega (arith, is.epoch, ap (λ (b : Book). b.epoch) on.has.book);
+      spells = bring.spells;
+    }
+
     -- the store was not touched
     stays : (now : Kept D) (packet : Packet) (answer : Offered) → now ≡ middle → AnswersAt first.ledger.network on.history packet answer on.history → Leads (packets ++ packet ∷ []) (answers ++ answer ∷ []) now
     stays now packet answer same at = subst (Leads (packets ++ packet ∷ []) (answers ++ answer ∷ [])) (sym same) (record {
@@ -77,8 +87,8 @@ module _ {D : Type 0} (disk : Ghosts D) (first : Kept D) (since : List Entry) wh
     })
 
     -- an entry was committed
-    entered : (now : Kept D) (packet : Packet) (entry : Entry) (n : ℕ) → n ≡ packet.epoch → Enters disk middle packet entry committed.Done now → Leads (packets ++ packet ∷ []) (answers ++ Have n ∷ []) now
-    entered now packet entry n is enters =
+    entered : (now : Kept D) (packet : Packet) (entry : Entry) (n : ℕ) → Contains all packet → n ≡ packet.epoch → Enters disk middle packet entry committed.Done now → Leads (packets ++ packet ∷ []) (answers ++ Have n ∷ []) now
+    entered now packet entry n offered is enters =
         let is_due = due packet enters.due in
         let bring = brings packet entry enters.brings in
         record {
@@ -86,38 +96,38 @@ module _ {D : Type 0} (disk : Ghosts D) (first : Kept D) (since : List Entry) wh
           doubt = None;
           same_network = ap (λ (l : Ledger). l.network) enters.went.commits ∙ on.same_network;
           has = enters.went.left on.history on.doubt on.has;
-          goes_on = entry_more entry committed.Done on.goes_on bring.sound enters.went;
+          goes_on = entry_more entry committed.Done on.goes_on (of_packet packet entry offered enters.due enters.brings) enters.went;
           answered = packet_more packet (Have n) on.answered (inr (entry, is_due, bring, omega (arith, is, is_due.epoch, length-append on.history (entry ∷ [])), refl));
           begins = (on.begins.0 ++ entry ∷ [], sym (append_assoc since on.begins.0 (entry ∷ [])) ∙ ap (λ (l : List Entry). l ++ entry ∷ []) on.begins.1);
         }
 
     -- the disk failed at it
-    with_doubt : (now : Kept D) (packet : Packet) (entry : Entry) (at : ℕ) (doubt : Option Entry) → at ≡ length on.history → Enters disk middle packet entry committed.Disk now → HasHistory disk now on.history doubt
+    with_doubt : (now : Kept D) (packet : Packet) (entry : Entry) (at : ℕ) (doubt : Option Entry) → Contains all packet → at ≡ length on.history → Enters disk middle packet entry committed.Disk now → HasHistory disk now on.history doubt
         → Leads (packets ++ packet ∷ []) (answers ++ Disk at ∷ []) now
-    with_doubt now packet entry at doubt is enters has =
+    with_doubt now packet entry at doubt offered is enters has =
         let bring = brings packet entry enters.brings in
         record {
           history = on.history;
           doubt = doubt;
           same_network = ap (λ (l : Ledger). l.network) enters.went.commits ∙ on.same_network;
           has = has;
-          goes_on = entry_more entry committed.Disk on.goes_on bring.sound enters.went;
+          goes_on = entry_more entry committed.Disk on.goes_on (of_packet packet entry offered enters.due enters.brings) enters.went;
           answered = packet_more packet (Disk at) on.answered ((entry, due packet enters.due, bring), is, refl);
           begins = on.begins;
         }
 
-    failed : (now : Kept D) (packet : Packet) (entry : Entry) (at : ℕ) → at ≡ length on.history → Enters disk middle packet entry committed.Disk now → IsLeft disk on.history on.doubt entry committed.Disk now → Leads (packets ++ packet ∷ []) (answers ++ Disk at ∷ []) now
-    failed now packet entry at is enters (inl has) = with_doubt now packet entry at on.doubt is enters has
-    failed now packet entry at is enters (inr (inl has)) = with_doubt now packet entry at None is enters has
-    failed now packet entry at is enters (inr (inr has)) = with_doubt now packet entry at (Some entry) is enters has
+    failed : (now : Kept D) (packet : Packet) (entry : Entry) (at : ℕ) → Contains all packet → at ≡ length on.history → Enters disk middle packet entry committed.Disk now → IsLeft disk on.history on.doubt entry committed.Disk now → Leads (packets ++ packet ∷ []) (answers ++ Disk at ∷ []) now
+    failed now packet entry at offered is enters (inl has) = with_doubt now packet entry at on.doubt offered is enters has
+    failed now packet entry at offered is enters (inr (inl has)) = with_doubt now packet entry at None offered is enters has
+    failed now packet entry at offered is enters (inr (inr has)) = with_doubt now packet entry at (Some entry) offered is enters has
 
-    one_more : (now : Kept D) (packet : Packet) (answer : Offered) → IsOffered disk middle packet answer now → Leads (packets ++ packet ∷ []) (answers ++ answer ∷ []) now
-    one_more now packet (Have n) (inl past) =
+    one_more : (now : Kept D) (packet : Packet) (answer : Offered) → Contains all packet → IsOffered disk middle packet answer now → Leads (packets ++ packet ∷ []) (answers ++ answer ∷ []) now
+    one_more now packet (Have n) there (inl past) =
         stays now packet (Have n) past.same (inl (omega (arith, past.past, epoch), omega (arith, past.own, epoch), refl))
-    one_more now packet (Have n) (inr (entry, is, enters)) = entered now packet entry n is enters
-    one_more now packet (Want n) offered =
+    one_more now packet (Have n) there (inr (entry, is, enters)) = entered now packet entry n there is enters
+    one_more now packet (Want n) there offered =
         stays now packet (Want n) offered.2 (omega (arith, offered.0, epoch), omega (arith, offered.1, epoch), refl)
-    one_more now packet (Differs at own given) (other, same) = stays now packet (Differs at own given) same (
+    one_more now packet (Differs at own given) there (other, same) = stays now packet (Differs at own given) same (
       record {
         epoch = omega (arith, other.epoch, epoch);
         own_value = value own (other.own on.history on.doubt on.has);
@@ -127,14 +137,14 @@ module _ {D : Type 0} (disk : Ghosts D) (first : Kept D) (since : List Entry) wh
       omega (arith, other.at, epoch),
       refl,
     )
-    one_more now packet Memory (is_due, some, same) = stays now packet Memory same (due packet is_due, some, refl)
-    one_more now packet (Unsound told) (is_due, none, is, same) =
+    one_more now packet Memory there (is_due, some, same) = stays now packet Memory same (due packet is_due, some, refl)
+    one_more now packet (Unsound told) there (is_due, none, is, same) =
         stays now packet (Unsound told) same (due packet is_due, (λ entry bring. none entry (brought packet entry bring)), is, refl)
-    one_more now packet (Disk at) (entry, is, enters) =
-        failed now packet entry at (omega (arith, is, epoch)) enters (enters.went.left on.history on.doubt on.has)
+    one_more now packet (Disk at) there (entry, is, enters) =
+        failed now packet entry at there (omega (arith, is, epoch)) enters (enters.went.left on.history on.doubt on.has)
 
-  pub leads : (doubt : Option Entry) (packets : List Packet) (answers : List Offered) (last : Kept D) → HasHistory disk first since doubt → AreOffered disk first packets answers last → Leads packets answers last
-  leads doubt packets answers last has none_offered = record {
+  pub leads : (doubt : Option Entry) (packets : List Packet) (answers : List Offered) (last : Kept D) → ((packet : Packet) → Contains packets packet → Contains all packet) → HasHistory disk first since doubt → AreOffered disk first packets answers last → Leads packets answers last
+  leads doubt packets answers last within has none_offered = record {
     history = since;
     doubt = doubt;
     same_network = refl;
@@ -143,5 +153,5 @@ module _ {D : Type 0} (disk : Ghosts D) (first : Kept D) (since : List Entry) wh
     answered = none_yet;
     begins = ([], append-nil since);
   }
-  leads doubt packets answers last has (offered_more packet answer before offered) =
-      one_more _ _ _ (leads doubt _ _ _ has before) last packet answer offered
+  leads doubt packets answers last within has (offered_more {packets = front} packet answer before offered) =
+      one_more _ _ _ (leads doubt _ _ _ (λ one there. within one (Contains-append_left front (packet ∷ []) one there)) has before) last packet answer (within packet (Contains-push front packet)) offered

@@ -1,21 +1,18 @@
--- Exchanges, each a line and its reply, one after another.
-use Rattle.std.proofs.Common.{◌≡◌, ◌⊎◌, inl, inr, ⊎_elim, ℕ, ◌+◌, ◌-◌, ◌^◌, ◌≤◌, List, [], ◌∷◌, ◌++◌, Option, None, Some, Ok, Err, false, refl, sym, ◌∙◌, ap, subst, arith, length, take, append-nil}
+-- Lines of a script, one after another, and what they lead to.
+use Rattle.std.proofs.Common.{◌≡◌, ◌⊎◌, inl, inr, ⊎_elim, ℕ, ◌+◌, ◌-◌, ◌^◌, ◌≤◌, List, [], ◌∷◌, ◌++◌, Result, None, Some, Option, Ok, Err, false, refl, sym, ◌∙◌, ap, subst, arith, length, append-nil}
 use Rattle.std.specs.Prelude.{IfSome}
 use mathlib.Core.List.{IsPrefix}
-use Rattle.hose_io.specs.Stream.{Grows}
-use Rattle.hose_io.proofs.Streams.{Grows-nil, Grows-append}
-use Rattle.hose_io.specs.Writing.{GrowsInPart}
-use Rattle.hose_words.proofs.OnReading.{WhereTold-same, WhereTold-then}
-use Rattle.hose_io.specs.declared.source.Source.{Ghosts}
-use Rattle.hose_words.specs.declared.lines.LineFault.TheVariants as line_fault
-use Rattle.hose_offline.specs.declared.fault.Fault.{Fault}
-use Rattle.hose_offline.specs.declared.fault.Fault.TheVariants as fault
+use Rattle.hose_words.proofs.OnReading.{WhereTold-map}
 use Rattle.hose_words.specs.Grammar.{IsFirstNotAllowed}
 use Rattle.hose_words.specs.Words.{words_of}
-use Rattle.hose_words.specs.Lines.{Shows, Reader, IsNext, StopsAfterLines}
-use Rattle.hose_words.specs.declared.lines.LineFault.{LineFault}
+use Rattle.hose_words.specs.Lines.{Shows, Reader}
 use Rattle.hose_words.specs.declared.lines.Line.{Line}
 use Rattle.hose_words.specs.declared.lines.Line.TheVariants as line
+use Rattle.hose_talk.specs.Talk.{KeepsFault, LastCut, TalksTo, TalksUpTo}
+use Rattle.hose_talk.specs.declared.talking.TalkEnd.{TalkEnd}
+use Rattle.hose_talk.specs.declared.talking.TalkEnd.TheVariants as talk_end
+use Rattle.hose_talk.specs.declared.talking.TalkFault.{TalkFault}
+use Rattle.hose_talk.specs.declared.talking.TalkFault.TheVariants as talk_fault
 use Rattle.hose_graph.specs.declared.entry.Entry.{Entry}
 use Rattle.hose_graph.specs.declared.command.Command.{Command}
 use Rattle.hose_graph.specs.declared.command.Reply.{Reply}
@@ -30,14 +27,12 @@ use Rattle.hose_law.specs.ReplyKind.ReplyKind.{ByTheBook, ForDisk, ForMemory, Fo
 use Rattle.hose_law.specs.Script.{ReadLine, IsLineStep, one_if_disk}
 use Rattle.hose_law.specs.Script.ReadLine.{Asks, IsBad, IsLong, Unread}
 use Rattle.hose_offline.specs.ScriptLine.{IsAsking, WantsMemory, script_grammar}
-use Rattle.hose_words.specs.Reading.{WhereTold, ReadsOn}
-use Rattle.hose_words.specs.Saying.{IsAllTaken, IsLeftOver, SayLines, SaysUpTo, StopsReading}
-use Rattle.hose_words.proofs.Saying.{flat_map-last, met_fault, rose_now, said_all, said_enough, said_more, said_none, said_until, takes_line}
-use Rattle.hose_proto.specs.Replies.{CutsLast, texts_of}
+use Rattle.hose_words.specs.Reading.{WhereTold}
+use Rattle.hose_words.specs.Saying.{IsAllTaken, SayLines, SaysUpTo, no_line, one_more}
+use Rattle.hose_proto.specs.Replies.{CutsLast}
 use Rattle.hose_proto.specs.ReplyText.{line_of, reply_text}
 use Rattle.hose_io.specs.Frame.{Frame, Rose, Stays}
 use Rattle.hose_io.proofs.Frames.{Stays-next, Stays-none, Stays-same}
-use Rattle.hose_offline.specs.Fault.{of_line}
 use Rattle.hose_book.specs.Commit.{IsMet, history_after}
 use Rattle.hose_book.specs.GoingOn.{GoesOn, none_yet, entry_more}
 use Rattle.hose_book.specs.declared.books.Committed.{Committed}
@@ -45,9 +40,9 @@ use Rattle.hose_book.specs.declared.books.Committed.TheVariants.{Done, Disk as F
 use Rattle.hose_book.specs.declared.books.Books.{Ghosts as BooksGhosts}
 use Rattle.hose_core.specs.Holding.{State}
 use Rattle.hose_core.specs.Stepping.{FitsHistory, Goes, committed_for, committed_of, history_with}
-use Rattle.hose_offline.proofs.StillReading.{IsStillReading, source_held}
-use Rattle.hose_offline.specs.Talk.{Talk, talk}
-use Rattle.hose_offline.specs.Talking.{AnswersLine, AnswersNextLine, AnswersOne, AreAnswered, HasTalked, RepliesOut, Says, SaysNext, SaysOneThing, SaysRead, SayOneThingEach, Talks, TalksOnce, TalksUntil, TalksUpTo, TalkTellings, TellsDisks, line_more, none_said, talk_network}
+use Rattle.hose_offline.specs.Fault.{done_of_talk}
+use Rattle.hose_offline.specs.Talk.{talk}
+use Rattle.hose_offline.specs.Talking.{AnswersLine, HasAnswered, Says, SaysAlone, SaysNext, SaysRead, SayOneThingEach, Talks, TalksUpTo as UpTo, TalkTellings, TellsDisks, line_more, none_said}
 
 -- what a reader shows of a line says what the line says
 pub says_shown : (network : Network) (shown : Line) (bytes : List ℕ) (said : ReadLine) → Shows shown bytes → SaysRead network shown said → Says network bytes said
@@ -60,24 +55,6 @@ says_shown network line.Long bytes (Asks customer command) shows says = absurd s
 says_shown network line.Long bytes (IsBad word) shows says = absurd says
 says_shown network line.Long bytes IsLong shows says = shows
 says_shown network line.Long bytes Unread shows says = absurd says
-
--- a line that was read, and answered, makes an exchange
-pub exchange_of : {S : Type 0} (source : Ghosts S) (old new : Reader S) (network other : Network) (shown : Line) (reply : Reply) (Answers : ReadLine → Reply → Type 0) (puts : List ℕ → Type 0)
-    → IsNext source old new (Ok (Some shown)) → (said : ReadLine) × SaysRead network shown said × Answers said reply
-    → ((bytes : List ℕ) → Shows shown bytes → SaysOneThing network bytes) → other ≡ network → puts (line_of (reply_text other reply)) → AnswersNextLine source old new network Answers puts
-exchange_of source old new network other shown reply Answers puts next answers alone same out = record {
-  said = answers.0;
-  reply = reply;
-  line = takes_line source old new shown (λ bytes. Says network bytes answers.0 × SaysOneThing network bytes) next (λ bytes shows. (says_shown network shown bytes answers.0 shows answers.1, alone bytes shows));
-  answers = answers.2;
-  out = subst (λ (n : Network). puts (line_of (reply_text n reply))) same out;
-  progress = next.progress;
-}
-
--- reading met a fault
-pub talk_read : {S O K R : Type 0} (tells : TalkTellings S O K R) (old new : Reader S) (output : O) (core : State K) (met : LineFault) → old.fault ≡ None → IsNext tells.source old new (Err met) → TalksOnce tells (talk old output core) (talk new output core) (Err (of_line met))
-talk_read tells old new output core line_fault.Read none next = (met_fault tells.source old new line_fault.Read none next, rose_now tells.source old new none (next.read refl), refl, refl)
-talk_read tells old new output core line_fault.TooLong none next = (met_fault tells.source old new line_fault.TooLong none next, refl, refl)
 
 -- ---- histories that exchanges lead to
 
@@ -129,18 +106,12 @@ module _ {K R : Type 0} (books : BooksGhosts K R) (network : Network) (since : L
   leads_on None decided sound same = subst (λ (k : K). Leads books network since first history k) (sym same) was
   leads_on (Some entry) decided sound went = committed entry (committed_of answer) decided sound went
 
--- What is known of a core that has answered lines from a history on.
-pub record Answered {K R : Type 0} (books : BooksGhosts K R) (since : List Entry) (first core : State K) (lines : List ReadLine) (replies : List Reply) : Type 0 where
-  pub answered : AreAnswered books (books.ledger first.books).network since first.books core.books lines replies
-  pub fits : FitsHistory books core 0 answered.history answered.left
-  pub network : (books.ledger core.books).network ≡ (books.ledger first.books).network
-
-module _ {K R : Type 0} (books : BooksGhosts K R) (since : List Entry) (first old new : State K) (lines : List ReadLine) (replies : List Reply) (was : Answered books since first old lines replies) where
+module _ {K R : Type 0} (books : BooksGhosts K R) (since : List Entry) (first old new : State K) (lines : List ReadLine) (replies : List Reply) (was : HasAnswered books since first old lines replies) where
   abbrev network : Network
   network = (books.ledger first.books).network
 
   -- a command was answered by a step
-  command_more : (customer : List ℕ) (command : Command) (reply : Reply) → AnswersLine books old new (Asks customer command) reply → Answered books since first new (lines ++ Asks customer command ∷ []) (replies ++ reply ∷ [])
+  command_more : (customer : List ℕ) (command : Command) (reply : Reply) → AnswersLine books old new (Asks customer command) reply → HasAnswered books since first new (lines ++ Asks customer command ∷ []) (replies ++ reply ∷ [])
   command_more customer command reply answers =
       let history = was.answered.history in
       let left = was.answered.left in
@@ -172,8 +143,8 @@ module _ {K R : Type 0} (books : BooksGhosts K R) (since : List Entry) (first ol
 
   -- any other line changed nothing
   fixed_more : (said : ReadLine) (reply : Reply) → IsLineStep network 0 was.answered.history was.answered.left said reply was.answered.history was.answered.left → one_if_disk reply ≡ 0 → new ≡ old
-      → Answered books since first new (lines ++ said ∷ []) (replies ++ reply ∷ [])
-  fixed_more said reply line no_disk same = subst (λ (s : State K). Answered books since first s (lines ++ said ∷ []) (replies ++ reply ∷ [])) (sym same) (record {
+      → HasAnswered books since first new (lines ++ said ∷ []) (replies ++ reply ∷ [])
+  fixed_more said reply line no_disk same = subst (λ (s : State K). HasAnswered books since first s (lines ++ said ∷ []) (replies ++ reply ∷ [])) (sym same) (record {
     answered = record {
       history = was.answered.history;
       left = was.answered.left;
@@ -189,142 +160,73 @@ module _ {K R : Type 0} (books : BooksGhosts K R) (since : List Entry) (first ol
   })
 
   -- one line more is answered
-  pub answered_more : (said : ReadLine) (reply : Reply) → AnswersLine books old new said reply → Answered books since first new (lines ++ said ∷ []) (replies ++ reply ∷ [])
+  pub answered_more : (said : ReadLine) (reply : Reply) → AnswersLine books old new said reply → HasAnswered books since first new (lines ++ said ∷ []) (replies ++ reply ∷ [])
   answered_more (Asks customer command) reply answers = command_more customer command reply answers
   answered_more (IsBad word) reply answers = fixed_more (IsBad word) reply (answers.0, refl, refl) (ap one_if_disk answers.0) answers.1
   answered_more IsLong reply answers = fixed_more IsLong reply (answers.0, refl, refl) (ap one_if_disk answers.0) answers.1
   answered_more Unread reply answers = fixed_more Unread reply (answers.0, refl, refl) (ap one_if_disk answers.0) answers.1
 
-pub talk_begun : {S O K R : Type 0} (tells : TalkTellings S O K R) (start : Talk (Reader S) O (State K)) (since : List Entry) → IsSound (talk_network tells start) 0 since → FitsHistory tells.books start.by 0 since nothing_held → HasTalked tells start start since
-talk_begun tells start since sound fits = record {
-  lines = [];
-  replies = [];
-  said = said_none (SaysNext (talk_network tells start)) start.lines.pending (tells.source.content start.lines.source);
-  alone = WhereTold-same (tells.source.content start.lines.source) _ (λ left. none_said);
+-- nothing is answered yet
+pub answered_none : {K R : Type 0} (books : BooksGhosts K R) (since : List Entry) (core : State K) → IsSound (books.ledger core.books).network 0 since → FitsHistory books core 0 since nothing_held → HasAnswered books since core core [] []
+answered_none books since core sound fits = record {
   answered = record {
     history = since;
     left = nothing_held;
     script = (refl, refl);
-    decided = decided_end (talk_network tells start) 0 since sound;
+    decided = decided_end (books.ledger core.books).network 0 since sound;
     begins = ([], append-nil since);
     goes_on = none_yet;
-    stays = Stays-none (tells.books.frame start.by.books);
+    stays = Stays-none (books.frame core.books);
     disks = inl (omega arith);
   };
   fits = fits;
   network = refl;
-  out = Grows-nil (tells.sink.content start.output);
 }
 
--- a talk by a core as one by its books
-abbrev pub by_books : {S O K : Type 0} → Talk (Reader S) O (State K) → Talk (Reader S) O K
-by_books state = talk state.lines state.output state.by.books
+-- ---- what answering lines comes to
 
-module _ {S O K R : Type 0} (tells : TalkTellings S O K R) (since : List Entry) (start now new : Talk (Reader S) O (State K)) (talked : HasTalked tells start now since) (reads : ReadsOn tells.source start.lines now.lines) where
+module _ (network : Network) where
+  said_next : {text rest : List ℕ} {lines : List ReadLine} → SayLines (λ before. SaysAlone network) text lines rest → SayLines (SaysNext network) text lines rest
+  said_next no_line = no_line
+  said_next (one_more line before some says) = one_more line (said_next before) some says.0
+
+  said_alone : {text rest : List ℕ} {lines : List ReadLine} → SayLines (λ before. SaysAlone network) text lines rest → SayOneThingEach network text rest
+  said_alone no_line = none_said
+  said_alone (one_more line before some says) = line_more (said_alone before) some says.1
+
+module _ {S O K R : Type 0} (tells : TalkTellings S O K R) (since : List Entry) (start now : Reader S) (output output' : O) (first last : State K) where
   abbrev top : Network
-  top = talk_network tells start
+  top = (tells.books.ledger first.books).network
 
-  -- what is out at each of the three
-  abbrev first : Option (List ℕ)
-  first = tells.sink.content start.output
+  abbrev Alone : (List ℕ → List ℕ → List ℕ → Type 0) → List ReadLine → Type 0
+  Alone stops lines = SaysUpTo tells.source start now (λ before. SaysAlone top) lines stops
 
-  abbrev middle : Option (List ℕ)
-  middle = tells.sink.content now.output
+  abbrev Before : (List ℕ → List ℕ → List ℕ → Type 0) → (List Reply → Type 0) → Type 0
+  Before = TalksUpTo Alone (λ lines replies core. HasAnswered tells.books since first core lines replies) last
 
-  abbrev last : Option (List ℕ)
-  last = tells.sink.content new.output
-
-  abbrev Exchange : (List ℕ → Type 0) → Type 0
-  Exchange puts = AnswersNextLine tells.source now.lines new.lines top (AnswersLine tells.books now.by new.by) puts
-
-  -- an exchange of the network that there is now is one of the first network
-  here : (puts : List ℕ → Type 0) → AnswersOne tells now new puts → Exchange puts
-  here puts exchange = subst (λ (n : Network). AnswersNextLine tells.source now.lines new.lines n (AnswersLine tells.books now.by new.by) puts) talked.network exchange
-
-  -- the line of an exchange stands after those that were said
-  said_after : (puts : List ℕ → Type 0) (exchange : Exchange puts)
-      → WhereTold (tells.source.content start.lines.source) (tells.source.content new.lines.source) (λ was left. SayLines (SaysNext top) (start.lines.pending ++ was) (talked.lines ++ exchange.said ∷ []) (new.lines.pending ++ left))
-  said_after puts exchange = said_more tells.source (SaysNext top) start.lines now.lines new.lines talked.lines talked.said reads exchange.said (λ bytes. Says top bytes exchange.said × SaysOneThing top bytes) exchange.line (λ bytes is. is.0)
-
-  goes_on : (puts : List ℕ → Type 0) (exchange : Exchange puts) → Answered tells.books since start.by new.by (talked.lines ++ exchange.said ∷ []) (talked.replies ++ exchange.reply ∷ [])
-  goes_on puts exchange = answered_more tells.books since start.by now.by new.by talked.lines talked.replies (record { answered = talked.answered; fits = talked.fits; network = talked.network }) exchange.said exchange.reply exchange.answers
-
-  -- an exchange more
-  pub talked_more : AnswersOne tells now new (Grows middle last) → HasTalked tells start new since
-  talked_more taken =
-      let exchange = here (Grows middle last) taken in
-      let more = goes_on (Grows middle last) exchange in record {
-        lines = talked.lines ++ exchange.said ∷ [];
-        replies = talked.replies ++ exchange.reply ∷ [];
-        said = said_after (Grows middle last) exchange;
-        alone = WhereTold-then (tells.source.content start.lines.source) (tells.source.content now.lines.source) (tells.source.content new.lines.source) reads.takes.0 _ _ _ reads.takes.1 talked.alone exchange.line
-            (λ a b c before here. subst (SayOneThingEach top (start.lines.pending ++ a)) (sym here.2) (line_more before here.0 here.1.1));
-        answered = more.answered;
-        fits = more.fits;
-        network = more.network;
-        out = subst (Grows first last) (sym (flat_map-last (λ reply. line_of (reply_text top reply)) talked.replies exchange.reply))
-            (Grows-append first middle last (texts_of top talked.replies) (line_of (reply_text top exchange.reply)) talked.out exchange.out);
-      }
-
-  abbrev UpTo : (List ℕ → List ℕ → List ℕ → Type 0) → (List Reply → Type 0) → Type 0
-  UpTo stops puts = TalksUpTo tells top since (by_books start) (by_books new) stops puts
-
-  -- an exchange more is taken, and its reply is cut off
-  talk_cut : AnswersOne tells now new (GrowsInPart middle last) → UpTo IsLeftOver (CutsLast top first last)
-  talk_cut taken =
-      let exchange = here (GrowsInPart middle last) taken in
-      let more = goes_on (GrowsInPart middle last) exchange in record {
-        lines = talked.lines ++ exchange.said ∷ [];
-        replies = talked.replies ++ exchange.reply ∷ [];
-        said = said_enough tells.source (SaysNext top) start.lines new.lines _ (said_after (GrowsInPart middle last) exchange);
-        answered = more.answered;
-        out = (
-          talked.replies,
-          exchange.reply,
-          refl,
-          (
-            exchange.out.0,
-            exchange.out.1,
-            Grows-append first middle last (texts_of top talked.replies) (take exchange.out.0 (line_of (reply_text top exchange.reply))) talked.out exchange.out.2,
-          ),
-        );
-      }
-
-  -- no exchange more is taken
-  talk_up_to : (stops : List ℕ → List ℕ → List ℕ → Type 0) → SaysUpTo tells.source start.lines new.lines (SaysNext top) talked.lines stops → new.output ≡ now.output → new.by ≡ now.by → UpTo stops (RepliesOut tells top since (by_books start) (by_books new))
-  talk_up_to stops said same stays = record {
-    lines = talked.lines;
-    replies = talked.replies;
-    said = said;
-    answered = subst (λ (s : State K). AreAnswered tells.books top since start.by.books s.books talked.lines talked.replies) (sym stays) talked.answered;
-    out = subst (λ (o : O). Grows first (tells.sink.content o) (texts_of top talked.replies)) (sym same) talked.out;
+  up_to : (stops : List ℕ → List ℕ → List ℕ → Type 0) (puts outs : List Reply → Type 0) (talks : Before stops puts) → outs talks.replies → UpTo tells top since (talk start output first.books) (talk now output' last.books) stops outs
+  up_to stops puts outs talks out = record {
+    lines = talks.lines;
+    replies = talks.replies;
+    said = WhereTold-map (tells.source.content start.source) (tells.source.content now.source) _ _ talks.said (λ was left said. (said.0, said_next top said.1, said.2));
+    answered = talks.comes.answered;
+    out = out;
   }
 
-  -- ---- what answering lines comes to
+  -- no line is left, so all say one thing
+  alone : (puts : List Reply → Type 0) → Before IsAllTaken puts → WhereTold (tells.source.content start.source) (tells.source.content now.source) (λ was _. SayOneThingEach top (start.pending ++ was) [])
+  alone puts talks = WhereTold-map (tells.source.content start.source) (tells.source.content now.source) _ _ talks.said (λ was left said. subst (SayOneThingEach top (start.pending ++ was)) said.2.0 (said_alone top said.1))
 
-  module _ (still : IsStillReading tells.source tells.sink start.lines now.lines start.output now.output) where
-    -- the output is as it was
-    until : (fault : LineFault) → StopsReading tells.source now.lines new.lines fault → new.output ≡ now.output → new.by ≡ now.by → TalksUntil tells top since (by_books start) (by_books new) fault
-    until fault met same stays = record {
-      talks = talk_up_to (StopsAfterLines fault) (said_until tells.source (SaysNext top) start.lines now.lines new.lines talked.lines talked.said reads fault still.none met) same stays;
-      before_end = reads.ended met.before_end;
-      kept = met.kept;
-      held = ap tells.sink.frame same ∙ still.held;
-    }
+  -- the last reply is cut off
+  cut : (replies : List Reply) → LastCut (λ reply. line_of (reply_text top reply)) tells.sink output output' replies → CutsLast top (tells.sink.content output) (tells.sink.content output') replies
+  cut replies (whole, reply, same, count, less, grows) = (whole, reply, same, (count, less, grows))
 
-    -- a fault ends it
-    pub talk_fault : (T : Type 0) (fault : Fault) → TalksOnce tells now new (Err fault) → Talks tells top since (by_books start) (by_books new) {T = T} (Err fault)
-    talk_fault T fault.Read line = (until line_fault.Read line.0 line.2 line.3, rw (source_held tells.source tells.sink start.lines now.lines start.output now.output still) at line.1)
-    talk_fault T fault.TooLong line = until line_fault.TooLong line.0 line.1 line.2
-    talk_fault T fault.Write line = (talk_cut line.0, line.1, rw still.held at line.2)
-    talk_fault T another line = absurd line
-
-    -- no line is left
-    pub talk_all : (T : Type 0) (value : T) → TalksOnce tells now new (Ok false) → Talks tells top since (by_books start) (by_books new) (Ok value)
-    talk_all T value line = (
-      talk_up_to IsAllTaken (said_all tells.source (SaysNext top) start.lines now.lines new.lines talked.lines talked.said reads line.0) line.2 line.3,
-      line.1,
-      ap tells.sink.frame line.2 ∙ still.held,
-      WhereTold-then (tells.source.content start.lines.source) (tells.source.content now.lines.source) (tells.source.content new.lines.source) reads.takes.0 _ _ _ reads.takes.1 talked.alone line.0.ended
-          (λ a b c each over. subst (SayOneThingEach top (start.lines.pending ++ a)) over.0 each),
-    )
+  -- a talk by a core is one by its books
+  pub talks_so : (ended : Result TalkEnd TalkFault) → KeepsFault start now ended
+      → TalksTo tells.source tells.sink Alone (λ lines replies core. HasAnswered tells.books since first core lines replies) (λ _. false) (λ reply. line_of (reply_text top reply)) start.source now.source output output' last ended
+      → Talks tells top since (talk start output first.books) (talk now output' last.books) (done_of_talk ended)
+  talks_so (Ok talk_end.Input) kept talks = (up_to _ _ _ talks.0.0 talks.0.0.out, kept, talks.2, alone _ talks.0.0)
+  talks_so (Ok talk_end.Over) kept talks = absurd (cc talks.0.1)
+  talks_so (Err talk_fault.Read) kept talks = (record { talks = up_to _ _ _ talks.0.0 talks.0.0.out; before_end = kept.1; kept = kept.0; held = talks.2 }, talks.1)
+  talks_so (Err talk_fault.TooLong) kept talks = record { talks = up_to _ _ _ talks.0.0 talks.0.0.out; before_end = kept.1; kept = kept.0; held = talks.2 }
+  talks_so (Err talk_fault.Write) kept talks = (up_to _ _ (CutsLast top (tells.sink.content output) (tells.sink.content output')) talks.0 (cut talks.0.replies talks.0.out), kept, talks.2)

@@ -157,6 +157,7 @@ module _ {I O C E : Type 0} (tells : Tellings I O C E) (names : PricedNames) (be
           gives = has.follows.gives;
           are = has.follows.are;
           answered = has.follows.answered;
+          of_leaders = has.follows.of_leaders;
           begins = has.follows.begins;
           sound = has.follows.sound;
           ends = has.follows.ends;

@@ -1,5 +1,5 @@
 -- A journal that is opened and closed: its store on a disk, and what a run and an audit make of it.
-use Rattle.std.proofs.Common.{◌≡◌, ◌∙◌, ◌↔◌, ◌⊎◌, inl, inr, ℕ, ◌≤◌, List, Option, Some, None, IfSome, Result, Ok, Err, sym, ap, subst, arith}
+use Rattle.std.proofs.Common.{◌≡◌, ◌∙◌, ◌↔◌, ◌⊎◌, inl, inr, ℕ, ◌≤◌, List, Option, Some, None, IfSome, Result, Ok, Err, refl, sym, ap, subst, arith, le_refl}
 use Rattle.std.specs.Prelude.{⊤}
 use Rattle.hose_io.specs.declared.Failed.{Failed}
 use Rattle.hose_io.specs.declared.source.Source.{Ghosts as SourceGhosts}
@@ -22,12 +22,14 @@ use Rattle.hose_store.specs.Commit.{Closes, store_books}
 use Rattle.hose_store.specs.Opening.{IsAtOpening, IsOpenedOn, IsRefusedStore}
 use Rattle.hose_store.specs.Recovery.{IsHistoryOf, IsRecoveredAs}
 use Rattle.hose_store.specs.Store.{IsAmid, Kept}
+use Rattle.hose_store.proofs.Standing.{closed_left, opened_stands, run_stands}
 use Rattle.hose_store.specs.declared.fault.StoreFault.{StoreFault}
 use Rattle.hose_store.specs.declared.fault.StoreFault.TheVariants as store
 use Rattle.hose_offline.specs.Auditing.{HasAudited}
 use Rattle.hose_offline.specs.Fault.{of_store}
 use Rattle.hose_offline.specs.Journal.{ClosesJournal, IsJustOpened, IsLeftWith, OpensJournal}
 use Rattle.hose_offline.specs.Parts.{Parts, Tellings, parts, tellings}
+use Rattle.hose_offline.specs.OnDisk.{opening_of}
 use Rattle.hose_offline.specs.Talk.{talk}
 use Rattle.hose_offline.specs.Talking.{Talks, TalkTellings, TellsDisks, talk_tellings}
 use Rattle.hose_offline.specs.TalkingOnDisk.{HasTalkedInCabinet}
@@ -63,6 +65,21 @@ module _ {E : Type 0} (disk : DiskGhosts E) (network : Network) (old left : E) (
       at : (image : List ℕ) → disk.left_since store.journal.disk (disk.moment old) image ⊎ IsAmid store.ledger.network opened.history None None image → IsAtOpening disk old network image
       at image (inl before) = opening.each image before
       at image (inr in_closing) = inr (opened.history, opened.read, stands image in_closing)
+
+-- what is told of a store that was just opened is told for entries of each kind
+pub opened_for : {E : Type 0} (disk : DiskGhosts E) → ((at : E) (t : ℕ) (image : List ℕ) → t ≤ disk.moment at → disk.may_leave at image → disk.left_since at t image) → ((at : E) (t : ℕ) (image : List ℕ) → disk.content at ≡ None → disk.left_since at t image → ⊥)
+    → ((at : E) (image : List ℕ) → disk.left_since at (disk.moment at) image → disk.may_leave at image) → (One Other : EntryKind) (network : Network) (old : E) (store : Kept E) → IsJustOpened disk One old network store → IsJustOpened disk Other old network store
+opened_for disk counts untold only_now One Other network old store is =
+    let begins = opening_of disk network is.opened.history old in
+    let stands = opened_stands disk Other (disk.may_leave old) begins old store is.opened refl is.images is.stands.tells refl (counts old) (untold store.journal.disk) (le_refl _) (only_now old) in
+    record {
+      opened = is.opened;
+      images = is.images;
+      count = is.count;
+      stands = stands;
+      unused = is.unused;
+      leaves = λ history last left closing goes closes. closed_left disk Other (disk.may_leave old) begins ⊤ last left history closing (counts left) (run_stands disk Other (disk.may_leave old) begins is.opened.history store history last stands goes) closes;
+    }
 
 -- A store was opened, and closed before anything was asked of it: at each moment an image is one of
 -- before, or stands for what the disk stood for.

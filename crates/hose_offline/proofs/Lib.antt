@@ -11,6 +11,7 @@ pub mod Journals
 pub mod JsonLemmas
 mod Judging
 pub mod Leaving
+mod OfLeaders
 pub mod OneReading
 pub mod OneRun
 mod OrdersAnswered
@@ -22,6 +23,6 @@ pub mod PutBack
 pub mod Running
 mod Sheets
 mod ShipEnds
-mod StillReading
 mod Taken
-pub mod Texts
+mod TalksTold
+mod Texts

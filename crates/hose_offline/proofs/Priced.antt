@@ -15,10 +15,7 @@ use Rattle.hose_offline.specs.TopologyTold.{own_costs}
 use Rattle.hose_offline.specs.declared.fault.Fault.{Fault}
 use Rattle.hose_offline.specs.declared.fault.Fault.TheVariants as fault
 use Rattle.hose_offline.proofs.Taken.{both_failed, both_then}
-
--- a fault, as what something came to
-abbrev Result_err : Fault → Result ⊤ Fault
-Result_err why = Err why
+use Rattle.hose_offline.proofs.TalksTold.{Result_err, told_no_words}
 
 module _ {I O C E : Type 0} (tells : Tellings I O C E) (makes : Network → Sheet → Type 0) (names : List (List ℕ)) where
   -- there was no memory for a sheet or for rows
@@ -64,7 +61,7 @@ module _ {I O C E : Type 0} (tells : Tellings I O C E) (makes : Network → Shee
     -- no answers end with wrong words
     words : (after : Parts I O C) (word : ℕ) (network : Network) → AnswersBySheet tells makes names before after network (Err (fault.Words word)) → ⊥
     words after word network (inl starved) = cc starved.0
-    words after word network (inr (sheet, is, answers)) = answers
+    words after word network (inr (sheet, is, ended, same, answers)) = told_no_words ended word same
 
     -- nor does a text
     never : (after : Parts I O C) (left : Option Stream) (word : ℕ) (why : Fault) → Result_err (fault.Words word) ≡ Result_err why → NamesNone tells topology before after left why → ⊥

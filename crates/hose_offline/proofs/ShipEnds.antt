@@ -10,11 +10,14 @@ use Rattle.hose_graph.specs.Network.{Network}
 use Rattle.hose_graph.specs.declared.entry.Entry.{Entry}
 use Rattle.hose_disk.specs.Cabinet.{CabinetFrame}
 use Rattle.hose_disk.specs.Disk.{DiskFrame}
-use Rattle.hose_journal.specs.Image.{Meaning}
+use Rattle.hose_journal.specs.Entries.{front_of}
+use Rattle.hose_journal.specs.Image.{IsClosed, IsUnbegun, Meaning}
+use Rattle.hose_journal.specs.Layout.{chained_version}
 use Rattle.hose_journal.specs.Moments.{LeavesOnly}
 use Rattle.hose_store.specs.Entries.{BeginsWith}
 use Rattle.hose_store.specs.Opening.{IsAtOpening}
 use Rattle.hose_store.specs.Recovery.{IsHistoryOf, IsRecoveredAs, digest_of}
+use Rattle.hose_store.specs.Replaying.{KeepsRead}
 use Rattle.hose_store.specs.declared.fault.StoreFault.{StoreFault}
 use Rattle.hose_store.specs.declared.fault.StoreFault.TheVariants as store
 use Rattle.hose_follow.specs.Packet.{Packet, packets_bytes, packets_from}
@@ -28,14 +31,14 @@ use Rattle.hose_offline.specs.Fault.{of_store}
 use Rattle.hose_offline.specs.OnDisk.{CabinetFailed, HadContent, IsUnopened, JournalIsTold}
 use Rattle.hose_offline.specs.Parts.{Parts, Tellings}
 use Rattle.hose_offline.specs.ServingOnDisk.{IsNotServed}
-use Rattle.hose_offline.specs.ShipOutcome.{ShipOutcome, ShipsJournal, ShipsPart, shipping_done, to_ship}
+use Rattle.hose_offline.specs.ShipOutcome.{IsReadAsBefore, ShipOutcome, ShipsJournal, ShipsPart, shipping_done, to_ship}
 use Rattle.hose_offline.specs.declared.fault.Fault.{Fault}
 use Rattle.hose_offline.specs.declared.fault.Fault.TheVariants as fault
 use Rattle.hose_offline.proofs.Audited.{named_not_1, named_read}
-use Rattle.hose_offline.proofs.Audits.{held_before, not_served_before, unopened_before}
+use Rattle.hose_offline.proofs.Audits.{has_before, held_before, not_served_before, unopened_before}
 use Rattle.hose_offline.proofs.Journals.{not_opened}
 use Rattle.hose_offline.proofs.Outcomes.{clash}
-use Rattle.hose_offline.proofs.PutBack.{IsPutBack, held_as, not_served}
+use Rattle.hose_offline.proofs.PutBack.{IsPutBack, held_as, left_as, not_served}
 
 -- ---- in a cabinet
 
@@ -69,6 +72,10 @@ module _ {I O C E : Type 0} (tells : Tellings I O C E) (name : List ℕ) (from :
         at (inl none) = inl none
         at (inr begins) = inr (held_as tells.cabinet tells.disk name before.cabinet mid after.cabinet network opened left back (BeginsWith (digest_of network) up.entries) begins)
 
+    as_before : KeepsRead tells.disk opened left network → IsReadAsBefore tells name from before after network
+    as_before keeps = left_as tells.cabinet tells.disk name before.cabinet mid after.cabinet network opened left back (λ was now. KeepsRead tells.disk was now network)
+        (λ was taken. subst (λ (content : Option (List ℕ)). (tells.disk.content left ≡ content) ⊎ (IfSome content IsUnbegun × IfSome (tells.disk.content left) (IsClosed (front_of chained_version (digest_of network) [])))) taken.0 keeps)
+
     module _ (one : (image : List ℕ) (one two : Meaning Entry) → IsRecoveredAs network image one → IsRecoveredAs network image two → one ≡ two) (run : LeavesOnly tells.disk opened left (IsAtOpening tells.disk opened network)) where
       not_shipped : (why : StoreFault) → Ships tells.sink tells.disk before.output after.output opened left network from (Err (Store why)) → IsNotServed tells.cabinet tells.disk name before.cabinet after.cabinet network (Err (of_store why))
       not_shipped why ships =
@@ -81,8 +88,9 @@ module _ {I O C E : Type 0} (tells : Tellings I O C E) (name : List ℕ) (from :
         out = ships.0.out;
         writing = ships.1;
         keeping = ap (λ (f : CabinetFrame). f.returned) back.in_place.call ∙ (ships.2 ∙ ap (λ (f : DiskFrame). f.faults) back.out.fresh);
+        read = as_before ships.3;
       }
-      ships_in (Err Write) ships = (part _ ships.0, ships.1)
+      ships_in (Err Write) ships = (part _ ships.0, ships.1, as_before ships.2)
       ships_in (Err (Store store.Disk)) ships = (not_shipped store.Disk ships, part _ ships.0, ships.1)
       ships_in (Err (Store (store.Other kept given))) ships = (not_shipped (store.Other kept given) ships, part _ ships.0, ships.1)
       ships_in (Err (Store (store.Damaged at))) ships = (not_shipped (store.Damaged at) ships, part _ ships.0, ships.1)
@@ -119,8 +127,9 @@ module _ {I O C E : Type 0} (tells : Tellings I O C E) (from : ℕ) where
         out = ships.out;
         writing = ships.writing;
         keeping = ships.keeping;
+        read = has_before tells.cabinet tells.disk before.cabinet read after.cabinet reads.only_texts names.journal _ ships.read;
       }
-      ships_before (Err fault.Write) ships = (part_before _ ships.0, ships.1)
+      ships_before (Err fault.Write) ships = (part_before _ ships.0, ships.1, has_before tells.cabinet tells.disk before.cabinet read after.cabinet reads.only_texts names.journal _ ships.2)
       ships_before (Err (fault.Other kept given)) ships = (not_before (fault.Other kept given) ships.0, part_before _ ships.1, ships.2)
       ships_before (Err (fault.Damaged at)) ships = (not_before (fault.Damaged at) ships.0, part_before _ ships.1, ships.2)
       ships_before (Err fault.Cabinet) ships = (not_before fault.Cabinet ships.0, part_before _ ships.1, ships.2)

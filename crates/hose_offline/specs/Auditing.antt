@@ -111,6 +111,7 @@ pub record PricedNames : Type 1 where
   pub topology : List ℕ
   pub journal : List ℕ
 
+-- what a command names, of its parts: the prices, the topology and the journal
 abbrev pub priced_names : (Network → Network → Type 0) → List ℕ → List ℕ → PricedNames
 priced_names prices topology journal =
     record { prices = prices; topology = topology; journal = journal }

@@ -45,7 +45,7 @@ module _ {C E : Type 0} (cabinet : Ghosts C E) where
 
   -- ---- the source
 
-  -- its frame as a source: the count of faults is the cabinet's
+  -- the frame of a text that is read, as a source: the count of faults is the cabinet's
   abbrev pub reading_frame : TextState C → Frame
   reading_frame text = record {
     faults = (cabinet.frame text.cabinet.now).faults;
@@ -53,7 +53,7 @@ module _ {C E : Type 0} (cabinet : Ghosts C E) where
     loan = text.cabinet.ghost_name ∷ [];
   }
 
-  -- its bytes
+  -- the bytes of a text that is read, as far as they are told
   abbrev pub text_at : TextState C → Option Stream
   text_at text = text_stream text.cabinet.now text.name text.from
 

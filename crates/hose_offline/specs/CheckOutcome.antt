@@ -21,10 +21,11 @@ use Rattle.hose_offline.specs.declared.fault.Fault.TheVariants.{Read, Memory, To
 
 -- ---- what is written
 
--- the line of a valid certificate, and that of the lowest rule that fails
+-- the line that tells a valid certificate
 abbrev pub yes_line : ℕ → List ℕ
 yes_line cost = line_of (codes "yes " ++ decimal cost)
 
+-- the line that tells the lowest rule that fails
 abbrev pub no_line : ℕ → List ℕ
 no_line rule = line_of (codes "no " ++ decimal rule)
 
@@ -51,14 +52,14 @@ module _ {I : Type 0} (source : SourceGhosts I) (input input' : I) (network : Ne
     pub cheapest : AreCheapestFound network verdict
     pub held : source.frame input' ≡ source.frame input
 
-  -- why it was not judged
+  -- why the input was not judged
   abbrev pub IsNotJudged : Fault → Type 0
   IsNotJudged Read = Rose (source.frame input) (source.frame input')
   IsNotJudged TooLong = source.frame input' ≡ source.frame input
   IsNotJudged Memory = source.frame input' ≡ source.frame input
   IsNotJudged _ = ⊥
 
-  -- what judging it came to
+  -- what judging the input came to
   abbrev pub JudgedAs : Result Verdict Fault → Type 0
   JudgedAs (Ok verdict) = IsJudged verdict
   JudgedAs (Err why) = IsNotJudged why

@@ -1,5 +1,5 @@
 -- What tells a fault: the status with which the program ends, and the last line that it writes.
-use Rattle.std.specs.Prelude.{ℕ, List, [], ◌++◌, codes, decimal}
+use Rattle.std.specs.Prelude.{ℕ, List, [], ◌++◌, codes, decimal, Result, Ok, Err, ⊤}
 use Rattle.hex.specs.Hex.{encode_lower}
 use Rattle.hose_cert.specs.declared.fault.CertFault.{CertFault}
 use Rattle.hose_cert.specs.declared.fault.CertFault.TheVariants as certificate
@@ -7,8 +7,9 @@ use Rattle.hose_cert.specs.declared.fault.ProveFault.{ProveFault}
 use Rattle.hose_cert.specs.declared.fault.ProveFault.TheVariants as proof
 use Rattle.hose_follow.specs.declared.shipping.ShipFault.{ShipFault}
 use Rattle.hose_follow.specs.declared.shipping.ShipFault.TheVariants as shipping
-use Rattle.hose_words.specs.declared.lines.LineFault.{LineFault}
-use Rattle.hose_words.specs.declared.lines.LineFault.TheVariants as line
+use Rattle.hose_talk.specs.declared.talking.TalkEnd.{TalkEnd}
+use Rattle.hose_talk.specs.declared.talking.TalkFault.{TalkFault}
+use Rattle.hose_talk.specs.declared.talking.TalkFault.TheVariants as talk_fault
 use Rattle.hose_topo.specs.declared.fault.TopoFault.{TopoFault}
 use Rattle.hose_topo.specs.declared.fault.TopoFault.TheVariants as topology
 use Rattle.hose_topo_json.specs.declared.reading.JsonFault.{JsonFault}
@@ -59,10 +60,12 @@ last_line TooLong = line_of (codes "too long")
 last_line Door = line_of (codes "door")
 last_line (Packet at) = line_of (codes "packet " ++ decimal at)
 
--- what a fault of reading lines is for a run
-abbrev pub of_line : LineFault → Fault
-of_line line.Read = Read
-of_line line.TooLong = TooLong
+-- what answering lines came to, as a command tells it
+abbrev pub done_of_talk : Result TalkEnd TalkFault → Result ⊤ Fault
+done_of_talk (Ok end) = Ok tt
+done_of_talk (Err talk_fault.Read) = Err Read
+done_of_talk (Err talk_fault.TooLong) = Err TooLong
+done_of_talk (Err talk_fault.Write) = Err Write
 
 -- what a fault of reading a topology is, where a source that fails is told so
 abbrev pub of_topology : Fault → TopoFault → Fault

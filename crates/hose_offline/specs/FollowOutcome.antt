@@ -17,12 +17,13 @@ use Rattle.hose_offline.specs.Parts.{Parts, Tellings}
 use Rattle.hose_offline.specs.ServingOnDisk.{first_of}
 use Rattle.hose_offline.specs.TopologyTold.{limit_of, notation_of}
 
--- The input is told and not too long: it is packets, one after the other; or it is not.
+-- the input is told and not too long, and is packets, one after the other
 abbrev pub IsOfPackets : Option Stream → Type 0
 IsOfPackets None = ⊥
 IsOfPackets (Some stream) = ((packets : List Packet) × All IsPacket packets
     × (stream.left ≡ packets_bytes packets)) × (length stream.left ≤ follow_limit)
 
+-- the input is told and not too long, and is no packets one after the other
 abbrev pub IsOfNoPackets : Option Stream → Type 0
 IsOfNoPackets None = ⊥
 IsOfNoPackets (Some stream) = ((packets : List Packet) → All IsPacket packets

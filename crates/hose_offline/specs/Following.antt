@@ -1,11 +1,12 @@
 -- What the answers of a follower make of the history of its journal, and what following comes to.
-use Rattle.std.specs.Prelude.{◌≡◌, ◌≢◌, ◌⊎◌, ◌↔◌, ℕ, ◌+◌, ◌<◌, ◌≤◌, List, [], ◌∷◌, ◌++◌, length, All, Result, Ok, Err, ⊤}
+use Rattle.std.specs.Prelude.{◌≡◌, ◌≢◌, ◌⊎◌, ◌↔◌, ℕ, ◌+◌, ◌<◌, ◌≤◌, List, [], ◌∷◌, ◌++◌, length, All, Contains, Result, Ok, Err, ⊤}
 use mathlib.Core.List.{IsPrefix}
 use Rattle.hose_io.specs.Frame.{Met}
 use Rattle.hose_io.specs.Stream.{Gives}
 use Rattle.hose_io.specs.declared.Failed.{Failed}
 use Rattle.hose_graph.specs.Network.{Network}
 use Rattle.hose_graph.specs.declared.entry.Entry.{Entry}
+use Rattle.hose_law.specs.Book.{Book}
 use Rattle.hose_law.specs.History.{IsSound, IsSoundAt, book_of}
 use Rattle.hose_codec.specs.Spelling.{IsSpelling}
 use Rattle.hose_disk.specs.Cabinet.{Has, object_of}
@@ -15,6 +16,7 @@ use Rattle.hose_store.specs.Recovery.{IsHistoryOf, digest_of}
 use Rattle.hose_follow.specs.Answers.{TellsDiskAnswers}
 use Rattle.hose_follow.specs.Ends.{EndsSo}
 use Rattle.hose_follow.specs.Packet.{IsPacket, Packet, packets_bytes}
+use Rattle.hose_follow.specs.Replication.{IsLeader, IsSentOf}
 use Rattle.hose_follow.specs.declared.answers.Offered.{Offered}
 use Rattle.hose_follow.specs.declared.answers.Offered.TheVariants.{Have, Want, Differs, Memory, Unsound, Disk}
 use Rattle.hose_follow.specs.declared.following.FollowEnd.{FollowEnd}
@@ -77,6 +79,28 @@ pub data ArePacketsAnswered (network : Network) (since : List Entry) : List Pack
       → AnswersAt network middle packet answer history
       → ArePacketsAnswered network since (packets ++ packet ∷ []) (answers ++ answer ∷ []) history
 
+-- The packet's body spells the entry of its epoch, which is sound at the book.
+pub record IsBrought (packets : List Packet) (network : Network) (book : Book) (entry : Entry) :
+    Type 0 where
+  pub sound : IsSoundAt network book entry
+  pub packet : Packet
+  pub offered : Contains packets packet
+  pub epoch : packet.epoch ≡ book.epoch + 1
+  pub spells : IsSpelling entry packet.body
+
+-- the answer does not tell that the packet is one of another history, or unsound
+abbrev pub IsNoRefusal : Offered → Type 0
+IsNoRefusal (Differs at own given) = ⊥
+IsNoRefusal (Unsound epoch) = ⊥
+IsNoRefusal another = ⊤
+
+-- For each list of a leader of which the follower had a beginning and whose packets these are: the
+-- follower has a beginning of it afterwards, and no packet is refused.
+abbrev pub FollowsLeaders : Network → List Packet → List Offered → List Entry → List Entry → Type 0
+FollowsLeaders network packets answers since history = (leader : List Entry)
+    → IsLeader network leader → IsPrefix since leader → All (IsSentOf network leader) packets
+    → IsPrefix history leader × All IsNoRefusal answers
+
 -- ---- an input
 
 -- What following the input comes to for a journal that had a history: its whole packets are
@@ -92,6 +116,7 @@ pub record FollowsFrom {I O C E : Type 0} (tells : Tellings I O C E) (before aft
       (packets_bytes packets ++ rest)
   pub are : All IsPacket packets
   pub answered : ArePacketsAnswered network since packets answers history
+  pub of_leaders : FollowsLeaders network packets answers since history
   pub begins : IsPrefix since history
   pub sound : IsSound network 0 history
   pub ends : EndsSo tells.source tells.sink before.input after.input before.output after.output
@@ -114,7 +139,8 @@ following_done end.Memory = Err fault.Memory
 
 -- The input was followed by the journal, which was closed and put back then. It stood for a
 -- history, as it was read at its opening. Failures of the disk were told no more often than the
--- disk has failed, and the cabinet failed where closing did.
+-- disk has failed, and the cabinet failed where closing did. Where an image of the disk has one
+-- entry more than a part of the history, it is that of a packet that was offered.
 pub record HasFollowed {I O C E : Type 0} (tells : Tellings I O C E) (name : List ℕ)
     (before after : Parts I O C) (network : Network) (ended : FollowEnd)
     (closing : Result ⊤ Failed) : Type 0 where
@@ -128,7 +154,7 @@ pub record HasFollowed {I O C E : Type 0} (tells : Tellings I O C E) (name : Lis
       (object_of (tells.cabinet.frame after.cabinet)) closing
   pub left : Has (tells.cabinet.frame before.cabinet).tells (tells.cabinet.held before.cabinet name)
       (λ was. Has (tells.cabinet.frame after.cabinet).tells (tells.cabinet.held after.cabinet name)
-      (λ left. HasLeft tells.disk IsSoundAt (tells.disk.may_leave was)
+      (λ left. HasLeft tells.disk (IsBrought follows.packets) (tells.disk.may_leave was)
       (opening_of tells.disk network since was) history left closing))
 
 -- no packet was answered, and why; or the input was followed, and the first fault is told

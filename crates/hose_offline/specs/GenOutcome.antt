@@ -18,10 +18,11 @@ use Rattle.hose_offline.specs.declared.fault.Fault.{Fault}
 use Rattle.hose_offline.specs.declared.fault.Fault.TheVariants.{Memory, Write}
 use Rattle.hose_offline.specs.declared.generating.Sizes.{Sizes}
 
--- the network and the script of these sizes
+-- the network of these sizes
 abbrev pub network_of_sizes : Sizes → Network
 network_of_sizes sizes = generated_network sizes.seed sizes.nodes sizes.links
 
+-- the script of these sizes
 abbrev pub script_of_sizes : Sizes → List Order
 script_of_sizes sizes = generated_script sizes.seed sizes.nodes sizes.links sizes.hoses
 

@@ -15,7 +15,6 @@ pub mod Named
 pub mod OnDisk
 pub mod Parts
 pub mod PriceOutcome
-pub mod Pricing
 pub mod ProveOutcome
 pub mod Run
 pub mod RunOutcome

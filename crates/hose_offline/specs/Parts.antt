@@ -14,6 +14,7 @@ pub record Parts (I O C : Type 0) : Type 0 where
   pub output : O
   pub cabinet : C
 
+-- what is beside a command, of its parts
 abbrev pub parts : {I O C : Type 0} → I → O → C → Parts I O C
 parts input output cabinet = record { input = input; output = output; cabinet = cabinet }
 
@@ -24,6 +25,7 @@ pub record Tellings (I O C E : Type 0) : Type 1 where
   pub cabinet : CabinetGhosts C E
   pub disk : DiskGhosts E
 
+-- what each part of what is beside a command tells, of its parts
 abbrev pub tellings : {I O C E : Type 0} → SourceGhosts I → SinkGhosts O → CabinetGhosts C E
     → DiskGhosts E → Tellings I O C E
 tellings source sink cabinet disk =

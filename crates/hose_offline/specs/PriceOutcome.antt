@@ -1,67 +1,35 @@
 -- What stands after `price`, by what ended it.
-use Rattle.std.specs.Prelude.{◌≡◌, ◌⊎◌, ◌↔◌, ℕ, ◌+◌, ◌<◌, ◌≤◌, List, length, Option, Result, Ok, Err, slice_index_or, ⊤}
-use Rattle.hose_io.specs.Frame.{Rose}
+use Rattle.std.specs.Prelude.{◌≡◌, ◌⊎◌, ◌↔◌, ℕ, ◌+◌, ◌<◌, ◌≤◌, List, length, false, Option, Result, Err, slice_index_or, ⊤}
 use Rattle.hose_io.specs.Stream.{Gives, Stream}
 use Rattle.hose_io.specs.declared.source.Source.{Ghosts as SourceGhosts}
 use Rattle.hose_io.specs.declared.sink.Sink.{Ghosts as SinkGhosts}
-use Rattle.hose_words.specs.Lines.{StopsAfterLines}
-use Rattle.hose_words.specs.Reading.{WhereTold}
-use Rattle.hose_words.specs.Saying.{IsAllTaken, IsLeftOver, SayLines}
 use Rattle.hose_words.specs.Limits.{input_limit}
-use Rattle.hose_words.specs.declared.lines.LineFault.TheVariants as line
+use Rattle.hose_talk.specs.Talk.{TalksTo, TellsOf}
+use Rattle.hose_talk.specs.declared.talking.TalkEnd.{TalkEnd}
+use Rattle.hose_talk.specs.declared.talking.TalkFault.{TalkFault}
 use Rattle.hose_graph.specs.Network.{Network}
+use Rattle.hose_proto.specs.ReplyText.{line_of}
 use Rattle.hose_price.specs.Sheet.{IsColumnBy, IsSheet, Sheet}
 use Rattle.hose_price.specs.declared.sheet.Column.{Column}
-use Rattle.hose_offline.specs.Ending.{IsLastLine, OutputWorked, status_of_done}
+use Rattle.hose_offline.specs.Ending.{IsLastLine, status_of_done}
+use Rattle.hose_offline.specs.Fault.{done_of_talk}
 use Rattle.hose_offline.specs.Named.{NamesNetwork, NamesNone, TakesBoth}
 use Rattle.hose_offline.specs.Parts.{Parts, Tellings}
-use Rattle.hose_offline.specs.Pricing.{AllOut, AnswersNext, LastCut}
-use Rattle.hose_offline.specs.Talk.{Talk, talk}
+use Rattle.hose_offline.specs.SheetLine.{AnswersNext, answer_text}
 use Rattle.hose_offline.specs.TopologyTold.{own_costs}
 use Rattle.hose_offline.specs.declared.fault.Fault.{Fault}
-use Rattle.hose_offline.specs.declared.fault.Fault.TheVariants.{Read, Write, Memory, TooLong}
-use Rattle.hose_offline.specs.declared.sheet_answer.SheetAnswer.{SheetAnswer}
+use Rattle.hose_offline.specs.declared.fault.Fault.TheVariants.{Memory, TooLong}
 
 -- ---- the input
 
--- The lines at the front of an input that told this before and after were answered, one after the
--- other. `stops` says how it stands to what comes after them and to what is left, and `puts` how
--- much is out of the answers.
-pub record HasAnswered (sheet : Sheet) (told told' : Option Stream)
-    (stops : List ℕ → List ℕ → List ℕ → Type 0) (puts : List SheetAnswer → Type 0) : Type 0 where
-  pub answers : List SheetAnswer
-  pub text : WhereTold told told' (λ text left. (rest : List ℕ)
-      × SayLines (AnswersNext sheet) text answers rest × stops text rest left)
-  pub out : puts answers
-
--- What answering the lines of an input leaves: it was read to its end, and has its answers; or it
--- stopped after whole lines, which have theirs; or the output failed in an answer.
-module _ {I O : Type 0} (source : SourceGhosts I) (sink : SinkGhosts O) (names : List (List ℕ))
-    (before after : Talk I O Sheet) where
-  -- what was answered
-  abbrev pub HasAnsweredInput : (List ℕ → List ℕ → List ℕ → Type 0) → (List SheetAnswer → Type 0)
-      → Type 0
-  HasAnsweredInput =
-      HasAnswered before.by (source.content before.lines) (source.content after.lines)
-
-  abbrev pub AnswersInput : {T : Type 0} → Result T Fault → Type 0
-  AnswersInput (Ok _) =
-      HasAnsweredInput IsAllTaken (AllOut names sink before.output after.output)
-      × (source.frame after.lines ≡ source.frame before.lines)
-      × OutputWorked sink before.output after.output
-  AnswersInput (Err Read) = HasAnsweredInput (StopsAfterLines line.Read)
-      (AllOut names sink before.output after.output)
-      × Rose (source.frame before.lines) (source.frame after.lines)
-      × OutputWorked sink before.output after.output
-  AnswersInput (Err TooLong) = HasAnsweredInput (StopsAfterLines line.TooLong)
-      (AllOut names sink before.output after.output)
-      × (source.frame after.lines ≡ source.frame before.lines)
-      × OutputWorked sink before.output after.output
-  AnswersInput (Err Write) =
-      HasAnsweredInput IsLeftOver (LastCut names sink before.output after.output)
-      × (source.frame after.lines ≡ source.frame before.lines)
-      × Rose (sink.frame before.output) (sink.frame after.output)
-  AnswersInput (Err _) = ⊥
+-- What answering the lines of an input by a sheet comes to, as a talk, where tariffs have these
+-- names: what a line says is its answer, and the answers are the replies.
+abbrev pub AnswersInput : {I O : Type 0} → SourceGhosts I → SinkGhosts O → List (List ℕ) → Sheet
+    → I → I → O → O → Result TalkEnd TalkFault → Type 0
+AnswersInput source sink names sheet input input' output output' = TalksTo source sink
+    (TellsOf (AnswersNext sheet) (source.content input) (source.content input'))
+    (λ said answers _. said ≡ answers) (λ _. false)
+    (λ answer. line_of (answer_text names answer)) input input' output output' (tt {0})
 
 -- ---- the topology and the input
 
@@ -85,9 +53,10 @@ module _ {I O C E : Type 0} (tells : Tellings I O C E) (makes : Network → Shee
   abbrev pub AnswersBySheet : Parts I O C → Parts I O C → Network → Result ⊤ Fault → Type 0
   AnswersBySheet before after network result = ((result ≡ Err Memory)
       × (after.input ≡ before.input) × (after.output ≡ before.output))
-      ⊎ ((sheet : Sheet) × makes network sheet
-      × AnswersInput tells.source tells.sink names (talk before.input before.output sheet)
-      (talk after.input after.output sheet) result)
+      ⊎ ((sheet : Sheet) × makes network sheet × (ended : Result TalkEnd TalkFault)
+      × (result ≡ done_of_talk ended)
+      × AnswersInput tells.source tells.sink names sheet before.input after.input before.output
+      after.output ended)
 
   -- how the lines of the input were answered, and what was taken of it
   pub record PricesInput (before after : Parts I O C) (network : Network)

@@ -34,7 +34,7 @@ module _ {O : Type 0} (sink : SinkGhosts O) (output output' : O) (network : Netw
       ⊎ (HasNoPlan network hose × Grows (sink.content output) (sink.content output') none_line))
       × OutputWorked sink output output'
 
-  -- the output failed, and a part of one of the two is out
+  -- the output failed, and a part is out of the certificate, or of the line that there is no plan
   abbrev pub IsProofCut : List Endpoint → Type 0
   IsProofCut hose =
       (GrowsByPart network hose (sink.content output) (sink.content output')
@@ -68,6 +68,7 @@ pub record EndsFrom : Type 0 where
   pub words : List (List ℕ)
   pub first : ℕ
 
+-- the words of a hose's endpoints, and which of the program's words is the first of them
 abbrev pub ends_from : List (List ℕ) → ℕ → EndsFrom
 ends_from words first = record { words = words; first = first }
 
@@ -82,7 +83,8 @@ IsNoHose ends network (Words word) = NamesNoNode ends network word
 IsNoHose ends network Memory = ⊤
 IsNoHose ends network _ = ⊥
 
--- They are the endpoints of a hose, of which this is told, or of none; nothing is out then.
+-- The words are the endpoints of a hose, of whose certificate this is told; or they are those of
+-- none, why is told, and nothing is out.
 abbrev pub ProvesWords : {O T : Type 0} → SinkGhosts O → EndsFrom → Network → O → O
     → Result T Fault → Type 0
 ProvesWords sink ends network output output' result =

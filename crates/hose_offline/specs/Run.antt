@@ -29,7 +29,7 @@ pub record Keeping : Type 1 where
   pub Begins : Network → List Entry → Type 0
   pub Keeps : Network → List Entry → List Entry → List Reply → Type 0
 
--- in memory: it begins with nothing, and no reply is for a failure of a disk
+-- a run keeps its book in memory: it begins with nothing, and no reply is for a failure of a disk
 abbrev pub in_memory : Keeping
 in_memory = record {
   Begins = λ network since. since ≡ [];

@@ -24,7 +24,7 @@ module _ {I O C E : Type 0} (tells : Tellings I O C E) (before after : Parts I O
   abbrev pub OfInput : (Option Stream → Option Stream → Type 0) → Type 0
   OfInput Is = Is (tells.source.content before.input) (tells.source.content after.input)
 
-  -- and this of what the input and the output told
+  -- this holds of what the input told before and after, and of what the output told
   abbrev pub OfText : (Option Stream → Option Stream → Option (List ℕ) → Option (List ℕ) → Type 0)
       → Type 0
   OfText Is = Is (tells.source.content before.input) (tells.source.content after.input)

@@ -1,6 +1,5 @@
 -- A line of a sheet of hoses that are to be priced, and what is answered to it.
 use Rattle.std.specs.Prelude.{◌≡◌, ℕ, ◌<◌, ◌≤◌, List, [], ◌∷◌, ◌++◌, codes, decimal, get_or, length, ⊤}
-use Rattle.std.specs.List.{flat_map}
 use Rattle.hose_words.specs.Form.{Form, grammar_of, place}
 use Rattle.hose_words.specs.Grammar.{IsFirstNotAllowed}
 use Rattle.hose_words.specs.Words.{words_of}
@@ -12,7 +11,6 @@ use Rattle.hose_price.specs.Pricing.{HasNoPricedPlan, IsPriceLine}
 use Rattle.hose_price.specs.Sheet.{Sheet}
 use Rattle.hose_price.specs.declared.priced.Price.{Price}
 use Rattle.hose_proto.specs.Command.{AreEndsOf, ends_form}
-use Rattle.hose_proto.specs.ReplyText.{line_of}
 use Rattle.hose_offline.specs.declared.sheet_answer.SheetAnswer.{SheetAnswer}
 use Rattle.hose_offline.specs.declared.sheet_answer.SheetAnswer.TheVariants.{Priced, NoPlan, Bad, Long, Memory}
 
@@ -46,6 +44,10 @@ AnswersSheet network sheet bytes (Bad word) = (length bytes ≤ line_limit)
 AnswersSheet network sheet bytes Long = line_limit < length bytes
 AnswersSheet network sheet bytes Memory = length bytes ≤ line_limit
 
+-- what is answered to a line rests on no line before it
+abbrev pub AnswersNext : Sheet → List SheetAnswer → List ℕ → SheetAnswer → Type 0
+AnswersNext sheet before = AnswersSheet sheet.network sheet
+
 -- what is answered to a customer who asks for this hose
 abbrev pub PricesHose : Sheet → List ℕ → List Endpoint → SheetAnswer → Type 0
 PricesHose sheet customer hose (Priced other line) =
@@ -77,7 +79,3 @@ answer_text names (NoPlan customer) = codes "price " ++ customer ++ codes " none
 answer_text names (Bad word) = codes "bad " ++ decimal word
 answer_text names Long = codes "long"
 answer_text names Memory = codes "memory"
-
--- the texts of answers, each with its line feed
-abbrev pub answers_text : List (List ℕ) → List SheetAnswer → List ℕ
-answers_text names answers = flat_map (λ answer. line_of (answer_text names answer)) answers

@@ -6,8 +6,10 @@ use Rattle.hose_io.specs.Writing.{GrowsInPart}
 use Rattle.hose_graph.specs.Network.{Network}
 use Rattle.hose_graph.specs.declared.entry.Entry.{Entry}
 use Rattle.hose_law.specs.History.{IsSound}
+use Rattle.hose_disk.specs.Cabinet.{Has}
 use Rattle.hose_store.specs.Entries.{BeginsWith}
 use Rattle.hose_store.specs.Recovery.{IsHistoryOf, digest_of}
+use Rattle.hose_store.specs.Replaying.{KeepsRead}
 use Rattle.hose_follow.specs.Packet.{packets_bytes, packets_from}
 use Rattle.hose_follow.specs.declared.shipping.ShipFault.{ShipFault}
 use Rattle.hose_offline.specs.AuditOutcome.{NamedOutcome, Purpose}
@@ -27,6 +29,14 @@ shipping_done (Err why) = Err (of_shipping why)
 
 module _ {I O C E : Type 0} (tells : Tellings I O C E) (journal : List ℕ) (from : ℕ)
     (before after : Parts I O C) where
+  -- What is read of the journal's disk is as before; or none was begun there, and it is a journal
+  -- of the newest version without a record. So no seal was written.
+  abbrev pub IsReadAsBefore : Network → Type 0
+  IsReadAsBefore network =
+      Has (tells.cabinet.frame before.cabinet).tells (tells.cabinet.held before.cabinet journal)
+      (λ was. Has (tells.cabinet.frame after.cabinet).tells
+      (tells.cabinet.held after.cabinet journal) (λ left. KeepsRead tells.disk was left network))
+
   -- The packets, from an epoch on, of all entries of the journal are out, as it was read at its
   -- opening. No call on its disk failed.
   pub record ShipsWhole (network : Network) : Type 0 where
@@ -37,6 +47,7 @@ module _ {I O C E : Type 0} (tells : Tellings I O C E) (journal : List ℕ) (fro
         (packets_bytes (packets_from network from history))
     pub writing : OutputWorked tells.sink before.output after.output
     pub keeping : (tells.cabinet.frame after.cabinet).returned ≡ 0
+    pub read : IsReadAsBefore network
 
   -- The packets, from an epoch on, of entries with which the journal begins, as it was read at its
   -- opening, each sound at the book of those before it, or of none; `Puts` says how much of them is
@@ -55,6 +66,7 @@ module _ {I O C E : Type 0} (tells : Tellings I O C E) (journal : List ℕ) (fro
   ShipsJournal network (Err Write) = ShipsPart network
       (GrowsInPart (tells.sink.content before.output) (tells.sink.content after.output))
       × Rose (tells.sink.frame before.output) (tells.sink.frame after.output)
+      × IsReadAsBefore network
   ShipsJournal network (Err why) = IsNotServed tells.cabinet tells.disk journal
       before.cabinet after.cabinet network (Err why)
       × ShipsPart network

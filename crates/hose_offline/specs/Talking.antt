@@ -1,16 +1,15 @@
 -- What the lines after a topology say, and what is answered to them.
-use Rattle.std.specs.Prelude.{◌≡◌, ◌≢◌, ◌⊎◌, ℕ, ◌+◌, ◌-◌, ◌^◌, ◌<◌, ◌≤◌, Bool, true, false, IsFalse, List, [], ◌++◌, length, None, Some, Result, Ok, Err, ⊤}
+use Rattle.std.specs.Prelude.{◌≡◌, ◌≢◌, ◌⊎◌, ℕ, ◌+◌, ◌-◌, ◌^◌, ◌<◌, ◌≤◌, IsFalse, List, [], ◌++◌, length, None, Some, Result, Ok, Err, ⊤}
 use Rattle.std.specs.List.{before_first, after_first}
 use mathlib.Core.List.{IsPrefix}
 use Rattle.hose_io.specs.Frame.{Rose, Stays}
 use Rattle.hose_io.specs.Stream.{Grows}
-use Rattle.hose_io.specs.Writing.{GrowsInPart}
 use Rattle.hose_io.specs.declared.sink.Sink.{Ghosts as SinkGhosts}
 use Rattle.hose_io.specs.declared.source.Source.{Ghosts}
 use Rattle.hose_words.specs.Grammar.{IsFirstNotAllowed}
 use Rattle.hose_words.specs.Words.{words_of}
 use Rattle.hose_words.specs.Lines.{Reader, StopsAfterLines, is_line_feed}
-use Rattle.hose_words.specs.Saying.{IsAllTaken, IsLeftOver, IsOver, SayLines, SaysUpTo, StopsReading, TakesLine}
+use Rattle.hose_words.specs.Saying.{IsAllTaken, IsLeftOver, SaysUpTo}
 use Rattle.hose_words.specs.Limits.{line_limit}
 use Rattle.hose_words.specs.declared.lines.LineFault.{LineFault}
 use Rattle.hose_words.specs.declared.lines.LineFault.TheVariants as line_fault
@@ -26,7 +25,6 @@ use Rattle.hose_law.specs.Script.ReadLine.{Asks, IsBad, IsLong, Unread}
 use Rattle.hose_offline.specs.Ending.{OutputWorked}
 use Rattle.hose_offline.specs.ScriptLine.{IsAsking, WantsMemory, script_grammar}
 use Rattle.hose_proto.specs.Replies.{CutsLast, texts_of}
-use Rattle.hose_proto.specs.ReplyText.{line_of, reply_text}
 use Rattle.hose_book.specs.Commit.{Commits, IsMet, unfailing}
 use Rattle.hose_book.specs.GoingOn.{GoesOn}
 use Rattle.hose_book.specs.declared.books.Books.{Ghosts as BooksGhosts}
@@ -72,6 +70,10 @@ SaysOneThing network bytes = (one other : ReadLine) → Says network bytes one
 abbrev pub SaysNext : Network → List ReadLine → List ℕ → ReadLine → Type 0
 SaysNext network before = Says network
 
+-- a line says this, and nothing else but that it was left unread
+abbrev pub SaysAlone : Network → List ℕ → ReadLine → Type 0
+SaysAlone network bytes said = Says network bytes said × SaysOneThing network bytes
+
 -- each line between the start of a text and this rest of it says one thing
 pub data SayOneThingEach (network : Network) : List ℕ → List ℕ → Type 0 where
   none_said : {text : List ℕ} → SayOneThingEach network text text
@@ -109,16 +111,14 @@ pub record AreAnswered {K R : Type 0} (books : BooksGhosts K R) (network : Netwo
   pub stays : Stays (books.frame first) (books.frame last)
   pub disks : TellsDisks (books.frame first).faults replies (books.frame last).faults
 
--- An exchange: the first line that was to come was read and answered, and it says one thing. `puts`
--- says how much is out of the line of its reply.
-pub record AnswersNextLine {S : Type 0} (source : Ghosts S) (old new : Reader S) (network : Network)
-    (Answers : ReadLine → Reply → Type 0) (puts : List ℕ → Type 0) : Type 0 where
-  pub said : ReadLine
-  pub reply : Reply
-  pub line : TakesLine source old new (λ line. Says network line said × SaysOneThing network line)
-  pub answers : Answers said reply
-  pub out : puts (line_of (reply_text network reply))
-  pub progress : length new.pending + old.taken < length old.pending + new.taken
+-- A core answered lines from a history on, by books that were first so: its books fit the history
+-- that the replies lead to, on the same network.
+pub record HasAnswered {K R : Type 0} (books : BooksGhosts K R) (since : List Entry)
+    (first core : State K) (lines : List ReadLine) (replies : List Reply) : Type 0 where
+  pub answered : AreAnswered books (books.ledger first.books).network since first.books core.books
+      lines replies
+  pub fits : FitsHistory books core 0 answered.history answered.left
+  pub network : (books.ledger core.books).network ≡ (books.ledger first.books).network
 
 -- what each part of a talk tells, whose lines are answered by books
 pub record TalkTellings (S O K R : Type 0) : Type 1 where
@@ -126,61 +126,10 @@ pub record TalkTellings (S O K R : Type 0) : Type 1 where
   pub sink : SinkGhosts O
   pub books : BooksGhosts K R
 
+-- what each part of a talk tells, of its parts
 abbrev pub talk_tellings : {S O K R : Type 0} → Ghosts S → SinkGhosts O → BooksGhosts K R
     → TalkTellings S O K R
 talk_tellings source sink books = record { source = source; sink = sink; books = books }
-
--- the network of a talk by a core, which is that of its books
-abbrev pub talk_network : {S O K R : Type 0} → TalkTellings S O K R → Talk (Reader S) O (State K)
-    → Network
-talk_network tells state = (tells.books.ledger state.by.books).network
-
-module _ {S O K R : Type 0} (tells : TalkTellings S O K R)
-    (before after : Talk (Reader S) O (State K)) where
-  -- the first line that was to come was answered, and so much is out of the line of its reply
-  abbrev pub AnswersOne : (List ℕ → Type 0) → Type 0
-  AnswersOne = AnswersNextLine tells.source before.lines after.lines (talk_network tells before)
-      (AnswersLine tells.books before.by after.by)
-
-  -- What the next line comes to: it has its reply; or there is none; or reading met a fault, and
-  -- nothing is out; or the output failed in the reply.
-  abbrev pub TalksOnce : Result Bool Fault → Type 0
-  TalksOnce (Ok true) =
-      AnswersOne (Grows (tells.sink.content before.output) (tells.sink.content after.output))
-      × (after.lines.fault ≡ None) × OutputWorked tells.sink before.output after.output
-  TalksOnce (Ok false) = IsOver tells.source before.lines after.lines
-      × (after.lines.fault ≡ None) × (after.output ≡ before.output) × (after.by ≡ before.by)
-  TalksOnce (Err fault.Read) = StopsReading tells.source before.lines after.lines line_fault.Read
-      × Rose (tells.source.frame before.lines.source) (tells.source.frame after.lines.source)
-      × (after.output ≡ before.output) × (after.by ≡ before.by)
-  TalksOnce (Err fault.TooLong) =
-      StopsReading tells.source before.lines after.lines line_fault.TooLong
-      × (after.output ≡ before.output) × (after.by ≡ before.by)
-  TalksOnce (Err fault.Write) =
-      AnswersOne (GrowsInPart (tells.sink.content before.output) (tells.sink.content after.output))
-      × (after.lines.fault ≡ None)
-      × Rose (tells.sink.frame before.output) (tells.sink.frame after.output)
-  TalksOnce (Err _) = ⊥
-
-  -- Exchanges from a history on: lines that were to come were read and answered, each by a reply
-  -- that is out, and each says one thing.
-  pub record HasTalked (since : List Entry) : Type 0 where
-    pub lines : List ReadLine
-    pub replies : List Reply
-    pub said : WhereTold (tells.source.content before.lines.source)
-        (tells.source.content after.lines.source) (λ was left.
-        SayLines (SaysNext (talk_network tells before)) (before.lines.pending ++ was) lines
-        (after.lines.pending ++ left))
-    pub alone : WhereTold (tells.source.content before.lines.source)
-        (tells.source.content after.lines.source) (λ was left.
-        SayOneThingEach (talk_network tells before) (before.lines.pending ++ was)
-        (after.lines.pending ++ left))
-    pub answered : AreAnswered tells.books (talk_network tells before) since before.by.books
-        after.by.books lines replies
-    pub fits : FitsHistory tells.books after.by 0 answered.history answered.left
-    pub network : (tells.books.ledger after.by.books).network ≡ talk_network tells before
-    pub out : Grows (tells.sink.content before.output) (tells.sink.content after.output)
-        (texts_of (talk_network tells before) replies)
 
 -- Lines of a talk by books, on a network and from a history on.
 module _ {S O K R : Type 0} (tells : TalkTellings S O K R) (network : Network) (since : List Entry)

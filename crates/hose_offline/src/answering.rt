@@ -15,10 +15,10 @@ ghost use Rattle.hose_disk.specs.Cabinet.{object_of};
 ghost use Rattle.hose_offline.specs.Parts.{KeepsAll, held, parts, tellings};
 ghost use Rattle.hose_offline.specs.RunOutcome.{RunLeaves, RunOutcome};
 ghost use Rattle.hose_offline.specs.Talk.{talk};
-ghost use Rattle.hose_offline.specs.Talking.{AnswersLine, SaysOneThing, SaysRead, Talks, TalksInMemory, TalksOnce, plain_books, talk_tellings};
+ghost use Rattle.hose_offline.specs.Talking.{AnswersLine, SaysOneThing, SaysRead, Talks, TalksInMemory, plain_books, talk_tellings};
 ghost use Rattle.hose_offline.specs.TalkingOnDisk.{TalksInCabinet};
 
-use crate::fault::{Fault, end};
+use crate::fault::{Fault, done_of_talk, end};
 use crate::input_line::read_line;
 use crate::journal::{close_journal, first_fault, open_journal};
 use crate::outside::Outside;
@@ -26,10 +26,11 @@ use hose_book::{Book, Books, Plain};
 use hose_core::Core;
 use hose_disk::Cabinet;
 use hose_graph::{Reply, Topology};
-use hose_io::{Sink, Source};
+use hose_io::{Failed, Sink, Source};
 use hose_paths::{RowMaker, RowTable, TableRows};
 use hose_proto::{ReadFault, put_reply};
 use hose_store::Decided;
+use hose_talk::{Answers, converse};
 use hose_tariff::Prices;
 use hose_topo::read;
 use hose_words::{INPUT_LIMIT, Line, LineReader};
@@ -146,8 +147,12 @@ fn answer_in_memory<S: Source, O: Sink>(
 {
     let book = Book::new(alloc, topology)?;
     let table = RowTable::of_all(alloc, book.topology())?;
-    let mut core = Core::new(alloc, Plain { book });
-    answer_all(alloc, &mut core, lines, output, &mut TableRows::new(&table))
+    let mut clerk = Clerk {
+        alloc,
+        core: Core::new(alloc, Plain { book }),
+        rows: TableRows::new(&table),
+    };
+    answer_all(&mut clerk, lines, output)
 }
 
 // Answers all lines by the book of the journal of a name. The first fault is told, and the disk is
@@ -180,58 +185,90 @@ fn answer_in_cabinet<S: Source, O: Sink, C: Cabinet>(
         let _ = close_journal(store, cabinet);
         return Err(Fault::Memory);
     };
-    let mut core = Core::new(alloc, store);
-    let answered = answer_all(alloc, &mut core, lines, output, &mut TableRows::new(&table));
-    let closed = close_journal(core.into_books(), cabinet);
+    let mut clerk = Clerk {
+        alloc,
+        core: Core::new(alloc, store),
+        rows: TableRows::new(&table),
+    };
+    let answered = answer_all(&mut clerk, lines, output);
+    let closed = close_journal(clerk.core.into_books(), cabinet);
     first_fault(answered, closed.0)
+}
+
+// Who answers the lines of a script: where memory is taken, a core of books, and what makes rows.
+#[derive(Drop)]
+struct Clerk<K: Books + Drop, R: RowMaker> {
+    alloc: Global,
+    core: Core<K>,
+    rows: R,
+}
+
+impl<K: Books + Drop, R: RowMaker> Answers for Clerk<K, R> {
+    type Reply = Reply;
+
+    ghost use Rattle.std.specs.Prelude.{List, ⊤, false};
+    ghost use Rattle.hose_graph.specs.Naming.{NamesPlaces};
+    ghost use Rattle.hose_graph.specs.Network.{Network};
+    ghost use Rattle.hose_graph.specs.declared.entry.Entry.{Entry};
+    ghost use Rattle.hose_law.specs.Script.{ReadLine};
+    ghost use Rattle.hose_proto.specs.ReplyText.{line_of, reply_text};
+    ghost use Rattle.hose_offline.specs.Talking.{HasAnswered, SaysAlone};
+
+    ghost said = { ReadLine };
+
+    ghost subject = { Network };
+
+    ghost about = { λ clerk. (K.ledger clerk.core.books).network };
+
+    ghost says = { λ network before. SaysAlone network };
+
+    ghost text = { λ network reply. line_of (reply_text network reply) };
+
+    // a history, and who answers from there on
+    ghost origin = { List Entry × Self };
+
+    ghost comes = { λ from lines replies clerk.
+        HasAnswered K.Books from.0 from.1.core clerk.core lines replies };
+
+    ghost fits = { λ _. ⊤ };
+
+    ghost can_put = { λ clerk reply. NamesPlaces (K.ledger clerk.core.books).network reply };
+
+    ghost over = { λ _. false };
+
+    fn answer(&mut self, line: Line<'_>) -> Reply {
+        reply_to(self.alloc, &mut self.core, line, &mut self.rows)
+    }
+
+    fn put<O: Sink>(&self, output: &mut O, reply: &Reply) -> Result<(), Failed> {
+        put_reply(output, topology_of(&self.core), reply)
+    }
+
+    fn is_over(&self) -> bool {
+        false
+    }
 }
 
 // Answers all lines that are to come.
 fn answer_all<S: Source, O: Sink, K: Books + Drop, R: RowMaker>(
-    alloc: Global,
-    core: &mut Core<K>,
+    clerk: &mut Clerk<K, R>,
     lines: &mut LineReader<S>,
     output: &mut O,
-    rows: &mut R,
 ) -> Result<(), Fault>
-    requires limit { lines.old.taken ≤ INPUT_LIMIT + 1 }
+    requires limit { lines.old.taken ≤ INPUT_LIMIT }
     requires no_fault { lines.old.fault ≡ None }
-    ensures talks { (since : List Entry) → IsSound (K.ledger core.old.books).network 0 since
-        → FitsHistory K.Books core.old 0 since nothing_held
-        → Talks (talk_tellings S.Source O.Sink K.Books) (K.ledger core.old.books).network since
-        (talk lines.old output.old core.old.books) (talk lines.new output.new core.new.books)
-        result }
+    ensures talks { (since : List Entry)
+        → IsSound (K.ledger clerk.old.core.books).network 0 since
+        → FitsHistory K.Books clerk.old.core 0 since nothing_held
+        → Talks (talk_tellings S.Source O.Sink K.Books) (K.ledger clerk.old.core.books).network
+        since (talk lines.old output.old clerk.old.core.books)
+        (talk lines.new output.new clerk.new.core.books) result }
     ensures too_long { (result ≡ Err Fault.TooLong) ↔ (INPUT_LIMIT < lines.new.taken) }
     ensures reads_on { ReadsOn S.Source lines.old lines.new }
     ensures limit { lines.new.taken ≤ INPUT_LIMIT + 1 }
     ensures output { Stays (O.frame output.old) (O.frame output.new) }
 {
-    while answer_line(alloc, core, lines, output, rows)? {}
-    Ok(())
-}
-
-// Answers the next line, and says whether there was one.
-fn answer_line<S: Source, O: Sink, K: Books + Drop, R: RowMaker>(
-    alloc: Global,
-    core: &mut Core<K>,
-    lines: &mut LineReader<S>,
-    output: &mut O,
-    rows: &mut R,
-) -> Result<bool, Fault>
-    requires no_fault { lines.old.fault ≡ None }
-    ensures talks { TalksOnce (talk_tellings S.Source O.Sink K.Books)
-        (talk lines.old output.old core.old) (talk lines.new output.new core.new) result }
-    ensures too_long { (result ≡ Err Fault.TooLong) ↔ (INPUT_LIMIT < lines.new.taken) }
-    ensures reads_on { ReadsOn S.Source lines.old lines.new }
-    ensures limit { lines.new.taken ≤ INPUT_LIMIT + 1 }
-    ensures output { Stays (O.frame output.old) (O.frame output.new) }
-{
-    let Some(line) = lines.next()? else {
-        return Ok(false);
-    };
-    let reply = reply_to(alloc, core, line, rows);
-    put_reply(output, topology_of(core), &reply)?;
-    Ok(true)
+    done_of_talk(converse(clerk, lines, output))
 }
 
 // The reply to a line.

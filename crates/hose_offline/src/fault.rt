@@ -7,16 +7,16 @@ ghost use Rattle.hose_io.specs.Writing.{IsPut};
 ghost use Rattle.hose_proto.specs.ReplyText.{line_of};
 ghost use Rattle.hose_offline.specs.declared.fault.Fault.TheVariants.{Memory, Read, Write};
 ghost use Rattle.hose_offline.specs.Ending.{IsLastLine, status_of_done};
-ghost use Rattle.hose_offline.specs.Fault.{status_of, last_line, of_certificate, of_json, of_line, of_proof, of_shipping, of_store, of_topology, refusal_words};
+ghost use Rattle.hose_offline.specs.Fault.{done_of_talk, status_of, last_line, of_certificate, of_json, of_proof, of_shipping, of_store, of_topology, refusal_words};
 
 use crate::notation::Refusal;
 use hose_cert::{CertFault, ProveFault};
 use hose_follow::ShipFault;
 use hose_io::{Failed, Gather, Sink, write_all};
 use hose_store::StoreFault;
+use hose_talk::{TalkEnd, TalkFault};
 use hose_topo::TopoFault;
 use hose_topo_json::JsonFault;
-use hose_words::LineFault;
 use std::alloc::{AllocError, AllocFailed};
 
 /// Why a run ended early.
@@ -123,14 +123,15 @@ impl From<Failed> for Fault {
     }
 }
 
-impl From<LineFault> for Fault {
-    ghost from_gives = { λ line fault. fault ≡ of_line line };
-
-    fn from(fault: LineFault) -> Fault {
-        match fault {
-            LineFault::Read => Fault::Read,
-            LineFault::TooLong => Fault::TooLong,
-        }
+/// What answering lines came to, as a command tells it.
+pub fn done_of_talk(ended: Result<TalkEnd, TalkFault>) -> Result<(), Fault>
+    ensures { result ≡ done_of_talk ended }
+{
+    match ended {
+        Ok(_) => Ok(()),
+        Err(TalkFault::Read) => Err(Fault::Read),
+        Err(TalkFault::TooLong) => Err(Fault::TooLong),
+        Err(TalkFault::Write) => Err(Fault::Write),
     }
 }
 

@@ -1,29 +1,30 @@
 // Prices: the lines of a sheet of hoses, each priced under every tariff.
-ghost use Rattle.std.specs.Prelude.{◌≡◌, ◌≢◌, ◌↔◌, ◌+◌, ◌<◌, ◌≤◌, ℕ, List, Err, None, length, map};
+ghost use Rattle.std.specs.Prelude.{◌≡◌, ◌≢◌, ◌↔◌, ◌+◌, ◌<◌, ◌≤◌, ℕ, List, Result, Err, length, map};
 ghost use Rattle.hose_io.specs.Frame.{Stays};
 ghost use Rattle.hose_io.specs.Stream.{Gives};
 ghost use Rattle.hose_words.specs.Lines.{Shows};
-ghost use Rattle.hose_words.specs.Reading.{ReadsOn};
 ghost use Rattle.hose_law.specs.Plan.{AreNodes};
 ghost use Rattle.hose_offline.specs.Parts.{KeepsAll, held, tellings};
 ghost use Rattle.hose_offline.specs.PriceOutcome.{AnswersInput, IsSheetBy, PriceOutcome, PricesInput};
-ghost use Rattle.hose_offline.specs.Pricing.{PricesAll, PricesLine};
 ghost use Rattle.hose_offline.specs.SheetLine.{AnswersSheet, PricesHose};
-ghost use Rattle.hose_offline.specs.Talk.{talk};
+ghost use Rattle.hose_offline.specs.Fault.{done_of_talk};
+ghost use Rattle.hose_talk.specs.declared.talking.TalkEnd.{TalkEnd};
+ghost use Rattle.hose_talk.specs.declared.talking.TalkFault.{TalkFault};
 
 use crate::auditing::read_topology;
-use crate::fault::{Fault, end};
+use crate::fault::{Fault, done_of_talk, end};
 use crate::input_line::read_sheet_line;
 use crate::outside::Outside;
 use crate::sheet_answer::{SheetAnswer, put_answer};
 use hose_disk::Cabinet;
 use hose_graph::{Hose, Name, Topology};
-use hose_io::{Sink, Source};
+use hose_io::{Failed, Sink, Source};
 use hose_paths::RowMaker;
 use hose_price::{MOST_TARIFFS, PriceSheet, TablesRows};
 use hose_proto::ReadFault;
+use hose_talk::{Answers, hold_talk};
 use hose_tariff::{OwnCosts, Prices, Tariff};
-use hose_words::{INPUT_LIMIT, Line, LineReader};
+use hose_words::{INPUT_LIMIT, Line};
 use std::alloc::Global;
 
 /// Reads the topology of a text, answers each line of the input with the prices of its hose under
@@ -76,85 +77,83 @@ fn price_input<I: Source, O: Sink, C: Cabinet>(
 {
     let sheet = PriceSheet::new(alloc, top, tariffs)?;
     let tables = sheet.row_tables(alloc)?;
-    price_by_sheet(
+    let mut pricer = Pricer {
         alloc,
         tariffs,
-        &sheet,
-        &mut TablesRows::new(&tables),
-        outside.input,
-        outside.output,
-    )
+        sheet: &sheet,
+        rows: TablesRows::new(&tables),
+    };
+    price_by_sheet(&mut pricer, outside.input, outside.output)
+}
+
+// Who prices the lines of a sheet: where it takes memory, the tariffs, the network by each of them,
+// and what makes rows.
+#[derive(Drop)]
+struct Pricer<'a, R: RowMaker> {
+    alloc: Global,
+    tariffs: &'a [Tariff],
+    sheet: &'a PriceSheet,
+    rows: R,
+}
+
+impl<'a, R: RowMaker> Answers for Pricer<'a, R> {
+    type Reply = SheetAnswer;
+
+    ghost use Rattle.std.specs.Prelude.{◌≡◌, List, ℕ, ⊤, false, map};
+    ghost use Rattle.hose_price.specs.Sheet.{Sheet};
+    ghost use Rattle.hose_proto.specs.ReplyText.{line_of};
+    ghost use Rattle.hose_offline.specs.SheetLine.{AnswersSheet, answer_text};
+    ghost use Rattle.hose_offline.specs.declared.sheet_answer.SheetAnswer.{SheetAnswer};
+
+    ghost said = { SheetAnswer };
+
+    ghost subject = { Sheet × List (List ℕ) };
+
+    ghost about = { λ pricer. (pricer.sheet.now, map (λ tariff. tariff.name) pricer.tariffs.now) };
+
+    ghost says = { λ subject before. AnswersSheet subject.0.network subject.0 };
+
+    ghost text = { λ subject answer. line_of (answer_text subject.1 answer) };
+
+    ghost origin = { ⊤ };
+
+    ghost comes = { λ _ said answers _. said ≡ answers };
+
+    ghost fits = { λ _. ⊤ };
+
+    ghost can_put = { λ _ _. ⊤ };
+
+    ghost over = { λ _. false };
+
+    fn answer(&mut self, line: Line<'_>) -> SheetAnswer {
+        answer_to(self.alloc, self.sheet, &mut self.rows, line)
+    }
+
+    fn put<O: Sink>(&self, output: &mut O, answer: &SheetAnswer) -> Result<(), Failed> {
+        put_answer(output, self.tariffs, answer)
+    }
+
+    fn is_over(&self) -> bool {
+        false
+    }
 }
 
 // Answers the lines of the input by a sheet.
 fn price_by_sheet<I: Source, O: Sink, R: RowMaker>(
-    alloc: Global,
-    tariffs: &[Tariff],
-    sheet: &PriceSheet,
-    rows: &mut R,
+    pricer: &mut Pricer<'_, R>,
     input: &mut I,
     output: &mut O,
 ) -> Result<(), Fault>
-    ensures answers { AnswersInput I.Source O.Sink (map (λ tariff. tariff.name) tariffs.now)
-        (talk input.old output.old sheet.now) (talk input.new output.new sheet.now) result }
+    ensures answers { (ended : Result TalkEnd TalkFault) × (result ≡ done_of_talk ended)
+        × AnswersInput I.Source O.Sink (map (λ tariff. tariff.name) pricer.old.tariffs.now)
+        pricer.old.sheet.now input.old input.new output.old output.new ended }
     ensures takes { (bytes : List ℕ) × Gives (I.content input.old) (I.content input.new) bytes
         × (length bytes ≤ INPUT_LIMIT + 1)
         × ((result ≡ Err Fault.TooLong) ↔ (INPUT_LIMIT < length bytes)) }
     ensures input { Stays (I.frame input.old) (I.frame input.new) }
     ensures output { Stays (O.frame output.old) (O.frame output.new) }
 {
-    let mut lines = LineReader::new(input);
-    let done = price_all(alloc, tariffs, sheet, rows, &mut lines, output);
-    // What is known of the input again comes from here.
-    let _ = lines.into_source();
-    done
-}
-
-// Answers all lines that are to come.
-fn price_all<S: Source, O: Sink, R: RowMaker>(
-    alloc: Global,
-    tariffs: &[Tariff],
-    sheet: &PriceSheet,
-    rows: &mut R,
-    lines: &mut LineReader<S>,
-    output: &mut O,
-) -> Result<(), Fault>
-    requires limit { lines.old.taken ≤ INPUT_LIMIT + 1 }
-    requires no_fault { lines.old.fault ≡ None }
-    ensures prices { PricesAll S.Source O.Sink (map (λ tariff. tariff.name) tariffs.now)
-        (talk lines.old output.old sheet.now) (talk lines.new output.new sheet.now) result }
-    ensures too_long { (result ≡ Err Fault.TooLong) ↔ (INPUT_LIMIT < lines.new.taken) }
-    ensures reads_on { ReadsOn S.Source lines.old lines.new }
-    ensures limit { lines.new.taken ≤ INPUT_LIMIT + 1 }
-    ensures output { Stays (O.frame output.old) (O.frame output.new) }
-{
-    while price_line(alloc, tariffs, sheet, rows, lines, output)? {}
-    Ok(())
-}
-
-// Answers the next line, and says whether there was one.
-fn price_line<S: Source, O: Sink, R: RowMaker>(
-    alloc: Global,
-    tariffs: &[Tariff],
-    sheet: &PriceSheet,
-    rows: &mut R,
-    lines: &mut LineReader<S>,
-    output: &mut O,
-) -> Result<bool, Fault>
-    requires no_fault { lines.old.fault ≡ None }
-    ensures prices { PricesLine S.Source O.Sink (map (λ tariff. tariff.name) tariffs.now)
-        (talk lines.old output.old sheet.now) (talk lines.new output.new sheet.now) result }
-    ensures too_long { (result ≡ Err Fault.TooLong) ↔ (INPUT_LIMIT < lines.new.taken) }
-    ensures reads_on { ReadsOn S.Source lines.old lines.new }
-    ensures limit { lines.new.taken ≤ INPUT_LIMIT + 1 }
-    ensures output { Stays (O.frame output.old) (O.frame output.new) }
-{
-    let Some(line) = lines.next()? else {
-        return Ok(false);
-    };
-    let answer = answer_to(alloc, sheet, rows, line);
-    put_answer(output, tariffs, &answer)?;
-    Ok(true)
+    done_of_talk(hold_talk(pricer, input, output))
 }
 
 // The answer to a line.

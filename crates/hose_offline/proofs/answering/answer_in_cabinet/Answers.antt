@@ -1,4 +1,4 @@
-use Rattle.std.proofs.Common.{◌≡◌, ◌∙◌, inl, inr, Err, refl, ap, subst, arith}
+use Rattle.std.proofs.Common.{◌≡◌, ◌∙◌, inl, inr, Err, refl, ap, arith}
 use Rattle.std.proofs.lemmas.Result.{err_from_is_err_and}
 use Rattle.hose_words.proofs.OnReading.{ReadsOn-start}
 use Rattle.hose_law.specs.History.{IsDecidedAt}
@@ -33,11 +33,11 @@ pub returns-clause-talks : goal.returns-clause-talks
 returns-clause-talks g c =
     let opens = c.in_ok-store.ensures.opens in
     let since = opens.opens.opened.history in
-    let first = c.new-core in
+    let first = c.new in
     let served = c.answer_all-answered in
     let closed = c.close_journal-closed in
     let sound = first_sound first.result.books c.in_ok-store.store since first.ensures.books opens.opens.opened.has.sound in
-    let has = talked_in g.C.Cabinet g.C.Disk.Disk c.args.name.now c.args.cabinet.now c.open_journal.new.cabinet closed.new.cabinet c.args.topology c.in_ok-store.store g.S.Source g.O.Sink c.args.lines.now served.new.lines c.args.output.now served.new.output first.result.books served.new.core.books served.result closed.result.0
+    let has = talked_in g.C.Cabinet g.C.Disk.Disk c.args.name.now c.args.cabinet.now c.open_journal.new.cabinet closed.new.cabinet c.args.topology c.in_ok-store.store g.S.Source g.O.Sink c.args.lines.now served.new.lines c.args.output.now served.new.output first.result.books served.new.clerk.core.books served.result closed.result.0
     opens (rw c.into_books.ensures at closed.ensures.closes) first.ensures.books (served.ensures.talks since sound (first.ensures.fits 0 since opens.opens.opened.has.book)) in
     inr (served.result, closed.result.0, has, c.first_fault.ensures)
 

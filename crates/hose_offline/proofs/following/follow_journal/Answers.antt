@@ -16,6 +16,8 @@ returns-clause-follows g c =
     let followed = c.follow-ended in
     let closed = c.close_journal-closed in
     let after = parts followed.new.source followed.new.sink closed.new.cabinet in
+    let opens = c.in_ok-store.ensures.opens in
     let has = followed_in (tellings g.I.Source g.O.Sink g.C.Cabinet g.C.Disk.Disk) c.args.name.now before after c.open_journal.new.cabinet c.args.topology c.in_ok-store.store followed.new.store followed.result closed.result.0
-    c.in_ok-store.ensures.opens followed.ensures.follows closed.ensures.closes in
+    followed.ensures.follows
+    (record { was = opens.was; taken = opens.taken; opens = c.law_brought.ensures followed.ensures.follows.packets opens.was c.args.topology c.in_ok-store.store opens.opens }) closed.ensures.closes in
     inr (followed.result, closed.result.0, has, rw c.done_of_end.ensures at c.first_fault.ensures)

@@ -21,10 +21,11 @@ pub returns-clause-prices : goal.returns-clause-prices
 returns-clause-prices g c =
     let takes = c.price_by_sheet.ensures.takes in
     let made = c.in_ok-sheet.ensures in
+    let answers = c.price_by_sheet.ensures.answers in
     record {
       taken = takes.0;
       gives = takes.1;
       limit = takes.2;
       too_long = takes.3;
-      answers = inr (c.in_ok-sheet.sheet, record { of = made.network; is_sheet = made.sheet; places = made.places; columns = made.columns }, c.price_by_sheet.ensures.answers);
+      answers = inr (c.in_ok-sheet.sheet, record { of = made.network; is_sheet = made.sheet; places = made.places; columns = made.columns }, answers.0, answers.1, answers.2);
     }

@@ -1,0 +1,43 @@
+-- Packets of a leader that were answered one after another by a follower of its list.
+use Rattle.std.proofs.Common.{◌∙◌, inl, inr, List, [], ◌∷◌, ◌++◌, Some, All, refl, sym, ap, subst}
+use Rattle.std.proofs.lemmas.List.Elements.{All-nil, All-pop, All-push}
+use mathlib.Core.List.{IsPrefix}
+use Rattle.hose_graph.specs.Network.{Network}
+use Rattle.hose_graph.specs.declared.entry.Entry.{Entry}
+use Rattle.hose_follow.specs.Packet.{Packet}
+use Rattle.hose_follow.specs.Replication.{IsLeader, IsSentOf}
+use Rattle.hose_follow.specs.declared.answers.Offered.{Offered}
+use Rattle.hose_follow.specs.declared.answers.Offered.TheVariants.{Have, Want, Differs, Memory, Unsound, Disk}
+use Rattle.hose_follow.proofs.Sent.{next_brought, next_sent, next_sound}
+use Rattle.hose_offline.specs.Following.{AnswersAt, ArePacketsAnswered, FollowsLeaders, IsNoRefusal, none_yet, packet_more}
+
+module _ (network : Network) (leader : List Entry) (legal : IsLeader network leader) where
+  -- one packet more
+  one_more : (packet : Packet) (old new : List Entry) (answer : Offered) → IsSentOf network leader packet → IsPrefix old leader → AnswersAt network old packet answer new → IsPrefix new leader × IsNoRefusal answer
+  one_more packet old new (Have n) sent begins (inl past) = (subst (λ (l : List Entry). IsPrefix l leader) (sym past.2) begins, tt)
+  one_more packet old new (Have n) sent begins (inr (entry, due, brings, _, is)) =
+      let next = next_sent network leader old packet legal begins sent due.epoch in
+      (subst (λ (l : List Entry). IsPrefix l leader) (sym is) (next_brought network leader old packet entry next brings.spells), tt)
+  one_more packet old new (Want n) sent begins at = (subst (λ (l : List Entry). IsPrefix l leader) (sym at.2) begins, tt)
+  one_more packet old new (Differs place own given) sent begins (other, _, _) =
+      let next = next_sent network leader old packet legal begins sent other.epoch in
+      absurd (other.differs (other.given_value ∙ (ap (λ (p : Packet). p.chain) next.is ∙ sym other.own_value)))
+  one_more packet old new Memory sent begins at = (subst (λ (l : List Entry). IsPrefix l leader) (sym at.2) begins, tt)
+  one_more packet old new (Unsound epoch) sent begins (due, none, _, _) =
+      let next = next_sent network leader old packet legal begins sent due.epoch in
+      absurd (none next.entry (record {
+        spells = record { is_entry = next.is_entry; spelled = ap (λ (p : Packet). p.body) next.is };
+        sound = next_sound network leader old packet legal next;
+      }))
+  one_more packet old new (Disk place) sent begins at = (subst (λ (l : List Entry). IsPrefix l leader) (sym at.2) begins, tt)
+
+  all_more : (since : List Entry) (packets : List Packet) (answers : List Offered) (history : List Entry) → ArePacketsAnswered network since packets answers history → IsPrefix since leader → All (IsSentOf network leader) packets → IsPrefix history leader × All IsNoRefusal answers
+  all_more since packets answers history none_yet begins sent = (begins, All-nil IsNoRefusal)
+  all_more since packets answers history (packet_more {packets = front} packet answer before at) begins sent =
+      let parts = All-pop (IsSentOf network leader) (front ++ packet ∷ []) front (Some packet) refl sent in
+      let led = all_more since _ _ _ before begins parts.0 in
+      let one = one_more packet _ history answer parts.1 led.0 at in
+      (one.0, All-push IsNoRefusal _ answer led.1 one.1)
+
+pub follows_leaders : (network : Network) (packets : List Packet) (answers : List Offered) (since history : List Entry) → ArePacketsAnswered network since packets answers history → FollowsLeaders network packets answers since history
+follows_leaders network packets answers since history answered = λ leader legal begins sent. all_more network leader legal since packets answers history answered begins sent
