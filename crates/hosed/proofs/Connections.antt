@@ -1,5 +1,5 @@
 -- Connections that were served, by the cabinet that holds the disk of the journal.
-use Rattle.std.proofs.Common.{◌≡◌, ◌⊎◌, inl, inr, refl, List, ◌∷◌, Some, None, Option, Result, Ok, Err, length, sym, ap, subst}
+use Rattle.std.proofs.Common.{◌≡◌, refl, List, ◌∷◌, Result, Ok, Err, length, sym, ap, subst}
 use Rattle.std.specs.Prelude.{ℕ, ⊤}
 use Rattle.hose_io.specs.Frame.{Frame, Met}
 use Rattle.hose_io.specs.declared.Failed.{Failed}
@@ -9,7 +9,6 @@ use Rattle.hose_law.proofs.Cheapest.{decided_cheapest}
 use Rattle.hose_law.proofs.Lives.{live_held, stays_live}
 use Rattle.hose_law.proofs.Sold.{sold}
 use Rattle.hose_disk.specs.Cabinet.{CabinetFrame, object_of}
-use Rattle.hose_disk.specs.declared.disk.Disk.{Ghosts as DiskGhosts}
 use Rattle.hose_store.specs.Recovery.{IsHistoryOf}
 use Rattle.hose_turn.specs.Known.{Known}
 use Rattle.hose_offline.specs.CabinetText.{OnlyTextsRead}
@@ -55,8 +54,8 @@ module _ {I O C E : Type 0} (tells : Tellings I O C E) (name : List ℕ) (old mi
   }
 
   -- the disk is back
-  pub served_in : (Along : Known → Result ⊤ Failed → Type 0) (came : Result ServerEnd Fault) → IsNetwork network → ServesByStore tells.disk opened (Some left) network Along came → ServesByJournal tells name old new network Along came
-  served_in Along came is serves = inl (serves_as network _ _ _ _ Along came (kept_in is) (sym (ap (λ (f : CabinetFrame). f.returned) back.in_place.call)) serves)
+  pub served_in : (Along : Known → Result ⊤ Failed → Type 0) (came : Result ServerEnd Fault) → IsNetwork network → ServesByStore tells.disk opened left network Along came → ServesByJournal tells name old new network Along came
+  served_in Along came is serves = serves_as network _ _ _ _ Along came (kept_in is) (sym (ap (λ (f : CabinetFrame). f.returned) back.in_place.call)) serves
 
 -- where texts alone were read before, and no call of the cabinet failed
 module _ {I O C E : Type 0} (tells : Tellings I O C E) (old mid new : C) (only : OnlyTextsRead tells.cabinet old mid) (same : CabinetWorked tells.cabinet old mid) (name : List ℕ) (network : Network) where
@@ -74,5 +73,4 @@ module _ {I O C E : Type 0} (tells : Tellings I O C E) (old mid new : C) (only :
   }
 
   pub served_before : (Along : Known → Result ⊤ Failed → Type 0) (came : Result ServerEnd Fault) → ServesByJournal tells name mid new network Along came → ServesByJournal tells name old new network Along came
-  served_before Along came (inl serves) = inl (serves_as network _ _ _ _ Along came kept_before refl serves)
-  served_before Along came (inr lost) = inr lost
+  served_before Along came serves = serves_as network _ _ _ _ Along came kept_before refl serves

@@ -7,7 +7,7 @@ use Rattle.hose_offline.specs.Parts.{Parts, Tellings, parts}
 use Rattle.hose_offline.specs.Auditing.{PricedNames}
 use Rattle.hosed.specs.Offline.{Does, Offer, OfflineOutcome}
 use Rattle.hosed.specs.ServeOutcome.{ServeOutcome}
-use Rattle.hosed.specs.ServerDoor.{DoorSeen}
+use Rattle.hosed.specs.ServerDoor.{DoorSeen, DoorTask}
 use Rattle.hosed.specs.ProgramWords.{AreWords, AreWrongWords, IsFirstWrong, Task, Verb}
 use Rattle.hosed.specs.ProgramWords.Verb.{prove}
 use Rattle.hosed.proofs.Commands.{none_wrong, of_each}
@@ -49,8 +49,8 @@ told_of {tells = tells} {offer = offer} {was = was} {status = status} {words = w
     subst (λ (now : Parts _ _ _). OfflineOutcome tells offer was now status words) (λ i. parts (input i) (output i) (cabinet i)) (subst (λ (old : Parts _ _ _). OfflineOutcome tells offer old after status words) lent outcome)
 
 -- what is beside a server, so told
-pub served_of : {I O C E : Type 0} {tells : Tellings I O C E} {names : PricedNames} {count : ℕ} {before was : Parts I O C} {door door' : DoorSeen} {status : ℕ} (after : Parts I O C) {input : I} {output : O} {cabinet : C} → before ≡ was → after.input ≡ input → after.output ≡ output → after.cabinet ≡ cabinet
-    → ServeOutcome tells names count (record { others = before; door = door }) (record { others = after; door = door' }) status → ServeOutcome tells names count (record { others = was; door = door }) (record { others = parts input output cabinet; door = door' }) status
-served_of {tells = tells} {names = names} {count = count} {was = was} {door = door} {door' = door'} {status = status} after lent input output cabinet outcome =
-    subst (λ (now : Parts _ _ _). ServeOutcome tells names count (record { others = was; door = door }) (record { others = now; door = door' }) status) (λ i. parts (input i) (output i) (cabinet i))
-    (subst (λ (old : Parts _ _ _). ServeOutcome tells names count (record { others = old; door = door }) (record { others = after; door = door' }) status) lent outcome)
+pub served_of : {I O C E : Type 0} {tells : Tellings I O C E} {names : PricedNames} {task : DoorTask} {before was : Parts I O C} {door door' : DoorSeen} {status : ℕ} (after : Parts I O C) {input : I} {output : O} {cabinet : C} → before ≡ was → after.input ≡ input → after.output ≡ output → after.cabinet ≡ cabinet
+    → ServeOutcome tells names task (record { others = before; door = door }) (record { others = after; door = door' }) status → ServeOutcome tells names task (record { others = was; door = door }) (record { others = parts input output cabinet; door = door' }) status
+served_of {tells = tells} {names = names} {task = task} {was = was} {door = door} {door' = door'} {status = status} after lent input output cabinet outcome =
+    subst (λ (now : Parts _ _ _). ServeOutcome tells names task (record { others = was; door = door }) (record { others = now; door = door' }) status) (λ i. parts (input i) (output i) (cabinet i))
+    (subst (λ (old : Parts _ _ _). ServeOutcome tells names task (record { others = old; door = door }) (record { others = after; door = door' }) status) lent outcome)

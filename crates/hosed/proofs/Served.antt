@@ -20,7 +20,7 @@ use Rattle.hose_offline.specs.declared.fault.Fault.TheVariants.{Cabinet, Door, M
 use Rattle.hose_offline.proofs.Audited.{named_not_1, named_not_read, named_read, no_store, no_topology, told_status}
 use Rattle.hose_offline.proofs.Outcomes.{clash}
 use Rattle.hosed.specs.ServeOutcome.{EndsServed, IsServed, ServeOutcome, first_failed}
-use Rattle.hosed.specs.ServerDoor.{IsServedAlong, OutputDoor, OutsideDoor, ServesByJournal, ServesConnections, Speaks, spoken}
+use Rattle.hosed.specs.ServerDoor.{DoorTask, IsServedAlong, OutputDoor, OutsideDoor, ServesByJournal, ServesConnections, Speaks, spoken}
 use Rattle.hosed.specs.declared.server.ServerEnd.{ServerEnd}
 use Rattle.hosed.proofs.Connections.{served_before}
 
@@ -31,12 +31,12 @@ failed_is (Ok done) (Err failed) why is = inr (cc is)
 failed_is (Ok done) (Ok closed) why is = absurd (cc is)
 
 -- a server that opened its store ends with one of these
-served_status : {O : Type 0} (sink : SinkGhosts O) (before after : OutputDoor O) (left : O) (status : ℕ) (came : Result ServerEnd Fault) → Speaks sink before after came → EndsServed sink after.output left status came → (other : ℕ) → other ≢ 0 → other ≢ 4 → other ≢ 6 → other ≢ 7 → other ≢ 9 → status ≢ other
-served_status sink before after left status (Err Memory) speaks ends other no_0 no_4 no_6 no_7 no_9 is = no_7 (sym is ∙ ends.0)
-served_status sink before after left status (Err Door) speaks ends other no_0 no_4 no_6 no_7 no_9 is = no_9 (sym is ∙ ends.0)
-served_status sink before after left status (Err Write) speaks ends other no_0 no_4 no_6 no_7 no_9 is = no_4 (sym is ∙ ends.0)
-served_status sink before after left status (Err another) speaks ends other no_0 no_4 no_6 no_7 no_9 is = absurd speaks
-served_status sink before after left status (Ok end) speaks ends other no_0 no_4 no_6 no_7 no_9 is =
+served_status : {O : Type 0} (sink : SinkGhosts O) (port : ℕ) (before after : OutputDoor O) (left : O) (status : ℕ) (came : Result ServerEnd Fault) → Speaks sink port before after came → EndsServed sink after.output left status came → (other : ℕ) → other ≢ 0 → other ≢ 4 → other ≢ 6 → other ≢ 7 → other ≢ 9 → status ≢ other
+served_status sink port before after left status (Err Memory) speaks ends other no_0 no_4 no_6 no_7 no_9 is = no_7 (sym is ∙ ends.0)
+served_status sink port before after left status (Err Door) speaks ends other no_0 no_4 no_6 no_7 no_9 is = no_9 (sym is ∙ ends.0)
+served_status sink port before after left status (Err Write) speaks ends other no_0 no_4 no_6 no_7 no_9 is = no_4 (sym is ∙ ends.0)
+served_status sink port before after left status (Err another) speaks ends other no_0 no_4 no_6 no_7 no_9 is = absurd speaks
+served_status sink port before after left status (Ok end) speaks ends other no_0 no_4 no_6 no_7 no_9 is =
     told_status sink after.output left status (first_failed end.accepting end.closing) (audit_text end.book.network end.book.book) ends other no_0 no_4
     (λ why fault same. by why (failed_is end.accepting end.closing why fault) same) is
   where
@@ -44,22 +44,22 @@ served_status sink before after left status (Ok end) speaks ends other no_0 no_4
     by why (inl door) same = no_9 (sym same ∙ ap status_of door)
     by why (inr cabinet) same = no_6 (sym same ∙ ap status_of cabinet)
 
-module _ {I O C E : Type 0} (tells : Tellings I O C E) (names : PricedNames) (count : ℕ) (before after : OutsideDoor I O C) where
+module _ {I O C E : Type 0} (tells : Tellings I O C E) (names : PricedNames) (task : DoorTask) (before after : OutsideDoor I O C) where
   abbrev purpose : Purpose
   purpose = record {
-    Tells = IsServed tells names.journal count before after;
+    Tells = IsServed tells names.journal task before after;
     Untouched = after.door ≡ before.door;
     OthersHeld = ¬ Rose before.door.frame after.door.frame;
   }
 
   -- the words are not what is wrong
-  pub serve_not_1 : (status : ℕ) → ServeOutcome tells names count before after status → status ≢ 1
+  pub serve_not_1 : (status : ℕ) → ServeOutcome tells names task before after status → status ≢ 1
   serve_not_1 status outcome = named_not_1 tells names before.others after.others purpose outcome.left status
-      (λ network told. served_status tells.sink (spoken before) (record (spoken after) { output = told.mid }) after.others.output status told.came told.speaks told.ends 1 (λ e. absurd (cc e)) (λ e. absurd (cc e)) (λ e. absurd (cc e)) (λ e. absurd (cc e)) (λ e. absurd (cc e))) outcome.named.ends
+      (λ network told. served_status tells.sink task.port (spoken before) (record (spoken after) { output = told.mid }) after.others.output status told.came told.speaks told.ends 1 (λ e. absurd (cc e)) (λ e. absurd (cc e)) (λ e. absurd (cc e)) (λ e. absurd (cc e)) (λ e. absurd (cc e))) outcome.named.ends
 
   -- no topology was read
   pub no_topology_read : (why : Fault) (status : ℕ) → ReadsTopology tells.cabinet before.others.cabinet after.others.cabinet names.prices names.topology (Err why) → status ≡ status_of why → IsOut tells.sink before.others.output after.others.output (last_line why) → after.door ≡ before.door → after.others.input ≡ before.others.input
-      → ServeOutcome tells names count before after status
+      → ServeOutcome tells names task before after status
   no_topology_read why status reads is out same_door same_input = named_not_read tells names before.others after.others purpose why status (no_topology tells names before.others after.others why reads) is out same_door same_input
 
   module _ (read : C) (mid : O) (network : Network) (status : ℕ) (reads : ReadsTopology tells.cabinet before.others.cabinet read names.prices names.topology (Ok network)) (same_absent : (tells.cabinet.frame after.others.cabinet).absent ≡ (tells.cabinet.frame read).absent)
@@ -71,10 +71,10 @@ module _ {I O C E : Type 0} (tells : Tellings I O C E) (names : PricedNames) (co
     middle = record (spoken after) { output = mid }
 
     abbrev Serves : Result ServerEnd Fault → Type 0
-    Serves one = ServesByJournal tells names.journal before.others.cabinet after.others.cabinet network (IsServedAlong count before.door after.door) one
+    Serves one = ServesByJournal tells names.journal before.others.cabinet after.others.cabinet network (IsServedAlong task.connections before.door after.door) one
 
     -- no store was opened
-    not_opened : (why : Fault) → IsNotServed tells.cabinet tells.disk names.journal read after.others.cabinet network (Err why) → middle ≡ spoken before → EndsServed tells.sink mid after.others.output status (Err why) → ServeOutcome tells names count before after status
+    not_opened : (why : Fault) → IsNotServed tells.cabinet tells.disk names.journal read after.others.cabinet network (Err why) → middle ≡ spoken before → EndsServed tells.sink mid after.others.output status (Err why) → ServeOutcome tells names task before after status
     not_opened why not same ends =
         let told = at why not ends in
         named_not_read tells names before.others after.others purpose why status (no_store tells names before.others after.others read network why reads same_absent not) told.0
@@ -85,11 +85,11 @@ module _ {I O C E : Type 0} (tells : Tellings I O C E) (names : PricedNames) (co
         at another is out = out
 
     -- one was
-    opened : (came : Result ServerEnd Fault) → ServesByJournal tells names.journal read after.others.cabinet network (IsServedAlong count before.door after.door) came → Speaks tells.sink (spoken before) middle came → EndsServed tells.sink mid after.others.output status came
-        → ServeOutcome tells names count before after status
+    opened : (came : Result ServerEnd Fault) → ServesByJournal tells names.journal read after.others.cabinet network (IsServedAlong task.connections before.door after.door) came → Speaks tells.sink task.port (spoken before) middle came → EndsServed tells.sink mid after.others.output status came
+        → ServeOutcome tells names task before after status
     opened came after_read speaks ends =
         named_read tells names before.others after.others purpose read network status reads same_absent same_input (record { mid = mid; came = came; serves = serves; speaks = speaks; ends = ends })
-        (served_status tells.sink (spoken before) middle after.others.output status came speaks ends 8 (λ e. absurd (cc e)) (λ e. absurd (cc e)) (λ e. absurd (cc e)) (λ e. absurd (cc e)) (λ e. absurd (cc e)))
+        (served_status tells.sink task.port (spoken before) middle after.others.output status came speaks ends 8 (λ e. absurd (cc e)) (λ e. absurd (cc e)) (λ e. absurd (cc e)) (λ e. absurd (cc e)) (λ e. absurd (cc e)))
         (λ told held. completes came held serves speaks ends) (λ told held. refuses came held told serves speaks ends)
       where
         serves : Serves came
@@ -102,24 +102,22 @@ module _ {I O C E : Type 0} (tells : Tellings I O C E) (names : PricedNames) (co
         ended (Ok done) (Ok closed) text held met closes same (inl whole) = inl whole.0
         ended (Ok done) (Ok closed) text held met closes same (inr part) = absurd (held.writing (subst (λ (f : Frame). Rose f (tells.sink.frame after.others.output)) same part.1))
 
-        completes : (one : Result ServerEnd Fault) → Failing → Serves one → Speaks tells.sink (spoken before) middle one → EndsServed tells.sink mid after.others.output status one → (status ≡ 0) ⊎ (status ≡ 7)
-        completes (Ok end) held (inl kept) says out = ended end.accepting end.closing (audit_text end.book.network end.book.book) held says.0 kept.kept.met.failed says.2 out
-        completes (Ok end) held (inr lost) says out = absurd (cc lost.0)
+        completes : (one : Result ServerEnd Fault) → Failing → Serves one → Speaks tells.sink task.port (spoken before) middle one → EndsServed tells.sink mid after.others.output status one → (status ≡ 0) ⊎ (status ≡ 7)
+        completes (Ok end) held kept says out = ended end.accepting end.closing (audit_text end.book.network end.book.book) held says.0 kept.kept.met.failed says.3 out
         completes (Err Memory) held is says out = inr out.0
-        completes (Err Door) held is says out = absurd (held.others says.2)
+        completes (Err Door) held is says out = absurd (held.others says.3)
         completes (Err Write) held is says out = absurd (held.writing (subst (λ (o : O). Rose (tells.sink.frame before.others.output) (tells.sink.frame o)) (sym out.1) says.2))
         completes (Err another) held is says out = absurd says
 
         refuses : (one : Result ServerEnd Fault) → Failing → JournalIsTold tells.cabinet tells.disk before.others.cabinet after.others.cabinet (Some names.journal) (λ bytes. (history : List Entry) → ¬ IsHistoryOf network history bytes)
-            → Serves one → Speaks tells.sink (spoken before) middle one → EndsServed tells.sink mid after.others.output status one → (status ≡ 5) ⊎ (status ≡ 7)
-        refuses (Ok end) held told (inl kept) says out = absurd (clash tells.cabinet tells.disk before.others.cabinet after.others.cabinet names.journal _ _ (λ image is none. none kept.since is) kept.kept.begun told)
-        refuses (Ok end) held told (inr lost) says out = absurd (cc lost.0)
+            → Serves one → Speaks tells.sink task.port (spoken before) middle one → EndsServed tells.sink mid after.others.output status one → (status ≡ 5) ⊎ (status ≡ 7)
+        refuses (Ok end) held told kept says out = absurd (clash tells.cabinet tells.disk before.others.cabinet after.others.cabinet names.journal _ _ (λ image is none. none kept.since is) kept.kept.begun told)
         refuses (Err Memory) held told is says out = inr out.0
-        refuses (Err Door) held told is says out = absurd (held.others says.2)
+        refuses (Err Door) held told is says out = absurd (held.others says.3)
         refuses (Err Write) held told is says out = absurd (held.writing (subst (λ (o : O). Rose (tells.sink.frame before.others.output) (tells.sink.frame o)) (sym out.1) says.2))
         refuses (Err another) held told is says out = absurd says
 
-    pub is_served : (came : Result ServerEnd Fault) → ServesConnections tells names.journal count (record before { others = record before.others { cabinet = read } }) (record after { others = record after.others { output = mid } }) network came
-        → EndsServed tells.sink mid after.others.output status came → ServeOutcome tells names count before after status
+    pub is_served : (came : Result ServerEnd Fault) → ServesConnections tells names.journal task (record before { others = record before.others { cabinet = read } }) (record after { others = record after.others { output = mid } }) network came
+        → EndsServed tells.sink mid after.others.output status came → ServeOutcome tells names task before after status
     is_served came (inl (why, is, not, same)) ends = not_opened why not same (subst (EndsServed tells.sink mid after.others.output status) is ends)
     is_served came (inr (serves, speaks)) ends = opened came serves speaks ends

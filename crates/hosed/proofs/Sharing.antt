@@ -1,8 +1,9 @@
 -- A store that was shared, from its opening to its closing.
-use Rattle.std.proofs.Common.{◌≡◌, ◌∙◌, ◌⊎◌, inl, inr, ⊎_elim, ℕ, ◌≤◌, ◌<◌, List, [], ◌∷◌, length, Bool, Option, Some, is_some, ◌↔◌, Result, Ok, Err, nat_lt, refl, sym, ap, subst, arith, append-nil, length-append}
+use Rattle.std.proofs.Common.{◌≡◌, ◌∙◌, ◌⊎◌, inl, inr, ⊎_elim, ℕ, ◌≤◌, ◌<◌, List, [], ◌∷◌, length, Bool, Option, is_some, ◌↔◌, Result, Ok, nat_lt, refl, sym, ap, subst, arith, append-nil, length-append, Err}
 use Rattle.std.specs.Prelude.{⊤}
 use mathlib.Core.List.{IsPrefix}
 use Rattle.hose_io.specs.declared.Failed.{Failed}
+use Rattle.hose_io.specs.declared.sink.Sink.{Ghosts as SinkGhosts}
 use Rattle.hose_graph.specs.Network.{Network}
 use Rattle.hose_graph.specs.declared.entry.Entry.{Entry}
 use Rattle.hose_law.specs.History.{IsDecidedAt, IsSound}
@@ -18,7 +19,10 @@ use Rattle.hose_turn.specs.Known.{Known}
 use Rattle.hose_turn.specs.Places.{HasPlaces}
 use Rattle.hose_offline.specs.OnDisk.{opening_of}
 use Rattle.hose_offline.specs.Journal.{IsJustOpened}
-use Rattle.hosed.specs.ServerDoor.{IsKeptOn, IsOpening, OpensAt, ServesBook, StaysAsRead, from_to}
+use Rattle.hose_offline.specs.declared.fault.Fault.{Fault}
+use Rattle.hose_offline.specs.declared.fault.Fault.TheVariants.{Memory}
+use Rattle.hosed.specs.ServerDoor.{IsAnnounced, IsKeptOn, IsOpening, OpensAt, OutputDoor, Progress, ServesBook, Speaks, StaysAsRead, from_to}
+use Rattle.hosed.specs.declared.server.ServerEnd.{ServerEnd}
 
 -- a history without a place after its beginning is that beginning
 no_more : (since history : List Entry) → IsPrefix since history → HasPlaces (length since) (length history) [] → history ≡ since
@@ -34,6 +38,20 @@ no_more since history (entry ∷ more, same) none = absurd (at (nat_lt (length s
 -- a store that was just opened stands for the history for which its disk stood
 pub just_opened : {E : Type 0} (disk : DiskGhosts E) (was : E) (network : Network) (store : Kept E) (opens : IsJustOpened disk IsDecidedAt was network store) → IsOpening disk was network opens.opened.history store
 just_opened disk was network store opens = record { read = opens.opened.read; stands = opens.stands }
+
+-- what a server that gave up comes to: the journal stays as it was read
+pub given_up : (network : Network) (IsKept : Progress → Result ⊤ Failed → Type 0) (faults : ℕ) (Along : Known → Result ⊤ Failed → Type 0) (came : Result ServerEnd Fault) (why : Fault) → came ≡ Err why → StaysAsRead network IsKept → ServesBook network IsKept faults Along came
+given_up network IsKept faults Along came why is stays = subst (ServesBook network IsKept faults Along) (sym is) stays
+
+-- and it says why the door was not opened or not announced
+pub not_announced : {O : Type 0} (sink : SinkGhosts O) (port : ℕ) (before after : OutputDoor O) (why : Fault) → IsAnnounced {T = ⊤} sink port before after (Err why) → Speaks sink port before after (Err why)
+not_announced sink port before after Memory is = absurd is
+not_announced sink port before after another is = is
+
+-- also where the store was closed then, with the door as it was
+pub gave_up : {O : Type 0} (sink : SinkGhosts O) (port : ℕ) (before mid after : OutputDoor O) (came : Result ServerEnd Fault) (why : Fault) → came ≡ Err why → after ≡ mid → IsAnnounced {T = ⊤} sink port before mid (Err why) → Speaks sink port before after came
+gave_up {O} sink port before mid after came why is same announced =
+    subst (Speaks sink port before after) (sym is) (subst (λ (now : OutputDoor O). Speaks sink port before now (Err why)) (sym same) (not_announced sink port before mid why announced))
 
 -- a store stands for a history since any images that are no fewer
 stands_had : {E : Type 0} (disk : DiskGhosts E) (Had Has : List ℕ → Type 0) (beginning : Beginning) (history : List Entry) (store : Kept E) → ((image : List ℕ) → Had image → Has image) → StandsFor disk IsDecidedAt Had beginning history store

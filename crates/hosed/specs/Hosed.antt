@@ -28,4 +28,4 @@ pub record HosedOutcome {I O C E : Type 0} (tells : Tellings I O C E) (offer : O
       × IsOut tells.sink before.others.output after.others.output (last_line (Words word)))
   pub serves : (task : Task serve) → AreWords offer.names words serve task
       → ServeOutcome tells (priced_names (offer.prices task.tariff) task.topology task.journal)
-      task.connections before after status
+      (record { port = task.port; connections = task.connections }) before after status

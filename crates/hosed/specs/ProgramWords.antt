@@ -272,10 +272,11 @@ abbrev pub first_end : Option ℕ → ℕ
 first_end None = 3
 first_end (Some which) = 5
 
--- what names a topology, and what names a journal too, as a task
+-- what names a topology, as a task
 abbrev pub topology_task : OfTopology → CheckTask
 topology_task of = record { tariff = of.tariff; topology = of.topology.now }
 
+-- what names a topology and a journal, as a task
 abbrev pub journal_task : OfJournal → JournalTask
 journal_task of =
     record { tariff = of.tariff; topology = of.names.topology.now; journal = of.names.journal.now }
@@ -332,15 +333,17 @@ AsksFor verb words = IsFirst (λ word. word ≡ program_word verb) words
 abbrev pub AsksToServe : List (List ℕ) → Type 0
 AsksToServe words = AsksFor serve words
 
--- what may stand first after it: the option, or the name of a file
+-- what may stand first after a command's word: the option, or the name of a file
 pub data Start : Type 0 where
   option : Start
   named : List ℕ → Start
 
+-- the option may stand first after a command's word, and so may each name of a file
 abbrev pub IsStart : Start → Type 0
 IsStart option = ⊤
 IsStart (named name) = IsFileName name
 
+-- the word of what may stand first after a command's word
 abbrev pub start_word : Start → List ℕ
 start_word option = tariff_option
 start_word (named name) = name

@@ -12,7 +12,7 @@ use Rattle.hose_offline.specs.Fault.{last_line, status_of}
 use Rattle.hose_offline.specs.Parts.{Tellings}
 use Rattle.hose_offline.specs.declared.fault.Fault.{Fault}
 use Rattle.hose_offline.specs.declared.fault.Fault.TheVariants.{Cabinet, Door, Write}
-use Rattle.hosed.specs.ServerDoor.{IsServedAlong, OutsideDoor, ServesByJournal, Speaks, spoken}
+use Rattle.hosed.specs.ServerDoor.{DoorTask, IsServedAlong, OutsideDoor, ServesByJournal, Speaks, spoken}
 use Rattle.hosed.specs.declared.server.ServerEnd.{ServerEnd}
 
 -- what came of accepting and then closing: the first fault
@@ -35,21 +35,22 @@ EndsServed sink output output' status (Err why) =
 
 -- A store was opened on the journal and served connections, or not, which left the output as `mid`
 -- is, and then the rest was told.
-pub record IsServed {I O C E : Type 0} (tells : Tellings I O C E) (name : List ℕ) (count : ℕ)
+pub record IsServed {I O C E : Type 0} (tells : Tellings I O C E) (name : List ℕ) (task : DoorTask)
     (before after : OutsideDoor I O C) (status : ℕ) (network : Network) : Type 0 where
   pub mid : O
   pub came : Result ServerEnd Fault
   pub serves : ServesByJournal tells name before.others.cabinet after.others.cabinet network
-      (IsServedAlong count before.door after.door) came
-  pub speaks : Speaks tells.sink (spoken before) (record (spoken after) { output = mid }) came
+      (IsServedAlong task.connections before.door after.door) came
+  pub speaks : Speaks tells.sink task.port (spoken before) (record (spoken after) { output = mid })
+      came
   pub ends : EndsServed tells.sink mid after.others.output status came
 
 -- A server tells the book of the journal as it was after the last connection.
-abbrev pub ServeOutcome : {I O C E : Type 0} → Tellings I O C E → PricedNames → ℕ
+abbrev pub ServeOutcome : {I O C E : Type 0} → Tellings I O C E → PricedNames → DoorTask
     → OutsideDoor I O C → OutsideDoor I O C → ℕ → Type 0
-ServeOutcome tells names count before after status =
+ServeOutcome tells names task before after status =
     NamedOutcome tells names before.others after.others (record {
-      Tells = IsServed tells names.journal count before after;
+      Tells = IsServed tells names.journal task before after;
       Untouched = after.door ≡ before.door;
       OthersHeld = ¬ Rose before.door.frame after.door.frame;
     }) status

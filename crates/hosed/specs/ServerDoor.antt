@@ -1,5 +1,5 @@
 -- What serving the connections of a door comes to, and what it does to the journal.
-use Rattle.std.specs.Prelude.{◌≡◌, ◌⊎◌, ℕ, ◌≤◌, List, [], codes, length, take, Option, None, Some, IfSome, Result, Ok, Err, is_err, is_some, ⊤}
+use Rattle.std.specs.Prelude.{◌≡◌, ◌⊎◌, ℕ, ◌≤◌, List, [], codes, length, take, Option, Some, IfSome, Result, Ok, Err, is_err, is_some, ⊤}
 use mathlib.Core.List.{IsPrefix}
 use Rattle.hose_io.specs.Connections.{Connections}
 use Rattle.hose_io.specs.Frame.{Frame, Met, Rose}
@@ -16,9 +16,11 @@ use Rattle.hose_law.specs.Live.{AreLiveUnreleased, StaysLive}
 use Rattle.hose_book.specs.Ledger.{IsLedgerOf}
 use Rattle.hose_crew.specs.Crew.{AreServed}
 use Rattle.hose_disk.specs.Cabinet.{Has, object_of}
+use Rattle.hose_disk.specs.Disk.{IsCalled}
 use Rattle.hose_disk.specs.declared.disk.Disk.{Ghosts as DiskGhosts}
 use Rattle.hose_proto.specs.ReplyText.{line_of}
 use Rattle.hose_store.specs.Beginning.{HasLeft, StandsFor}
+use Rattle.hose_store.specs.Commit.{Closes}
 use Rattle.hose_store.specs.Recovery.{IsHistoryOf}
 use Rattle.hose_store.specs.Store.{Kept}
 use Rattle.hose_turn.specs.Faults.{end_of_count}
@@ -31,6 +33,7 @@ use Rattle.hose_offline.specs.declared.fault.Fault.{Fault}
 use Rattle.hose_offline.specs.declared.fault.Fault.TheVariants.{Door, Memory, Write}
 use Rattle.hose_offline.specs.declared.outside.Outside.{Outside}
 use Rattle.hosed.specs.declared.server.ServerEnd.{ServerEnd}
+use Rattle.hosed.specs.declared.words.ServeRequest.{ServeRequest}
 
 -- ---- what a server says
 
@@ -38,19 +41,34 @@ use Rattle.hosed.specs.declared.server.ServerEnd.{ServerEnd}
 abbrev pub ready_line : List ℕ
 ready_line = line_of (codes "ready")
 
--- what is seen of a door, whatever borrows lead to it: its frame and its connections
+-- what is seen of a door, whatever borrows lead to it: its frame, its connections, and the port at
+-- which it was opened last, if it was
 pub record DoorSeen : Type 0 where
   pub frame : Frame
   pub told : Option Connections
+  pub port : Option ℕ
 
-abbrev pub seen_of : Frame → Option Connections → DoorSeen
-seen_of frame told = record { frame = record frame { loan = [] }; told = told }
+-- what is seen of a door, of its frame, without borrows, its connections and its port
+abbrev pub seen_of : Frame → Option Connections → Option ℕ → DoorSeen
+seen_of frame told port =
+    record { frame = record frame { loan = [] }; told = told; port = port }
+
+-- what a server is to do with its door: at which port it opens it, and how many connections it
+-- accepts
+pub record DoorTask : Type 0 where
+  pub port : ℕ
+  pub connections : ℕ
+
+-- what the request says of the door
+abbrev pub door_task : ServeRequest → DoorTask
+door_task request = record { port = request.port; connections = request.connections }
 
 -- the output of a server, and what is seen of its door
 pub record OutputDoor (O : Type 0) : Type 0 where
   pub output : O
   pub door : DoorSeen
 
+-- the output of a server and what is seen of its door, as one
 abbrev pub output_door : {O : Type 0} → O → DoorSeen → OutputDoor O
 output_door output door = record { output = output; door = door }
 
@@ -59,6 +77,7 @@ pub record OutsideDoor (I O C : Type 0) : Type 0 where
   pub others : Parts I O C
   pub door : DoorSeen
 
+-- all that is outside of a server, of its parts
 abbrev pub with_door : {I O C : Type 0} → I → O → C → DoorSeen → OutsideDoor I O C
 with_door input output cabinet door =
     record { others = parts input output cabinet; door = door }
@@ -71,29 +90,34 @@ door_beside outside door = record { others = held outside; door = door }
 abbrev pub spoken : {I O C : Type 0} → OutsideDoor I O C → OutputDoor O
 spoken outside = output_door outside.others.output outside.door
 
--- The door was opened, and the line that the server is ready is out; or the door did not open, and
--- nothing was written; or a part of the line alone is out, and the output failed.
-abbrev pub IsAnnounced : {O T : Type 0} → SinkGhosts O → OutputDoor O → OutputDoor O
+-- The door was opened at this port, and the line that the server is ready is out; or the door did
+-- not open, and nothing was written; or it was opened, a part of the line alone is out, and the
+-- output failed.
+abbrev pub IsAnnounced : {O T : Type 0} → SinkGhosts O → ℕ → OutputDoor O → OutputDoor O
     → Result T Fault → Type 0
-IsAnnounced sink before after (Ok _) = (after.door ≡ before.door)
+IsAnnounced sink port before after (Ok _) = (after.door ≡ record before.door { port = Some port })
     × Grows (sink.content before.output) (sink.content after.output) ready_line
     × (sink.frame after.output ≡ sink.frame before.output)
-IsAnnounced sink before after (Err Door) = (after.output ≡ before.output)
-    × (after.door.told ≡ before.door.told) × Rose before.door.frame after.door.frame
-IsAnnounced sink before after (Err Write) = (after.door ≡ before.door)
+IsAnnounced sink port before after (Err Door) = (after.output ≡ before.output)
+    × (after.door.told ≡ before.door.told) × (after.door.port ≡ before.door.port)
+    × Rose before.door.frame after.door.frame
+IsAnnounced sink port before after (Err Write) =
+    (after.door ≡ record before.door { port = Some port })
     × GrowsInPart (sink.content before.output) (sink.content after.output) ready_line
     × Rose (sink.frame before.output) (sink.frame after.output)
-IsAnnounced sink before after (Err another) = ⊥
+IsAnnounced sink port before after (Err another) = ⊥
 
--- What a server that opened its store has said, and what became of its door. Where there was no
--- memory to begin with, it said nothing, and the door is as it was.
-abbrev pub Speaks : {O : Type 0} → SinkGhosts O → OutputDoor O → OutputDoor O
+-- What a server that opened its store has said, and what became of its door, which was opened at
+-- this port where connections were served. Where there was no memory to begin with, it said
+-- nothing, and the door is as it was.
+abbrev pub Speaks : {O : Type 0} → SinkGhosts O → ℕ → OutputDoor O → OutputDoor O
     → Result ServerEnd Fault → Type 0
-Speaks sink before after (Ok end) = Met before.door.frame after.door.frame end.accepting
+Speaks sink port before after (Ok end) = Met before.door.frame after.door.frame end.accepting
+    × (after.door.port ≡ Some port)
     × Grows (sink.content before.output) (sink.content after.output) ready_line
     × (sink.frame after.output ≡ sink.frame before.output)
-Speaks sink before after (Err Memory) = after ≡ before
-Speaks sink before after (Err why) = IsAnnounced {T = ⊤} sink before after (Err why)
+Speaks sink port before after (Err Memory) = after ≡ before
+Speaks sink port before after (Err why) = IsAnnounced {T = ⊤} sink port before after (Err why)
 
 -- connections of a door were served along a pass, so many at most, and accepting came to this
 abbrev pub IsServedAlong : ℕ → DoorSeen → DoorSeen → Known → Result ⊤ Failed → Type 0
@@ -121,6 +145,13 @@ pub record OpensAt {E : Type 0} (disk : DiskGhosts E) (Had : List ℕ → Type 0
     tells = is_some content;
   }) since store
 
+-- The store was closed, which left the disk so.
+pub record IsClosedOn {E : Type 0} (disk : DiskGhosts E) (store : Kept E) (left : E) :
+    Type 0 where
+  pub closing : Result ⊤ Failed
+  pub closes : Closes disk store left closing
+  pub call : IsCalled (disk.frame store.journal.disk) (disk.frame left) closing
+
 -- ---- the book that is kept
 
 -- how the history of a network went on: the one with which it begins, and what it is now
@@ -129,6 +160,7 @@ pub record Progress : Type 0 where
   pub since : List Entry
   pub history : List Entry
 
+-- how the history of a network went on, of the network, the history at first and the history now
 abbrev pub from_to : Network → List Entry → List Entry → Progress
 from_to network since history = record { network = network; since = since; history = history }
 
@@ -180,12 +212,10 @@ pub record IsKeptOn {E : Type 0} (disk : DiskGhosts E) (was left : E) (made : Pr
   pub leaves : HasLeft disk IsDecidedAt (disk.may_leave was)
       (opening_of disk made.network made.since was) made.history left closing
 
--- What serving by a store comes to on its disk, which is gone where there was no memory to share
--- the store.
-abbrev pub ServesByStore : {E : Type 0} → DiskGhosts E → E → Option E → Network
+-- what serving by a store comes to on its disk
+abbrev pub ServesByStore : {E : Type 0} → DiskGhosts E → E → E → Network
     → (Known → Result ⊤ Failed → Type 0) → Result ServerEnd Fault → Type 0
-ServesByStore disk was None network Along came = came ≡ Err Memory
-ServesByStore disk was (Some left) network Along came =
+ServesByStore disk was left network Along came =
     ServesBook network (IsKeptOn disk was left) (disk.frame left).faults Along came
 
 -- ---- in a cabinet
@@ -214,20 +244,18 @@ module _ {I O C E : Type 0} (tells : Tellings I O C E) (name : List ℕ) (old ne
     pub kept : (place : ℕ) → StaysLive 0 made.history place
     pub cheapest : AreCheapest made.network 0 (length made.since) made.history
 
-  -- What serving by the journal comes to once its store was opened. Where there was no memory to
-  -- share the store, the disk is not back.
+  -- what serving by the journal comes to once its store was opened
   abbrev pub ServesByJournal : Network → (Known → Result ⊤ Failed → Type 0)
       → Result ServerEnd Fault → Type 0
   ServesByJournal network Along came =
       ServesBook network IsKeptIn (tells.cabinet.frame new).returned Along came
-      ⊎ ((came ≡ Err Memory) × ((tells.cabinet.frame new).out ≡ Some name))
 
 -- No store was opened on the journal, which is told why, and nothing was said; or one was.
-abbrev pub ServesConnections : {I O C E : Type 0} → Tellings I O C E → List ℕ → ℕ
+abbrev pub ServesConnections : {I O C E : Type 0} → Tellings I O C E → List ℕ → DoorTask
     → OutsideDoor I O C → OutsideDoor I O C → Network → Result ServerEnd Fault → Type 0
-ServesConnections tells name count before after network came =
+ServesConnections tells name task before after network came =
     ((why : Fault) × (came ≡ Err why) × IsNotServed tells.cabinet tells.disk name
     before.others.cabinet after.others.cabinet network (Err why) × (spoken after ≡ spoken before))
     ⊎ (ServesByJournal tells name before.others.cabinet after.others.cabinet network
-    (IsServedAlong count before.door after.door) came
-    × Speaks tells.sink (spoken before) (spoken after) came)
+    (IsServedAlong task.connections before.door after.door) came
+    × Speaks tells.sink task.port (spoken before) (spoken after) came)

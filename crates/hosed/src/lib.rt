@@ -25,11 +25,10 @@
 //! command, in order, and then at most the one that was being written.
 #![tactic(auto)]
 
-ghost use Rattle.std.specs.Prelude.{◌≡◌, ◌⊎◌, None, map};
+ghost use Rattle.std.specs.Prelude.{◌≡◌, None, map};
 ghost use Rattle.std.specs.String.{string_bytes};
 ghost use Rattle.hose_io.specs.Frame.{Stays};
-ghost use Rattle.hose_disk.specs.Cabinet.{object_of};
-ghost use Rattle.hose_offline.specs.Parts.{KeepsAll, held, parts, tellings};
+ghost use Rattle.hose_offline.specs.Parts.{AllStay, KeepsAll, held, parts, tellings};
 ghost use Rattle.hosed.specs.Hosed.{HosedOutcome};
 ghost use Rattle.hosed.specs.Offline.{OfflineOutcome, offer_of};
 ghost use Rattle.hosed.specs.ProgramWords.{AsksToServe};
@@ -104,15 +103,14 @@ pub fn hosed<
     ensures outcome { HosedOutcome (tellings I.Source O.Sink C.Cabinet C.Disk.Disk)
         (offer_of ⟦<Tariff as Prices>⟧.prices (λ tariff. tariff.name) (λ tariff. tariff.base)
         (λ tariff. tariff.per) tariffs.now)
-        (with_door input.old output.old cabinet.old (seen_of (L.frame door.old) (L.told door.old)))
-        (with_door input.new output.new cabinet.new (seen_of (L.frame door.new) (L.told door.new)))
+        (with_door input.old output.old cabinet.old
+        (seen_of (L.frame door.old) (L.told door.old) (L.opened_at door.old)))
+        (with_door input.new output.new cabinet.new
+        (seen_of (L.frame door.new) (L.told door.new) (L.opened_at door.new)))
         result (map string_bytes words.now) }
-    // The disk of a journal is not put back where there was no memory to share it.
-    ensures back { ((C.frame cabinet.new).out ≡ None)
-        ⊎ (AsksToServe (map string_bytes words.now) × (result ≡ 7)) }
-    ensures input { Stays (I.frame input.old) (I.frame input.new) }
-    ensures output { Stays (O.frame output.old) (O.frame output.new) }
-    ensures cabinet { Stays (object_of (C.frame cabinet.old)) (object_of (C.frame cabinet.new)) }
+    ensures back { (C.frame cabinet.new).out ≡ None }
+    ensures keeps { AllStay (tellings I.Source O.Sink C.Cabinet C.Disk.Disk)
+        (parts input.old output.old cabinet.old) (parts input.new output.new cabinet.new) }
     ensures door { Stays (L.frame door.old) (L.frame door.new) }
 {
     if !asks_to_serve(words) {
@@ -148,9 +146,8 @@ pub fn offline<I: Source, O: Sink, C: Cabinet>(
         (parts input.old output.old cabinet.old) (parts input.new output.new cabinet.new)
         result (map string_bytes words.now) }
     ensures back { (C.frame cabinet.new).out ≡ None }
-    ensures input { Stays (I.frame input.old) (I.frame input.new) }
-    ensures output { Stays (O.frame output.old) (O.frame output.new) }
-    ensures cabinet { Stays (object_of (C.frame cabinet.old)) (object_of (C.frame cabinet.new)) }
+    ensures keeps { AllStay (tellings I.Source O.Sink C.Cabinet C.Disk.Disk)
+        (parts input.old output.old cabinet.old) (parts input.new output.new cabinet.new) }
 {
     let mut outside = Outside::of(input, output, cabinet);
     do_command(alloc, words, tariffs, &mut outside)

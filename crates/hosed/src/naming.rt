@@ -1,7 +1,8 @@
 // What the program's words name, for whoever tells why it ended.
-ghost use Rattle.std.specs.Prelude.{IfErr, map};
+ghost use Rattle.std.specs.Prelude.{◌≡◌, ℕ, List, None, MatchResult, map};
 ghost use Rattle.std.specs.String.{string_bytes};
-ghost use Rattle.hosed.specs.ProgramWords.{IsFirstWrong};
+ghost use Rattle.hosed.specs.Naming.{AreNamed};
+ghost use Rattle.hosed.specs.ProgramWords.{AreWordsOf, IsFirstWrong};
 
 use crate::words::{OfJournal, Request, asks_to_serve, request_of, serve_of};
 use hose_tariff::Tariff;
@@ -16,8 +17,9 @@ pub struct Named<'w> {
 
 /// What the words name; or the first of them that is not allowed, counted from 1.
 pub fn named_by<'w>(words: &'w [String], tariffs: &[Tariff]) -> Result<Named<'w>, u64>
-    ensures { IfErr result (IsFirstWrong (map (λ tariff. tariff.name) tariffs.now)
-        (map string_bytes words.now)) }
+    ensures { MatchResult result
+        (AreNamed (map (λ tariff. tariff.name) tariffs.now) (map string_bytes words.now))
+        (IsFirstWrong (map (λ tariff. tariff.name) tariffs.now) (map string_bytes words.now)) }
 {
     if !asks_to_serve(words) {
         return match request_of(words, tariffs) {
@@ -36,34 +38,32 @@ pub fn named_by<'w>(words: &'w [String], tariffs: &[Tariff]) -> Result<Named<'w>
 }
 
 // What a request names.
-fn named_of(request: Request<'_>) -> Named<'_> {
+fn named_of(request: Request<'_>) -> Named<'_>
+    ensures { (names words : List (List ℕ)) → AreWordsOf names words request.entry →
+        AreNamed names words result }
+{
     match request {
-        Request::Run { tariff: _, journal } => Named {
-            topology: None,
-            journal,
-            port: None,
-        },
-        Request::Audit(of) | Request::Follow(of) => files_of(of),
-        Request::Ship { of, from: _ } => files_of(of),
-        Request::Prove { of, .. } => topology_alone(Some(of.topology)),
-        Request::Check(of) => topology_alone(Some(of.topology)),
-        Request::Price { topology } => topology_alone(Some(topology)),
-        Request::Generate(_) => topology_alone(None),
+        Request::Run { tariff: _, journal } => files(None, journal),
+        Request::Audit(of) => files(Some(of.names.topology), Some(of.names.journal)),
+        Request::Generate(_) => files(None, None),
+        Request::Prove { of, .. } => files(Some(of.topology), None),
+        Request::Check(of) => files(Some(of.topology), None),
+        Request::Price { topology } => files(Some(topology), None),
+        Request::Ship { of, from: _ } => files(Some(of.names.topology), Some(of.names.journal)),
+        Request::Follow(of) => files(Some(of.names.topology), Some(of.names.journal)),
     }
 }
 
-fn files_of(of: OfJournal<'_>) -> Named<'_> {
-    Named {
-        topology: Some(of.names.topology),
-        journal: Some(of.names.journal),
-        port: None,
-    }
-}
-
-fn topology_alone(topology: Option<&str>) -> Named<'_> {
+fn files<'w>(topology: Option<&'w str>, journal: Option<&'w str>) -> Named<'w>
+    ensures { result ≡ record {
+      topology = topology.entry;
+      journal = journal.entry;
+      port = None;
+    } }
+{
     Named {
         topology,
-        journal: None,
+        journal,
         port: None,
     }
 }

@@ -1,5 +1,5 @@
 // Connections that are served: a door, a crew, and the book of a journal that they share.
-ghost use Rattle.std.specs.Prelude.{◌≡◌, ◌≢◌, ◌↔◌, ◌⊎◌, ◌≤◌, ℕ, Err, IfOk, List, [], None, Option};
+ghost use Rattle.std.specs.Prelude.{◌≡◌, ◌≢◌, ◌↔◌, ◌≤◌, ℕ, Err, IfOk, List, [], None, Option, Some};
 ghost use Rattle.hose_io.specs.Connections.{AreAccounted};
 ghost use Rattle.hose_io.specs.Frame.{Stays};
 ghost use Rattle.hose_graph.specs.Network.{Network};
@@ -7,9 +7,8 @@ ghost use Rattle.hose_law.specs.History.{IsDecidedAt};
 ghost use Rattle.hose_offline.specs.Auditing.{priced_names};
 ghost use Rattle.hose_offline.specs.Journal.{IsJustOpened};
 ghost use Rattle.hose_offline.specs.Parts.{KeepsAll, tellings};
-ghost use Rattle.hose_offline.specs.declared.fault.Fault.TheVariants as fault;
 ghost use Rattle.hosed.specs.ServeOutcome.{EndsServed, ServeOutcome, first_failed};
-ghost use Rattle.hosed.specs.ServerDoor.{IsAnnounced, IsServedAlong, ServesByStore, ServesConnections, Speaks, door_beside, output_door, seen_of};
+ghost use Rattle.hosed.specs.ServerDoor.{IsAnnounced, IsClosedOn, IsServedAlong, ServesByStore, ServesConnections, Speaks, door_beside, door_task, output_door, seen_of};
 
 use crate::words::ServeRequest;
 use hose_book::{Book, Books};
@@ -38,11 +37,11 @@ pub struct ServerEnd {
     pub closing: Result<(), Failed>,
 }
 
-/// What came of serving connections by a store that was opened, its disk, which is gone where there
-/// was no memory to share it, and the door.
+/// What came of serving connections by a store that was opened, its disk, once it was closed, and
+/// the door.
 pub struct Served<D, L> {
     pub came: Result<ServerEnd, Fault>,
-    pub disk: Option<D>,
+    pub disk: D,
     pub door: L,
 }
 
@@ -102,26 +101,43 @@ pub struct Staff<L: Door, N: Start> {
 
 // Opens the door, and says that the server is ready.
 fn announce<O: Sink, L: Door>(door: &mut L, port: u16, output: &mut O) -> Result<(), Fault>
-    ensures announced { IsAnnounced O.Sink
-        (output_door output.old (seen_of (L.frame door.old) (L.told door.old)))
-        (output_door output.new (seen_of (L.frame door.new) (L.told door.new))) result }
+    ensures announced { IsAnnounced O.Sink port
+        (output_door output.old
+        (seen_of (L.frame door.old) (L.told door.old) (L.opened_at door.old)))
+        (output_door output.new
+        (seen_of (L.frame door.new) (L.told door.new) (L.opened_at door.new))) result }
     ensures told { L.told door.new ≡ L.told door.old }
     ensures frame { IfOk result (λ _. L.frame door.new ≡ L.frame door.old) }
+    ensures port { IfOk result (λ _. L.opened_at door.new ≡ Some port) }
     ensures accounted { AreAccounted (L.told door.new) }
     ensures output { Stays (O.frame output.old) (O.frame output.new) }
     ensures door { Stays (L.frame door.old) (L.frame door.new) }
 {
-    if door.open(port).is_err() {
+    let Ok(()) = door.open(port) else {
         return Err(Fault::Door);
-    }
+    };
     if write_all(output, b"ready\n").is_err() {
         return Err(Fault::Write);
     }
     Ok(())
 }
 
+// Closes a store by which no connection was served, and says why none was.
+fn give_up<D: Disk, L>(store: Store<D>, why: Fault, door: L) -> Served<D, L>
+    ensures came { result.came ≡ Err why }
+    ensures door { result.door ≡ door }
+    ensures closes { IsClosedOn D.Disk store result.disk }
+{
+    let (_, disk, _) = store.close();
+    Served {
+        came: Err(why),
+        disk,
+        door,
+    }
+}
+
 // Serves the connections of a door by a store that was just opened on the disk that was once so,
-// and closes it. Where there is no memory to share the store, its disk is gone.
+// and closes it.
 fn serve_store<
     R: Threads + Wait + Sync,
     O: Sink,
@@ -142,6 +158,7 @@ fn serve_store<
     requires start { N.start ≡ record {
       frame = L.frame door;
       told = L.told door;
+      port = Some request.port;
       connections = request.connections;
     } }
     requires had { (image : List ℕ) → N.had image ↔ D.may_leave opening.was.value image }
@@ -152,11 +169,13 @@ fn serve_store<
         opening.store.ledger.network opening.store }
     ensures serves { ServesByStore D.Disk opening.was.value result.disk
         opening.store.ledger.network (IsServedAlong request.entry.connections
-        (seen_of (L.frame door) (L.told door))
-        (seen_of (L.frame result.door) (L.told result.door))) result.came }
-    ensures speaks { Speaks O.Sink
-        (output_door output.old (seen_of (L.frame door) (L.told door)))
-        (output_door output.new (seen_of (L.frame result.door) (L.told result.door)))
+        (seen_of (L.frame door) (L.told door) (L.opened_at door))
+        (seen_of (L.frame result.door) (L.told result.door) (L.opened_at result.door)))
+        result.came }
+    ensures speaks { Speaks O.Sink request.entry.port
+        (output_door output.old (seen_of (L.frame door) (L.told door) (L.opened_at door)))
+        (output_door output.new
+        (seen_of (L.frame result.door) (L.told result.door) (L.opened_at result.door)))
         result.came }
     ensures output { Stays (O.frame output.old) (O.frame output.new) }
     ensures door { Stays (L.frame door) (L.frame result.door) }
@@ -170,28 +189,15 @@ fn serve_store<
     } = opening;
     let top = store.book().topology();
     let Ok(Staff { crew, table }) = begin::<R, L, N>(context.rt, context.alloc, top, request) else {
-        let (_, disk, _) = store.close();
-        return Served {
-            came: Err(Fault::Memory),
-            disk: Some(disk),
-            door,
-        };
+        return give_up(store, Fault::Memory, door);
     };
-    let Ok((shared, pass)) = Shared::<D, JustOpened<N>>::new(context.alloc, store) else {
-        return Served {
-            came: Err(Fault::Memory),
-            disk: None,
-            door,
-        };
+    let (shared, pass) = match Shared::<D, JustOpened<N>>::share(context.alloc, store) {
+        Ok(made) => made,
+        Err(store) => return give_up(store, Fault::Memory, door),
     };
     let mut door = door;
     if let Err(why) = announce(&mut door, request.port, output) {
-        let (_, disk, _) = shared.close(pass).close();
-        return Served {
-            came: Err(why),
-            disk: Some(disk),
-            door,
-        };
+        return give_up(shared.close(pass), why, door);
     }
     let work = Work {
         context,
@@ -204,16 +210,12 @@ fn serve_store<
         door,
     } = crew.serve(work, pass, door, blank);
     let (closing, disk, book) = shared.close(pass).close();
-    let end = ServerEnd {
+    let came = Ok(ServerEnd {
         book,
         accepting,
         closing,
-    };
-    Served {
-        came: Ok(end),
-        disk: Some(disk),
-        door,
-    }
+    });
+    Served { came, disk, door }
 }
 
 // The workers, and the rows of all nodes, which as many threads make.
@@ -233,7 +235,7 @@ fn begin<R: Threads + Sync, L: Door + Send, N: Start + Send + Sync>(
 }
 
 // Serves the connections of a door by the journal that is named. Its disk is back in the cabinet
-// then, but for want of memory to share its store.
+// then.
 fn serve_in_cabinet<
     R: Threads + Wait + Sync,
     I: Source,
@@ -251,15 +253,16 @@ fn serve_in_cabinet<
     requires none_out { (C.frame outside.old.cabinet.now).out ≡ None }
     requires workers { (1 ≤ request.workers) × (request.workers ≤ MOST_WORKERS) }
     ensures serves { ServesConnections (tellings I.Source O.Sink C.Cabinet C.Disk.Disk)
-        request.entry.journal.now request.entry.connections
-        (door_beside outside.old (seen_of (L.frame door.old) (L.told door.old)))
-        (door_beside outside.new (seen_of (L.frame door.new) (L.told door.new)))
+        request.entry.journal.now (door_task request.entry)
+        (door_beside outside.old
+        (seen_of (L.frame door.old) (L.told door.old) (L.opened_at door.old)))
+        (door_beside outside.new
+        (seen_of (L.frame door.new) (L.told door.new) (L.opened_at door.new)))
         topology result }
     ensures input { outside.new.input.now ≡ outside.old.input.now }
     ensures absent { (C.frame outside.new.cabinet.now).absent
         ≡ (C.frame outside.old.cabinet.now).absent }
-    ensures back { ((C.frame outside.new.cabinet.now).out ≡ None)
-        ⊎ (result ≡ Err fault.Memory) }
+    ensures back { (C.frame outside.new.cabinet.now).out ≡ None }
     ensures keeps { KeepsAll (tellings I.Source O.Sink C.Cabinet C.Disk.Disk)
         outside.old outside.new }
     ensures door { Stays (L.frame door.old) (L.frame door.new) }
@@ -288,9 +291,7 @@ fn serve_in_cabinet<
         outside.output,
         door,
     );
-    if let Some(disk) = disk {
-        outside.cabinet.back(disk);
-    }
+    outside.cabinet.back(disk);
     came
 }
 
@@ -316,11 +317,13 @@ pub fn serve<
     requires workers { (1 ≤ request.workers) × (request.workers ≤ MOST_WORKERS) }
     ensures outcome { ServeOutcome (tellings I.Source O.Sink C.Cabinet C.Disk.Disk)
         (priced_names (P.prices costs.now) request.entry.topology.now request.entry.journal.now)
-        request.entry.connections
-        (door_beside outside.old (seen_of (L.frame door.old) (L.told door.old)))
-        (door_beside outside.new (seen_of (L.frame door.new) (L.told door.new))) result }
+        (door_task request.entry)
+        (door_beside outside.old
+        (seen_of (L.frame door.old) (L.told door.old) (L.opened_at door.old)))
+        (door_beside outside.new
+        (seen_of (L.frame door.new) (L.told door.new) (L.opened_at door.new))) result }
     ensures not_words { result ≢ 1 }
-    ensures back { ((C.frame outside.new.cabinet.now).out ≡ None) ⊎ (result ≡ 7) }
+    ensures back { (C.frame outside.new.cabinet.now).out ≡ None }
     ensures keeps { KeepsAll (tellings I.Source O.Sink C.Cabinet C.Disk.Disk)
         outside.old outside.new }
     ensures door { Stays (L.frame door.old) (L.frame door.new) }

@@ -17,14 +17,14 @@ returns-in-Err-clause-serves g c =
       refl,
     )
 
-pub returns-in-Some-clause-serves : goal.returns-in-Some-clause-serves
-returns-in-Some-clause-serves g c =
+pub returns-clause-serves : goal.returns-clause-serves
+returns-clause-serves g c =
     let taken = c.in-Ok.ensures in
-    let back = c.back-in-Some.ensures in
+    let back = c.back-2.ensures in
     let served = c.serve_store-came in
     let borrow = same_first _ _ _ _ served.ensures.door.loan in
     let given : served.result.door.now ≡ c.door-1.given.0 = search rules in
-    let kept = served_in (tellings g.I.Source g.O.Sink g.C.Cabinet g.C.Disk.Disk) c.args.request.journal.now c.args.outside.now.cabinet.now c.disk.new.self c.back-in-Some.new.self c.args.topology c.in-Ok.disk c.in-Some.disk
+    let kept = served_in (tellings g.I.Source g.O.Sink g.C.Cabinet g.C.Disk.Disk) c.args.request.journal.now c.args.outside.now.cabinet.now c.disk.new.self c.back-2.new.self c.args.topology c.in-Ok.disk served.result.disk
     (record { out = record { content = taken.content; images = taken.images; moment = taken.moment; fresh = taken.opened; call = taken.call }; in_place = record { held = back.held; never_falls = back.never_falls; call = back.call } })
-    _ served.result.came (search rules) (rw (c.of-was.ensures, c.in-Ok-open_store.ensures.network, c.in-Some.is) at served.ensures.serves) in
+    _ served.result.came (search rules) (rw (c.of-was.ensures, c.in-Ok-open_store.ensures.network) at served.ensures.serves) in
     inr (rw given at kept, rw given at served.ensures.speaks)

@@ -1,4 +1,4 @@
-use Rattle.std.proofs.Common.{◌∷◌}
+use Rattle.std.proofs.Common.{◌∷◌, Some}
 use Rattle.hosed.proofs.server.serve_in_cabinet.Given as goal
 
 abbrev pub ghosts-serve_store-N-Start : goal.ghosts-serve_store-N-Start
@@ -6,6 +6,7 @@ ghosts-serve_store-N-Start g a = record {
   start = record {
     frame = record (g.L.Door.frame a.door.now) { loan = a.door.ghost_name ∷ (g.L.Door.frame a.door.now).loan };
     told = g.L.Door.told a.door.now;
+    port = Some a.request.port;
     connections = a.request.connections;
   };
 }

@@ -1,8 +1,8 @@
-use Rattle.std.proofs.Common.{subst, sym, rules}
+use Rattle.std.proofs.Common.{ap, refl, subst, sym, rules}
 use Rattle.hose_turn.specs.declared.view.Origin.{Origin}
-use Rattle.hosed.specs.ServerDoor.{IsServedAlong, OpensAt, seen_of}
+use Rattle.hosed.specs.ServerDoor.{IsServedAlong, OpensAt, output_door, seen_of}
 use Rattle.hose_offline.specs.OnDisk.{opening_of}
-use Rattle.hosed.proofs.Sharing.{closed_at_once, is_opening, just_opened, opens_at, serves_shared, stays_shared}
+use Rattle.hosed.proofs.Sharing.{closed_at_once, gave_up, given_up, is_opening, just_opened, opens_at, serves_shared, stays_shared}
 use Rattle.hosed.proofs.server.serve_store.Goals as goal
 
 pub returns-in_default-clause-serves : goal.returns-in_default-clause-serves
@@ -10,23 +10,50 @@ returns-in_default-clause-serves g c =
     let asked = c.requires.opened in
     let network = c.args.opening.store.ledger.network in
     let was = c.args.opening.was.value in
-    let left = c.close-disk.result.1 in
-    let closing = c.close-disk.result.0 in
-    closed_at_once g.D.Disk was left network closing
-    (λ since history store stands closes. c.law_closed.ensures (opening_of g.D.Disk network since was) was left history store closing stands closes)
-    asked.opened.history c.args.opening.store (just_opened g.D.Disk was network c.args.opening.store asked) c.close-disk.ensures.closes c.close-disk.ensures.call
+    let up = c.give_up.ensures in
+    let closed = up.closes in
+    let left = c.give_up.result.disk in
+    given_up network _ _ _ c.give_up.result.came _ up.came (closed_at_once g.D.Disk was left network closed.closing
+    (λ since history store stands closes. c.law_closed.ensures (opening_of g.D.Disk network since was) was left history store closed.closing stands closes)
+    asked.opened.history c.args.opening.store (just_opened g.D.Disk was network c.args.opening.store asked) closed.closes closed.call)
+
+pub returns-in_default-clause-speaks : goal.returns-in_default-clause-speaks
+returns-in_default-clause-speaks g c = rw (c.give_up.ensures.came, c.give_up.ensures.door) refl
 
 pub returns-in-Err-clause-serves : goal.returns-in-Err-clause-serves
 returns-in-Err-clause-serves g c =
+    let asked = c.requires.opened in
     let network = c.args.opening.store.ledger.network in
     let was = c.args.opening.was.value in
-    let left = c.close-disk-in-Err.result.1 in
-    let closing = c.close-disk-in-Err.result.0 in
-    let made = c.in-Ok-new.ensures in
-    stays_shared g.D.Disk was left network closing
-    (λ since history store stands closes. c.law_closed.ensures (opening_of g.D.Disk network since was) was left history store closing stands closes)
-    _ (λ since store opens. is_opening g.D.Disk was _ _ _ _ network c.requires.had c.requires.content c.requires.moment c.requires.network since store opens) c.in-Ok-new.pass made.stands.first c.close.result (search rules)
-    made.stands.begins c.close.ensures.history c.close.ensures.faults c.close-disk-in-Err.ensures.closes c.close-disk-in-Err.ensures.call (search rules)
+    let up = c.give_up-in-Err.ensures in
+    let closed = up.closes in
+    let left = c.give_up-in-Err.result.disk in
+    given_up network _ _ _ c.give_up-in-Err.result.came _ up.came (closed_at_once g.D.Disk was left network closed.closing
+    (λ since history store stands closes. c.law_closed.ensures (opening_of g.D.Disk network since was) was left history store closed.closing stands closes)
+    asked.opened.history c.in-Err.store (rw c.in-Err.ensures.back (just_opened g.D.Disk was network c.args.opening.store asked)) closed.closes closed.call)
+
+pub returns-in-Err-clause-speaks : goal.returns-in-Err-clause-speaks
+returns-in-Err-clause-speaks g c = rw (c.give_up-in-Err.ensures.came, c.give_up-in-Err.ensures.door) refl
+
+pub returns-in-Err-announce-clause-serves : goal.returns-in-Err-announce-clause-serves
+returns-in-Err-announce-clause-serves g c =
+    let network = c.args.opening.store.ledger.network in
+    let was = c.args.opening.was.value in
+    let up = c.give_up-in-Err-announce.ensures in
+    let closed = up.closes in
+    let left = c.give_up-in-Err-announce.result.disk in
+    let made = c.in-Ok-share.ensures in
+    given_up network _ _ _ c.give_up-in-Err-announce.result.came _ up.came (stays_shared g.D.Disk was left network closed.closing
+    (λ since history store stands closes. c.law_closed.ensures (opening_of g.D.Disk network since was) was left history store closed.closing stands closes)
+    _ (λ since store opens. is_opening g.D.Disk was _ _ _ _ network c.requires.had c.requires.content c.requires.moment c.requires.network since store opens) c.in-Ok-share.made.1 made.stands.first c.close.result (search rules)
+    made.stands.begins c.close.ensures.history c.close.ensures.faults closed.closes closed.call (search rules))
+
+pub returns-in-Err-announce-clause-speaks : goal.returns-in-Err-announce-clause-speaks
+returns-in-Err-announce-clause-speaks g c =
+    let given = c.give_up-in-Err-announce in
+    gave_up g.O.Sink c.args.request.port _ _ _ given.result.came c.in-Err-announce.why given.ensures.came
+    (ap (λ (door : _). output_door c.announce.new.output (seen_of (g.L.Door.frame door) (g.L.Door.told door) (g.L.Door.opened_at door))) given.ensures.door)
+    (rw c.in-Err-announce.is at c.announce.ensures.announced)
 
 pub returns-clause-serves : goal.returns-clause-serves
 returns-clause-serves g c =
@@ -34,16 +61,17 @@ returns-clause-serves g c =
     let was = c.args.opening.was.value in
     let left = c.close-closing.result.1 in
     let closing = c.close-closing.result.0 in
-    let made = c.in-Ok-new.ensures in
+    let made = c.in-Ok-share.ensures in
     let served = c.serve-accepting in
     serves_shared g.D.Disk was left network closing
     (λ since history store stands closes. c.law_closed.ensures (opening_of g.D.Disk network since was) was left history store closing stands closes)
     _ (λ since store opens. is_opening g.D.Disk was _ _ _ _ network c.requires.had c.requires.content c.requires.moment c.requires.network since store opens) served.result.pass made.stands.first c.close-2.result (search rules)
     (subst (λ (origin : Origin). OpensAt g.D.Disk g.N.AtOpening.had g.N.AtOpening.content g.N.AtOpening.moment g.N.AtOpening.network origin.since made.stands.first) (sym served.ensures.same.origin) made.stands.begins) c.close-2.ensures.history c.close-2.ensures.faults c.close-closing.ensures.closes c.close-closing.ensures.call
-    (IsServedAlong c.args.request.connections (seen_of (g.L.Door.frame c.args.door) (g.L.Door.told c.args.door)) (seen_of (g.L.Door.frame served.result.door) (g.L.Door.told served.result.door))) c.close-closing.result.2 served.result.accepting (search rules) (rw c.in-Ok.ensures at (rw c.announce.ensures.told at served.ensures.served))
+    (IsServedAlong c.args.request.connections (seen_of (g.L.Door.frame c.args.door) (g.L.Door.told c.args.door) (g.L.Door.opened_at c.args.door)) (seen_of (g.L.Door.frame served.result.door) (g.L.Door.told served.result.door) (g.L.Door.opened_at served.result.door))) c.close-closing.result.2 served.result.accepting (search rules)
+    (rw c.in-Ok.ensures at (rw c.announce.ensures.told at served.ensures.served))
 
-pub new-requires : goal.new-requires
-new-requires g c =
+pub share-requires : goal.share-requires
+share-requires g c =
     let asked = c.requires in
     let was = c.args.opening.was.value in
     let store = c.args.opening.store in
