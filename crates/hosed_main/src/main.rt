@@ -8,14 +8,15 @@ use hose_door::TcpDoor;
 use hose_io::{StdSink, StdSource};
 use hose_pool::PlainGate;
 use hosed_program::{
-    Context, World, flat, hops, long, no_memory, program, program_words, tariffs, tell_reason,
+    Context, Returning, Watched, World, flat, hops, long, no_memory, program, program_words,
+    returning_line, tariffs, tell_reason,
 };
 use std::process::ExitCode;
 
 fn main(rt: HostRuntime) -> ExitCode {
     let alloc = rt.alloc();
     let mut world = World {
-        input: StdSource::new(rt.stdin()),
+        input: Watched::new(StdSource::new(rt.stdin())),
         output: StdSink::new(rt.stdout()),
         cabinet: DirCabinet::new(rt),
         door: TcpDoor::new(rt),
@@ -27,7 +28,7 @@ fn main(rt: HostRuntime) -> ExitCode {
     let by_long = Box::new(alloc, |length: u64| long(length));
     let (Ok(by_flat), Ok(by_hops), Ok(by_long)) = (by_flat, by_hops, by_long) else {
         let status = no_memory(&mut world.output);
-        tell_reason(&rt, status, &[], &[]);
+        tell_reason(&rt, status, &[], &[], Returning::none());
         return ExitCode::from(status);
     };
     let tariffs = tariffs(alloc, by_flat, by_hops, by_long);
@@ -39,12 +40,16 @@ fn main(rt: HostRuntime) -> ExitCode {
                 gate: &PlainGate,
             };
             let status = program(context, &words, &tariffs, &mut world);
-            tell_reason(&rt, status, &words, &tariffs);
+            let returning = Returning {
+                topology: returning_line(alloc, status, &words, &tariffs, &mut world.cabinet),
+                input: world.input.returning(),
+            };
+            tell_reason(&rt, status, &words, &tariffs, returning);
             status
         }
         _ => {
             let status = no_memory(&mut world.output);
-            tell_reason(&rt, status, &[], &[]);
+            tell_reason(&rt, status, &[], &[], Returning::none());
             status
         }
     };

@@ -1,14 +1,12 @@
 // What the program's words choose: a text about itself, or the server.
-ghost use Rattle.std.specs.Prelude.{◌≡◌, ◌⊎◌, None, map};
+ghost use Rattle.std.specs.Prelude.{◌≡◌, None, map};
 ghost use Rattle.std.specs.String.{string_bytes};
 ghost use Rattle.hose_io.specs.Frame.{Stays};
-ghost use Rattle.hose_disk.specs.Cabinet.{object_of};
 ghost use Rattle.hose_offline.specs.Ending.{IsOut};
 ghost use Rattle.hose_offline.specs.Fault.{last_line};
-ghost use Rattle.hose_offline.specs.Parts.{tellings};
+ghost use Rattle.hose_offline.specs.Parts.{AllStay, parts, tellings};
 ghost use Rattle.hosed.specs.Hosed.{HosedOutcome};
 ghost use Rattle.hosed.specs.Offline.{offer_of};
-ghost use Rattle.hosed.specs.ProgramWords.{AsksToServe};
 ghost use Rattle.hosed.specs.ServerDoor.{seen_of, with_door};
 ghost use Rattle.hose_offline.specs.declared.fault.Fault.TheVariants as fault;
 ghost use Rattle.hosed_program.specs.TextOrCommand.{IsTold, text_or_command};
@@ -70,18 +68,14 @@ pub fn program<
         (offer_of ⟦<Tariff as Prices>⟧.prices (λ tariff. tariff.name) (λ tariff. tariff.base)
         (λ tariff. tariff.per) tariffs.now)
         (with_door world.old.input world.old.output world.old.cabinet
-        (seen_of (L.frame world.old.door) (L.told world.old.door)))
+        (seen_of (L.frame world.old.door) (L.told world.old.door) (L.opened_at world.old.door)))
         (with_door world.new.input world.new.output world.new.cabinet
-        (seen_of (L.frame world.new.door) (L.told world.new.door)))
+        (seen_of (L.frame world.new.door) (L.told world.new.door) (L.opened_at world.new.door)))
         result (map string_bytes words.now) }
-
-    // The disk of a journal is not put back where there was no memory to share it.
-    ensures back { ((C.frame world.new.cabinet).out ≡ None)
-        ⊎ (AsksToServe (map string_bytes words.now) × (result ≡ 7)) }
-    ensures input { Stays (I.frame world.old.input) (I.frame world.new.input) }
-    ensures output { Stays (O.frame world.old.output) (O.frame world.new.output) }
-    ensures cabinet { Stays (object_of (C.frame world.old.cabinet))
-        (object_of (C.frame world.new.cabinet)) }
+    ensures back { (C.frame world.new.cabinet).out ≡ None }
+    ensures keeps { AllStay (tellings I.Source O.Sink C.Cabinet C.Disk.Disk)
+        (parts world.old.input world.old.output world.old.cabinet)
+        (parts world.new.input world.new.output world.new.cabinet) }
     ensures door { Stays (L.frame world.old.door) (L.frame world.new.door) }
 {
     match text_or_command(words) {

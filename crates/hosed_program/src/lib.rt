@@ -12,13 +12,17 @@
 
 mod choice;
 mod reasons;
+mod returns;
 mod rules;
 mod texts;
+mod watched;
 mod words;
 
 pub use choice::{TextOrCommand, World, no_memory, program};
 pub use hosed::Context;
 pub use reasons::tell_reason;
+pub use returns::{Returning, returning_line};
 pub use rules::{flat, hops, long, tariffs};
 pub use texts::{HELP, VERSION};
+pub use watched::Watched;
 pub use words::program_words;

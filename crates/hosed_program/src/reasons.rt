@@ -1,5 +1,6 @@
 // Why the program ended, as one sentence on standard error. The status and the words alone are
 // known then, so a sentence tells what they can mean.
+use crate::returns::Returning;
 use hose_tariff::Tariff;
 use hosed::{Named, named_by};
 use std::io;
@@ -12,11 +13,15 @@ const OF_JOURNAL: &str =
     "its folder is not there, rights are missing, another program holds it, or \
     its disk failed";
 
-const OF_PLACE: &str =
-    "a line ends with a line feed alone, and a carriage return is part of a word";
-
-/// Tells on standard error why the program ended with a status, if it is not 0.
-pub fn tell_reason<R: Eprint>(rt: &R, status: u8, words: &[String], tariffs: &[Tariff]) {
+/// Tells on standard error why the program ended with a status, if it is not 0. Where a topology
+/// was refused, it is told besides in which line a carriage return stands, if one does.
+pub fn tell_reason<R: Eprint>(
+    rt: &R,
+    status: u8,
+    words: &[String],
+    tariffs: &[Tariff],
+    returning: Returning,
+) {
     let none = Named {
         topology: None,
         journal: None,
@@ -24,6 +29,7 @@ pub fn tell_reason<R: Eprint>(rt: &R, status: u8, words: &[String], tariffs: &[T
     };
     // The output tells it too, so a standard error that fails is passed over.
     let _ = match named_by(words, tariffs) {
+        Ok(named) if status == 2 => tell_refused_topology(rt, named, returning),
         Ok(named) => tell_of_named(rt, status, named),
         Err(wrong) if status == 1 => tell_wrong_word(rt, words, wrong),
         Err(_) => tell_of_named(rt, status, none),
@@ -60,7 +66,7 @@ fn tell_of_named<R: Eprint>(rt: &R, status: u8, named: Named<'_>) -> io::Result<
     match status {
         0 => Ok(()),
         1 => tell_no_node(rt, named),
-        2 => tell_refused_topology(rt, named),
+        2 => tell_refused_topology(rt, named, Returning::none()),
         3 => eprintln!(rt; "hosed: the input could not be read"),
         4 => eprintln!(rt;
             "hosed: the output could not be written: its disk is full, or what reads \
@@ -88,15 +94,33 @@ fn tell_no_node<R: Eprint>(rt: &R, named: Named<'_>) -> io::Result<()> {
     )
 }
 
-fn tell_refused_topology<R: Eprint>(rt: &R, named: Named<'_>) -> io::Result<()> {
-    match named.topology {
-        Some(topology) => eprintln!(rt;
-            "hosed: the topology {topology:?} is not allowed at the \
-            place that the last line of the output tells: {OF_PLACE}"
+fn tell_refused_topology<R: Eprint>(
+    rt: &R,
+    named: Named<'_>,
+    returning: Returning,
+) -> io::Result<()> {
+    let line = match named.topology {
+        Some(_) => returning.topology,
+        None => returning.input,
+    };
+    match (named.topology, line) {
+        (Some(topology), Some(line)) => eprintln!(rt;
+            "hosed: the topology {topology:?} is not allowed at the place that the last line of \
+            the output tells: a carriage return stands in line {line}, and a line ends with a \
+            line feed alone"
         ),
-        None => eprintln!(rt;
-            "hosed: the topology in the input is not allowed at the place that \
-            the last line of the output tells: {OF_PLACE}"
+        (Some(topology), None) => eprintln!(rt;
+            "hosed: the topology {topology:?} is not allowed at the place that the last line of \
+            the output tells"
+        ),
+        (None, Some(line)) => eprintln!(rt;
+            "hosed: the topology in the input is not allowed at the place that the last line of \
+            the output tells: a carriage return stands in line {line}, and a line ends with a \
+            line feed alone"
+        ),
+        (None, None) => eprintln!(rt;
+            "hosed: the topology in the input is not allowed at the place that the last line of \
+            the output tells"
         ),
     }
 }
