@@ -75,8 +75,8 @@ fn link(word: &str) -> Result<u32, Trouble> {
 
 // The admission for acme of the ends and links of a reply.
 fn admission(alloc: Global, top: &Topology, words: &str) -> Result<Entry, Trouble> {
-    let (hose, amounts) = shown(alloc, top, words)?;
     let customer = name("acme")?;
+    let (hose, amounts) = shown(alloc, top, words)?;
     Ok(Entry::Admit {
         customer,
         hose,
@@ -107,36 +107,62 @@ fn standing(alloc: Global, book: &Book) -> Result<String, AllocError> {
 // Enters an admission as often as VPNs may be live, and tells how often it was sound.
 fn fill(alloc: Global, book: &mut Book, words: &str) -> Result<String, Trouble> {
     let entry = entry_of(alloc, book.topology(), words)?;
+    let sound = fill_with(alloc, book, &entry)?;
+    Ok(debugged(alloc, &sound)?)
+}
+
+fn fill_with(alloc: Global, book: &mut Book, entry: &Entry) -> Result<u64, AllocError> {
     let mut sound = 0u64;
     for _ in 0..MOST_LIVE {
-        if book.check(&entry).is_ok() {
-            book.apply(entry.copy(alloc)?);
+        if enter_copy(alloc, book, entry)? {
             sound = sound.saturating_add(1);
         }
     }
-    Ok(debugged(alloc, &sound)?)
+    Ok(sound)
+}
+
+// Enters an entry where it is sound, and tells whether it was.
+fn enter_copy(alloc: Global, book: &mut Book, entry: &Entry) -> Result<bool, AllocError> {
+    if book.check(entry).is_err() {
+        return Ok(false);
+    }
+    book.apply(entry.copy(alloc)?);
+    Ok(true)
 }
 
 // Enters an admission and its release, so often in turn, and tells how many entries were sound.
 fn turns(alloc: Global, book: &mut Book, words: &str) -> Result<String, Trouble> {
     let (times, words) = first(words);
+    let times = number(times)?;
     let entry = entry_of(alloc, book.topology(), words)?;
+    let sound = turn_with(alloc, book, &entry, times)?;
+    Ok(debugged(alloc, &sound)?)
+}
+
+fn turn_with(alloc: Global, book: &mut Book, entry: &Entry, times: u64) -> Result<u64, Trouble> {
     let mut sound = 0u64;
-    for _ in 0..number(times)? {
-        if book.check(&entry).is_ok() {
-            book.apply(entry.copy(alloc)?);
+    for _ in 0..times {
+        if enter_copy(alloc, book, entry)? {
             sound = sound.saturating_add(1);
         }
-        let release = Entry::Release {
-            customer: name("acme")?,
-            id: book.epoch(),
-        };
-        if book.check(&release).is_ok() {
-            book.apply(release);
+        if release_last(book)? {
             sound = sound.saturating_add(1);
         }
     }
-    Ok(debugged(alloc, &sound)?)
+    Ok(sound)
+}
+
+// Enters a release of the VPN of the last entry where it is sound, and tells whether it was.
+fn release_last(book: &mut Book) -> Result<bool, Trouble> {
+    let release = Entry::Release {
+        customer: name("acme")?,
+        id: book.epoch(),
+    };
+    if book.check(&release).is_err() {
+        return Ok(false);
+    }
+    book.apply(release);
+    Ok(true)
 }
 
 // The floor, how many changes there are, the first four of them and the last, and how many are told
@@ -150,6 +176,10 @@ fn recent(alloc: Global, book: &Book, seen: u64) -> Result<String, AllocError> {
 
 fn audited(alloc: Global, book: &Book) -> Result<String, Trouble> {
     let mut sink = MemSink::new(alloc)?;
-    audit(book, &mut sink)?;
+    audit_into(alloc, book, &mut sink)
+}
+
+fn audit_into(alloc: Global, book: &Book, sink: &mut MemSink) -> Result<String, Trouble> {
+    audit(book, sink)?;
     Ok(String::from_utf8_lossy(alloc, sink.bytes())?)
 }

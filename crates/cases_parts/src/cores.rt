@@ -9,8 +9,8 @@ use crate::trouble::Trouble;
 use crate::words::{debugged, first, name, number};
 use hose_book::{Book, Books, Plain};
 use hose_core::{
-    Core, Quote, Quotes, admit_now, claim_release, claim_service, claim_take, plan_beside,
-    release_now, service_now, take_now,
+    BookView, Core, Quote, Quotes, admit_now, claim_release, claim_service, claim_take,
+    plan_beside, release_now, service_now, take_now,
 };
 use hose_graph::{Amounts, Hose, MOST_EPOCH, MOST_QUOTES, Topology};
 use hose_links::LinkSet;
@@ -89,8 +89,13 @@ fn planned(alloc: Global, book: &Book, line: &str) -> Result<Quote, Trouble>
 {
     let (top, service, loads) = (book.topology(), book.service(), book.loads());
     let hose = hose(alloc, top, line)?;
-    let rows = &mut PlainRows::new();
-    match plan_beside(alloc, top, service, loads, book.epoch(), hose, rows) {
+    let seen = BookView {
+        top,
+        service,
+        loads,
+        epoch: book.epoch(),
+    };
+    match plan_beside(alloc, seen, hose, &mut PlainRows::new()) {
         Ok(quote) => Ok(quote),
         Err(_) => Err(Trouble::Word),
     }

@@ -8,7 +8,7 @@ use hose_io::MemSource;
 use hose_proto::{read_command, read_reply};
 use hose_topo::read;
 use hose_words::LineReader;
-use std::alloc::{AllocError, Global};
+use std::alloc::Global;
 
 // Three nodes around a fourth.
 const STAR: &str =
@@ -36,9 +36,6 @@ const LINE: &str = "node a\nnode b\nnode c\nnode d\nnode e\nlink a b 1000000000 
 
 /// The network with this name.
 pub fn named(alloc: Global, name: &str) -> Result<Topology, Trouble> {
-    if name == "broom" {
-        return network(alloc, broom(alloc)?.as_str());
-    }
     network(alloc, text_of(name)?)
 }
 
@@ -52,23 +49,6 @@ fn text_of(name: &str) -> Result<&'static str, Trouble> {
         "line" => Ok(LINE),
         _ => Err(Trouble::Word),
     }
-}
-
-// The text of 63 nodes around another one, from which a line of 447 links goes to a last node.
-fn broom(alloc: Global) -> Result<String, AllocError> {
-    let mut text = String::new(alloc);
-    for node in 0..512 {
-        text.push_str(format!(in alloc; "node n{node}\n")?.as_str())?;
-    }
-    for node in 0..63 {
-        text.push_str(format!(in alloc; "link n{node} n64 10 1\n")?.as_str())?;
-    }
-    for node in 64u32..511 {
-        let next = node.saturating_add(1);
-        text.push_str(format!(in alloc; "link n{node} n{next} 10 1\n")?.as_str())?;
-    }
-    text.push_str("link n511 n63 10 1\nend\n")?;
-    Ok(text)
 }
 
 /// The network of a text.

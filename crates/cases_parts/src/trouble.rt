@@ -1,5 +1,4 @@
 // Why the program stops before all cases are done.
-use hose_codec::CodecFault;
 use hose_graph::HoseFault;
 use hose_io::Failed;
 use hose_proto::ReadFault;
@@ -19,8 +18,6 @@ pub enum Trouble {
     Line(#[from] ReadFault),
     #[error("endpoints make no hose: {0:?}")]
     Hose(#[from] HoseFault),
-    #[error("bytes are no entry: {0}")]
-    Entry(#[from] CodecFault),
     #[error("a call fails that no line has told to fail")]
     Failed(#[from] Failed),
     #[error("no memory")]

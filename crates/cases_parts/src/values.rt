@@ -103,9 +103,9 @@ fn are_alike<T: Debug>(alloc: Global, one: &T, other: &T) -> Result<bool, AllocE
 
 // The admission of a hose of three endpoints.
 fn admission(alloc: Global) -> Result<Entry, Trouble> {
+    let customer = name("acme")?;
     let hose = Hose::build(alloc, &[(0, 3), (1, 4), (2, 5)])?;
     let amounts = first_amounts(alloc)?;
-    let customer = name("acme")?;
     Ok(Entry::Admit {
         customer,
         hose,

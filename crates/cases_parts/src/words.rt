@@ -28,11 +28,6 @@ pub fn numbers(alloc: Global, words: &str) -> Result<Vec<u64>, Trouble> {
     Ok(found)
 }
 
-/// The bytes of these hexadecimal digits.
-pub fn from_hex(alloc: Global, digits: &str) -> Result<Vec<u8>, Trouble> {
-    hex::decode(alloc, digits).ok().ok_or(Trouble::Word)
-}
-
 /// How a value is printed for those who look for faults.
 pub fn debugged<T: Debug>(alloc: Global, value: &T) -> Result<String, AllocError> {
     format!(in alloc; "{value:?}")

@@ -10,8 +10,8 @@ use hose_disk::MemDisk;
 use hose_io::{MemSink, MemSource, Sink, Source};
 use hose_paths::PlainRows;
 use hose_pool::PlainGate;
-use hose_session::{SessionEnd, serve_session};
-use hose_shared::{AnyStore, Shared};
+use hose_session::{Session, SessionEnd, serve_session};
+use hose_shared::{AnyStore, Context, Shared};
 use hose_store::Store;
 use hose_topo::read;
 use hose_turn::{ALL_SHARES, Pass};
@@ -149,15 +149,16 @@ pub fn serve<W: Wait, S: Source, O: Sink>(
     requires { IsPassOf book.now pass }
     ensures { IsSamePass pass result.1 }
 {
-    serve_session(
+    let context = Context {
         rt,
         alloc,
-        &mut ends.source,
-        &mut ends.sink,
-        book,
-        pass,
-        1,
-        &mut PlainRows::new(),
-        &PlainGate,
-    )
+        gate: &PlainGate,
+    };
+    let session = Session {
+        context: &context,
+        shared: book,
+        number: 1,
+    };
+    let rows = &mut PlainRows::new();
+    serve_session(session, &mut ends.source, &mut ends.sink, pass, rows)
 }
