@@ -4,14 +4,14 @@ ghost use Rattle.std.specs.Prelude.{◌≡◌, IfOk};
 ghost use Rattle.hose_law.specs.Plan.{AreNodes};
 ghost use Rattle.hose_shared.specs.Sharing.{IsPassOf};
 
-use hose_core::{Quotes, law_quotes};
+use hose_core::Quotes;
 use hose_disk::MemDisk;
 use hose_graph::{Endpoint, Hose, Name, Reply, Row, Topology};
 use hose_io::MemSource;
 use hose_links::LinkSet;
 use hose_paths::{PlainRows, RowMaker};
 use hose_pool::PlainGate;
-use hose_shared::{AnyStore, Caller, Shared};
+use hose_shared::{AnyStore, Caller, Context, Shared};
 use hose_store::Store;
 use hose_topo::read;
 use hose_turn::{ALL_SHARES, Pass};
@@ -104,13 +104,23 @@ fn admit<W: Wait, R: RowMaker>(
     requires of { IsPassOf star.now pass }
     requires nodes { AreNodes star.now.network hose }
 {
-    let (reply, _pass) = star.admit(rt, alloc, pass, customer, hose, rows, &PlainGate, 1);
+    let context = Context {
+        rt,
+        alloc,
+        gate: &PlainGate,
+    };
+    let caller = Caller {
+        context: &context,
+        session: 1,
+        customer,
+    };
+    let (reply, _pass) = star.admit(&caller, pass, hose, rows);
     reply
 }
 
 /// What a first quote is answered.
 fn quote<W: Wait, R: RowMaker>(
-    caller: Caller<'_, W>,
+    caller: &Caller<'_, W, PlainGate>,
     star: &Book,
     pass: Pass,
     hose: Hose,
@@ -119,7 +129,6 @@ fn quote<W: Wait, R: RowMaker>(
     requires of { IsPassOf star.now pass }
     requires nodes { AreNodes star.now.network hose }
 {
-    law_quotes();
     let mut quotes = Quotes::new();
     let (reply, _pass) = star.quote(caller, pass, &mut quotes, hose, rows);
     reply
@@ -211,17 +220,19 @@ fn ask_slowly<W: Wait>(
     };
     let reply = match asked {
         Asked::Admission => admit(rt, alloc, star, pass, customer, hose, &mut rows),
-        Asked::Quote => quote(
-            Caller {
+        Asked::Quote => {
+            let context = Context {
                 rt,
                 alloc,
+                gate: &PlainGate,
+            };
+            let caller = Caller {
+                context: &context,
+                session: 1,
                 customer,
-            },
-            star,
-            pass,
-            hose,
-            &mut rows,
-        ),
+            };
+            quote(&caller, star, pass, hose, &mut rows)
+        }
     };
     let is_met = rows.was_answered == Some(true);
     Answered { reply, is_met }

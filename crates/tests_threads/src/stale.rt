@@ -8,7 +8,7 @@ use crate::shared::{Book, acme, hose, shared, tells};
 use hose_graph::{Endpoint, Hose, Name, Reply};
 use hose_paths::PlainRows;
 use hose_pool::{Gate, PlainGate, Point};
-use hose_shared::Caller;
+use hose_shared::{Caller, Context};
 use hose_turn::Pass;
 use std::alloc::Global;
 use std::sync::Wait;
@@ -79,8 +79,17 @@ fn admit_wide<W: Wait>(
     requires of { IsPassOf lanes.now pass }
     requires nodes { AreNodes lanes.now.network wide }
 {
-    let mut rows = PlainRows::new();
-    let (reply, _pass) = lanes.admit(rt, alloc, pass, customer, wide, &mut rows, plans, 1);
+    let context = Context {
+        rt,
+        alloc,
+        gate: plans,
+    };
+    let caller = Caller {
+        context: &context,
+        session: 1,
+        customer,
+    };
+    let (reply, _pass) = lanes.admit(&caller, pass, wide, &mut PlainRows::new());
     reply
 }
 
@@ -97,8 +106,17 @@ fn narrow_lane<W: Wait>(
     requires nodes { AreNodes lanes.now.network narrow }
     ensures { IsPassOf lanes.now result.1 }
 {
-    let mut rows = PlainRows::new();
-    lanes.admit(rt, alloc, pass, customer, narrow, &mut rows, &PlainGate, 2)
+    let context = Context {
+        rt,
+        alloc,
+        gate: &PlainGate,
+    };
+    let caller = Caller {
+        context: &context,
+        session: 2,
+        customer,
+    };
+    lanes.admit(&caller, pass, narrow, &mut PlainRows::new())
 }
 
 /// Gives it up again.
@@ -114,12 +132,17 @@ fn widen_lane<W: Wait>(
     requires id { id ≤ MOST_EPOCH }
     ensures { IsPassOf lanes.now result.1 }
 {
-    let caller = Caller {
+    let context = Context {
         rt,
         alloc,
+        gate: &PlainGate,
+    };
+    let caller = Caller {
+        context: &context,
+        session: 2,
         customer,
     };
-    lanes.release(caller, pass, id)
+    lanes.release(&caller, pass, id)
 }
 
 /// What the thread was answered that spoilt three plans.

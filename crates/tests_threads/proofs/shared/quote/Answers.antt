@@ -1,9 +1,10 @@
 -- Where no quote is held, nothing stands for it.
-use Rattle.std.proofs.Common.{◌≡◌, List, Option, [], subst, sym}
+use Rattle.std.proofs.Common.{◌≡◌, List, Option, subst, sym}
 use Rattle.hose_graph.specs.Network.{Network}
 use Rattle.hose_graph.specs.declared.entry.Entry.{Entry}
 use Rattle.hose_law.specs.Quotes.{none_held}
 use Rattle.hose_core.specs.Holding.{AreHeld}
+use Rattle.hose_core.proofs.HeldQuotes.{none_are_held}
 use Rattle.hose_core.specs.declared.quotes.Quote.{Quote}
 use Rattle.tests_threads.proofs.shared.quote.Goals as goal
 
@@ -11,4 +12,4 @@ held_by : (network : Network) (history : List Entry) (quotes : List (Option Quot
 held_by network history quotes first none = subst (AreHeld network 0 history none_held) (sym none) first
 
 pub quote-reply-requires-clause-quotes : goal.quote-reply-requires-clause-quotes
-quote-reply-requires-clause-quotes g c = (none_held, held_by c.args.star.now.network c.args.pass.seen c.new-quotes.result (c.law_quotes.ensures.first c.args.star.now.network 0 c.args.pass.seen) c.new-quotes.ensures)
+quote-reply-requires-clause-quotes g c = (none_held, held_by c.args.star.now.network c.args.pass.seen c.new-quotes.result (none_are_held c.args.star.now.network 0 c.args.pass.seen) c.new-quotes.ensures)

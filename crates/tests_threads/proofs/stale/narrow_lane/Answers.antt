@@ -4,4 +4,4 @@ use Rattle.hose_turn.specs.declared.view.Origin.{Origin}
 use Rattle.tests_threads.proofs.stale.narrow_lane.Goals as goal
 
 pub returns : goal.returns
-returns g c = let same = (c.admit.ensures.steps none_held).same in record { turn = same.turn ∙ c.requires.of.turn; network = ap (λ (o : Origin). o.network) same.origin ∙ c.requires.of.network }
+returns g c = let same = (c.admit.ensures.steps none_held).same in record { turn = same.turn ∙ c.requires.of.turn; network = ap (λ (o : Origin). o.network) same.origin ∙ c.requires.of.network; places = same.places }
