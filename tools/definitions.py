@@ -9,6 +9,7 @@ import os
 import re
 
 TOP = os.path.join(os.path.dirname(os.path.abspath(__file__)), "..")
+ENDINGS = {"src": ".rt", "specs": ".antt", "proofs": ".antt"}
 PIECE = re.compile(r'--[^\n]*|"(?:[^"\\]|\\.)*"|«[^»]*»|[(){};,.@]|[^\s(){}.;,@"«»]+')
 MARKS = re.compile(r"(?:pattern |unfoldable |abbrev |axiom |pub )*")
 SIGNATURE = re.compile(r"\S+( \{[^}]*\})? :(\s|$)")
@@ -86,13 +87,12 @@ def arguments_of(tokens):
 
 
 class Definition:
-    """One declaration. `heading` is the last line `-- ---- ..` above it; `shared` says that it has
-    no comment of its own and stands right under one that has, or that shares one."""
+    """One declaration, with the comment right above it. `heading` is the last line `-- ---- ..`."""
 
     def __init__(self, crate, module, kind, name, line):
         self.crate, self.module, self.kind, self.name, self.line = crate, module, kind, name, line
         self.last = line
-        self.comment, self.heading, self.shared = [], "", False
+        self.comment, self.heading = [], ""
         self.lines, self.outer, self.tokens = [], [], []
 
     @property
@@ -171,9 +171,8 @@ class DefinitionFile:
         self.about, self.uses, self.definitions, self.modules = [], [], [], []
         self.total = text.count("\n")
         # What is above the line that is read: the comment, the last heading, the modules around
-        # with their indentation, the declaration, and whether it can lend its comment to the next.
-        self.comment, self.heading, self.stack = [], "", []
-        self.current, self.lends = None, False
+        # with their indentation, and the declaration.
+        self.comment, self.heading, self.stack, self.current = [], "", [], None
         lines, at = text.split("\n"), 0
         while at < len(lines) and lines[at].startswith("--"):
             self.about.append(lines[at][2:].strip())
@@ -187,7 +186,6 @@ class DefinitionFile:
         """Reads the line at a place, and those that go with it; the place of the next one."""
         text, indent = lines[at].strip(), indent_of(lines[at])
         if not text:
-            self.lends = self.lends or self.current is not None
             return at + 1
         if text.startswith("--"):
             return self.remark(lines, at)
@@ -209,7 +207,7 @@ class DefinitionFile:
         text = lines[at].strip()
         title = HEADING.fullmatch(text)
         if title:
-            self.heading, self.comment, self.lends = title[1].strip(), [], False
+            self.heading, self.comment = title[1].strip(), []
         elif self.current is not None and indent_of(lines[at]) > self.current.indent:
             return self.extend(lines, at)
         else:
@@ -255,7 +253,6 @@ class DefinitionFile:
         found = Definition(self.crate, self.module, kind, name, at + 1)
         found.outer = [module for _, module in self.stack]
         found.comment, found.heading = self.comment, self.heading
-        found.shared = not self.comment and self.lends
         self.comment, self.current = [], found
         self.definitions.append(found)
 
@@ -302,16 +299,23 @@ def crates_of(top=TOP):
     return {line.split(":")[0]: line.split(":")[1].split() for line in lines}
 
 
+def files_of(top, crate, part):
+    """The files of src, specs or proofs of a crate: each as its name in there, with slashes and
+    without its ending, and its path."""
+    folder, ending = os.path.join(top, "crates", crate, part), ENDINGS[part]
+    for base, _, names in sorted(os.walk(folder)):
+        for name in sorted(names):
+            if name.endswith(ending):
+                path = os.path.join(base, name)
+                yield os.path.relpath(path, folder)[:-len(ending)].replace(os.sep, "/"), path
+
+
 def read_all(top=TOP):
     """The files of definitions, by crate and module, lowest crate first; `Lib` has none."""
     found = {}
     for crate in crates_of(top):
-        folder = os.path.join(top, "crates", crate, "specs")
-        for base, _, names in sorted(os.walk(folder)):
-            for name in sorted(names):
-                if name.endswith(".antt"):
-                    path = os.path.join(base, name)
-                    module = os.path.relpath(path, folder)[:-5].replace(os.sep, ".")
-                    with open(path, encoding="utf-8") as file:
-                        found[crate, module] = DefinitionFile(crate, module, file.read())
+        for name, path in files_of(top, crate, "specs"):
+            module = name.replace("/", ".")
+            with open(path, encoding="utf-8") as file:
+                found[crate, module] = DefinitionFile(crate, module, file.read())
     return found

@@ -17,7 +17,7 @@ example:
 
 Each draw is made of the one before it, x being SEED before the first: x becomes
 x * 6364136223846793005 + 1442695040888963407, of which the lowest 64 bits are kept, and a draw
-below k is the remainder of x / 2^33, rounded down, by k. docs/GUIDE.md says what is drawn.
+below k is the remainder of x / 2^33, rounded down, by k. `lines` says what is drawn, in which order.
 
 status:
   0 all is written; 2 these words are not allowed, or REPLIES is not what came of this input
@@ -81,16 +81,21 @@ def link_line(draws: Draws, number: int, nodes: int) -> str:
     return f"link n{a} n{b} {capacity} {length}"
 
 
-def admit_line(draws: Draws, nodes: int) -> str:
-    customer = draws.below(CUSTOMERS)
-    count = 2 + draws.below(4)
+def ends_text(draws: Draws, nodes: int, count: int) -> str:
+    """So many endpoints, none of which is at the node of another."""
     ends = {}
     for _ in range(count):
         node = draws.below(nodes)
         while node in ends:
             node = (node + 1) % nodes
         ends[node] = 1 + draws.below(20)
-    return f"c{customer} admit " + " ".join(f"n{node}:{rate}" for node, rate in ends.items())
+    return " ".join(f"n{node}:{rate}" for node, rate in ends.items())
+
+
+def admit_line(draws: Draws, nodes: int) -> str:
+    customer = draws.below(CUSTOMERS)
+    count = 2 + draws.below(4)
+    return f"c{customer} admit {ends_text(draws, nodes, count)}"
 
 
 def release_line(draws: Draws, hose: int) -> str:
@@ -114,6 +119,12 @@ def lines(sizes: Sizes) -> Iterator[str]:
 
 def topology(sizes: Sizes) -> List[str]:
     return list(lines(sizes._replace(hoses=0)))
+
+
+def network(draws: Draws, nodes: int, links: int) -> List[str]:
+    """The lines of a topology that are drawn next."""
+    drawn = [link_line(draws, number, nodes) for number in range(links)]
+    return [*(f"node n{node}" for node in range(nodes)), *drawn, "end"]
 
 
 def script(sizes: Sizes) -> List[str]:

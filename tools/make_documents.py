@@ -1,8 +1,8 @@
 #!/usr/bin/env python3
 """Makes what the documents have from the sources, so that it cannot say another thing than they do.
 
-  docs/DEFINITIONS.md    the definitions with their comments: those of the statement in reading
-                         order, and those of proofs alone by crate and file
+  docs/DEFINITIONS.md    the definitions of the statement with their comments, in reading order,
+                         and how many of proofs alone each file has
   docs/ARCHITECTURE.md   what each crate is, by its root file, and which crate takes what of which
   docs/GUIDE.md          the forms of the program's words, and what words mean, as `--help` tells
   CONTRIBUTING.md        the files that name a reply, a command and an entry
@@ -18,12 +18,13 @@ finds such a part, or a marker is missing.
 usage: make_documents.py            writes the parts that differ, and names their documents
        make_documents.py --check    names the parts that differ, and writes nothing
 """
+import collections
 import os
 import re
 import sys
 
 import imports
-from definitions import TOP, crates_of
+from definitions import ENDINGS, TOP, crates_of, files_of
 from resolve import Repository, definition_key
 from statement import Statement, parts_of
 
@@ -85,16 +86,11 @@ def names_constructor(text, is_source, kind, name):
 def places_of(top, crate, kind, name):
     """The files of a crate that name a constructor."""
     found = []
-    for part, ending in (("src", ".rt"), ("specs", ".antt"), ("proofs", ".antt")):
-        folder = os.path.join(top, "crates", crate, part)
-        for base, _, files in sorted(os.walk(folder)):
-            for file in sorted(files):
-                path = os.path.join(base, file)
-                if file.endswith(ending):
-                    with open(path, encoding="utf-8") as it:
-                        if names_constructor(it.read(), part == "src", kind, name):
-                            inner = os.path.relpath(path, os.path.join(top, "crates", crate))
-                            found.append(f"`{inner.replace(os.sep, '/')}`")
+    for part, ending in ENDINGS.items():
+        for file, path in files_of(top, crate, part):
+            with open(path, encoding="utf-8") as it:
+                if names_constructor(it.read(), part == "src", kind, name):
+                    found.append(f"`{part}/{file}{ending}`")
     return found
 
 
@@ -143,19 +139,10 @@ def cell(text):
     return text.replace("<", "&lt;") if re.search(r"<[a-zA-Z/!]", text) else text
 
 
-def entries(nodes):
-    """A line for each comment: the names of those that share it, and what it says."""
-    groups = []
-    for node in nodes:
-        if groups and node.definition is not None and groups[-1][0].definition is not None \
-                and not node.definition.comment and groups[-1][0].comment == node.comment:
-            groups[-1].append(node)
-        else:
-            groups.append([node])
-    for group in groups:
-        names = ", ".join(f"`{node.name}`" for node in group)
-        comment = " ".join(" ".join(group[0].comment).split())
-        yield f"- {names}: {cell(comment)}" if comment else f"- {names}"
+def entry(node):
+    """The line of a definition: its name, and what its comment says."""
+    comment = " ".join(" ".join(node.comment).split())
+    return f"- `{node.name}`: {cell(comment)}" if comment else f"- `{node.name}`"
 
 
 def statement_list(statement):
@@ -163,46 +150,34 @@ def statement_list(statement):
     found = []
     for title, keys in statement.ordered(statement.reached):
         found += ["", f"### {title}"]
-        path, nodes = None, []
-        for node, new, _, _ in parts_of(statement, keys):
-            if new is not None:
-                found += file_part(statement, path, nodes)
-                path, nodes = new, []
-            nodes.append(node)
-        found += file_part(statement, path, nodes)
+        for node, path, _ in parts_of(statement, keys):
+            if path is not None:
+                found += ["", file_head(statement, node), ""]
+            found.append(entry(node))
     return found
 
 
-def file_part(statement, path, nodes):
-    """What the nodes of one file have, below its path and what it is about."""
-    if not nodes:
-        return []
+def file_head(statement, node):
+    """The path of a node's file, and what this is about."""
     about = ""
-    if nodes[0].definition is not None:
-        file = statement.repository.files[nodes[0].key[1], nodes[0].key[2]]
-        about = " ".join(file.about)
-    head = f"`{path}`" + (f": {cell(about)}" if about else "")
-    return ["", head, "", *entries(nodes)]
+    if node.definition is not None:
+        about = " ".join(statement.repository.files[node.key[1], node.key[2]].about)
+    return f"`{node.path}`" + (f": {cell(about)}" if about else "")
 
 
 def proofs_list(statement):
-    """The definitions of proofs alone, by crate and file, each after those that it uses."""
-    found, crate, repository = [], None, statement.repository
-    places = {name: place for place, name in enumerate(repository.crates)}
-    for file in sorted(repository.files.values(), key=lambda file: (
-            places[file.crate], repository.file_rank(file))):
-        nodes = [repository.node(definition_key(definition)) for definition in file.definitions
-                 if definition_key(definition) not in statement.reached]
-        if nodes and file.crate != crate:
-            found += ["", f"### {file.crate}"]
-            crate = file.crate
-        found += file_part(statement, file.path, nodes)
-    return found
+    """A line for each crate that has definitions of proofs alone: its files, with how many."""
+    found = collections.defaultdict(list)
+    for file in statement.repository.files.values():
+        count = sum(definition_key(one) not in statement.reached for one in file.definitions)
+        if count:
+            found[file.crate].append(f"{file.module} {count}")
+    return [f"- `{crate}`: {', '.join(files)}" for crate, files in found.items()]
 
 
 def definitions_text(statement):
     return "\n".join(["## The statement", *statement_list(statement), "",
-                      "## Of proofs alone", *proofs_list(statement)])
+                      "## Of proofs alone", "", *proofs_list(statement)])
 
 
 def made_parts(top, statement):

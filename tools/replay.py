@@ -13,7 +13,8 @@ written for each VPN, and one for all:
 With --topology the text of a network stands before the script, whose file is JSON where its name
 ends in `.json`: then the whole is what `hosed run` reads. With --down L, once for each link that is
 to be out of service, an `operator down L` stands before the first VPN. In OUTPUT the replies to
-such lines, before the first VPN's, are passed over.
+such lines, before the first VPN's, are passed over; where one tells that the link is in service, as
+`bad 3` for one that the network has not, that is said.
 
 example, for a network in new.json of which link 3 is out:
   ./hosed audit demo/backbone.txt backbone.journal > audit.txt
@@ -72,7 +73,7 @@ def may_answer(reply, vpn: networks.Vpn) -> bool:
 def moves(audit: networks.Audit, output: str) -> List[Move]:
     """What became of each VPN of an audit, by what `hosed run` wrote to the script."""
     lines, vpns, found = networks.lines_of(output), audit.vpns, []
-    before = replies_before(lines)
+    before = replies_before(lines, len(vpns))
     for at, line in enumerate(lines[before:], before + 1):
         if len(found) == len(vpns):
             what = f"{networks.shown(line)} stands after the replies to all {len(vpns)} VPNs"
@@ -88,11 +89,22 @@ def moves(audit: networks.Audit, output: str) -> List[Move]:
     return found
 
 
-def replies_before(lines: List[str]) -> int:
-    """How many replies to `down` stand before all others."""
+def replies_before(lines: List[str], vpns: int) -> int:
+    """How many replies to `operator down` stand before those to so many VPNs."""
     kinds = client.Down, client.Already
-    return next((at for at, line in enumerate(lines)
-                 if not isinstance(client.read_reply(line), kinds)), len(lines))
+    before = next((at for at, line in enumerate(lines)
+                   if not isinstance(client.read_reply(line), kinds)), len(lines))
+    if len(lines) > before + vpns and may_refuse_down(client.read_reply(lines[before])):
+        what = f"{networks.shown(lines[before])} answers an `operator down`: that link is in service"
+        raise networks.WrongText(before + 1, what)
+    return before
+
+
+def may_refuse_down(reply) -> bool:
+    """Whether a reply may tell that a link was not taken out of service."""
+    if isinstance(reply, client.Bad):
+        return reply.word == 3
+    return isinstance(reply, (client.Spent, client.DiskFailed, client.OutOfMemory))
 
 
 def total(found: List[Move]) -> str:

@@ -430,7 +430,7 @@ class Repository:
         file = self.files[key[1], key[2]]
         definition = self.named[key[1], key[2]][key[3]]
         node = Node(key, key[1], definition.path, definition.line, definition.name,
-                    comment_of(file, definition), definition.lines)
+                    definition.comment, definition.lines)
         node.definition = definition
         walker, bound = Walker(self, self.scope_of(file), node), set()
         for module in definition.outer:
@@ -633,14 +633,6 @@ class Repository:
 
 def definition_key(definition):
     return definition and ("definition", definition.crate, definition.module, definition.name)
-
-
-def comment_of(file, definition):
-    """The comment of a definition: its own, or the one that it shares with those above it."""
-    place = file.definitions.index(definition)
-    while place > 0 and not file.definitions[place].comment and file.definitions[place].shared:
-        place -= 1
-    return file.definitions[place].comment or (file.about if place == 0 else [])
 
 
 def members_of(definition):

@@ -6,10 +6,9 @@ term of the definitions' language, and is kept as tokens.
 """
 import collections
 import collections.abc
-import os
 import re
 
-from definitions import TOP, crates_of
+from definitions import TOP, crates_of, files_of
 
 PIECE = re.compile(
     r"""//[^\n]*|/\*.*?\*/|b?"(?:[^"\\]|\\.)*"|b'(?:[^'\\]|\\.[^']*)'"""
@@ -254,13 +253,8 @@ class Sources(collections.abc.Mapping):
     def __init__(self, top=TOP, crates=None):
         self.paths, self.read = {}, {}
         for crate in crates_of(top) if crates is None else crates:
-            folder = os.path.join(top, "crates", crate, "src")
-            for base, _, names in sorted(os.walk(folder)):
-                for name in sorted(names):
-                    if name.endswith(".rt"):
-                        path = os.path.join(base, name)
-                        module = os.path.relpath(path, folder)[:-3].replace(os.sep, "/")
-                        self.paths[crate, module] = path
+            self.paths.update(((crate, module), path)
+                              for module, path in files_of(top, crate, "src"))
 
     def __getitem__(self, key):
         if key not in self.read:

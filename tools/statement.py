@@ -191,20 +191,14 @@ def topological(uses, rank, group):
 # ---- as a text
 
 def parts_of(statement, keys):
-    """The nodes of a chapter in turn: the path where it changes, the heads of modules that begin,
-    the comment, and the node."""
-    path, outer, shared = None, [], None
+    """The nodes of a chapter in turn, each with the path where it changes and the heads of modules
+    that begin."""
+    path, outer = None, []
     for key in keys:
         node = statement.repository.node(key)
         within = node.definition.outer if node.definition else []
-        heads = [module for module in within if module not in outer]
-        if node.path != path:
-            heads, shared = list(within), None
-        comment = node.comment
-        if node.definition is not None and not node.definition.comment:
-            comment = comment if comment != shared else []
-        shared = node.comment
-        yield node, node.path if node.path != path else None, heads, comment
+        heads = [module for module in within if module not in outer or node.path != path]
+        yield node, node.path if node.path != path else None, heads
         path, outer = node.path, within
 
 
@@ -212,13 +206,13 @@ def as_text(statement, keys):
     found = []
     for place, (title, members) in enumerate(statement.ordered(keys), 1):
         found += ["", f"==== {place}. {title}", ""]
-        for node, path, heads, comment in parts_of(statement, members):
+        for node, path, heads in parts_of(statement, members):
             if path is not None:
                 found += [f"-- ==== {path}", ""]
             for module in heads:
                 found += module.lines
             indent = " " * (node.definition.indent if node.definition else 0)
-            found += [f"{indent}-- {line}".rstrip() for line in comment]
+            found += [f"{indent}-- {line}".rstrip() for line in node.comment]
             found += [*node.text, ""]
     found += ["==== From libraries", "", *statement.repository.told_outside(keys), ""]
     return "\n".join(found[1:])
@@ -261,13 +255,13 @@ def as_page(statement, keys, title):
     found.append("</ol>")
     for place, (name, members) in enumerate(chapters, 1):
         found.append(f'<h2 id="chapter{place}">{place}. {html.escape(name)}</h2>')
-        for node, path, heads, comment in parts_of(statement, members):
+        for node, path, heads in parts_of(statement, members):
             if path is not None:
                 found.append(f"<h3>{html.escape(path)}</h3>")
             for module in heads:
                 found.append(f"<pre>{html.escape(chr(10).join(module.lines))}</pre>")
-            if comment:
-                found.append(f"<p>{html.escape(' '.join(comment))}</p>")
+            if node.comment:
+                found.append(f"<p>{html.escape(' '.join(node.comment))}</p>")
             exact = node.kind in ("definition", "call")
             text = linked(node, keys) if exact else html.escape("\n".join(node.text))
             found.append(f'<pre id="{anchor(node.key)}">{text}</pre>')

@@ -94,17 +94,7 @@ STATEMENT = """\
 
 ## Of proofs alone
 
-### base
-
-`crates/base/specs/Sizes.antt`: Sizes.
-
-- `far`: a size is small
-- `Far`: Not of the statement: it names one that is.
-- `line_size`: the bytes of a line
-
-`crates/base/specs/Shapes.antt`: Shapes.
-
-- `unused`: not of the statement"""
+- `base`: Shapes 1, Sizes 3"""
 
 
 class Parts(unittest.TestCase):
@@ -136,6 +126,15 @@ class Parts(unittest.TestCase):
             self.assertEqual(make_documents.definitions_text(made), STATEMENT)
             self.assertEqual(make_documents.length_text(made),
                              "8 of 12 definitions, 27 of 36 lines")
+
+    def test_what_an_import_is_used_for(self):
+        text = "use A.{◌≡◌, f, g as h, Shape}\nuse A.Sizes\nuse A.Lines as lines\npub use A.{k}\n" \
+               "-- f\nx : ℕ\nx = %s\n"
+        for body, names in (("1", ["◌≡◌", "f", "h", "Shape", "Sizes", "lines"]),
+                            ("f ≡ h Shape", ["Sizes", "lines"]),
+                            ("lines.a (Sizes.b) g", ["◌≡◌", "f", "h", "Shape"])):
+            with self.subTest(body=body):
+                self.assertEqual(imports.unused(text % body), names)
 
     def test_what_names_a_constructor(self):
         enum = "pub enum Line {\n    /// Cut off.\n    Long,\n    Short {\n    },\n}\n"
@@ -183,6 +182,15 @@ class Parts(unittest.TestCase):
             write_tree(folder, TREE)
             self.assertEqual(imports.table(folder), imports.HEAD
                              + "| `base` |  |  |  |\n| `top` | base | base |  |\n")
+
+
+class Sources(unittest.TestCase):
+    def test_each_definition_has_a_comment(self):
+        self.assertEqual([f"{file.path}: {one.name}" for file in whole().repository.files.values()
+                          for one in file.definitions if not one.comment], [])
+
+    def test_each_import_is_used(self):
+        self.assertEqual(list(imports.tell_unused()), [])
 
 
 class Documents(unittest.TestCase):

@@ -60,6 +60,15 @@ class Replays(unittest.TestCase):
                 replay.moves(AUDIT, "\n".join(wrong) + "\n")
             self.assertEqual(caught.exception.line, at)
 
+    def test_a_link_that_was_not_taken_out(self):
+        """`bad 3` answers an `operator down` where a line more stands there than VPNs were asked."""
+        for before, refusal in (("", "bad 3"), ("down 1 at 1\n", "bad 3"), ("", "memory"),
+                                ("already 1 at 0\n", "disk at 0"), ("", "spent at 9")):
+            with self.assertRaisesRegex(networks.WrongText, "answers an `operator down`") as caught:
+                replay.moves(AUDIT, f"{before}{refusal}\n{OUTPUT}")
+            self.assertEqual(caught.exception.line, before.count("\n") + 1)
+        self.assertEqual(len(replay.moves(AUDIT, "bad 3\nbad 4\nmemory\n")), 3)
+
     def test_a_carriage_return(self):
         with self.assertRaisesRegex(networks.WrongText, "line 1: .* a carriage return stands"):
             replay.moves(AUDIT, OUTPUT.replace("\n", "\r\n"))

@@ -334,10 +334,10 @@ pub data D (a : ℕ) : (n : ℕ) → ℕ → Type 0 where
 """
         file = definitions.DefinitionFile("c", "M", text)
         self.assertEqual([(one.name, one.kind, one.own_parameters(), one.parameters(),
-                           len(one.code()), one.shared) for one in file.definitions],
-                         [("R", "record", 3, 3, 3, False), ("f", "abbrev", 4, 4, 2, True),
-                          ("g", "abbrev", 1, 5, 2, False), ("h", "function", 0, 3, 2, True),
-                          ("D", "data", 3, 3, 2, True)])
+                           len(one.code()), one.comment) for one in file.definitions],
+                         [("R", "record", 3, 3, 3, ["one"]), ("f", "abbrev", 4, 4, 2, []),
+                          ("g", "abbrev", 1, 5, 2, ["two"]), ("h", "function", 0, 3, 2, []),
+                          ("D", "data", 3, 3, 2, [])])
 
 
 class Repository(unittest.TestCase):
