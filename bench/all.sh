@@ -52,8 +52,7 @@ import sys
 
 LOGS, AT_WORK, CHOSEN, SCRIPTS = sys.argv[1], float(sys.argv[2]), int(sys.argv[3]), sys.argv[4:]
 DOCUMENT, BEGIN, END = "docs/FIGURES.md", "<!-- figures -->\n", "<!-- end of figures -->\n"
-HEAD = ("| Figure | Reference in the same run | Ratio | Machine | Date | Script |\n"
-        "|---|---|---|---|---|---|\n")
+HEAD = "| Figure | Reference in the same run | Ratio | Script |\n|---|---|---|---|\n"
 IDLE = 0.3  # processors at work, at most
 LEFT_OUT = re.compile(r"^files: |^load: ")  # where files lie, and lines of a table of their own
 BESIDE = re.compile(r"; (?:reference: |(?=echo |loop ))")
@@ -107,17 +106,16 @@ def machine():
 
 
 def rows():
-    where, date = machine(), datetime.date.today().isoformat()
     for script in SCRIPTS:
         with open(os.path.join(LOGS, script), encoding="utf-8", errors="replace") as log:
             lines = [line.rstrip() for line in log if line.strip() and not LEFT_OUT.search(line)]
         for figures, reference in groups(lines):
             reference, ratio = ratio_of(reference, figures)
-            cells = ("; ".join(figures), reference, ratio, where, date, f"`{script}`")
+            cells = ("; ".join(figures), reference, ratio, f"`{script}`")
             yield "| " + " | ".join(cell.replace("|", "\\|") for cell in cells) + " |\n"
 
 
-table = HEAD + "".join(rows())
+table = f"On {machine()}, {datetime.date.today().isoformat()}.\n\n{HEAD}" + "".join(rows())
 if CHOSEN:
     print(table, end="")
     sys.exit()

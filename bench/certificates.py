@@ -20,7 +20,6 @@ usage: bench/certificates.py [-n COUNT] [-s SEED] [-j JOBS] [PROGRAM]
     SEED (1), JOBS (2)  the first network's seed, and how many networks at once
     PROGRAM (./hosed)   as seen from the top of the repository
 """
-import argparse
 import collections
 import heapq
 import json
@@ -33,7 +32,7 @@ import tempfile
 
 from compare_planner import COMPARED, Link, Network, canonical_plan, plan_cost
 from compare_planner import random_hose, random_network, topology_lines
-from usage import tell_usage
+from usage import search_of, tell_usage
 
 os.chdir(os.path.join(os.path.dirname(os.path.abspath(__file__)), ".."))
 sys.path.insert(0, "tools")
@@ -407,18 +406,11 @@ def differences(program, seeds, each):
 
 
 def main():
-    reader = argparse.ArgumentParser(usage=__doc__.split("usage: ")[1])
-    reader.add_argument("-n", dest="count", type=int, default=10_000)
-    reader.add_argument("-s", dest="seed", type=int, default=1)
-    reader.add_argument("-j", dest="jobs", type=int, default=2)
-    reader.add_argument("program", nargs="?", default="./hosed")
-    options = reader.parse_args()
-    program = os.path.abspath(options.program)
-    subprocess.run([program, "--version"], stdout=subprocess.DEVNULL, check=True)
+    options = search_of(__doc__, 10_000)
     # Of about a fifth there is no certificate: no tree joins the hose.
     made = options.count * 5 // (EACH * 4) + 1
     end = options.seed + made
-    shares = [(program, range(options.seed + job, end, options.jobs), EACH)
+    shares = [(options.program, range(options.seed + job, end, options.jobs), EACH)
               for job in range(options.jobs)]
     with multiprocessing.Pool(options.jobs) as pool:
         parts = pool.starmap(differences, shares)

@@ -252,6 +252,33 @@ def least_cost(network, over, hose):
 # ---- The server: what it replies to each command.
 
 
+def loads_of(network, live):
+    """What these VPNs reserve on each link."""
+    loads = [0] * len(network.links)
+    for vpn in live:
+        for number, amount in vpn.plan:
+            loads[number] += amount
+    return loads
+
+
+def ends_text(network, hose):
+    return " ".join(f"{network.nodes[node]}:{rate}" for node, rate in hose)
+
+
+def audit_lines(network, epoch, live):
+    """The audit of a book whose live VPNs stand by their numbers."""
+    loads, lines = loads_of(network, live.values()), [f"epoch {epoch}"]
+    for number, link in enumerate(network.links):
+        a, b = network.nodes[link.a], network.nodes[link.b]
+        rest = f"capacity {link.capacity} cost {link.cost} load {loads[number]}"
+        lines.append(f"link {number} {a} {b} {rest}")
+    for number, vpn in live.items():
+        told = f"ends {ends_text(network, vpn.hose)} links {pairs_text(vpn.plan)}"
+        lines.append(f"vpn {number} {vpn.customer} cost {vpn.cost} {told}")
+    total = sum(load * link.cost for load, link in zip(loads, network.links))
+    return lines + [f"live {len(live)} cost {total}"]
+
+
 class Server:
     def __init__(self, network, by_force=False):
         self.network = network
@@ -266,14 +293,10 @@ class Server:
         return in_service(self.network, self.out)
 
     def loads(self):
-        loads = [0] * len(self.network.links)
-        for vpn in self.live.values():
-            for number, amount in vpn.plan:
-                loads[number] += amount
-        return loads
+        return loads_of(self.network, self.live.values())
 
     def ends_text(self, hose):
-        return " ".join(f"{self.network.nodes[node]}:{rate}" for node, rate in hose)
+        return ends_text(self.network, hose)
 
     def refused(self, command, side):
         self.kinds[f"{command}, refused"] += 1

@@ -26,8 +26,8 @@ import tempfile
 from collections import Counter, namedtuple
 from concurrent.futures import ThreadPoolExecutor
 
-from compare_planner import Server, Vpn, pairs_text, plan_cost, random_command, random_network
-from compare_planner import FORCED, WEIGHTS
+from compare_planner import FORCED, WEIGHTS, Server, Vpn, audit_lines, loads_of, plan_cost
+from compare_planner import random_command, random_network
 from usage import tell_usage
 
 sys.path.insert(0, os.path.join(os.path.dirname(os.path.abspath(__file__)), "..", "tools"))
@@ -157,13 +157,6 @@ class Book:
     def __init__(self, network):
         self.network, self.epoch, self.live, self.out = network, 0, {}, set()
 
-    def loads(self):
-        loads = [0] * len(self.network.links)
-        for vpn in self.live.values():
-            for number, amount in vpn.plan:
-                loads[number] += amount
-        return loads
-
     def is_tree_of(self, hose, plan):
         """Whether these amounts are what the hose reserves on a tree of the network's links."""
         network = self.network
@@ -214,7 +207,7 @@ class Book:
             customer, hose, plan = rest
             if not self.is_tree_of(hose, plan) or any(n in self.out for n, _ in plan):
                 return False
-            loads = self.loads()
+            loads = loads_of(self.network, self.live.values())
             if any(loads[n] + amount > self.network.links[n].capacity for n, amount in plan):
                 return False
             vpn = Vpn(customer, hose, plan, plan_cost(self.network, plan))
@@ -223,18 +216,7 @@ class Book:
         return True
 
     def audit(self):
-        network, loads = self.network, self.loads()
-        lines = [f"epoch {self.epoch}"]
-        for number, link in enumerate(network.links):
-            a, b = network.nodes[link.a], network.nodes[link.b]
-            rest = f"capacity {link.capacity} cost {link.cost} load {loads[number]}"
-            lines.append(f"link {number} {a} {b} {rest}")
-        for number, vpn in self.live.items():
-            ends = " ".join(f"{network.nodes[node]}:{rate}" for node, rate in vpn.hose)
-            told = f"ends {ends} links {pairs_text(vpn.plan)}"
-            lines.append(f"vpn {number} {vpn.customer} cost {vpn.cost} {told}")
-        total = sum(load * link.cost for load, link in zip(loads, network.links))
-        return lines + [f"live {len(self.live)} cost {total}"]
+        return audit_lines(self.network, self.epoch, self.live)
 
 
 # What an audit of some bytes must tell, its status, the bytes that it must leave, and the last line

@@ -27,7 +27,7 @@ import sys
 import tempfile
 from collections import Counter, defaultdict
 
-from compare_planner import FORCED, WEIGHTS, Server, pairs_text, random_command, random_network
+from compare_planner import FORCED, WEIGHTS, Server, audit_lines, random_command, random_network
 from compare_planner import topology_lines
 from histories import Differs, same, start_front, told_of_front
 from usage import tell_usage
@@ -173,17 +173,7 @@ class Desk(Server):
         return super().of_customer(self.customer_of.get(customer, customer), number)
 
     def audit(self):
-        network, loads = self.network, self.loads()
-        lines = [f"epoch {self.epoch}"]
-        for number, link in enumerate(network.links):
-            a, b = network.nodes[link.a], network.nodes[link.b]
-            rest = f"capacity {link.capacity} cost {link.cost} load {loads[number]}"
-            lines.append(f"link {number} {a} {b} {rest}")
-        for number, vpn in self.live.items():
-            told = f"ends {self.ends_text(vpn.hose)} links {pairs_text(vpn.plan)}"
-            lines.append(f"vpn {number} {vpn.customer} cost {vpn.cost} {told}")
-        total = sum(load * link.cost for load, link in zip(loads, network.links))
-        return lines + [f"live {len(self.live)} cost {total}"]
+        return audit_lines(self.network, self.epoch, self.live)
 
 
 # ---- What is said.

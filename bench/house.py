@@ -25,7 +25,6 @@ usage: bench/house.py                  all figures
        bench/house.py --places NAME..  how many files and crates each name stands in, comments too
 """
 import collections
-import glob
 import os
 import re
 import shutil
@@ -40,8 +39,8 @@ sys.path.insert(0, os.path.join(TOP, "tools"))
 import definitions  # noqa: E402
 import rust_source  # noqa: E402
 
-NOT_PRODUCT = ("cases_parts", "cases_program", "tests_threads")
-PARTS = {"src": ".rt", "specs": ".antt", "proofs": ".antt"}
+NOT_PRODUCT = ("cases_parts", "cases_disks", "cases_program", "cases_words", "tests_threads")
+PARTS = definitions.ENDINGS
 CRATES = definitions.crates_of(TOP)
 PRODUCT = [crate for crate in CRATES if crate not in NOT_PRODUCT]
 FILES = definitions.read_all(TOP)
@@ -59,8 +58,7 @@ def functions(crates=PRODUCT):
 
 def texts(part, crate):
     """The files of a part of a crate: path and text."""
-    pattern = os.path.join(TOP, "crates", crate, part, "**", f"*{PARTS[part]}")
-    for path in sorted(glob.glob(pattern, recursive=True)):
+    for _, path in definitions.files_of(TOP, crate, part):
         with open(path, encoding="utf-8") as file:
             yield os.path.relpath(path, TOP), file.read()
 

@@ -1,5 +1,5 @@
 #!/usr/bin/env python3
-"""Writes the cases of crates/cases_parts/data/images.cases: a disk of at most four bytes beside a
+"""Writes the cases of crates/cases_disks/data/images.cases: a disk of at most four bytes beside a
 plain model that keeps each image that a stop may leave.
 
 A call of each kind fails at each place of ten calls, and none fails. What the picks name after each
@@ -7,7 +7,7 @@ call is one of the model's images, or this program ends with an error. The model
 only what is meant by torn and cut bytes: a write that was begun may leave any bytes in its range
 and any length up to its end, a cut any length down to its own, and a sync leaves what is read.
 
-usage: bench/images.py | diff - crates/cases_parts/data/images.cases
+usage: bench/images.py | diff - crates/cases_disks/data/images.cases
 """
 
 import itertools

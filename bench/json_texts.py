@@ -26,7 +26,6 @@ usage: bench/json_texts.py [-n COUNT] [-s SEED] [-j JOBS] [PROGRAM]
     COUNT (100000), SEED (1), JOBS (2)    how many topologies, the first one's seed, how many at once
     PROGRAM (./hosed)                     as seen from the top of the repository
 """
-import argparse
 import collections
 import hashlib
 import json
@@ -39,7 +38,7 @@ import subprocess
 import sys
 import tempfile
 
-from usage import tell_usage
+from usage import search_of, tell_usage
 
 os.chdir(os.path.join(os.path.dirname(os.path.abspath(__file__)), ".."))
 MOST_NODES, MOST_LINKS, MOST_BYTES = 512, 2048, 16
@@ -351,16 +350,10 @@ def differences(program, seeds):
 
 
 def main():
-    reader = argparse.ArgumentParser(usage=__doc__.split("usage: ")[1])
-    reader.add_argument("-n", dest="count", type=int, default=100_000)
-    reader.add_argument("-s", dest="seed", type=int, default=1)
-    reader.add_argument("-j", dest="jobs", type=int, default=2)
-    reader.add_argument("program", nargs="?", default="./hosed")
-    options = reader.parse_args()
-    program = os.path.abspath(options.program)
-    subprocess.run([program, "--version"], stdout=subprocess.DEVNULL, check=True)
+    options = search_of(__doc__, 100_000)
     end = options.seed + options.count
-    shares = [(program, range(options.seed + job, end, options.jobs)) for job in range(options.jobs)]
+    shares = [(options.program, range(options.seed + job, end, options.jobs))
+              for job in range(options.jobs)]
     with multiprocessing.Pool(options.jobs) as pool:
         parts = pool.starmap(differences, shares)
     wanted = sum((part[0] for part in parts), collections.Counter())

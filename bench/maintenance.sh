@@ -14,37 +14,23 @@ import resource
 import subprocess
 import sys
 
+sys.path.insert(0, "tools")
+from generate import Draws, ends_text, network  # noqa: E402
+
 program, seed = sys.argv[1:]
 NODES, LINKS, WARM, QUOTES, RUNS, OUT = 512, 2048, 512, 1000, 5, 7
-state = int(seed)
+draws = Draws(int(seed))
 
 
-def draw(bound):
-    global state
-    state = (state * 6364136223846793005 + 1442695040888963407) % 2**64
-    return state // 2**33 % bound
-
-
-def link_line(number):
-    if number < NODES - 1:
-        a, b = number + 1, draw(number + 1)
-    else:
-        a, b = draw(NODES), draw(NODES - 1)
-        if b >= a:
-            b += 1
-    return f"link n{a} n{b} {1000000 + draw(9001)} {1 + draw(100)}"
+def roomy(line):
+    """The line, of a link with room for all quotes."""
+    words = line.split()
+    return " ".join([*words[:3], f"{words[3]}000", words[4]]) if words[0] == "link" else line
 
 
 def quote_line(number, count):
     """By another customer for every sixteen, since no more quotes are held by one."""
-    ends = {}
-    for _ in range(count):
-        node = draw(NODES)
-        while node in ends:
-            node = (node + 1) % NODES
-        ends[node] = 1 + draw(20)
-    asked = " ".join(f"n{node}:{rate}" for node, rate in ends.items())
-    return f"c{number // 16} quote {asked}"
+    return f"c{number // 16} quote {ends_text(draws, NODES, count)}"
 
 
 def seconds(lines):
@@ -59,8 +45,7 @@ def seconds(lines):
     return used.ru_utime + used.ru_stime - before.ru_utime - before.ru_stime
 
 
-topology = [f"node n{node}" for node in range(NODES)]
-topology += [link_line(number) for number in range(LINKS)] + ["end"]
+topology = [roomy(line) for line in network(draws, NODES, LINKS)]
 quotes = {count: [quote_line(number, count) for number in range(QUOTES)] for count in (2, 64)}
 warm = [quote_line(QUOTES + number, 2) for number in range(WARM)]
 scripts = {}

@@ -18,14 +18,15 @@ import subprocess
 import sys
 import time
 
+sys.path.insert(0, "bench")
+from disk_loop import CLOSED, HEAD, OPEN, Loop, star  # noqa: E402
+
 PROGRAM, PLACE = sys.argv[1:]
 TURNS, IN_A_TURN = 40, 100  # orders, of which every second one is a release
 VPNS, RUNS = 20_000, 5
 JOURNAL, LOOP = f"{PLACE}/journal", f"{PLACE}/loop"
 TOPOLOGY, AUDIT = f"{PLACE}/topology", f"{PLACE}/audit"
-HEAD = 39  # bytes of a journal without an entry, with its last gate
 DIGEST, VALUE = slice(6, 38), 32  # the digest in it, and the bytes of a chain value
-OPEN, CLOSED = b"\1", b"\0"
 
 # ---- Records, as the journal's format has them.
 
@@ -82,31 +83,10 @@ class Served:
         assert self.process.wait() == 0
 
 
-class Loop:
-    """A file with the head and one order."""
-
-    def __init__(self, first):
-        self.file = os.open(LOOP, os.O_RDWR | os.O_CREAT)
-        os.pwrite(self.file, bytes(HEAD) + first, 0)
-        os.fdatasync(self.file)
-        self.gate = HEAD - 1 + len(first)
-
-    def turn(self, records):
-        """Writes and syncs as an append of each does; the seconds of that."""
-        start = time.perf_counter()
-        for written in records:
-            os.pwrite(self.file, written, self.gate + 1)
-            os.fdatasync(self.file)
-            os.pwrite(self.file, OPEN, self.gate)
-            os.fdatasync(self.file)
-            self.gate += len(written)
-        return time.perf_counter() - start
-
-
 def measure_orders():
     """The seconds of each turn of the program, and of each of the loop."""
     admit, admitted = "acme admit a:1 b:1\n", record(admission(2, [(0, 1)]))
-    served, loop, program, plain = Served(admit), Loop(admitted), [], []
+    served, loop, program, plain = Served(admit), Loop(LOOP, admitted), [], []
     for begin in range(1, TURNS * IN_A_TURN, IN_A_TURN):
         ids = range(begin, begin + IN_A_TURN, 2)
         text = "".join(f"acme release {id}\n{admit}" for id in ids)
@@ -136,12 +116,6 @@ def range_text(figures, digits):
 
 
 # ---- Openings.
-
-
-def star(ends):
-    """A network of so many nodes around one, each with a link of its own number."""
-    nodes = "".join(f"node n{node}\n" for node in range(ends)) + "node h\n"
-    return nodes + "".join(f"link n{node} h 1000000000 1\n" for node in range(ends)) + "end\n"
 
 
 def make_journal(ends):

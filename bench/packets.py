@@ -16,8 +16,8 @@ import sys
 from hashlib import sha256
 from re import fullmatch
 
-from star_model import (DIGEST, EMPTY, STAR, Disk, Failed, Journal, audit, chain, journal_of,
-                        live_of, plan, spelled)
+from star_model import (DIGEST, EMPTY, Disk, Failed, Journal, audit, chain, journal_of, live_of, plan,
+                        print_cases, spelled)
 from usage import tell_usage
 
 ROW = ("admit", "acme", ((0, 3), (1, 4), (2, 5)))
@@ -505,13 +505,8 @@ FILES = {
 def main():
     cases, told, after = FILES[sys.argv[1]]
     verb = "ship" if sys.argv[1] == "ship" else "follow"
-    print(f"# Written by bench/packets.py {sys.argv[1]}: {told}.")
-    print(f"words {verb} t {after}")
-    for line in STAR:
-        print(f"= {line}")
-    for lines in cases():
-        print()
-        print("\n".join(lines))
+    heads = [f"# Written by bench/packets.py {sys.argv[1]}: {told}.", f"words {verb} t {after}"]
+    print_cases(heads, "=", cases())
 
 
 if __name__ == "__main__":

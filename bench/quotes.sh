@@ -18,27 +18,11 @@ import sys
 import tempfile
 import time
 
+sys.path.insert(0, "tools")
+from generate import Draws, network  # noqa: E402
+
 program, seed = sys.argv[1:]
 NODES, LINKS, QUOTES, RUNS, WANTED = 512, 2048, 2000, 7, 1.5
-state = int(seed)
-
-
-def draw(bound):
-    global state
-    state = (state * 6364136223846793005 + 1442695040888963407) % 2**64
-    return state // 2**33 % bound
-
-
-def link_line(number):
-    if number < NODES - 1:
-        a, b = number + 1, draw(number + 1)
-    else:
-        a, b = draw(NODES), draw(NODES - 1)
-        if b >= a:
-            b += 1
-    capacity = 1000 + draw(9001)
-    length = 1 + draw(100)
-    return f"link n{a} n{b} {capacity} {length}"
 
 
 def run(threads):
@@ -58,9 +42,7 @@ def seconds(programs, threads):
 
 
 with tempfile.NamedTemporaryFile("w") as topology:
-    lines = [f"node n{node}" for node in range(NODES)]
-    lines += [link_line(number) for number in range(LINKS)]
-    topology.write("\n".join(lines + ["end", ""]))
+    topology.write("\n".join([*network(Draws(int(seed)), NODES, LINKS), ""]))
     topology.flush()
     runs = [(seconds(1, 1), seconds(1, 4), seconds(4, 1)) for _ in range(RUNS)]
 one, four, apart = (min(taken) for taken in zip(*runs))

@@ -31,7 +31,6 @@ GIB, JSON_LIMIT = 1 << 30, 16 << 20
 
 HELP = ", see hosed --help"
 LAST = "the last line of the output tells"
-PLACE = "a line ends with a line feed alone, and a carriage return is part of a word"
 TEXT = "could not be read: it or its folder is not there, rights are missing, or its disk failed"
 JOURNAL = ("could not be opened or closed: its folder is not there, rights are missing, another "
            "program holds it, or its disk failed")
@@ -85,13 +84,22 @@ def words_that_are_wrong(trials):
 
 
 def topologies(trials):
-    trials.write("bad.txt", TWO_NODES.replace("\n", "\r\n"))
-    trials.write("bad.json", "{}")
-    trials.comes(["run"], 2, "the topology in the input is not allowed at the place that "
-                 f"{LAST}: {PLACE}", "node a\r\n")
+    trials.write("returns.txt", TWO_NODES.replace("\n", "\r\n"))
+    trials.write("later.txt", "# one\r\n" + TWO_NODES.replace("7\n", "7\r\n"))
+    trials.write("bad.txt", "# one\r\nnode a b\n")
+    trials.write("bad.json", "{}\r\n")
+    refused = f"the topology in the input is not allowed at the place that {LAST}"
+    for text, line in (("node a\r\n", 1), (TWO_NODES.replace("7\n", "7\r\n"), 3)):
+        trials.comes(["run"], 2, f"{refused}: a carriage return stands in line {line}, and a line "
+                     "ends with a line feed alone", text)
+    trials.comes(["run"], 2, refused, "node a b\n")
+    for name, line in (("returns.txt", 1), ("later.txt", 4)):
+        trials.comes(["audit", name, "j"], 2,
+                     f'the topology "{name}" is not allowed at the place that {LAST}: a carriage '
+                     f"return stands in line {line}, and a line ends with a line feed alone")
     for name in ("bad.txt", "bad.json"):
         trials.comes(["audit", name, "j"], 2,
-                     f'the topology "{name}" is not allowed at the place that {LAST}: {PLACE}')
+                     f'the topology "{name}" is not allowed at the place that {LAST}')
 
 
 def streams(trials):

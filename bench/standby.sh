@@ -24,21 +24,16 @@ import subprocess
 import sys
 import time
 
+sys.path.insert(0, "bench")
+from disk_loop import CLOSED, OPEN, Loop, star  # noqa: E402
+
 PROGRAM, PLACE = sys.argv[1:]
 ENTRIES, LIVE, ENDS = 100_000, 1_000, (3, 64)
 RUNS, IN_A_TURN = 15, 250
 TOPOLOGY, JOURNAL, EMPTY, FOLLOWER, LOOP = (
     os.path.join(PLACE, name) for name in ("topology", "journal", "empty", "follower", "loop"))
-HEAD = 39  # bytes of a journal without an entry, with its last gate
-OPEN, CLOSED = b"\1", b"\0"
 
 # ---- A journal and its packets, as docs/GUIDE.md has them.
-
-
-def star(ends):
-    """The canonical text of so many nodes around one, each on a link of its own number."""
-    nodes = "".join(f"node n{node}\n" for node in range(ends)) + "node h\n"
-    return nodes + "".join(f"link n{node} h 1000000000 1 1\n" for node in range(ends)) + "end\n"
 
 
 def bodies(ends):
@@ -145,30 +140,9 @@ class Follower:
             assert leader.read() == follower.read(), "the journals differ"
 
 
-class Loop:
-    """A file with the head and one entry."""
-
-    def __init__(self, first):
-        self.file = os.open(LOOP, os.O_RDWR | os.O_CREAT)
-        os.pwrite(self.file, bytes(HEAD) + first, 0)
-        os.fdatasync(self.file)
-        self.gate = HEAD - 1 + len(first)
-
-    def turn(self, records):
-        """Writes and syncs as an append of each does; the seconds of that."""
-        start = time.perf_counter()
-        for written in records:
-            os.pwrite(self.file, written, self.gate + 1)
-            os.fdatasync(self.file)
-            os.pwrite(self.file, OPEN, self.gate)
-            os.fdatasync(self.file)
-            self.gate += len(written)
-        return time.perf_counter() - start
-
-
 def tell_follow(ends):
     records, packets = write_journal(ends)
-    follower, loop, program, plain = Follower(packets[0]), Loop(records[0]), [], []
+    follower, loop, program, plain = Follower(packets[0]), Loop(LOOP, records[0]), [], []
     for begin in range(1, ENTRIES, IN_A_TURN):
         turn = slice(begin, begin + IN_A_TURN)
         program.append(follower.turn(packets[turn]))

@@ -26,6 +26,14 @@ def head(version):
 EMPTY = head(CHAINED) + b"\0"
 
 
+def print_cases(heads, topology, cases):
+    """A file of cases: its first lines, the topology behind this mark, and the lines of each."""
+    print("\n".join([*heads, *(f"{topology} {line}" for line in STAR)]))
+    for lines in cases:
+        print()
+        print("\n".join(lines))
+
+
 class Failed(Exception):
     pass
 

@@ -11,7 +11,8 @@ The texts come of the plain model of star_model.py.
 usage: bench/stops.py | diff - crates/cases_program/data/stops.cases
 """
 
-from star_model import EMPTY, PLAIN, STAR, Disk, Failed, Journal, Server, audit, hose_of, journal_of
+from star_model import (EMPTY, PLAIN, Disk, Failed, Journal, Server, audit, hose_of, journal_of,
+                        print_cases)
 from usage import tell_usage
 
 FOUR = ("acme admit a:3 b:4 c:5", "acme quote a:1 b:1", "acme take 1", "acme release 1")
@@ -81,15 +82,10 @@ def cases():
 
 
 def main():
-    print("# Written by bench/stops.py: stops after each call of the disk, of four orders,")
-    print("# of one in a journal that was begun before, of one in a journal of version 1, which is")
-    print("# sealed first, whose calls fail in turn, and of six.")
-    print("words run j")
-    for line in STAR:
-        print(f"< {line}")
-    for lines in cases():
-        print()
-        print("\n".join(lines))
+    heads = ["# Written by bench/stops.py: stops after each call of the disk, of four orders,",
+             "# of one in a journal that was begun before, of one in a journal of version 1, which is",
+             "# sealed first, whose calls fail in turn, and of six.", "words run j"]
+    print_cases(heads, "<", cases())
 
 
 if __name__ == "__main__":

@@ -16,16 +16,13 @@ import resource
 import subprocess
 import sys
 
+sys.path.insert(0, "bench")
+from disk_loop import star  # noqa: E402
+
 PROGRAM, PLACE, DIGESTS = sys.argv[1:]
 VPNS, RUNS = 20_000, 15
 JOURNAL, TOPOLOGY = f"{PLACE}/journal", f"{PLACE}/topology"
 DIGEST = "import hashlib, sys\nfor path in sys.argv[1:]: hashlib.sha256(open(path, 'rb').read()).digest()"
-
-
-def star(ends):
-    """A network of so many nodes around one, each on a link of its own number: its canonical text."""
-    nodes = "".join(f"node n{node}\n" for node in range(ends)) + "node h\n"
-    return nodes + "".join(f"link n{node} h 1000000000 1 1\n" for node in range(ends)) + "end\n"
 
 
 def journal(ends):

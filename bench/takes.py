@@ -125,33 +125,29 @@ class Line:
         return reply.startswith("admitted")
 
 
-def ten_more():
-    """65,530 entries in turn on one link, a quote, ten more, and the take: what is wanted of it
-    stands here as it was worked out by hand."""
-    pairs = [f"beta admit a:1 b:1\nbeta release {number}\n" for number in range(1, 65_541, 2)]
-    text = "node a\nnode b\nlink a b 10 1\nend\n" + "".join(pairs[:32_765])
+def ten_after(pair, answers, links):
+    """65,530 entries in turn, two for each of these pairs of lines, a quote, ten more entries, and
+    the take: what is wanted of it stands here as it was worked out by hand."""
+    numbers = range(1, 65_541, 2)
+    pairs = [pair.format(number) for number in numbers]
+    text = f"node a\nnode b\n{links}end\n" + "".join(pairs[:32_765])
     text += "acme quote a:1 b:1\n" + "".join(pairs[32_765:]) + "acme take 1\n"
-    replies = []
-    for number in range(1, 65_541, 2):
-        if number == 65_531:
-            replies.append("quoted 1 cost 1 at 65530 links 0:1")
-        replies.append(f"admitted {number} cost 1 at {number} links 0:1")
-        replies.append(f"released {number} at {number + 1}")
+    replies = [answer.format(number, number + 1) for number in numbers for answer in answers]
+    replies.insert(65_530, "quoted 1 cost 1 at 65530 links 0:1")
     return text, [*replies, "admitted 65541 cost 1 at 65541 links 0:1"]
+
+
+def ten_more():
+    """By entries on one link."""
+    return ten_after("beta admit a:1 b:1\nbeta release {}\n",
+                     ["admitted {0} cost 1 at {0} links 0:1", "released {0} at {1}"],
+                     "link a b 10 1\n")
 
 
 def ten_changes_more():
-    """The same, where the entries take the dearer of two links out of service and put it back."""
-    pairs = ["operator down 1\noperator up 1\n"] * 32_770
-    text = "node a\nnode b\nlink a b 10 1\nlink a b 10 9\nend\n" + "".join(pairs[:32_765])
-    text += "acme quote a:1 b:1\n" + "".join(pairs[32_765:]) + "acme take 1\n"
-    replies = []
-    for number in range(1, 65_541, 2):
-        if number == 65_531:
-            replies.append("quoted 1 cost 1 at 65530 links 0:1")
-        replies.append(f"down 1 at {number}")
-        replies.append(f"up 1 at {number + 1}")
-    return text, [*replies, "admitted 65541 cost 1 at 65541 links 0:1"]
+    """By entries that take the dearer of two links out of service and put it back."""
+    return ten_after("operator down 1\noperator up 1\n", ["down 1 at {0}", "up 1 at {1}"],
+                     "link a b 10 1\nlink a b 10 9\n")
 
 
 def whole_line(before, turns, out):

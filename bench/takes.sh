@@ -4,9 +4,10 @@
 # questions about a link are the reference of the same run. All is a processor's time, the least of
 # nine runs that are made by turns. Takes cost so little that what those runs differ by hides it.
 # Then what it takes to compare the grounds of a quote whose first plan does not fit with the book
-# after 0, 10 and 1,000 other entries, on such networks of 512 to 2,048 links: by the changes since,
-# as a take does; by all links, as each take did before the book kept changes; and to copy these
-# changes. A program of bench/figures calls the planner itself, as takes do under the lock.
+# after 0 to 6,800 other entries, which leave up to 65,000 changes, on such networks of 512 to 2,048
+# links: as a take does, by the changes since or, where they are many, by all links; by all links;
+# and to copy these changes. The first is to be at most 1.2 times the cheaper of the two. A program
+# of bench/figures calls the planner itself, as takes do under the lock.
 # usage: bench/takes.sh [PROGRAM [SEED]]
 [ "${1-}" != --help ] || exec sed -n '2,/^[^#]/s/^# \{0,1\}//p' "$0"
 . "$(dirname "$0")/setup.sh"
@@ -15,47 +16,24 @@ RUNS=9
 python3 - "$work" "${2:-1}" <<'END'
 import sys
 
+sys.path.insert(0, "tools")
+from generate import Draws, ends_text, network  # noqa: E402
+
 work, seed = sys.argv[1:]
 NODES, LINKS, QUOTES, HELD, EMPTY = 512, 2048, 200, 16, 1000000
-state = int(seed)
-
-
-def draw(bound):
-    global state
-    state = (state * 6364136223846793005 + 1442695040888963407) % 2**64
-    return state // 2**33 % bound
-
-
-def link_line(number):
-    if number < NODES - 1:
-        a, b = number + 1, draw(number + 1)
-    else:
-        a, b = draw(NODES), draw(NODES - 1)
-        if b >= a:
-            b += 1
-    capacity = 1000 + draw(9001)
-    length = 1 + draw(100)
-    return f"link n{a} n{b} {capacity} {length}"
+draws = Draws(int(seed))
 
 
 def quote_line(number):
-    count = 2 + draw(4)
-    ends = {}
-    for _ in range(count):
-        node = draw(NODES)
-        while node in ends:
-            node = (node + 1) % NODES
-        ends[node] = 1 + draw(20)
-    asked = " ".join(f"n{node}:{rate}" for node, rate in ends.items())
-    return f"c{number // HELD} quote {asked}"
+    count = 2 + draws.below(4)
+    return f"c{number // HELD} quote {ends_text(draws, NODES, count)}"
 
 
 def take_line(number):
     return f"c{number // HELD} take {number % HELD + 1}"
 
 
-topology = [f"node n{node}" for node in range(NODES)]
-topology += [link_line(number) for number in range(LINKS)] + ["end"]
+topology = network(draws, NODES, LINKS)
 quotes = [quote_line(number) for number in range(QUOTES)]
 takes = [take_line(number) for number in range(QUOTES)]
 scripts = {
@@ -114,15 +92,12 @@ import resource
 import subprocess
 import sys
 
+sys.path.insert(0, "tools")
+from generate import Draws  # noqa: E402
+
 figures, work, seed = sys.argv[1:]
 NODES, LINKS, RUNS = 512, (512, 1024, 2048), 5
-state = int(seed)
-
-
-def draw(bound):
-    global state
-    state = (state * 6364136223846793005 + 1442695040888963407) % 2**64
-    return state // 2**33 % bound
+draw = Draws(int(seed)).below
 
 
 def link_line(number):
@@ -153,10 +128,10 @@ def seconds(links, what, kind, entries, count):
 
 
 def nanoseconds(links, kind, entries):
-    """Of one comparison by changes, one by all links, and one copy of the changes."""
+    """Of one comparison as a take does, one by all links, and one copy of the changes."""
     _, changes = seconds(links, "since", kind, entries, 0)
     counts = {
-        "since": 400000000 // (changes + 20),
+        "since": 400000000 // (min(changes, links) + 20),
         "all": 400000000 // links,
         "copies": 400000000 // (changes + 20),
     }
@@ -175,13 +150,14 @@ for links in LINKS:
     lines += [link_line(number) for number in range(links)]
     with open(f"{work}/network{links}", "w") as network:
         network.write("\n".join(lines + ["end", ""]))
-places = [(2048, "far", 0), (2048, "near", 10), (2048, "far", 10), (2048, "near", 1000),
-          (2048, "far", 1000), (1024, "near", 10), (512, "near", 10)]
+places = [(2048, "far", 0), (2048, "near", 10), (2048, "far", 10), (2048, "near", 500),
+          (2048, "near", 1000), (2048, "far", 1000), (2048, "far", 6800), (1024, "near", 10),
+          (1024, "near", 250), (512, "near", 10), (512, "near", 125)]
 where = {"near": "on one link each", "far": "of three nodes at random"}
 for links, kind, entries in places:
     changes, since, by_all, copied = nanoseconds(links, kind, entries)
     after = f"{entries:,} entries {where[kind]}, {changes:,} changes" if entries else "no entry"
-    print(f"comparing by changes on {links:,} links after {after}: {since:.0f} ns")
-    told = f"by all links, as before, {by_all:.0f} ns; a copy of the changes {copied:.0f} ns"
+    print(f"comparing as a take does on {links:,} links after {after}: {since:.0f} ns")
+    told = f"by all links {by_all:.0f} ns; a copy of the changes {copied:.0f} ns"
     print(f"reference: {told}, ratio {since / by_all:.3f}")
 END

@@ -1,4 +1,8 @@
-"""What a script of this folder tells of itself at `--help`: the text that it begins with."""
+"""What the scripts of this folder read of their words: the text of `--help`, which is the one that a
+script begins with, and the words of a search by seeds."""
+import argparse
+import os
+import subprocess
 import sys
 
 
@@ -7,3 +11,17 @@ def tell_usage(text):
     if sys.argv[1:] == ["--help"]:
         print(text, end="")
         sys.exit()
+
+
+def search_of(text, count):
+    """What `[-n COUNT] [-s SEED] [-j JOBS] [PROGRAM]` say, with this count unless another is said;
+    the program is built then."""
+    reader = argparse.ArgumentParser(usage=text.split("usage: ")[1])
+    reader.add_argument("-n", dest="count", type=int, default=count)
+    reader.add_argument("-s", dest="seed", type=int, default=1)
+    reader.add_argument("-j", dest="jobs", type=int, default=2)
+    reader.add_argument("program", nargs="?", default="./hosed")
+    options = reader.parse_args()
+    options.program = os.path.abspath(options.program)
+    subprocess.run([options.program, "--version"], stdout=subprocess.DEVNULL, check=True)
+    return options

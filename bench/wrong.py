@@ -7,8 +7,10 @@ says little of the contract), with no reason, or not at all. It ends with a fail
 refused, cannot be tried, or is refused for a name alone and not listed in wrong/README.md.
 
 A caller's proof rests on the callee's contract alone, so bodies of different functions are tried in
-one check. Any other edit, and one of which that check does not tell for sure that a clause refuses
-it, is tried alone. What an edit comes to is judged by the kit's rules, those of `rt must-fail`.
+one check. So are values of different constants that a function without a body pins, with a clause
+for each (`ensures most_links { MOST_LINKS ≡ most_links }`). Any other edit, and one of which that
+check does not tell for sure that a clause refuses it, is tried alone. What an edit comes to is
+judged by the kit's rules, those of `rt must-fail`.
 
 usage: bench/wrong.py [CRATE ..]     (leave the crates' files as they are while it runs)
 """
@@ -37,6 +39,8 @@ KINDS = {
     "": "not tried",
 }
 ROW = "{:<16}" + "{:>12}" * (len(KINDS) + 1)
+CONSTANT = re.compile(r"(?:pub(?:\(\w+\))? )?const (\w+): ")
+PIN = re.compile(r"ensures (\w+) \{ (\w+)(?:\.now)? ≡ ")
 PLACE = re.compile(r"(?:note: )?(?:\./)?((?:src|proofs)/[^:\s]+):(\d+):\d+:")
 # As the kit has it: a proof that names what the edit took away, and what cites that proof.
 NAME = re.compile(r"(note: )?(\./)?proofs/.*(has no (field|`)|is not in scope|was not admitted)")
@@ -71,29 +75,55 @@ class Tries:
                 fits = [at for at in fits if it.block.fits(at[-2])]
             if len(fits) == 1 and not it.in_cycle:
                 self.names[it] = "::".join(fits[0])
-        self.edits = {it: self.functions(it) for it in sorted((WRONG / crate.name).glob("*.edit"))}
+        # The function that pins a constant, and its clause that does.
+        self.pins = {}
+        for it in self.names:
+            head = self.source.data[it.file][it.start : it.opens].decode("utf-8")
+            self.pins.update({name: (it, clause) for clause, name in PIN.findall(head)})
+        # What each edit changes: functions, or constants in place of which stand their clauses.
+        self.edits = {}
+        for edit in sorted((WRONG / crate.name).glob("*.edit")):
+            self.edits[edit] = self.functions(edit) or self.clauses(edit)
 
-    def functions(self, edit):
-        """Those whose bodies it changes, or none where it changes anything else."""
+    def places(self, edit):
+        """The files and the places there of what it looks for."""
         file, found = "", []
         for word, _, rest in (it.partition(": ") for it in edit.read_text("utf-8").split("\n")):
             file = rest.strip() if word == "file" else file
             if word == "old":
                 at = self.source.data.get(file, b"").find(rest.encode())
-                end = at + len(rest.encode())
-                around = [it for it in self.names if it.file == file and it.opens <= at]
-                found.append(next((it for it in around if end <= it.end), None))
-        return set() if None in found or not self.applied([edit]) else set(found)
+                found.append((file, at, at + len(rest.encode())))
+        return found if self.applied([edit]) else []
+
+    def functions(self, edit):
+        """Those whose bodies it changes, or none where it changes anything else."""
+        found = set()
+        for file, at, end in self.places(edit):
+            around = [it for it in self.names if it.file == file and it.opens <= at]
+            found.add(next(((it, "") for it in around if end <= it.end), None))
+        return set() if None in found else found
+
+    def clauses(self, edit):
+        """Those that pin the constants which it changes, or none where it changes anything else."""
+        found = set()
+        for file, at, _ in self.places(edit):
+            front, rest = self.source.data.get(file, b"")[:at], self.source.data.get(file, b"")[at:]
+            line = (front.rsplit(b"\n", 1)[-1] + rest).split(b"\n", 1)[0]
+            constant = CONSTANT.match(line.decode("utf-8"))
+            found.add(self.pins.get(constant[1]) if constant else None)
+        return set() if None in found else found
 
     def applied(self, edits):
         """The files with these edits, if they can be applied."""
         return RT.edited("\n".join(it.read_text("utf-8") for it in edits), self.crate.folder)[0]
 
     def batches(self):
-        """Puts edits together so that no two change one function, and all can be applied."""
+        """Puts edits together so that no two change one function or constant, and all can be
+        applied; those of constants apart from the others, which may rest on them."""
         found = []
         for edit in (it for it in self.edits if self.edits[it]):
             fits = (it for it in found if not self.edits[edit] & self.changed(it))
+            fits = (it for it in fits if self.is_constant(it[0]) == self.is_constant(edit))
             batch = next((it for it in fits if self.applied([*it, edit])), None)
             if batch is None:
                 found.append(batch := [])
@@ -103,13 +133,18 @@ class Tries:
     def changed(self, batch):
         return set().union(*(self.edits[it] for it in batch))
 
+    def is_constant(self, edit):
+        return any(clause for _, clause in self.edits[edit])
+
     def is_of(self, edit, line):
-        """Whether a line of a check tells of a function that the edit changes."""
+        """Whether a line of a check tells of a function, or of a clause, that the edit changes."""
         at = PLACE.match(line)
-        for it in self.edits[edit] if at else ():
+        for it, clause in self.edits[edit] if at else ():
             last = self.source.data[it.file][: it.end].count(b"\n") + 1
             folder = "/".join(["proofs", *self.names[it].split("::")[1:], ""])
-            if at[1].startswith(folder) or at[1] == it.file and it.line <= int(at[2]) <= last:
+            is_here = at[1] == it.file and it.line <= int(at[2]) <= last
+            is_told = not clause or f"-clause-{clause}`" in line
+            if is_told and (is_here or at[1].startswith(folder)):
                 return True
         return False
 
@@ -122,7 +157,8 @@ class Tries:
     def together(self, batch):
         """The edits of a batch that a clause refuses for sure, and the first line that says so."""
         texts, found = self.applied(batch), {}
-        only = [word for it in self.changed(batch) for word in ("--only", self.names[it])]
+        only = {self.names[it] for it, _ in self.changed(batch)}
+        only = [word for name in sorted(only) for word in ("--only", name)]
         ran = self.over_kept(RT.checked, texts, [*JOBS, *only])
         lines, fell = ran.stdout.split("\n"), r"(?m)^fn (\S+): (?:not proved|no proof)"
         fell = {*re.findall(fell, ran.stdout)}
@@ -135,7 +171,7 @@ class Tries:
         for edit in batch:
             told = [it for it in lines if self.is_of(edit, it) and not NAME.match(it)]
             told = [it for it in told if ": error" in it or it.startswith("note: ")]
-            if told and fell & {self.names[it] for it in self.edits[edit]}:
+            if told and fell & {self.names[it] for it, _ in self.edits[edit]}:
                 found[edit] = f"refused, as it must be: {told[0][:160]}"
         return found
 
