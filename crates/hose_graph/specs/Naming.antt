@@ -9,13 +9,16 @@ use Rattle.hose_graph.specs.Hose.{node_of}
 use Rattle.hose_graph.specs.Network.{Network, IsLinkOf, IsNodeOf}
 
 -- Each node and each link that the command names is one of the network, and the number of a VPN to
--- be released is one that there can be.
+-- be released, or of one that is known as the newest, is one that there can be.
 abbrev pub AsksOf : Network → Command → Type 0
 AsksOf network (command.Admit hose) = All (λ end. IsNodeOf network (node_of end)) hose
+AsksOf network (command.AdmitAfter known hose) =
+    (known ≤ most_epoch) × All (λ end. IsNodeOf network (node_of end)) hose
 AsksOf network (command.Quote hose) = All (λ end. IsNodeOf network (node_of end)) hose
 AsksOf network (command.Take number) = ⊤
 AsksOf network (command.Release id) = id ≤ most_epoch
 AsksOf network (command.Show id) = ⊤
+AsksOf network command.Vpns = ⊤
 AsksOf network (command.Link link) = IsLinkOf network link
 AsksOf network (command.Down link) = IsLinkOf network link
 AsksOf network (command.Up link) = IsLinkOf network link
@@ -33,6 +36,8 @@ NamesPlaces network (reply.NoQuote quote at) = ⊤
 NamesPlaces network (reply.TooMany at) = ⊤
 NamesPlaces network (reply.Shown id cost at hose amounts) =
     All (λ end. IsNodeOf network (node_of end)) hose
+NamesPlaces network (reply.Vpns at ids) = ⊤
+NamesPlaces network (reply.Newest id at) = ⊤
 NamesPlaces network (reply.LinkState link load out at) = IsLinkOf network link
 NamesPlaces network (reply.Down link at) = IsLinkOf network link
 NamesPlaces network (reply.Up link at) = IsLinkOf network link

@@ -3,12 +3,16 @@
 use crate::amounts::Amounts;
 use crate::hose::Hose;
 use crate::node_list::NodeList;
+use crate::vpn_list::VpnList;
 
 /// What a customer asks for. A later command is a variant of its own.
 #[derive(Debug, Drop)]
 pub enum Command {
     /// To admit a network of these endpoints.
     Admit(Hose),
+    /// To admit a network of these endpoints where the customer's newest live network has the
+    /// number `known`, or where there is none and it is 0.
+    AdmitAfter { known: u64, hose: Hose },
     /// To plan a network of these endpoints and hold the plan.
     Quote(Hose),
     /// To admit the network that is held under this number.
@@ -17,6 +21,8 @@ pub enum Command {
     Release(u64),
     /// To tell the network of this number.
     Show(u64),
+    /// To tell the numbers of the customer's live networks.
+    Vpns,
     /// To tell a link, what is reserved on it, and whether it is out of service.
     Link(u32),
     /// To take a link out of service, so that no new tree uses it.
@@ -85,6 +91,17 @@ pub enum Reply {
         at: u64,
         hose: Hose,
         amounts: Amounts,
+    },
+    /// The numbers of the customer's live networks.
+    Vpns {
+        at: u64,
+        ids: VpnList,
+    },
+    /// The customer's newest live network has this number, 0 where there is none, and another one
+    /// was to be the newest.
+    Newest {
+        id: u64,
+        at: u64,
     },
     /// A link, with what is reserved on it, and whether it is out of service.
     LinkState {

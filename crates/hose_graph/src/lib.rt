@@ -20,6 +20,7 @@ mod name;
 mod node_list;
 mod row;
 mod topology;
+mod vpn_list;
 
 pub use amounts::{Amounts, ReservedLink};
 pub use command::{Command, Reply};
@@ -34,3 +35,4 @@ pub use name::{Name, OPERATOR};
 pub use node_list::NodeList;
 pub use row::Row;
 pub use topology::{Link, Step, Topology, TopologyFault};
+pub use vpn_list::VpnList;
