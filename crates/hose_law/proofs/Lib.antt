@@ -3,6 +3,7 @@ pub mod Apart
 pub mod Bounds
 pub mod CanonicalPlans
 mod CanonicalTrees
+pub mod Carried
 pub mod Carrying
 pub mod Cheapest
 mod Counting
@@ -16,6 +17,7 @@ mod LeastRoot
 pub mod LiveIds
 pub mod Lives
 pub mod Numbers
+mod Once
 pub mod PairedOff
 pub mod PlanWeight
 pub mod Releases
@@ -35,5 +37,6 @@ pub mod Tracked
 pub mod Transcripts
 pub mod Trees
 pub mod Unique
+pub mod VpnLists
 pub mod Walks
 pub mod Weights

@@ -2,9 +2,9 @@
 use Rattle.std.proofs.Common.{◌≡◌, ℕ, zero, suc, ◌+◌, Bool, true, false, List, [], ◌∷◌, ◌++◌, length, Option, None, Some, refl, sym, subst, arith}
 use Rattle.hose_graph.specs.declared.entry.Entry.{Entry}
 use Rattle.hose_graph.specs.declared.command.Command.{Command}
-use Rattle.hose_graph.specs.declared.command.Command.TheVariants.{Admit, Quote, Take, Release, Show, Link, Down as DownCommand, Up as UpCommand}
+use Rattle.hose_graph.specs.declared.command.Command.TheVariants.{Admit, AdmitAfter, Quote, Take, Release, Show, Vpns as VpnsCommand, Link, Down as DownCommand, Up as UpCommand}
 use Rattle.hose_graph.specs.declared.command.Reply.{Reply}
-use Rattle.hose_graph.specs.declared.command.Reply.TheVariants.{Admitted, Released, NoVpn, LinkState, Down, Up, Denied}
+use Rattle.hose_graph.specs.declared.command.Reply.TheVariants.{Admitted, Released, NoVpn, Vpns, Newest, LinkState, Down, Up, Denied}
 use Rattle.hose_graph.specs.Network.{Network}
 use Rattle.hose_law.specs.Book.{Book}
 use Rattle.hose_law.specs.History.{AreFrom, EntryKind, next_book, book_after, book_of, opening_book, IsSound, IsSoundAt, IsDecidedAt, IsSoundFrom, IsDecided}
@@ -72,6 +72,10 @@ pub answer_decided : (network : Network) (epoch : ℕ) (history : List Entry) (c
 answer_decided network epoch history customer held after (Admit hose) (Admitted id cost at amounts) entry sound answer =
     planned_decided network (book_of epoch history) customer hose (Admitted id cost at amounts) entry sound answer.0
 answer_decided network epoch history customer held after (Admit hose) reply entry sound answer = absurd answer.0
+answer_decided network epoch history customer held after (AdmitAfter known hose) (Admitted id cost at amounts) entry sound answer =
+    planned_decided network (book_of epoch history) customer hose (Admitted id cost at amounts) entry sound answer.0.1
+answer_decided network epoch history customer held after (AdmitAfter known hose) (Newest id at) entry sound answer = absurd answer.0.1
+answer_decided network epoch history customer held after (AdmitAfter known hose) reply entry sound answer = absurd answer.0.1
 answer_decided network epoch history customer held after (Quote hose) reply entry sound answer = absurd (cc answer.0)
 answer_decided network epoch history customer held after (Take number) reply entry sound answer =
     taken_decided network epoch history customer number held after (at_number held number) reply entry sound answer
@@ -80,6 +84,8 @@ answer_decided network epoch history customer held after (Release id) (Released 
 answer_decided network epoch history customer held after (Release id) reply entry sound answer = absurd answer.0
 answer_decided network epoch history customer held after (Show id) (NoVpn told at) entry sound answer = absurd answer.0
 answer_decided network epoch history customer held after (Show id) reply entry sound answer = absurd answer.0
+answer_decided network epoch history customer held after VpnsCommand (Vpns at ids) entry sound answer = absurd answer.0
+answer_decided network epoch history customer held after VpnsCommand reply entry sound answer = absurd answer.0
 answer_decided network epoch history customer held after (Link link) (LinkState told load out at) entry sound answer = absurd answer.0
 answer_decided network epoch history customer held after (Link link) reply entry sound answer = absurd answer.0
 answer_decided network epoch history customer held after (DownCommand link) reply entry sound answer =

@@ -3,11 +3,11 @@ use Rattle.std.proofs.Common.{◌≡◌, ◌⊎◌, ℕ, Bool, true, false, List
 use Rattle.hose_graph.specs.Network.{Network}
 use Rattle.hose_graph.specs.declared.entry.Entry.{Entry}
 use Rattle.hose_graph.specs.declared.command.Command.{Command}
-use Rattle.hose_graph.specs.declared.command.Command.TheVariants.{Admit, Quote, Take, Release, Show, Link, Down as DownCommand, Up as UpCommand}
+use Rattle.hose_graph.specs.declared.command.Command.TheVariants.{Admit, AdmitAfter, Quote, Take, Release, Show, Vpns as VpnsCommand, Link, Down as DownCommand, Up as UpCommand}
 use Rattle.hose_graph.specs.declared.command.Reply.{Reply}
-use Rattle.hose_graph.specs.declared.command.Reply.TheVariants.{Admitted, Quoted, Refused, Stale, Full, Spent, Released, NoVpn, TooMany, Shown, LinkState, Down, Up, Already, Denied, Memory}
+use Rattle.hose_graph.specs.declared.command.Reply.TheVariants.{Admitted, Quoted, Refused, Stale, Full, Spent, Released, NoVpn, TooMany, Shown, Vpns, Newest, LinkState, Down, Up, Already, Denied, Memory}
 use Rattle.hose_graph.specs.Hose.{Endpoint}
-use Rattle.hose_law.specs.Answer.{ChangesHeld, IsAdmitAnswer, IsAnswer, IsLinkAnswer, IsOperatorAnswer, IsPlannedAnswer, IsQuoteAnswer, IsReleaseAnswer, IsServiceAnswer, IsShowAnswer, IsStepOf, IsStepOfKind, IsTakeAnswer, IsTakingAnswer, with_entry}
+use Rattle.hose_law.specs.Answer.{ChangesHeld, IsAdmitAnswer, IsAfterAnswer, IsAnswer, IsLinkAnswer, IsOperatorAnswer, IsPlannedAnswer, IsQuoteAnswer, IsReleaseAnswer, IsServiceAnswer, IsShowAnswer, IsStepOf, IsStepOfKind, IsTakeAnswer, IsTakingAnswer, IsVpnsAnswer, with_entry}
 use Rattle.hose_law.specs.Book.{Book}
 use Rattle.hose_law.specs.History.{IsDecidedAt, IsSoundAt, book_of}
 use Rattle.hose_law.specs.ReplyKind.{ReplyKind, kind_of}
@@ -27,6 +27,10 @@ module _ (network : Network) (book : Book) where
   admit_kind : (customer : List ℕ) (hose : List Endpoint) (reply : Reply) (entry : Option Entry) → IsAdmitAnswer network book customer hose reply entry → kind_of reply ≡ ByTheBook
   admit_kind customer hose (Refused at side) None answer = refl
   admit_kind customer hose reply entry answer = planned_kind customer hose reply entry answer
+
+  after_kind : (customer : List ℕ) (known : ℕ) (hose : List Endpoint) (reply : Reply) (entry : Option Entry) → IsAfterAnswer network book customer known hose reply entry → kind_of reply ≡ ByTheBook
+  after_kind customer known hose (Newest id at) None answer = refl
+  after_kind customer known hose reply entry answer = admit_kind customer hose reply entry answer.1
 
   quote_kind : (place : ℕ) (hose : List Endpoint) (held after : Held) (reply : Reply) → IsQuoteAnswer network book place hose held reply after → kind_of reply ≡ ByTheBook
   quote_kind place hose held after (TooMany at) answer = refl
@@ -48,6 +52,10 @@ module _ (network : Network) (book : Book) where
   show_kind customer id (NoVpn told at) None answer = refl
   show_kind customer id (Shown told cost at hose amounts) None answer = refl
   show_kind customer id reply entry answer = absurd answer
+
+  vpns_kind : (customer : List ℕ) (reply : Reply) (entry : Option Entry) → IsVpnsAnswer book customer reply entry → kind_of reply ≡ ByTheBook
+  vpns_kind customer (Vpns at ids) None answer = refl
+  vpns_kind customer reply entry answer = absurd answer
 
   link_kind : (link : ℕ) (reply : Reply) (entry : Option Entry) → IsLinkAnswer book link reply entry → kind_of reply ≡ ByTheBook
   link_kind link (LinkState told load out at) None answer = refl
@@ -72,10 +80,12 @@ module _ (network : Network) (epoch : ℕ) (history : List Entry) (customer : Li
   -- an answer is by the book
   answer_kind : (command : Command) (reply : Reply) (entry : Option Entry) (after : Held) → IsAnswer network epoch history customer held command reply entry after → kind_of reply ≡ ByTheBook
   answer_kind (Admit hose) reply entry after answer = admit_kind network (book_of epoch history) customer hose reply entry answer.0
+  answer_kind (AdmitAfter known hose) reply entry after answer = after_kind network (book_of epoch history) customer known hose reply entry answer.0
   answer_kind (Quote hose) reply entry after answer = quote_kind network (book_of epoch history) (length history) hose held after reply answer.1
   answer_kind (Take number) reply entry after answer = take_kind number (at_number held number) reply entry after answer
   answer_kind (Release id) reply entry after answer = release_kind network (book_of epoch history) customer id reply entry answer.0
   answer_kind (Show id) reply entry after answer = show_kind network (book_of epoch history) customer id reply entry answer.0
+  answer_kind VpnsCommand reply entry after answer = vpns_kind network (book_of epoch history) customer reply entry answer.0
   answer_kind (Link link) reply entry after answer = link_kind network (book_of epoch history) link reply entry answer.0
   answer_kind (DownCommand link) reply entry after answer = operator_kind network (book_of epoch history) customer true link reply entry answer.0
   answer_kind (UpCommand link) reply entry after answer = operator_kind network (book_of epoch history) customer false link reply entry answer.0
@@ -141,10 +151,12 @@ module _ (network : Network) (epoch : ℕ) (history : List Entry) (customer : Li
     where
       answer_keeps : (command : Command) (reply : Reply) → ¬ ChangesHeld command → IsAnswer network epoch history customer held command reply entry after → after ≡ held
       answer_keeps (Admit hose) reply others answer = answer.1
+      answer_keeps (AdmitAfter known hose) reply others answer = answer.1
       answer_keeps (Quote hose) reply others answer = absurd (others tt)
       answer_keeps (Take number) reply others answer = absurd (others tt)
       answer_keeps (Release id) reply others answer = answer.1
       answer_keeps (Show id) reply others answer = answer.1
+      answer_keeps VpnsCommand reply others answer = answer.1
       answer_keeps (Link link) reply others answer = answer.1
       answer_keeps (DownCommand link) reply others answer = answer.1
       answer_keeps (UpCommand link) reply others answer = answer.1

@@ -1,5 +1,5 @@
 -- One plan, one side, one answer: without want of memory the replies of a script are the only ones.
-use Rattle.std.proofs.Common.{◌≡◌, ◌≢◌, ◌∙◌, ℕ, ◌+◌, ◌<◌, ◌≤◌, Bool, true, false, not, List, [], ◌∷◌, Option, None, Some, IsSome, length, take, inl, inr, ◌⊎◌, refl, sym, ap, subst, arith}
+use Rattle.std.proofs.Common.{◌≡◌, ◌≢◌, ◌∙◌, ℕ, zero, suc, ◌+◌, ◌<◌, ◌≤◌, Bool, true, false, not, List, [], ◌∷◌, Option, None, Some, IsSome, length, take, inl, inr, ◌⊎◌, refl, sym, ap, subst, arith}
 use Rattle.std.specs.Bool.{⊤}
 use Rattle.std.proofs.lemmas.Bool.{false≢true}
 use Rattle.std.proofs.lemmas.List.Elements.{All-head, All-tail}
@@ -10,9 +10,9 @@ use Rattle.hose_graph.specs.declared.entry.Vpn.{Vpn}
 use Rattle.hose_graph.specs.declared.entry.Entry.{Entry}
 use Rattle.hose_graph.specs.declared.entry.Entry.TheVariants.{Admit as AdmitEntry, Release as ReleaseEntry}
 use Rattle.hose_graph.specs.declared.command.Command.{Command}
-use Rattle.hose_graph.specs.declared.command.Command.TheVariants.{Admit, Quote, Take, Release, Show, Link, Down as DownCommand, Up as UpCommand}
+use Rattle.hose_graph.specs.declared.command.Command.TheVariants.{Admit, AdmitAfter, Quote, Take, Release, Show, Vpns as VpnsCommand, Link, Down as DownCommand, Up as UpCommand}
 use Rattle.hose_graph.specs.declared.command.Reply.{Reply}
-use Rattle.hose_graph.specs.declared.command.Reply.TheVariants.{Admitted, Quoted, Refused, Stale, Full, Spent, Released, NoVpn, TooMany, Shown, LinkState, Down, Up, Already, Denied}
+use Rattle.hose_graph.specs.declared.command.Reply.TheVariants.{Admitted, Quoted, Refused, Stale, Full, Spent, Released, NoVpn, TooMany, Shown, Vpns, Newest, LinkState, Down, Up, Already, Denied}
 use Rattle.hose_law.proofs.LiveIds.{HasDistinctIds, live_ids, vpn_unique}
 use Rattle.hose_law.proofs.CanonicalPlans.{planned_unique}
 use Rattle.hose_law.proofs.Numbers.{some_is}
@@ -22,7 +22,7 @@ use Rattle.hose_law.specs.Book.{Book, HasVpn, IsLiveVpn, load_of}
 use Rattle.hose_law.specs.Decision.{HaveEqualGrounds, IsPlanned, IsReachedList, IsRefused, lowest_end}
 use Rattle.hose_law.specs.History.{book_of, last_epoch, most_live}
 use Rattle.hose_law.specs.Room.{room_of, safe_links}
-use Rattle.hose_law.specs.Answer.{IsPlannedAnswer, IsAdmitAnswer, IsQuoteAnswer, IsTakingAnswer, IsTakeAnswer, IsReleaseAnswer, IsShowAnswer, IsLinkAnswer, IsOperatorAnswer, IsServiceAnswer, IsAnswer, IsStep, IsStepOfKind, with_entry}
+use Rattle.hose_law.specs.Answer.{AreVpnsOf, IsNewest, IsPlannedAnswer, IsAdmitAnswer, IsAfterAnswer, IsQuoteAnswer, IsTakingAnswer, IsTakeAnswer, IsReleaseAnswer, IsShowAnswer, IsVpnsAnswer, IsLinkAnswer, IsOperatorAnswer, IsServiceAnswer, IsAnswer, IsStep, IsStepOfKind, with_entry}
 use Rattle.hose_law.specs.Service.{LinkStands, is_out, service_entry}
 use Rattle.hose_law.specs.Quotes.{Held, HeldQuote, Holdings, at_number, free_number, with_held, with_number}
 use Rattle.hose_law.specs.ReplyKind.{ReplyKind, IsDiskKind, IsMemoryKind, kind_of}
@@ -139,6 +139,75 @@ module _ (network : Network) (is : IsNetwork network) (book : Book) (customer : 
       either_unique (IsRefusal network book hose None) (IsPlannedAnswer network book customer hose)
       (λ reply other entry more refusal planned. planned_not_refused other more refusal.side planned refusal.refused) (refusal_unique network book hose None) planned_answer_unique
       reply other entry more (admit_cases reply entry one) (admit_cases other more two)
+
+module _ (book : Book) (customer : List ℕ) where
+  -- a customer has one newest VPN
+  pub newest_unique : (one other : ℕ) → IsNewest book customer one → IsNewest book customer other → one ≡ other
+  newest_unique one other is also =
+      let most : one ≤ other = up_to one other is also in
+      let least : other ≤ one = up_to other one also is in
+      omega (arith, most, least)
+    where
+      up_to : (one other : ℕ) → IsNewest book customer one → IsNewest book customer other → one ≤ other
+      up_to zero other is also = omega arith
+      up_to (suc one) other is also = also.last (suc one) (is.live (λ same. absurd (omega (arith, same))))
+
+  -- and one list of VPNs
+  pub vpns_unique : (one other : List ℕ) → AreVpnsOf book customer one → AreVpnsOf book customer other → one ≡ other
+  vpns_unique one other are also =
+      same_by_elements (λ id. id) one other (AllPairs-from_increasing one are.ascending) (AllPairs-from_increasing other also.ascending)
+      (λ id. (λ there. (also.exactly id).1 ((are.exactly id).0 there), λ there. (are.exactly id).1 ((also.exactly id).0 there)))
+
+  -- the customer's VPNs are told
+  record IsListed (reply : Reply) (entry : Option Entry) : Type 0 where
+    ids : List ℕ
+    are : AreVpnsOf book customer ids
+    tells : reply ≡ Vpns book.epoch ids
+    alone : entry ≡ None
+
+  vpns_listed : (reply : Reply) (entry : Option Entry) → IsVpnsAnswer book customer reply entry → IsListed reply entry
+  vpns_listed (Vpns at ids) None is = record { ids = ids; are = is.1; tells = ap (λ (n : ℕ). Vpns n ids) is.0; alone = refl }
+  vpns_listed reply entry is = absurd is
+
+  -- a question after a customer's VPNs has one answer at a book
+  vpns_answer_unique : IsUnique (IsVpnsAnswer book customer)
+  vpns_answer_unique reply other entry more is also =
+      let one = vpns_listed reply entry is in
+      let two = vpns_listed other more also in
+      (one.tells ∙ ap (Vpns book.epoch) (vpns_unique one.ids two.ids one.are two.are) ∙ sym two.tells, one.alone ∙ sym two.alone)
+
+module _ (network : Network) (is : IsNetwork network) (book : Book) (customer : List ℕ) (known : ℕ) (hose : List (ℕ × ℕ)) where
+  -- another VPN is the customer's newest
+  record IsAnother (reply : Reply) (entry : Option Entry) : Type 0 where
+    id : ℕ
+    other : id ≢ known
+    newest : IsNewest book customer id
+    tells : reply ≡ Newest id book.epoch
+    alone : entry ≡ None
+
+  another_unique : IsUnique IsAnother
+  another_unique reply other entry more one two = (
+    one.tells ∙ ap (λ (n : ℕ). Newest n book.epoch) (newest_unique book customer one.id two.id one.newest two.newest) ∙ sym two.tells,
+    one.alone ∙ sym two.alone,
+  )
+
+  -- the VPN that is known is the newest, and the hose's admission is answered
+  record IsKnown (reply : Reply) (entry : Option Entry) : Type 0 where
+    newest : IsNewest book customer known
+    admit : IsAdmitAnswer network book customer hose reply entry
+
+  known_unique : IsUnique IsKnown
+  known_unique reply other entry more one two = admit_answer_unique network is book customer hose reply other entry more one.admit two.admit
+
+  after_cases : (reply : Reply) (entry : Option Entry) → IsAfterAnswer network book customer known hose reply entry → IsAnother reply entry ⊎ IsKnown reply entry
+  after_cases (Newest id at) None is = inl (record { id = id; other = is.1; newest = is.2; tells = ap (Newest id) is.0; alone = refl })
+  after_cases reply entry is = inr (record { newest = is.0; admit = is.1 })
+
+  -- an admission that is bound to a number has one answer at a book, and one entry of it
+  after_answer_unique : IsUnique (IsAfterAnswer network book customer known hose)
+  after_answer_unique reply other entry more one two =
+      either_unique IsAnother IsKnown (λ _ _ _ _ another is_known. another.other (newest_unique book customer another.id known another.newest is_known.newest)) another_unique known_unique
+      reply other entry more (after_cases reply entry one) (after_cases other more two)
 
 module _ (book : Book) (customer : List ℕ) (id : ℕ) where
   -- where the customer has the VPN: spent where no epoch is left, else it is given up
@@ -313,6 +382,8 @@ pub answer_unique : (network : Network) → IsNetwork network → (epoch : ℕ) 
     → (reply ≡ other) × (entry ≡ more) × (after ≡ left)
 answer_unique network is epoch history customer held (Admit hose) reply other entry more after left one two =
     let same = admit_answer_unique network is (book_of epoch history) customer hose reply other entry more one.0 two.0 in (same.0, same.1, one.1 ∙ sym two.1)
+answer_unique network is epoch history customer held (AdmitAfter known hose) reply other entry more after left one two =
+    let same = after_answer_unique network is (book_of epoch history) customer known hose reply other entry more one.0 two.0 in (same.0, same.1, one.1 ∙ sym two.1)
 answer_unique network is epoch history customer held (Quote hose) reply other entry more after left one two =
     let same = quote_answer_unique network is (book_of epoch history) (length history) hose held reply other after left one.1 two.1 in (same.0, one.0 ∙ sym two.0, same.1)
 answer_unique network is epoch history customer held (Take number) reply other entry more after left one two =
@@ -321,6 +392,8 @@ answer_unique network is epoch history customer held (Release id) reply other en
     let same = release_answer_unique (book_of epoch history) customer id reply other entry more one.0 two.0 in (same.0, same.1, one.1 ∙ sym two.1)
 answer_unique network is epoch history customer held (Show id) reply other entry more after left one two =
     let same = show_answer_unique network (book_of epoch history) customer id (live_ids epoch history) reply other entry more one.0 two.0 in (same.0, same.1, one.1 ∙ sym two.1)
+answer_unique network is epoch history customer held VpnsCommand reply other entry more after left one two =
+    let same = vpns_answer_unique (book_of epoch history) customer reply other entry more one.0 two.0 in (same.0, same.1, one.1 ∙ sym two.1)
 answer_unique network is epoch history customer held (Link link) reply other entry more after left one two =
     let same = link_answer_unique (book_of epoch history) link reply other entry more one.0 two.0 in (same.0, same.1, one.1 ∙ sym two.1)
 answer_unique network is epoch history customer held (DownCommand link) reply other entry more after left one two =

@@ -1,11 +1,12 @@
 -- What the sequential book answers to a command, and the steps that this allows.
-use Rattle.std.specs.Prelude.{◌≡◌, ◌≢◌, Bool, true, false, not, ℕ, ◌+◌, ◌<◌, ◌≤◌, List, [], ◌∷◌, ◌++◌, length, take, None, Some, Option, IsSome, ⊤}
+use Rattle.std.specs.Prelude.{◌≡◌, ◌≢◌, ◌↔◌, Bool, true, false, not, ℕ, ◌+◌, ◌<◌, ◌≤◌, List, [], ◌∷◌, ◌++◌, length, take, None, Some, Option, IsSome, ⊤, Contains}
+use Rattle.std.specs.List.Sorted.{IsStrictlyIncreasing}
 use Rattle.hose_graph.specs.declared.entry.Entry.{Entry}
 use Rattle.hose_graph.specs.declared.entry.Entry.TheVariants.{Admit as AdmitEntry, Release as ReleaseEntry, Down as DownEntry, Up as UpEntry}
 use Rattle.hose_graph.specs.declared.command.Command.{Command}
-use Rattle.hose_graph.specs.declared.command.Command.TheVariants.{Admit, Quote, Take, Release, Show, Link, Down as DownCommand, Up as UpCommand}
+use Rattle.hose_graph.specs.declared.command.Command.TheVariants.{Admit, AdmitAfter, Quote, Take, Release, Show, Vpns as VpnsCommand, Link, Down as DownCommand, Up as UpCommand}
 use Rattle.hose_graph.specs.declared.command.Reply.{Reply}
-use Rattle.hose_graph.specs.declared.command.Reply.TheVariants.{Admitted, Quoted, Refused, Stale, Full, Spent, Released, NoVpn, NoQuote, TooMany, Shown, LinkState, Down, Up, Already, Denied}
+use Rattle.hose_graph.specs.declared.command.Reply.TheVariants.{Admitted, Quoted, Refused, Stale, Full, Spent, Released, NoVpn, NoQuote, TooMany, Shown, Vpns, Newest, LinkState, Down, Up, Already, Denied}
 use Rattle.hose_graph.specs.declared.entry.Vpn.{Vpn}
 use Rattle.hose_graph.specs.Amounts.{ReservedLink}
 use Rattle.hose_graph.specs.Hose.{Endpoint}
@@ -51,6 +52,21 @@ IsAdmitAnswer network book customer hose (Refused at side) None =
     (at ≡ book.epoch) × IsRefused network (room_of network book) hose side
 IsAdmitAnswer network book customer hose reply entry =
     IsPlannedAnswer network book customer hose reply entry
+
+-- The number is that of a customer's newest live VPN at a book, which is the greatest one, or 0
+-- where the customer has none.
+pub record IsNewest (book : Book) (customer : List ℕ) (id : ℕ) : Type 0 where
+  pub last : (other : ℕ) → HasVpn book customer other → other ≤ id
+  pub live : id ≢ 0 → HasVpn book customer id
+
+-- The answer at a book to an admission that is bound to a number: which VPN is the customer's
+-- newest where that is another one, before all else. Where it is this one, that to an admission.
+abbrev pub IsAfterAnswer : Network → Book → List ℕ → ℕ → List Endpoint → Reply → Option Entry
+    → Type 0
+IsAfterAnswer network book customer known hose (Newest id at) None =
+    (at ≡ book.epoch) × (id ≢ known) × IsNewest book customer id
+IsAfterAnswer network book customer known hose reply entry =
+    IsNewest book customer known × IsAdmitAnswer network book customer hose reply entry
 
 -- The answer to a question for a plan at a book, which is that of a place of the history: the first
 -- of too many, refused that applies, else quoted under the lowest number at which nothing is held,
@@ -98,6 +114,16 @@ IsShowAnswer network book customer id (Shown told cost at hose amounts) None =
     (vpn : Vpn) × IsLiveVpn book customer id vpn × (told ≡ id) × (at ≡ book.epoch)
     × (cost ≡ plan_cost network vpn.amounts) × (hose ≡ vpn.hose) × (amounts ≡ vpn.amounts)
 IsShowAnswer network book customer id reply entry = ⊥
+
+-- the numbers of a customer's live VPNs at a book, ascending, which is the order of their admission
+pub record AreVpnsOf (book : Book) (customer : List ℕ) (ids : List ℕ) : Type 0 where
+  pub ascending : IsStrictlyIncreasing ids
+  pub exactly : (id : ℕ) → Contains ids id ↔ HasVpn book customer id
+
+-- the answer to a customer's question which VPNs are live: the numbers of the customer's own
+abbrev pub IsVpnsAnswer : Book → List ℕ → Reply → Option Entry → Type 0
+IsVpnsAnswer book customer (Vpns at ids) None = (at ≡ book.epoch) × AreVpnsOf book customer ids
+IsVpnsAnswer book customer reply entry = ⊥
 
 -- the answer to the question what is reserved on a link, and whether it is out of service
 abbrev pub IsLinkAnswer : Book → ℕ → Reply → Option Entry → Type 0
@@ -148,6 +174,8 @@ abbrev pub IsAnswer : Network → ℕ → List Entry → List ℕ → Held → C
     → Held → Type 0
 IsAnswer network epoch history customer held (Admit hose) reply entry after =
     IsAdmitAnswer network (book_of epoch history) customer hose reply entry × (after ≡ held)
+IsAnswer network epoch history customer held (AdmitAfter known hose) reply entry after =
+    IsAfterAnswer network (book_of epoch history) customer known hose reply entry × (after ≡ held)
 IsAnswer network epoch history customer held (Quote hose) reply entry after =
     (entry ≡ None)
     × IsQuoteAnswer network (book_of epoch history) (length history) hose held reply after
@@ -158,6 +186,8 @@ IsAnswer network epoch history customer held (Release id) reply entry after =
     IsReleaseAnswer (book_of epoch history) customer id reply entry × (after ≡ held)
 IsAnswer network epoch history customer held (Show id) reply entry after =
     IsShowAnswer network (book_of epoch history) customer id reply entry × (after ≡ held)
+IsAnswer network epoch history customer held VpnsCommand reply entry after =
+    IsVpnsAnswer (book_of epoch history) customer reply entry × (after ≡ held)
 IsAnswer network epoch history customer held (Link link) reply entry after =
     IsLinkAnswer (book_of epoch history) link reply entry × (after ≡ held)
 IsAnswer network epoch history customer held (DownCommand link) reply entry after =
@@ -174,15 +204,18 @@ abbrev pub with_entry : List Entry → Option Entry → List Entry
 with_entry history None = history
 with_entry history (Some entry) = history ++ entry ∷ []
 
--- Want of memory comes first at an admission and a release. It comes after too many quotes, after
--- no quote to be taken, after no VPN to be told, and after a customer who is not the operator is
--- denied. What is reserved on a link is told in any case.
+-- Want of memory comes first at an admission, bound to a number or not, at a release and at the
+-- list of a customer's VPNs. It comes after too many quotes, after no quote to be taken, after no
+-- VPN to be told, and after a customer who is not the operator is denied. What is reserved on a
+-- link is told in any case.
 abbrev pub MayWantMemory : Book → List ℕ → Held → Command → Type 0
 MayWantMemory book customer held (Admit hose) = ⊤
+MayWantMemory book customer held (AdmitAfter known hose) = ⊤
 MayWantMemory book customer held (Quote hose) = IsSome (free_number held)
 MayWantMemory book customer held (Take number) = IsSome (at_number held number)
 MayWantMemory book customer held (Release id) = ⊤
 MayWantMemory book customer held (Show id) = HasVpn book customer id
+MayWantMemory book customer held VpnsCommand = ⊤
 MayWantMemory book customer held (Link link) = ⊥
 MayWantMemory book customer held (DownCommand link) = customer ≡ operator
 MayWantMemory book customer held (UpCommand link) = customer ≡ operator
@@ -221,10 +254,12 @@ IsStep network epoch history customer held command reply next after =
 -- the commands that may change what their customer holds
 abbrev pub ChangesHeld : Command → Type 0
 ChangesHeld (Admit hose) = ⊥
+ChangesHeld (AdmitAfter known hose) = ⊥
 ChangesHeld (Quote hose) = ⊤
 ChangesHeld (Take number) = ⊤
 ChangesHeld (Release id) = ⊥
 ChangesHeld (Show id) = ⊥
+ChangesHeld VpnsCommand = ⊥
 ChangesHeld (Link link) = ⊥
 ChangesHeld (DownCommand link) = ⊥
 ChangesHeld (UpCommand link) = ⊥

@@ -1,6 +1,7 @@
 pub mod Answer
 pub mod Book
 pub mod CanonicalPlan
+pub mod Carried
 pub mod Carries
 pub mod Cheapest
 pub mod Decision
@@ -8,6 +9,7 @@ pub mod Heaviest
 pub mod History
 pub mod Live
 pub mod Matrix
+pub mod Once
 pub mod Plan
 pub mod Quotes
 pub mod ReplyKind
@@ -19,6 +21,7 @@ pub mod Service
 pub mod Tracks
 pub mod Transcript
 pub mod Tree
+pub mod VpnIds
 pub mod Walk
 pub use Rattle.hose_graph.specs.Ascending
 pub use Rattle.hose_graph.specs.Hose

@@ -1,7 +1,7 @@
 -- What a reply is for: the one place that lists all replies where none is asked for by itself.
 use Rattle.std.specs.Prelude.{ℕ, ⊤}
 use Rattle.hose_graph.specs.declared.command.Reply.{Reply}
-use Rattle.hose_graph.specs.declared.command.Reply.TheVariants.{Welcome, Admitted, Quoted, Refused, Stale, Released, NoVpn, NoQuote, TooMany, Shown, LinkState, Down, Up, Already, Denied, Full, Spent, Disk, Memory, Bad, Long, Bye}
+use Rattle.hose_graph.specs.declared.command.Reply.TheVariants.{Welcome, Admitted, Quoted, Refused, Stale, Released, NoVpn, NoQuote, TooMany, Shown, Vpns, Newest, LinkState, Down, Up, Already, Denied, Full, Spent, Disk, Memory, Bad, Long, Bye}
 
 -- The kinds: what a book answers to a command; that the disk failed to keep the entry of such an
 -- answer, at an epoch; that memory is wanting; and what is told of a line that is no command.
@@ -23,6 +23,8 @@ kind_of (NoVpn id at) = ByTheBook
 kind_of (NoQuote quote at) = ByTheBook
 kind_of (TooMany at) = ByTheBook
 kind_of (Shown id cost at hose amounts) = ByTheBook
+kind_of (Vpns at ids) = ByTheBook
+kind_of (Newest id at) = ByTheBook
 kind_of (LinkState link load out at) = ByTheBook
 kind_of (Down link at) = ByTheBook
 kind_of (Up link at) = ByTheBook

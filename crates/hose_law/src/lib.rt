@@ -9,7 +9,8 @@
 //! ```
 #![tactic(auto)]
 
-ghost use Rattle.std.specs.Prelude.{◌≡◌, ℕ, ◌≤◌, length, take};
+ghost use Rattle.std.specs.Prelude.{◌≡◌, ◌↔◌, ℕ, ◌≤◌, List, length, take};
+ghost use Rattle.hose_law.specs.Answer.{AreVpnsOf};
 ghost use Rattle.hose_law.specs.Book.{IsOversold};
 ghost use Rattle.hose_law.specs.Carries.{Carry};
 ghost use Rattle.hose_law.specs.Cheapest.{HasRootWithin, amounts_cost};
@@ -17,12 +18,14 @@ ghost use Rattle.hose_law.specs.CanonicalPlan.{IsCanonicalPlan, IsRoot, IsWeight
 ghost use Rattle.hose_law.specs.Decision.{HaveEqualDecisions, HaveEqualGrounds};
 ghost use Rattle.hose_law.specs.History.{IsSound, book_of};
 ghost use Rattle.hose_law.specs.Live.{AreLiveUnreleased, IsAdmission, StaysLive};
+ghost use Rattle.hose_law.specs.Once.{AdmitsOnce};
 ghost use Rattle.hose_law.specs.Plan.{plan_cost};
 ghost use Rattle.hose_law.specs.Route.{AreSame, HaveSameRoutes};
 ghost use Rattle.hose_law.specs.Tracks.{LoadsStay, Recent, ServiceStays, Tracks};
 ghost use Rattle.hose_law.specs.Tree.{IsTree, IsTreeOver, growth};
+ghost use Rattle.hose_law.specs.VpnIds.{ids_of};
 
-use hose_graph::{Amounts, Entry, Hose, Step, Topology};
+use hose_graph::{Amounts, Entry, Hose, Name, Step, Topology};
 
 /// In a sound history no link is oversold, at any place.
 pub fn law_sold(top: &Topology, e0: u64, h: &[Entry])
@@ -95,6 +98,19 @@ pub fn law_lives(top: &Topology, e0: u64, h: &[Entry], k: u64)
 pub fn law_held(top: &Topology, e0: u64, h: &[Entry])
     requires { IsSound top.now e0 h.now }
     ensures { (place : ℕ) → place ≤ length h.now → AreLiveUnreleased e0 h.now place }
+{}
+
+/// The numbers of a customer's live VPNs, ascending, are those of the live VPNs that are the
+/// customer's, in the order of their admission.
+pub fn law_vpns(e0: u64, h: &[Entry], customer: &Name)
+    ensures { (ids : List ℕ) → AreVpnsOf (book_of e0 h.now) customer.now ids
+        ↔ (ids ≡ ids_of customer.now (book_of e0 h.now).live) }
+{}
+
+/// Of the admissions that a customer binds to one number, with no release of their VPNs between,
+/// at most one is in a history.
+pub fn law_once(top: &Topology, e0: u64, h: &[Entry], customer: &Name, known: u64)
+    ensures { AdmitsOnce top.now e0 h.now customer.now known }
 {}
 
 /// Where a hose has equal grounds at two places of a history, it has equal decisions there.
