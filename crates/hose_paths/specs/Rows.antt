@@ -1,8 +1,20 @@
--- The rows of all nodes.
-use Rattle.std.specs.Prelude.{◌≡◌, ℕ, ◌≤◌, Bool, List, length, slice_get, Some}
+-- The rows of all nodes, and rows without tight links.
+use Rattle.std.specs.Prelude.{◌≡◌, ℕ, ◌<◌, ◌≤◌, Bool, List, length, MatchOption, slice_get, Some}
 use Rattle.hose_graph.specs.Network.{Network}
-use Rattle.hose_graph.specs.Row.{Distances, HasBoundedDistances}
+use Rattle.hose_graph.specs.Row.{Distances, HasBoundedDistances, distance_of}
 use Rattle.hose_law.specs.Row.{IsRow}
+use Rattle.hose_law.specs.Walk.{IsDistance, Reaches}
+
+-- In each node's place stands its distance from a root over a set of links, or nothing exactly
+-- where there is no walk, and no distance is above the greatest. Of tight links nothing is said.
+pub record HasDistances (network : Network) (set : List Bool) (root : ℕ) (row : Distances) :
+    Type 0 where
+  pub rooted : row.root ≡ root
+  pub dist_places : length row.dist ≡ length network.nodes
+  pub distances : (v : ℕ) → v < length network.nodes
+      → MatchOption (distance_of row v) (¬ Reaches network set root v)
+      (IsDistance network set root v)
+  pub bounded : HasBoundedDistances row
 
 -- this is the row of a root over a set of links
 pub record IsRowOf (network : Network) (links : List Bool) (root : ℕ) (row : Distances) :

@@ -1,21 +1,22 @@
 // The maker of rows by a heap: what fell waits in a queue, the nearest first, until its links are
 // followed.
-ghost use Rattle.std.specs.Prelude.{◌≡◌, ◌≢◌, ◌⊎◌, ℕ, ◌+◌, ◌*◌, ◌^◌, ◌<◌, ◌≤◌, ◌↔◌, None, Some, IfOk, IsTrue, OnOk, length, slice_get};
+ghost use Rattle.std.specs.Prelude.{◌≡◌, ◌≢◌, ◌⊎◌, ℕ, ◌+◌, ◌*◌, ◌/◌, ◌%◌, ◌^◌, ◌<◌, ◌≤◌, ◌↔◌, None, Some, IfOk, IsTrue, OnOk, length, slice_get};
 ghost use Rattle.std.specs.BinaryHeap.{heap_items, heap_len};
 ghost use Rattle.hose_graph.specs.Network.{IsNetwork};
 ghost use Rattle.hose_graph.specs.Row.{HasBoundedDistances};
 ghost use Rattle.hose_law.specs.Row.{IsRow};
+ghost use Rattle.hose_paths.specs.Rows.{HasDistances};
 ghost use Rattle.hose_law.specs.Walk.{Joins};
 ghost use Rattle.hose_paths.specs.Table.{entry, IsFound, IsBounded, CannotLower, IsSettled, Lowers, left_to_fall};
 ghost use Rattle.hose_paths.specs.Chain.{AreChains, Meets};
-ghost use Rattle.hose_paths.specs.Queue.{IsQueued, IsSettledBut, Relaxes};
+ghost use Rattle.hose_paths.specs.Queue.{IsQueued, IsSettledBut, Relaxes, key_of};
 
 use crate::MadeRow;
 use crate::chains::Chains;
 use crate::entries::lower;
-use crate::settling::{RowsBy, Settling};
-use crate::tight::mark_tight_links;
-use hose_graph::{Link, Row, Topology};
+use crate::settling::{RowsBy, Settling, settled, start};
+use crate::tight::with_tight_links;
+use hose_graph::{Link, Topology};
 use hose_links::LinkSet;
 use std::alloc::{AllocError, Global};
 use std::cmp::Reverse;
@@ -36,13 +37,14 @@ impl Settling for ByHeap {
         dist: &mut [Option<u64>],
         root: u32,
     ) -> Result<(), AllocError> {
-        let chains = Chains::new(alloc, top)?;
+        let chains = Chains::new(alloc, top, links)?;
         settle_along(alloc, top, links, &chains, dist, root)
     }
 }
 
-// The row of a root over a set of links, as `HeapRows` makes it, along chains that are there.
-pub(crate) fn row_along(
+/// The distances from a root over a set of links, as a row without tight links, found by a heap
+/// along chains that are there: whoever wants several rows over one set makes its chains once.
+pub fn distances_along(
     alloc: Global,
     top: &Topology,
     links: &LinkSet,
@@ -51,18 +53,33 @@ pub(crate) fn row_along(
 ) -> MadeRow
     requires places { length links.now ≡ length top.now.links }
     requires is_node { root < length top.now.nodes }
-    requires chains { AreChains top.now (length top.now.links)
+    requires chains { AreChains top.now links.now (length top.now.links)
+        chains.now.last.items chains.now.from_a.items chains.now.from_b.items }
+    ensures distances { IfOk result (HasDistances top.now links.now root) }
+    ensures bounded { IfOk result HasBoundedDistances }
+{
+    let mut dist = start(alloc, top, root)?;
+    settle_along(alloc, top, links, chains, &mut dist, root)?;
+    Ok(settled(alloc, top, links, root, dist))
+}
+
+/// The row of a root over a set of links, as `HeapRows` makes it, along chains that are there.
+pub fn row_along(
+    alloc: Global,
+    top: &Topology,
+    links: &LinkSet,
+    chains: &Chains,
+    root: u32,
+) -> MadeRow
+    requires places { length links.now ≡ length top.now.links }
+    requires is_node { root < length top.now.nodes }
+    requires chains { AreChains top.now links.now (length top.now.links)
         chains.now.last.items chains.now.from_a.items chains.now.from_b.items }
     ensures row { IfOk result (IsRow top.now links.now root) }
     ensures bounded { IfOk result HasBoundedDistances }
 {
-    let nodes = top.nodes() as usize;
-    let mut dist = vec![in alloc; None; nodes]?;
-    let mut tight = vec![in alloc; None; nodes]?;
-    dist[root as usize] = Some(0);
-    settle_along(alloc, top, links, chains, &mut dist, root)?;
-    mark_tight_links(top, links, &dist, &mut tight);
-    Ok(Row { root, dist, tight })
+    let row = distances_along(alloc, top, links, chains, root)?;
+    with_tight_links(alloc, top, links, &row)
 }
 
 // Lowers entries until no link of the set can, where at first the root alone has one.
@@ -77,7 +94,7 @@ fn settle_along(
     requires network { IsNetwork top.now }
     requires places { length dist.old ≡ length top.now.nodes }
     requires links { length links.now ≡ length top.now.links }
-    requires chains { AreChains top.now (length top.now.links)
+    requires chains { AreChains top.now links.now (length top.now.links)
         chains.now.last.items chains.now.from_a.items chains.now.from_b.items }
     requires bounded { IsBounded dist.old }
     requires root { entry dist.old root ≡ Some 0 }
@@ -88,17 +105,44 @@ fn settle_along(
     ensures settled { OnOk result (IsSettled top.now links.now dist.new) }
 {
     let mut queue: Queue = BinaryHeap::new(alloc);
-    queue.push(Reverse((0, root)))?;
-    while let Some(Reverse((distance, node))) = queue.pop() {
-        if stands(dist, node, distance) {
+    queue.push(Reverse(key(0, root)))?;
+    while let Some(Reverse(lowest)) = queue.pop() {
+        let node = node_in(lowest);
+        if stands(dist, node, distance_in(lowest)) {
             follow_all(top, links, chains, dist, &mut queue, node)?;
         }
     }
     Ok(())
 }
 
-// Entries of nodes, the lowest first.
-type Queue = BinaryHeap<Reverse<(u64, u32)>>;
+// Entries of nodes, the lowest first, each with its node in one number, which is faster to compare
+// and to move than two.
+type Queue = BinaryHeap<Reverse<u64>>;
+
+// More than any node's number; a power of two is fastest.
+const PLACES: u64 = 1024;
+
+// An entry with its node.
+fn key(distance: u64, node: u32) -> u64
+    requires { key_of distance node < 2 ^ 64 }
+    ensures { result ≡ key_of distance node }
+{
+    distance * PLACES + u64::from(node)
+}
+
+// The node in a key.
+fn node_in(key: u64) -> u32
+    ensures { result ≡ key % 1024 }
+{
+    (key % PLACES) as u32
+}
+
+// The entry in a key.
+fn distance_in(key: u64) -> u64
+    ensures { result ≡ key / 1024 }
+{
+    key / PLACES
+}
 
 // Whether this is the node's entry.
 fn stands(dist: &[Option<u64>], node: u32, distance: u64) -> bool
@@ -119,7 +163,7 @@ fn follow_all(
     requires network { IsNetwork top.now }
     requires places { length dist.old ≡ length top.now.nodes }
     requires links { length links.now ≡ length top.now.links }
-    requires chains { AreChains top.now (length top.now.links)
+    requires chains { AreChains top.now links.now (length top.now.links)
         chains.now.last.items chains.now.from_a.items chains.now.from_b.items }
     requires bounded { IsBounded dist.old }
     requires node { node < length top.now.nodes }
@@ -133,22 +177,20 @@ fn follow_all(
     ensures less { OnOk result (2 * left_to_fall dist.new + heap_len queue.new
         ≤ 2 * left_to_fall dist.old + heap_len queue.old) }
 {
-    let mut at = chains.last_of(top, node);
+    let mut at = chains.last_of(top, links, node);
     while let Some(number) = at {
         let link = top.link(number);
-        if links.has(number) {
-            let other = far_end(top, node, number, &link);
-            follow(dist, queue, node, other, link.cost)?;
-        }
-        at = chains.before(top, node, number, &link);
+        let other = far_end(top, links, node, number, &link);
+        follow(dist, queue, node, other, link.cost)?;
+        at = chains.before(top, links, node, number, &link);
     }
     Ok(())
 }
 
 // The node to which a link leads from one of its nodes.
-fn far_end(top: &Topology, node: u32, number: u32, link: &Link) -> u32
+fn far_end(top: &Topology, links: &LinkSet, node: u32, number: u32, link: &Link) -> u32
     requires link { slice_get top.now.links number ≡ Some link.now }
-    requires meets { Meets top.now node number }
+    requires meets { Meets top.now links.now node number }
     ensures { Joins top.now number node result }
 {
     if link.a == node { link.b } else { link.a }
@@ -165,14 +207,15 @@ fn follow(
 ) -> Result<(), AllocError>
     requires from { from < length dist.old }
     requires to { to < length dist.old }
-    requires fits { (near : ℕ) → entry dist.old from ≡ Some near → near + cost < 2 ^ 64 }
+    requires fits { (near : ℕ) → entry dist.old from ≡ Some near
+        → key_of (near + cost) to < 2 ^ 64 }
     ensures follows { OnOk result
         (Relaxes dist.old (heap_items queue.old) dist.new (heap_items queue.new) from to cost) }
     ensures len { OnOk result ((heap_len queue.new ≡ heap_len queue.old) × (dist.new ≡ dist.old)
         ⊎ (heap_len queue.new ≡ heap_len queue.old + 1) × Lowers dist.old dist.new from to cost) }
 {
     if let Some(far) = lower(dist, from, to, cost) {
-        queue.push(Reverse((far, to)))?;
+        queue.push(Reverse(key(far, to)))?;
     }
     Ok(())
 }

@@ -2,7 +2,8 @@
 //! each node's tight link. The planner takes what makes them by its contract alone. Three makers
 //! are here: by rounds over all links; by a heap, which follows the links of the nearest node first
 //! and is the faster one the longer the ways are; and over a table of rows that are kept, which are
-//! lent as they lie.
+//! lent as they lie. Whoever wants the distances of several nodes over one set makes its chains
+//! once, and marks tight links in the row alone of which a tree is wanted.
 //!
 //! ```
 //! let row = HeapRows::new().row(alloc, &top, &links, root)?;
@@ -10,6 +11,10 @@
 //! if let Some(rows) = TableRows::new(&table).kept(&top, &links) {
 //!     let row = row_of(&top, &links, rows, root);
 //! }
+//!
+//! let chains = Chains::new(alloc, &top, &links)?;
+//! let far = distances_along(alloc, &top, &links, &chains, root)?;
+//! let row = with_tight_links(alloc, &top, &links, &far)?;
 //! ```
 #![tactic(auto)]
 
@@ -28,13 +33,15 @@ mod table;
 mod tight;
 mod whole;
 
-pub use heap::HeapRows;
+pub use chains::Chains;
+pub use heap::{HeapRows, distances_along, row_along};
 use hose_graph::{Row, Topology};
 use hose_links::LinkSet;
 pub use plain::PlainRows;
 pub use settling::RowsBy;
 use std::alloc::{AllocError, Global};
 pub use table::{RowTable, TableRows, row_of};
+pub use tight::with_tight_links;
 pub use whole::{all_links, rows_of_all};
 
 /// A row, or want of memory for it.

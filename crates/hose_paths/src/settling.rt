@@ -1,9 +1,11 @@
 // The maker of rows, whichever way its table of distances settles.
-ghost use Rattle.std.specs.Prelude.{◌≡◌, ◌≢◌, ℕ, IfOk, None, OnOk, Some, length};
+ghost use Rattle.std.specs.Prelude.{◌≡◌, ◌≢◌, ◌<◌, ℕ, Bool, IfOk, List, None, OnOk, Some, length};
 ghost use Rattle.hose_graph.specs.Network.{IsNetwork};
+ghost use Rattle.hose_graph.specs.Row.{HasBoundedDistances};
+ghost use Rattle.hose_paths.specs.Rows.{HasDistances};
 ghost use Rattle.hose_paths.specs.Table.{entry, IsBounded, IsFound, IsSettled};
 
-use crate::tight::mark_tight_links;
+use crate::tight::with_tight_links;
 use crate::{MadeRow, RowMaker};
 use hose_graph::{Row, Topology};
 use hose_links::LinkSet;
@@ -49,12 +51,48 @@ impl<W> RowsBy<W> {
 
 impl<W: Settling> RowMaker for RowsBy<W> {
     fn row(&mut self, alloc: Global, top: &Topology, links: &LinkSet, root: u32) -> MadeRow {
-        let nodes = top.nodes() as usize;
-        let mut dist = vec![in alloc; None; nodes]?;
-        let mut tight = vec![in alloc; None; nodes]?;
-        dist[root as usize] = Some(0);
+        let mut dist = start(alloc, top, root)?;
         W::settle(alloc, top, links, &mut dist, root)?;
-        mark_tight_links(top, links, &dist, &mut tight);
-        Ok(Row { root, dist, tight })
+        let row = settled(alloc, top, links, root, dist);
+        with_tight_links(alloc, top, links, &row)
+    }
+}
+
+// A table in which the root alone has an entry.
+pub fn start(alloc: Global, top: &Topology, root: u32) -> Result<Vec<Option<u64>>, AllocError>
+    requires is_node { root < length top.now.nodes }
+    ensures places { IfOk result (λ dist. length dist.items ≡ length top.now.nodes) }
+    ensures bounded { IfOk result (λ dist. IsBounded dist.items) }
+    ensures found { (links : List Bool)
+        → IfOk result (λ dist. IsFound top.now links root dist.items) }
+    ensures root { IfOk result (λ dist. entry dist.items root ≡ Some 0) }
+    ensures alone { (v : ℕ) → v ≢ root → IfOk result (λ dist. entry dist.items v ≡ None) }
+    ensures network { IsNetwork top.now }
+{
+    let mut dist = vec![in alloc; None; top.nodes() as usize]?;
+    dist[root as usize] = Some(0);
+    Ok(dist)
+}
+
+// A table that has settled, as a row without tight links.
+pub fn settled(
+    alloc: Global,
+    top: &Topology,
+    links: &LinkSet,
+    root: u32,
+    dist: Vec<Option<u64>>,
+) -> Row
+    requires network { IsNetwork top.now }
+    requires places { length dist.items ≡ length top.now.nodes }
+    requires bounded { IsBounded dist.items }
+    requires found { IsFound top.now links.now root dist.items }
+    requires settled { IsSettled top.now links.now dist.items }
+    ensures distances { HasDistances top.now links.now root result }
+    ensures bounded { HasBoundedDistances result }
+{
+    Row {
+        root,
+        dist,
+        tight: Vec::new(alloc),
     }
 }

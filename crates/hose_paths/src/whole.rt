@@ -26,7 +26,7 @@ pub fn rows_of_all(alloc: Global, top: &Topology, links: &LinkSet) -> Result<Vec
     requires places { length links.now ≡ length top.now.links }
     ensures { IfOk result (λ rows. AreRows top.now links.now rows.items) }
 {
-    let chains = Chains::new(alloc, top)?;
+    let chains = Chains::new(alloc, top, links)?;
     let mut rows = Vec::with_capacity(alloc, top.nodes() as usize)?;
     for root in 0..top.nodes() {
         rows.push(row_along(alloc, top, links, &chains, root)?)?;

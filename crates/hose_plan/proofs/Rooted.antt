@@ -6,17 +6,18 @@ use Rattle.std.proofs.lemmas.List.{get_or_past}
 use Rattle.std.proofs.lemmas.List.Elements.{All-push}
 use Rattle.std.proofs.lemmas.Option.{MatchOption-at_none, none-some}
 use Rattle.hose_graph.specs.Network.{Network, IsNetwork}
-use Rattle.hose_graph.specs.Row.{Distances, distance_of}
+use Rattle.hose_graph.specs.Row.{Distances, HasBoundedDistances, distance_of}
 use Rattle.hose_law.specs.CanonicalPlan.{IsRoot, IsWeight}
 use Rattle.hose_law.specs.Plan.{AreNodes}
 use Rattle.hose_law.specs.Row.{IsRow}
 use Rattle.hose_law.specs.Walk.{IsDistance, Reaches}
 use Rattle.hose_law.proofs.Rows.{row_has_distance}
 use Rattle.hose_law.proofs.Walks.{reaches_back, reaches_on}
+use Rattle.hose_paths.specs.Rows.{HasDistances}
 use Rattle.hose_root.specs.Choice.{weight_at, IsLowestLeast}
 use Rattle.hose_root.specs.Weight.{LeavesOut}
 use Rattle.hose_law.proofs.Weights.{weight_unique}
-use Rattle.hose_plan.specs.Rooting.{AreRowsOver, AreWeights, IsBestRoot}
+use Rattle.hose_plan.specs.Rooting.{AreDistancesOver, AreWeights, IsBestRoot}
 
 module _ (network : Network) (set : List Bool) (hose : List (ℕ × ℕ)) (weights : List (Option ℕ)) (are : AreWeights network set hose weights) where
   -- a node that has a weight has it at its place
@@ -68,7 +69,7 @@ weighed network set root (first ∷ hose) weight is (suc k) end below = weighed 
 
 -- where the row of an endpoint leaves out another one, no node reaches both
 no_root_at : (network : Network) (set : List Bool) (hose : List (ℕ × ℕ)) → AreNodes network hose → (i : ℕ) → i < length hose
-    → (row : Distances) → IsRow network set (get_or hose i (0, 0)).0 row → LeavesOut row hose → IsBestRoot network set hose None
+    → (row : Distances) → HasDistances network set (get_or hose i (0, 0)).0 row → LeavesOut row hose → IsBestRoot network set hose None
 no_root_at network set hose nodes i inside row is_row out root weight is =
     let end : ℕ = (get_or hose i (0, 0)).0 in
     let other : ℕ = (get_or hose out.0 out.1).0 in
@@ -79,10 +80,10 @@ no_root_at network set hose nodes i inside row is_row out root weight is =
     (is_row.distances other (nodes out.0 out.1 out.2)) reach
 
 pub no_root_apart : (network : Network) (set : List Bool) (hose ends : List (ℕ × ℕ)) → ends ≡ hose → AreNodes network hose → (i : ℕ) → i < length ends
-    → (row : Distances) → IsRow network set (get_or ends i (0, 0)).0 row → LeavesOut row ends → IsBestRoot network set hose None
+    → (row : Distances) → HasDistances network set (get_or ends i (0, 0)).0 row → LeavesOut row ends → IsBestRoot network set hose None
 no_root_apart network set hose ends same nodes i inside row is_row out =
     no_root_at network set hose nodes i (omega (arith, inside, ap length same)) row
-    (subst (λ (es : List (ℕ × ℕ)). IsRow network set (get_or es i (0, 0)).0 row) same is_row) (subst (LeavesOut row) same out)
+    (subst (λ (es : List (ℕ × ℕ)). HasDistances network set (get_or es i (0, 0)).0 row) same is_row) (subst (LeavesOut row) same out)
 
 -- the root's row has a distance for each
 pub row_has_ends : (network : Network) → IsNetwork network → (set : List Bool) (hose : List (ℕ × ℕ)) (root weight : ℕ) (row : Distances)
@@ -91,16 +92,21 @@ row_has_ends network is set hose root weight row nodes weighs is_row k end below
     let far = weighed network set root hose weight weighs k end below in
     rw (row_has_distance network is set root row is_row (get_or hose k end).0 far.0 (nodes k end below) far.1) refl
 
+-- a row has the distances
+pub row_has : (network : Network) (set : List Bool) (root : ℕ) (row : Distances) → IsRow network set root row → HasBoundedDistances row
+    → HasDistances network set root row
+row_has network set root row is bounded = record { rooted = is.rooted; dist_places = is.dist_places; distances = is.distances; bounded = bounded }
+
 -- rows over a set, and one more
-pub rows_pushed : (network : Network) (set : List Bool) (rows more : List Distances) (root : ℕ) (row : Distances) → more ≡ rows ++ row ∷ [] → IsRow network set root row
-    → AreRowsOver network set rows → AreRowsOver network set more
+pub rows_pushed : (network : Network) (set : List Bool) (rows more : List Distances) (root : ℕ) (row : Distances) → more ≡ rows ++ row ∷ [] → HasDistances network set root row
+    → AreDistancesOver network set rows → AreDistancesOver network set more
 rows_pushed network set rows more root row is is_row are =
     rw is (
-    All-push (λ (r : Distances). IsRow network set r.root r) rows row are (subst (λ (n : ℕ). IsRow network set n row) (sym is_row.rooted) is_row)
+    All-push (λ (r : Distances). HasDistances network set r.root r) rows row are (subst (λ (n : ℕ). HasDistances network set n row) (sym is_row.rooted) is_row)
     )
 
 -- one of them that begins at a root is the row of that root
-pub row_found : (network : Network) (set : List Bool) (rows : List Distances) → AreRowsOver network set rows → (place : ℕ) (row : Distances) → place < length rows
-    → row ≡ get_or rows place row → (root : ℕ) → row.root ≡ root → IsRow network set root row
+pub row_found : (network : Network) (set : List Bool) (rows : List Distances) → AreDistancesOver network set rows → (place : ℕ) (row : Distances) → place < length rows
+    → row ≡ get_or rows place row → (root : ℕ) → row.root ≡ root → HasDistances network set root row
 row_found network set rows are place row below there root same =
-    subst (λ (n : ℕ). IsRow network set n row) same (subst (λ (r : Distances). IsRow network set r.root r) (sym there) (are place row below))
+    subst (λ (n : ℕ). HasDistances network set n row) same (subst (λ (r : Distances). HasDistances network set r.root r) (sym there) (are place row below))

@@ -7,10 +7,10 @@ use Rattle.hose_graph.specs.Network.{Network}
 use Rattle.hose_graph.specs.declared.limits.TheConstants.{MOST_DISTANCE, MOST_RATE}
 use Rattle.hose_graph.specs.Row.{Distances, HasBoundedDistances, IsWithinReach, distance_of}
 use Rattle.hose_law.specs.CanonicalPlan.{IsWeight}
-use Rattle.hose_law.specs.Row.{IsRow}
 use Rattle.hose_law.specs.Walk.{IsDistance, Reaches}
 use Rattle.hose_law.proofs.Distances.{distance_back}
 use Rattle.hose_law.proofs.Walks.{reaches_back}
+use Rattle.hose_paths.specs.Rows.{HasDistances}
 use Rattle.hose_root.specs.Choice.{weight_at}
 use Rattle.hose_plan.specs.Rooting.{AreWeights, AreLight, heavier, most_share}
 
@@ -62,7 +62,7 @@ module _ (network : Network) (set : List Bool) where
       weight_push v ends end weight distance is (distance_back network set end.0 v distance far)
 
   -- the row of one more endpoint gives the weights with it
-  pub weights_more : (hose : List (ℕ × ℕ)) (i : ℕ) → i < length hose → (row : Distances) → IsRow network set (get_or hose i (0, 0)).0 row
+  pub weights_more : (hose : List (ℕ × ℕ)) (i : ℕ) → i < length hose → (row : Distances) → HasDistances network set (get_or hose i (0, 0)).0 row
       → (before after : List (Option ℕ)) → AreWeights network set (take i hose) before → length after ≡ length before
       → ((v : ℕ) → v < length before → weight_at after v ≡ heavier (weight_at before v) (get_or hose i (0, 0)).1 (distance_of row v))
       → AreWeights network set (take (i + 1) hose) after
@@ -82,13 +82,13 @@ pub record AreSoFar (network : Network) (set : List Bool) (hose : List (ℕ × �
 
 -- Adding the row of an endpoint to the weights of those before it, where all endpoints lie in a list that equals the hose's.
 module _ (network : Network) (set : List Bool) (hose ends : List (ℕ × ℕ)) (same : ends ≡ hose) where
-  pub weights_pushed : (i : ℕ) → i < length ends → (row : Distances) → IsRow network set (get_or ends i (0, 0)).0 row
+  pub weights_pushed : (i : ℕ) → i < length ends → (row : Distances) → HasDistances network set (get_or ends i (0, 0)).0 row
       → (before given after : List (Option ℕ)) → given ≡ before → length after ≡ length given
       → ((v : ℕ) → v < length given → weight_at after v ≡ heavier (weight_at given v) (get_or ends i (0, 0)).1 (distance_of row v))
       → AreWeights network set (take i hose) before → AreWeights network set (take (i + 1) hose) after
   weights_pushed i inside row is_row before given after was long each are =
       let end : get_or ends i (0, 0) ≡ get_or hose i (0, 0) = ap (λ (es : List (ℕ × ℕ)). get_or es i (0, 0)) same in
-      weights_more network set hose i (omega (arith, inside, ap length same)) row (subst (λ (e : ℕ × ℕ). IsRow network set e.0 row) end is_row)
+      weights_more network set hose i (omega (arith, inside, ap length same)) row (subst (λ (e : ℕ × ℕ). HasDistances network set e.0 row) end is_row)
       before after are (long ∙ ap length was)
       (λ v below.
       each v (omega (arith, below, ap length was))
@@ -96,7 +96,7 @@ module _ (network : Network) (set : List Bool) (hose ends : List (ℕ × ℕ)) (
       ∙ ap (λ (e : ℕ × ℕ). heavier (weight_at before v) e.1 (distance_of row v)) end)
 
   -- so the weights of the endpoints so far become those with one more, and in the end those of all
-  pub more_so_far : (i : ℕ) → i < length ends → (row : Distances) → IsRow network set (get_or ends i (0, 0)).0 row
+  pub more_so_far : (i : ℕ) → i < length ends → (row : Distances) → HasDistances network set (get_or ends i (0, 0)).0 row
       → (before given after : List (Option ℕ)) → given ≡ before → length after ≡ length given
       → ((v : ℕ) → v < length given → weight_at after v ≡ heavier (weight_at given v) (get_or ends i (0, 0)).1 (distance_of row v))
       → (AreLight i given → AreLight (i + 1) after)

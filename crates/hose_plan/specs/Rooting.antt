@@ -6,12 +6,13 @@ use Rattle.hose_graph.specs.Hose.{Endpoint}
 use Rattle.hose_graph.specs.Network.{Network}
 use Rattle.hose_graph.specs.Row.{Distances}
 use Rattle.hose_law.specs.CanonicalPlan.{IsCanonicalPlan, IsRoot, IsWeight}
-use Rattle.hose_law.specs.Row.{IsRow}
+use Rattle.hose_paths.specs.Rows.{HasDistances}
 use Rattle.hose_root.specs.Choice.{weight_at}
 
--- each is a row over a set of links
-abbrev pub AreRowsOver : Network → List Bool → List Distances → Type 0
-AreRowsOver network set rows = All (λ (row : Distances). IsRow network set row.root row) rows
+-- each has the distances from its root over a set of links
+abbrev pub AreDistancesOver : Network → List Bool → List Distances → Type 0
+AreDistancesOver network set rows =
+    All (λ (row : Distances). HasDistances network set row.root row) rows
 
 -- each node has the weight of these endpoints, or none where it does not reach them all
 pub record AreWeights (network : Network) (set : List Bool) (ends : List Endpoint)

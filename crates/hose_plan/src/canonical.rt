@@ -8,15 +8,16 @@ ghost use Rattle.hose_law.specs.Row.{IsRow};
 ghost use Rattle.hose_plan.specs.Rooting.{IsBestRoot, IsPlanOver};
 ghost use Rattle.hose_tree.specs.Amounts.{AreOnLinks};
 
-use crate::root::{best_root, best_root_of_kept, row_among};
+use crate::root::{best_root, best_root_of_kept, root_row};
 use hose_graph::{Amounts, Hose, MOST_AMOUNT, MOST_TREE_LINKS, Row, Topology};
 use hose_links::LinkSet;
-use hose_paths::{RowMaker, row_of};
+use hose_paths::{Chains, RowMaker, row_of};
 use hose_tree::{Tree, reservations};
 use std::alloc::{AllocError, Global};
 
 /// What a hose reserves on the tree of its root over a set of links; none where no node reaches all
-/// endpoints. It is asked once for kept rows, which are read where they lie.
+/// endpoints. The maker is asked once for kept rows, which are read where they lie; where it has
+/// none over the set, the endpoints' distances are found along chains that are made once.
 pub fn plan<R: RowMaker>(
     alloc: Global,
     top: &Topology,
@@ -43,15 +44,15 @@ pub fn plan<R: RowMaker>(
         let row = row_of(top, links, kept, root);
         return Ok(Some(reserved_from(alloc, top, links, hose, root, row)?));
     }
+    // The calls tell the proof what holds of each network and of each hose.
+    let _nodes = top.nodes();
+    let _ends = hose.ends();
+    let chains = Chains::new(alloc, top, links)?;
     let mut made = Vec::new(alloc);
-    let Some(root) = best_root(alloc, top, links, hose, rows, &mut made)? else {
+    let Some(root) = best_root(alloc, top, links, hose, &chains, &mut made)? else {
         return Ok(None);
     };
-    // Where the root is an endpoint its row is there.
-    if let Some(row) = row_among(top, links, &made, root) {
-        return Ok(Some(reserved_from(alloc, top, links, hose, root, row)?));
-    }
-    let row = rows.row(alloc, top, links, root)?;
+    let row = root_row(alloc, top, links, &chains, &made, root)?;
     Ok(Some(reserved_from(alloc, top, links, hose, root, &row)?))
 }
 

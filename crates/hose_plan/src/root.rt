@@ -5,40 +5,43 @@ ghost use Rattle.hose_graph.specs.Network.{IsNetwork};
 ghost use Rattle.hose_graph.specs.Row.{HasBoundedDistances, IsWithinReach, distance_of};
 ghost use Rattle.hose_law.specs.Plan.{AreNodes};
 ghost use Rattle.hose_law.specs.Row.{IsRow};
-ghost use Rattle.hose_paths.specs.Rows.{AreRows};
-ghost use Rattle.hose_plan.specs.Rooting.{AreLight, AreRowsOver, AreWeights, IsBestRoot, heavier, most_share};
+ghost use Rattle.hose_paths.specs.Chain.{AreChains};
+ghost use Rattle.hose_paths.specs.Rows.{AreRows, HasDistances};
+ghost use Rattle.hose_plan.specs.Rooting.{AreLight, AreDistancesOver, AreWeights, IsBestRoot, heavier, most_share};
 ghost use Rattle.hose_root.specs.Choice.{weight_at};
 ghost use Rattle.hose_root.specs.Weight.{LeavesOut};
 
 use hose_graph::{Endpoint, Hose, MOST_ENDS, MOST_NODES, MOST_RATE, Row, Topology};
 use hose_links::LinkSet;
-use hose_paths::{RowMaker, row_of};
+use hose_paths::{Chains, MadeRow, distances_along, row_along, row_of, with_tight_links};
 use hose_root::choose;
 use std::alloc::{AllocError, Global};
 
 /// The root of a hose over a set of links; none where no node reaches all endpoints. It is as far
-/// from an endpoint to a node as back, so the endpoints' rows give what the hose costs from each
-/// node. It leaves these rows in `made`.
-pub fn best_root<R: RowMaker>(
+/// from an endpoint to a node as back, so the endpoints' distances give what the hose costs from
+/// each node. It leaves these distances in `made`.
+pub fn best_root(
     alloc: Global,
     top: &Topology,
     links: &LinkSet,
     hose: &Hose,
-    rows: &mut R,
+    chains: &Chains,
     made: &mut Vec<Row>,
 ) -> Result<Option<u32>, AllocError>
     requires places { length links.now ≡ length top.now.links }
     requires nodes { AreNodes top.now hose.now }
-    requires made { AreRowsOver top.now links.now made.old.items }
+    requires chains { AreChains top.now links.now (length top.now.links)
+        chains.now.last.items chains.now.from_a.items chains.now.from_b.items }
+    requires made { AreDistancesOver top.now links.now made.old.items }
     ensures root { IfOk result (IsBestRoot top.now links.now hose.now) }
-    ensures made { OnOk result (AreRowsOver top.now links.now made.new.items) }
+    ensures made { OnOk result (AreDistancesOver top.now links.now made.new.items) }
     ensures network { IsNetwork top.now }
     ensures hose { IsHose hose.now }
 {
     let ends = hose.ends();
     let mut weights = vec![in alloc; Some(0); top.nodes() as usize]?;
     for (node, rate) in ends {
-        let row = rows.row(alloc, top, links, *node)?;
+        let row = distances_along(alloc, top, links, chains, *node)?;
         // One row shows that endpoints are apart, so a refusal makes no other.
         if leaves_out(&row, ends) {
             return Ok(None);
@@ -72,10 +75,32 @@ pub fn best_root_of_kept(
     Ok(lightest(top, links, hose, &weights))
 }
 
-/// The row of a root among some rows, where it is one of them.
-pub fn row_among<'m>(top: &Topology, links: &LinkSet, made: &'m [Row], root: u32) -> Option<&'m Row>
-    requires made { AreRowsOver top.now links.now made.now }
-    ensures { IfSome result (λ row. IsRow top.now links.now root row.now) }
+/// The row of a root, of which the distances may be there already.
+pub fn root_row(
+    alloc: Global,
+    top: &Topology,
+    links: &LinkSet,
+    chains: &Chains,
+    made: &[Row],
+    root: u32,
+) -> MadeRow
+    requires places { length links.now ≡ length top.now.links }
+    requires is_node { root < length top.now.nodes }
+    requires chains { AreChains top.now links.now (length top.now.links)
+        chains.now.last.items chains.now.from_a.items chains.now.from_b.items }
+    requires made { AreDistancesOver top.now links.now made.now }
+    ensures { IfOk result (IsRow top.now links.now root) }
+{
+    let Some(row) = row_among(top, links, made, root) else {
+        return row_along(alloc, top, links, chains, root);
+    };
+    with_tight_links(alloc, top, links, row)
+}
+
+// The distances from a root among some, where they are there.
+fn row_among<'m>(top: &Topology, links: &LinkSet, made: &'m [Row], root: u32) -> Option<&'m Row>
+    requires made { AreDistancesOver top.now links.now made.now }
+    ensures { IfSome result (λ row. HasDistances top.now links.now root row.now) }
 {
     let place = made.iter().position(|row| row.root == root)?;
     Some(&made[place])

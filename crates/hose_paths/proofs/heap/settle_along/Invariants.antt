@@ -5,12 +5,12 @@ use Rattle.hose_paths.specs.Table.{IsFound, IsBounded, left_to_fall}
 use Rattle.hose_paths.specs.Queue.{IsSettledBut}
 use Rattle.hose_paths.proofs.heap.settle_along.Given as goal
 
-abbrev pub invariant-loop-distance : goal.invariant-loop-distance
-invariant-loop-distance l = record {
+abbrev pub invariant-loop-lowest : goal.invariant-loop-lowest
+invariant-loop-lowest l = record {
   bounded : IsBounded l.dist;
   found : (start : ℕ) → IsFound l.top l.links start l.initial.dist → IsFound l.top l.links start l.dist;
   settled : IsSettledBut l.top l.links l.dist (heap_items l.queue) 0 0;
 }
 
-abbrev pub decreases-loop-distance : goal.decreases-loop-distance
-decreases-loop-distance l = 2 * left_to_fall l.dist + heap_len l.queue
+abbrev pub decreases-loop-lowest : goal.decreases-loop-lowest
+decreases-loop-lowest l = 2 * left_to_fall l.dist + heap_len l.queue

@@ -1,10 +1,10 @@
 -- The weights of the endpoints so far, and their rows.
-use Rattle.hose_plan.specs.Rooting.{AreRowsOver}
+use Rattle.hose_plan.specs.Rooting.{AreDistancesOver}
 use Rattle.hose_plan.proofs.Weights.{AreSoFar}
 use Rattle.hose_plan.proofs.root.best_root.Given as goal
 
 abbrev pub invariant-loop-node : goal.invariant-loop-node
-invariant-loop-node g l = record {
+invariant-loop-node l = record {
   weights : AreSoFar l.top l.links l.hose l.node-index l.weights.items;
-  made : AreRowsOver l.top l.links l.made.items;
+  made : AreDistancesOver l.top l.links l.made.items;
 }
