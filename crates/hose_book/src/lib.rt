@@ -33,6 +33,7 @@ mod books;
 mod changing;
 mod checking;
 mod finding;
+mod listing;
 mod live_vpns;
 mod recent;
 mod served_links;

@@ -1,4 +1,5 @@
 mod Answering
+mod Claimed
 mod Customers
 pub mod Decided
 pub mod Earlier

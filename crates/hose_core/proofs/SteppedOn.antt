@@ -20,6 +20,7 @@ use Rattle.hose_law.proofs.Steps.{IsAnswered, IsIdle, step_cases}
 use Rattle.hose_plan.specs.Planning.{allowed_links}
 use Rattle.hose_book.specs.declared.books.Books.{Ghosts}
 use Rattle.hose_book.specs.Ledger.{Ledger}
+use Rattle.hose_core.specs.Bound.{admission_of}
 use Rattle.hose_core.specs.Holding.{AllQuotes, AreHeld, HoldsNow, IsMadeAt, IsQuoteOf, State, quotes_in}
 use Rattle.hose_core.specs.Planning.{HasTold, IsNotPlanned}
 use Rattle.hose_core.specs.Serving.{service_command}
@@ -56,10 +57,12 @@ module _ {K R : Type 0} (books : Ghosts K R) (old new : K) (epoch : ℕ) (histor
 -- a command that leaves what is held
 abbrev pub IsKeeping : Command → Type 0
 IsKeeping (command.Admit hose) = ⊤
+IsKeeping (command.AdmitAfter known hose) = ⊤
 IsKeeping (command.Quote hose) = ⊥
 IsKeeping (command.Take number) = ⊥
 IsKeeping (command.Release id) = ⊤
 IsKeeping (command.Show id) = ⊤
+IsKeeping command.Vpns = ⊤
 IsKeeping (command.Link link) = ⊤
 IsKeeping (command.Down link) = ⊤
 IsKeeping (command.Up link) = ⊤
@@ -69,14 +72,21 @@ pub order_keeps : (down : Bool) (link : ℕ) → IsKeeping (service_command down
 order_keeps true link = tt
 order_keeps false link = tt
 
+-- as an admission, bound to a number or to none
+pub admission_keeps : (known : Option ℕ) (hose : List (ℕ × ℕ)) → IsKeeping (admission_of known hose)
+admission_keeps None hose = tt
+admission_keeps (Some known) hose = tt
+
 -- its answer leaves what is held
 answer_keeps : (network : Network) (epoch : ℕ) (history : List Entry) (customer : List ℕ) (held after : Held) (asked : Command) (given : Reply) (entry : Option Entry) → IsKeeping asked
     → IsAnswer network epoch history customer held asked given entry after → after ≡ held
 answer_keeps network epoch history customer held after (command.Admit hose) given entry keeping answer = answer.1
+answer_keeps network epoch history customer held after (command.AdmitAfter known hose) given entry keeping answer = answer.1
 answer_keeps network epoch history customer held after (command.Quote hose) given entry keeping answer = absurd keeping
 answer_keeps network epoch history customer held after (command.Take number) given entry keeping answer = absurd keeping
 answer_keeps network epoch history customer held after (command.Release id) given entry keeping answer = answer.1
 answer_keeps network epoch history customer held after (command.Show id) given entry keeping answer = answer.1
+answer_keeps network epoch history customer held after command.Vpns given entry keeping answer = answer.1
 answer_keeps network epoch history customer held after (command.Link link) given entry keeping answer = answer.1
 answer_keeps network epoch history customer held after (command.Down link) given entry keeping answer = answer.1
 answer_keeps network epoch history customer held after (command.Up link) given entry keeping answer = answer.1

@@ -5,14 +5,14 @@ use Rattle.hose_graph.specs.declared.command.Command.TheVariants as command
 use Rattle.hose_graph.specs.declared.entry.Entry.{Entry}
 use Rattle.hose_graph.specs.declared.command.Reply.{Reply}
 use Rattle.hose_graph.specs.declared.command.Reply.TheVariants as reply
-use Rattle.hose_law.specs.Answer.{IsLinkAnswer, IsShowAnswer, IsStepOf}
+use Rattle.hose_law.specs.Answer.{IsLinkAnswer, IsShowAnswer, IsStepOf, IsVpnsAnswer}
 use Rattle.hose_law.specs.Book.{Book, HasVpn}
 use Rattle.hose_law.specs.History.{book_of}
 use Rattle.hose_law.specs.Quotes.{Held}
 use Rattle.hose_book.specs.Ledger.{Ledger}
 use Rattle.hose_book.specs.declared.books.Books.{Ghosts}
 use Rattle.hose_core.specs.Stepping.{HasStepped}
-use Rattle.hose_core.specs.Telling.{IsShown}
+use Rattle.hose_core.specs.Telling.{AreShown, IsShown}
 
 module _ {K R : Type 0} (books : Ghosts K R) (old : K) (epoch : ℕ) (history : List Entry) (customer : List ℕ) (held : Held) (here : (books.ledger old).book ≡ book_of epoch history) where
   abbrev was : Ledger
@@ -30,6 +30,13 @@ module _ {K R : Type 0} (books : Ghosts K R) (old : K) (epoch : ℕ) (history : 
   show_step id (reply.Shown told cost at hose amounts) shown =
       told_step (command.Show id) (reply.Shown told cost at hose amounts) ((subst (λ (b : Book). IsShowAnswer was.network b customer id (reply.Shown told cost at hose amounts) None) here shown, refl), refl)
   show_step id answer shown = absurd shown
+
+  -- a customer's VPNs are told
+  pub vpns_step : (answer : Reply) → AreShown was customer answer → HasStepped books old old epoch history customer held command.Vpns answer
+  vpns_step reply.Memory shown = told_step command.Vpns reply.Memory (tt, refl, refl, refl)
+  vpns_step (reply.Vpns at ids) shown =
+      told_step command.Vpns (reply.Vpns at ids) ((subst (λ (b : Book). IsVpnsAnswer b customer (reply.Vpns at ids) None) here shown, refl), refl)
+  vpns_step answer shown = absurd shown
 
   -- a link is told
   pub link_step : (link : ℕ) (answer : Reply) → IsLinkAnswer was.book link answer None → HasStepped books old old epoch history customer held (command.Link link) answer

@@ -1,3 +1,4 @@
+pub mod Bound
 pub mod Claiming
 pub mod Holding
 pub mod Planning

@@ -1,13 +1,20 @@
-// Admitting a hose at once.
-ghost use Rattle.std.specs.Prelude.{◌≡◌, option_map};
+// Admitting a hose, at once or with a plan that was made before.
+ghost use Rattle.std.specs.Prelude.{◌≡◌, ◌≢◌, IfSome, IsNone, MatchOption, Some, option_map};
 ghost use Rattle.hose_graph.specs.Network.{IsNetwork};
+ghost use Rattle.hose_law.specs.Book.{Book};
+ghost use Rattle.hose_law.specs.Decision.{HaveEqualGrounds};
 ghost use Rattle.hose_law.specs.Plan.{AreNodes};
-ghost use Rattle.hose_core.specs.Holding.{IsMadeAt};
+ghost use Rattle.hose_core.specs.Bound.{HasNewest, is_stale};
+ghost use Rattle.hose_core.specs.Claiming.{IsClaimOf};
+ghost use Rattle.hose_core.specs.Holding.{HasGroundsSince, IsMade, IsMadeAt};
 ghost use Rattle.hose_core.specs.Planning.{AdmitsAtOnce};
 
+use crate::bound::newest_now;
+use crate::claim::Claim;
 use crate::entering::enter_planned;
 use crate::planning::plan_now;
 use crate::quotes::Quote;
+use crate::taking::take_now;
 use hose_book::Books;
 use hose_graph::{Entry, Hose, Name, Reply};
 use hose_paths::RowMaker;
@@ -15,23 +22,69 @@ use std::alloc::Global;
 use std::snapshot::Snapshot;
 
 /// Plans a hose and admits it with its plan: `Admitted`, `Refused`, `Spent`, `Full`, `Disk` or
-/// `Memory`. Its endpoints are nodes of the network. What joins the book, where it is accepted, is
-/// given beside the reply, unless nothing was planned.
+/// `Memory`; or `Newest`, before all of these, where the admission is bound to a number and another
+/// one is that of the customer's newest VPN. Its endpoints are nodes of the network. What joins the
+/// book, where it is accepted, is given beside the reply, unless nothing was planned.
 pub fn admit_now<K: Books, R: RowMaker>(
     alloc: Global,
     books: &mut K,
     customer: &Name,
+    known: Option<u64>,
     hose: Hose,
     rows: &mut R,
 ) -> (Reply, Option<Snapshot<Entry>>)
     requires { AreNodes (K.ledger books.old).network hose }
-    ensures { AdmitsAtOnce K.Books books.old books.new customer.now hose result.0
+    ensures { AdmitsAtOnce K.Books books.old books.new customer.now known hose result.0
         (option_map (λ entry. entry.value) result.1) }
 {
+    if let Some(reply) = newest_now(books.book(), customer, known) {
+        return (reply, None);
+    }
     match plan_now(alloc, books, hose, rows) {
         Err(reply) => (reply, None),
-        Ok(quote) => admit_planned(alloc, books, customer, quote),
+        Ok(quote) => admit_planned(alloc, books, customer, known, quote),
     }
+}
+
+/// Admits with a plan that was made before, at any book, as `admit_now` does with one that is made
+/// now; or gives nothing, where the grounds of the plan are not as they were. It takes no memory,
+/// and plans nothing. What joins the book, where it is accepted, is the claim's entry.
+pub fn admit_claimed_now<K: Books>(
+    books: &mut K,
+    customer: &Name,
+    known: Option<u64>,
+    quote: &Quote,
+    claim: Claim<K>,
+) -> Option<Reply>
+    requires made { IsMade (K.ledger books.old).network quote.now }
+    requires since { HasGroundsSince (K.ledger books.old) quote.now }
+    requires claim { IsClaimOf K.Books claim customer.now quote.now }
+    ensures admits { MatchOption result (books.new ≡ books.old)
+        (λ reply. AdmitsAtOnce K.Books books.old books.new customer.now known quote.now.hose
+        reply (Some claim.entry)) }
+    ensures stale { IsNone result → (earlier : Book)
+        → IsMadeAt (K.ledger books.old).network earlier quote.now
+        → ¬ HaveEqualGrounds (K.ledger books.old).network earlier (K.ledger books.old).book
+        quote.now.hose }
+    ensures newest { IsNone result
+        → HasNewest (K.ledger books.old).book customer.now known }
+    ensures memory { IfSome result (λ reply. reply ≢ Reply.Memory) }
+{
+    if let Some(told) = newest_now(books.book(), customer, known) {
+        return Some(told);
+    }
+    let reply = take_now(books, quote, claim);
+    if is_stale(&reply) {
+        return None;
+    }
+    Some(reply)
+}
+
+// Whether a reply tells that a quote went stale.
+fn is_stale(reply: &Reply) -> bool
+    ensures { result ≡ is_stale reply.now }
+{
+    matches!(reply, Reply::Stale { .. })
 }
 
 // Admits a hose that was planned at these books.
@@ -39,11 +92,13 @@ fn admit_planned<K: Books>(
     alloc: Global,
     books: &mut K,
     customer: &Name,
+    known: Option<u64>,
     quote: Quote,
 ) -> (Reply, Option<Snapshot<Entry>>)
     requires network { IsNetwork (K.ledger books.old).network }
     requires made { IsMadeAt (K.ledger books.old).network (K.ledger books.old).book quote }
-    ensures { AdmitsAtOnce K.Books books.old books.new customer.now quote.hose result.0
+    requires newest { HasNewest (K.ledger books.old).book customer.now known }
+    ensures { AdmitsAtOnce K.Books books.old books.new customer.now known quote.hose result.0
         (option_map (λ entry. entry.value) result.1) }
 {
     let Quote {

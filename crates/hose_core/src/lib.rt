@@ -6,13 +6,15 @@
 //! let reply = core.step(alloc, &customer, Command::Quote(hose), &mut PlainRows::new());
 //! ```
 //!
-//! `admit_now`, `take_now`, `release_now`, `service_now`, `show_now` and `link_now` do so to books
-//! that are kept by others, as under a lock: a take, a release and an order of the operator take no
-//! memory there, since all of it is in their claim. What is quoted can be planned outside of it, by
-//! `plan_beside`.
+//! `admit_now`, `take_now`, `release_now`, `service_now`, `show_now`, `vpns_now` and `link_now` do
+//! so to books that are kept by others, as under a lock: a take, a release and an order of the
+//! operator take no memory there, since all of it is in their claim. What is quoted can be planned
+//! outside of it, by `plan_beside`, and so can what is admitted: `newest_now` tells there whether
+//! the admission may be decided, and `admit_claimed_now` then takes its plan.
 #![tactic(auto)]
 
 mod admitting;
+mod bound;
 mod by_customer;
 mod claim;
 mod entering;
@@ -24,7 +26,8 @@ mod stepping;
 mod taking;
 mod telling;
 
-pub use admitting::admit_now;
+pub use admitting::{admit_claimed_now, admit_now};
+pub use bound::newest_now;
 pub use claim::{Claim, claim_release, claim_service, claim_take};
 pub use planning::{BookView, plan_beside};
 pub use quotes::{Quote, Quotes};
@@ -32,4 +35,4 @@ pub use releasing::release_now;
 pub use serving::service_now;
 pub use stepping::Core;
 pub use taking::take_now;
-pub use telling::{link_now, show_now};
+pub use telling::{link_now, show_now, vpns_now};

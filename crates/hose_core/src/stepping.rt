@@ -10,6 +10,7 @@ ghost use Rattle.hose_law.specs.Quotes.{free_number, nothing_held};
 ghost use Rattle.hose_book.specs.Commit.{IsMet};
 ghost use Rattle.hose_book.specs.Ledger.{HasBookOf};
 ghost use Rattle.hose_book.specs.declared.books.Committed.{Committed};
+ghost use Rattle.hose_core.specs.Bound.{admission_of};
 ghost use Rattle.hose_core.specs.Holding.{IsMadeAt, quotes_of};
 ghost use Rattle.hose_core.specs.Serving.{service_command};
 ghost use Rattle.hose_core.specs.Stepping.{FitsHistory, HaveAnswered, Steps, committed_of};
@@ -22,7 +23,7 @@ use crate::quotes::Quote;
 use crate::releasing::release_now;
 use crate::serving::service_now;
 use crate::taking::take_now;
-use crate::telling::{link_now, show_now};
+use crate::telling::{link_now, show_now, vpns_now};
 use hose_book::Books;
 use hose_graph::{Command, Hose, Name, Reply};
 use hose_paths::RowMaker;
@@ -96,11 +97,15 @@ impl<K: Books + Drop> Core<K> {
         ensures names { NamesPlaces (K.ledger self.old.books).network result }
     {
         match command {
-            Command::Admit(hose) => self.admit(alloc, customer, hose, rows),
+            Command::Admit(hose) => self.admit(alloc, customer, None, hose, rows),
+            Command::AdmitAfter { known, hose } => {
+                self.admit(alloc, customer, Some(known), hose, rows)
+            },
             Command::Quote(hose) => self.quote(alloc, customer, hose, rows),
             Command::Take(number) => self.take(alloc, customer, number),
             Command::Release(id) => self.release(alloc, customer, id),
             Command::Show(id) => self.show(alloc, customer, id),
+            Command::Vpns => self.vpns(alloc, customer),
             Command::Link(link) => self.link(link),
             Command::Down(link) => self.operate(alloc, customer, link, true),
             Command::Up(link) => self.operate(alloc, customer, link, false),
@@ -112,14 +117,16 @@ impl<K: Books + Drop> Core<K> {
         &mut self,
         alloc: Global,
         customer: &Name,
+        known: Option<u64>,
         hose: Hose,
         rows: &mut R,
     ) -> Reply
         requires { AreNodes (K.ledger self.old.books).network hose }
-        ensures step { Steps K.Books self.old self.new customer.now (Command.Admit hose) result }
+        ensures step { Steps K.Books self.old self.new customer.now (admission_of known hose)
+            result }
         ensures answered { HaveAnswered K.Books self.old.books self.new.books result }
     {
-        let (reply, _entered) = admit_now(alloc, &mut self.books, customer, hose, rows);
+        let (reply, _entered) = admit_now(alloc, &mut self.books, customer, known, hose, rows);
         reply
     }
 
@@ -198,6 +205,15 @@ impl<K: Books + Drop> Core<K> {
         ensures names { NamesPlaces (K.ledger self.now.books).network result }
     {
         show_now(alloc, &self.books, customer, id)
+    }
+
+    // Tells the customer's VPNs.
+    fn vpns(&self, alloc: Global, customer: &Name) -> Reply
+        ensures step { Steps K.Books self.now self.now customer.now Command.Vpns result }
+        ensures met { committed_of result ≡ Committed.Done }
+        ensures names { NamesPlaces (K.ledger self.now.books).network result }
+    {
+        vpns_now(alloc, &self.books, customer)
     }
 
     // Tells a link.

@@ -1,4 +1,4 @@
-// What a book tells: a VPN, or a link.
+// What a book tells: a VPN, a customer's VPNs, or a link.
 ghost use Rattle.std.specs.Prelude.{◌≡◌, ◌<◌, ℕ, List, None, length};
 ghost use Rattle.hose_graph.specs.Naming.{NamesPlaces};
 ghost use Rattle.hose_graph.specs.Network.{IsLinkOf};
@@ -7,7 +7,7 @@ ghost use Rattle.hose_law.specs.Answer.{IsLinkAnswer, IsShowAnswer};
 ghost use Rattle.hose_law.specs.Book.{HasVpn};
 ghost use Rattle.hose_book.specs.declared.books.Committed.{Committed};
 ghost use Rattle.hose_core.specs.Stepping.{StepsAtEach, committed_of};
-ghost use Rattle.hose_core.specs.Telling.{IsShown};
+ghost use Rattle.hose_core.specs.Telling.{AreShown, IsShown};
 
 use hose_book::{Book, Books};
 use hose_graph::{Name, Reply};
@@ -21,6 +21,15 @@ pub fn show_now<K: Books>(alloc: Global, books: &K, customer: &Name, id: u64) ->
     ensures names { NamesPlaces (K.ledger books.now).network result }
 {
     show(books.book(), alloc, customer, id)
+}
+
+/// Tells a customer the numbers of the customer's live VPNs: `Vpns` or `Memory`.
+pub fn vpns_now<K: Books>(alloc: Global, books: &K, customer: &Name) -> Reply
+    ensures step { StepsAtEach K.Books books.now books.now customer.now Command.Vpns result }
+    ensures met { committed_of result ≡ Committed.Done }
+    ensures names { NamesPlaces (K.ledger books.now).network result }
+{
+    vpns(books.book(), alloc, customer)
 }
 
 /// Tells what is reserved on a link of the network, and whether it is out of service: `LinkState`.
@@ -58,6 +67,18 @@ fn show(book: &Book, alloc: Global, customer: &Name, id: u64) -> Reply
         hose,
         amounts,
     }
+}
+
+// The reply to a customer who asks which VPNs are live.
+fn vpns(book: &Book, alloc: Global, customer: &Name) -> Reply
+    ensures answer { AreShown book.now customer.now result }
+    ensures names { NamesPlaces book.now.network result }
+{
+    let Ok(ids) = book.vpns_of(alloc, customer) else {
+        return Reply::Memory;
+    };
+    let now = book.epoch();
+    Reply::Vpns { at: now, ids }
 }
 
 // The reply to a customer who asks what is reserved on a link, and whether it is out of service.

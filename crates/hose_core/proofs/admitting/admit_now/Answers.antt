@@ -1,13 +1,24 @@
-use Rattle.std.proofs.Common.{List, ℕ, option_map, subst}
+use Rattle.std.proofs.Common.{List, ℕ, None, inr, option_map, subst}
+use Rattle.hose_book.specs.Ledger.{Ledger}
+use Rattle.hose_core.specs.Bound.{HasNewest, TellsNewest}
 use Rattle.hose_core.specs.Planning.{AdmitsAtOnce, IsNotPlanned, IsPlannedFor}
-use Rattle.hose_core.proofs.Decided.{unplanned_admits}
+use Rattle.hose_core.proofs.Decided.{newest_admits, unplanned_admits}
 use Rattle.hose_core.proofs.admitting.admit_now.Goals as goal
+
+pub returns-in-Some : goal.returns-in-Some
+returns-in-Some g c =
+    let customer = c.args.customer.now in
+    let told : TellsNewest c.book.result.now.book customer c.args.known c.in-Some.reply = rw c.in-Some.is at c.newest_now.ensures in
+    newest_admits g.K.Books c.args.books.now customer c.args.known c.args.hose c.in-Some.reply (subst (λ (l : Ledger). TellsNewest l.book customer c.args.known c.in-Some.reply) c.book.ensures told) None tt
 
 pub returns-in-Err : goal.returns-in-Err
 returns-in-Err g c =
     let was = g.K.Books.ledger c.args.books.now in
+    let customer = c.args.customer.now in
+    let met : HasNewest c.book.result.now.book customer c.args.known = rw c.in_default.is at c.newest_now.ensures in
+    let newest = subst (λ (l : Ledger). HasNewest l.book customer c.args.known) c.book.ensures met in
     let none : IsNotPlanned was.network was.book c.args.hose c.in-Err.reply = rw c.in-Err.is at c.plan_now.ensures.planned in
-    unplanned_admits g.K.Books c.args.books.now c.args.customer.now c.args.hose c.in-Err.reply none
+    unplanned_admits g.K.Books c.args.books.now customer c.args.known c.args.hose c.in-Err.reply (inr (newest, none))
 
 pub admit_planned-requires-clause-made : goal.admit_planned-requires-clause-made
 admit_planned-requires-clause-made g c =
@@ -15,8 +26,14 @@ admit_planned-requires-clause-made g c =
     let planned : IsPlannedFor was.network was.book c.args.hose c.in-Ok.quote = rw c.in-Ok.is at c.plan_now.ensures.planned in
     planned.made
 
+pub admit_planned-requires-clause-newest : goal.admit_planned-requires-clause-newest
+admit_planned-requires-clause-newest g c =
+    let customer = c.args.customer.now in
+    let met : HasNewest c.book.result.now.book customer c.args.known = rw c.in_default.is at c.newest_now.ensures in
+    subst (λ (l : Ledger). HasNewest l.book customer c.args.known) c.book.ensures met
+
 pub returns-in-Ok : goal.returns-in-Ok
 returns-in-Ok g c =
     let was = g.K.Books.ledger c.args.books.now in
     let planned : IsPlannedFor was.network was.book c.args.hose c.in-Ok.quote = rw c.in-Ok.is at c.plan_now.ensures.planned in
-    subst (λ (hose : List (ℕ × ℕ)). AdmitsAtOnce g.K.Books c.args.books.now c.admit_planned.new.books c.args.customer.now hose c.admit_planned.result.0 (option_map (λ (entry : _). entry.value) c.admit_planned.result.1)) planned.of c.admit_planned.ensures
+    subst (λ (hose : List (ℕ × ℕ)). AdmitsAtOnce g.K.Books c.args.books.now c.admit_planned.new.books c.args.customer.now c.args.known hose c.admit_planned.result.0 (option_map (λ (entry : _). entry.value) c.admit_planned.result.1)) planned.of c.admit_planned.ensures

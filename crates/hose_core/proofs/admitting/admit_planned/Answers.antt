@@ -24,7 +24,7 @@ returns g c =
     let entered = c.enter_planned.ensures in
     let answers = entered.answers customer quote.hose (made_entry (g.K.Books.ledger old) c.requires.network customer quote _ c.in-Ok.ensures c.requires.made) in
     record {
-      step = λ epoch history held at. admit_step g.K.Books old new epoch history customer held quote.hose at answer answers;
+      step = λ epoch history held at. admit_step g.K.Books old new epoch history customer held c.args.known quote.hose at c.requires.newest answer answers;
       cheapest = admits_cheapest g.K.Books old new customer quote.hose c.requires.network answer answers;
       answered = entered.answered;
       none = tt;

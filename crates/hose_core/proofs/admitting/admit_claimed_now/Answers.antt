@@ -1,0 +1,54 @@
+use Rattle.std.proofs.Common.{◌∙◌, Some, subst, sym}
+use Rattle.hose_book.specs.Ledger.{Ledger}
+use Rattle.hose_core.specs.Bound.{HasNewest, TellsNewest}
+use Rattle.hose_core.proofs.Claimed.{claimed_admits, stale_differs}
+use Rattle.hose_core.proofs.Decided.{enters_newest, newest_admits, newest_not_memory}
+use Rattle.hose_core.proofs.admitting.admit_claimed_now.Goals as goal
+
+pub returns-in-Some-clause-admits : goal.returns-in-Some-clause-admits
+returns-in-Some-clause-admits g c =
+    let old = c.args.books.now in
+    let customer = c.args.customer.now in
+    let quote = c.args.quote.now in
+    let here : TellsNewest c.book.result.now.book customer c.args.known c.in-Some.told = rw c.in-Some.is at c.newest_now.ensures in
+    let told = subst (λ (l : Ledger). TellsNewest l.book customer c.args.known c.in-Some.told) c.book.ensures here in
+    let enters = enters_newest g.K.Books old customer c.args.known quote.hose quote.amounts quote.cost c.in-Some.told told c.args.claim.entry c.requires.claim.entry in
+    newest_admits g.K.Books old customer c.args.known quote.hose c.in-Some.told told (Some c.args.claim.entry) enters
+
+pub returns-in-Some-clause-memory : goal.returns-in-Some-clause-memory
+returns-in-Some-clause-memory g c =
+    let customer = c.args.customer.now in
+    let here : TellsNewest c.book.result.now.book customer c.args.known c.in-Some.told = rw c.in-Some.is at c.newest_now.ensures in
+    newest_not_memory c.book.result.now.book customer c.args.known c.in-Some.told here
+
+pub take_now-reply-requires-clause-claim : goal.take_now-reply-requires-clause-claim
+take_now-reply-requires-clause-claim g c = (c.args.customer.now, c.requires.claim)
+
+pub returns-then-is_stale-clause-admits : goal.returns-then-is_stale-clause-admits
+returns-then-is_stale-clause-admits g c =
+    let called = c.take_now-reply.ensures in
+    let made = c.requires.made in
+    let takes = called.takes c.args.customer.now made.0 c.requires.claim made.1 in
+    (stale_differs g.K.Books c.args.books.now _ c.args.customer.now c.args.quote.now made.0 c.take_now-reply.result takes (sym c.is_stale.ensures ∙ c.if-is_stale.true)).0
+
+pub returns-then-is_stale-clause-stale : goal.returns-then-is_stale-clause-stale
+returns-then-is_stale-clause-stale g c = λ none earlier made.
+    let takes = c.take_now-reply.ensures.takes c.args.customer.now earlier c.requires.claim made in
+    (stale_differs g.K.Books c.args.books.now _ c.args.customer.now c.args.quote.now earlier c.take_now-reply.result takes (sym c.is_stale.ensures ∙ c.if-is_stale.true)).1
+
+pub returns-then-is_stale-clause-newest : goal.returns-then-is_stale-clause-newest
+returns-then-is_stale-clause-newest g c = λ none.
+    let customer = c.args.customer.now in
+    let met : HasNewest c.book.result.now.book customer c.args.known = rw c.in_default.is at c.newest_now.ensures in
+    subst (λ (l : Ledger). HasNewest l.book customer c.args.known) c.book.ensures met
+
+pub returns-clause-admits : goal.returns-clause-admits
+returns-clause-admits g c =
+    let customer = c.args.customer.now in
+    let quote = c.args.quote.now in
+    let met : HasNewest c.book.result.now.book customer c.args.known = rw c.in_default.is at c.newest_now.ensures in
+    let newest = subst (λ (l : Ledger). HasNewest l.book customer c.args.known) c.book.ensures met in
+    let called = c.take_now-reply.ensures in
+    let made = c.requires.made in
+    let takes = called.takes customer made.0 c.requires.claim made.1 in
+    claimed_admits g.K.Books c.args.books.now _ customer quote made.0 c.take_now-reply.result takes c.args.known c.args.claim newest c.requires.claim (sym c.is_stale.ensures ∙ c.if-is_stale.false) called.cheapest called.told called.answered

@@ -1,0 +1,23 @@
+// What an admission is bound to.
+ghost use Rattle.std.specs.Prelude.{MatchOption};
+ghost use Rattle.hose_core.specs.Bound.{HasNewest, TellsNewest};
+
+use hose_book::Book;
+use hose_graph::{Name, Reply};
+
+/// The reply to an admission that is bound to a number, where another one is that of its customer's
+/// newest VPN: `Newest`. It takes no memory.
+pub fn newest_now(book: &Book, customer: &Name, known: Option<u64>) -> Option<Reply>
+    ensures { MatchOption result (HasNewest book.now.book customer.now known)
+        (TellsNewest book.now.book customer.now known) }
+{
+    let Some(known) = known else {
+        return None;
+    };
+    let id = book.newest_of(customer);
+    if id == known {
+        return None;
+    }
+    let at = book.epoch();
+    Some(Reply::Newest { id, at })
+}
