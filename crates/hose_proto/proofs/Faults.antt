@@ -33,6 +33,13 @@ told_each {T} {forms} {old} {number} result gives is =
     let told : (rest : Fields) → IsFaultOf (forms rest) old (Bad number) = λ rest. record { word = λ other same. subst (IsWrong (forms rest) old) (cc same) (is rest) } in
     rw (gave.1, gave.2) told
 
+-- and so is a fault that is handed on
+pub handed_each : {T : Type 0} {forms : Fields → Form} {old : Position} {fault : ReadFault} (result : Result T ReadFault) → IsErrAnd result (λ other. other ≡ fault) → ((rest : Fields) → IsFaultOf (forms rest) old fault)
+    → IfErr result (λ other. (rest : Fields) → IsFaultOf (forms rest) old other)
+handed_each {T} {forms} {old} {fault} result gives is =
+    let gave = err_from_is_err_and result gives in
+    rw (gave.1, gave.2) is
+
 -- what a fault tells of the words to come it tells of those before them
 pub later_fault : {form rest : Form} {old new : Position} {fault : ReadFault} → ((number : ℕ) → IsWrong rest new number → IsWrong form old number) → IsFaultOf rest new fault → IsFaultOf form old fault
 later_fault {form} {rest} {old} {new} {fault} later is = record { word = λ number told. later number (is.word number told) }

@@ -1,32 +1,35 @@
 -- Fields of lines: what they tell is found again from their words, none of these is wrong, and each is one word.
-use Rattle.std.proofs.Common.{◌≡◌, ◌∙◌, ℕ, ◌<◌, Bool, true, false, cond, suc, zero, List, [], ◌∷◌, Option, None, Some, IfSome, length, get_or, map, drop, codes, decimal, refl, sym, ap, subst, arith, append_assoc}
+use Rattle.std.proofs.Common.{◌≡◌, ◌∙◌, ℕ, ◌<◌, Bool, true, false, cond, suc, zero, List, [], ◌∷◌, ◌++◌, Option, None, Some, IfSome, length, get_or, map, drop, codes, decimal, refl, sym, ap, subst, arith, append_assoc}
 use Rattle.std.specs.List.{All, slice_get}
 use Rattle.std.specs.Str.{bytes_eq}
 use Rattle.std.proofs.lemmas.Bool.{false≢true}
 use Rattle.std.proofs.lemmas.Option.{slice_get-get_or}
+use Rattle.std.proofs.lemmas.Slice.Eq.{bytes_eq-Decides}
 use Rattle.hose_words.specs.Form.{Fits64}
 use Rattle.hose_words.proofs.Passing.{Passes, pass_branch, pass_finish, pass_list, pass_place, pass_these, pass_until}
+use Rattle.hose_words.proofs.Until.{HasNoLast}
 use Rattle.hose_words.proofs.Spaced.{AreWords, AreWords-map, AreWords-append, IsWord, IsWord-allowed, IsWord-known, IsWord-decimal, IsWord-colon, is_plain}
 use Rattle.hose_graph.specs.Hose.{IsEnd}
 use Rattle.hose_graph.specs.Name.{is_name_byte}
 use Rattle.hose_graph.specs.Network.{Network, IsNetwork, IsLink, name_of}
 use Rattle.hose_graph.specs.declared.limits.TheConstants.{LEAST_ENDS}
 use Rattle.hose_graph.specs.declared.topology.Link.{Link}
-use Rattle.hose_proto.specs.Fields.{Fields, no_more, a_word, a_number, a_link, a_link_told, a_missing, a_service, the_amounts, the_nodes, the_ends, Values, words_told, AreSound, AreAmounts, AreEnds, form_of, missing_word, pair_word, words_of_link}
+use Rattle.hose_proto.specs.Fields.{Fields, no_more, a_word, a_number, a_link, a_link_told, a_missing, a_service, the_amounts, the_nodes, the_ends, the_numbers, Values, words_told, AreSound, AreAmounts, AreEnds, AreNumbers, form_of, missing_word, pair_word, words_of_link}
 use Rattle.hose_proto.specs.Places.{IsHoseOf, end_word}
 use Rattle.hose_proto.specs.declared.head.Missing.{Missing}
 use Rattle.hose_proto.specs.declared.head.Missing.TheVariants as missing
 use Rattle.hose_proto.specs.declared.head.Service.TheVariants as service
 use Rattle.hose_proto.proofs.Back.{end_spelled, ends_back, front_is, front_of, map_back, node_back, node_named, number_back, number_spelled, pair_back, pair_spelled, rest_is, rest_of, unequal}
-use Rattle.hose_proto.proofs.EndsUntil.{ends_no_links}
-use Rattle.hose_proto.proofs.Items.{amounts_closed, ends_closed, side_closed}
+use Rattle.hose_proto.proofs.Items.{amounts_closed, ends_closed, numbers_closed, side_closed}
+use Rattle.hose_proto.proofs.ListsUntil.{ends_no_links, numbers_no_at}
 use Rattle.hose_proto.proofs.Words.{links_apart, missing_apart, missing_of, missing_of-word, services_apart}
 
 no_link : Link
 no_link = record { a = 0; b = 0; capacity = 0; length = 0; cost = 0 }
 
-abbrev is_links : List ℕ → Bool
-is_links word = bytes_eq word (codes "links")
+-- a word ends a list
+abbrev is_last : List ℕ → List ℕ → Bool
+is_last last word = bytes_eq word last
 
 -- what the words of fields tell
 abbrev pub values_in : Network → (fields : Fields) → List (List ℕ) → Values fields
@@ -40,7 +43,8 @@ values_in network (a_service fields) words =
     cond (bytes_eq (get_or words 0 []) (codes "out")) (true, values_in network fields (drop 2 words)) (false, values_in network fields (drop 1 words))
 values_in network the_amounts words = map pair_spelled words
 values_in network the_nodes words = map (node_named network) words
-values_in network (the_ends fields) words = (map (end_spelled network) (front_of is_links words), values_in network fields (rest_of is_links words))
+values_in network (the_ends fields) words = (map (end_spelled network) (front_of (is_last (codes "links")) words), values_in network fields (rest_of (is_last (codes "links")) words))
+values_in network (the_numbers fields) words = (map number_spelled (front_of (is_last (codes "at")) words), values_in network fields (rest_of (is_last (codes "at")) words))
 
 -- the words that stand so in a line are words
 abbrev pub are_known : Fields → Bool
@@ -55,10 +59,19 @@ are_known (a_service fields) = are_known fields
 are_known the_amounts = true
 are_known the_nodes = true
 are_known (the_ends fields) = are_known fields
+are_known (the_numbers fields) = are_known fields
 
 both : (one other : Bool) → cond one other false ≡ true → (one ≡ true) × (other ≡ true)
 both true other is = (refl, is)
 both false other is = absurd (false≢true is)
+
+-- items of which none ends their list are found again before the word that ends it, and the words after it
+until_found : {A : Type 0} (back : List ℕ → A) (last : List ℕ) (front : List (List ℕ)) (items : List A) (words : List (List ℕ)) → HasNoLast last front → map back front ≡ items
+    → (map back (front_of (is_last last) (front ++ last ∷ words)) ≡ items) × (rest_of (is_last last) (front ++ last ∷ words) ≡ words)
+until_found back last front items words free found =
+    let none : All (λ word. is_last last word ≡ false) front = λ k d below. unequal (get_or front k d) last (free k d below) in
+    let is : is_last last last ≡ true = (bytes_eq-Decides last last).1 refl in
+    (ap (map back) (front_is (is_last last) front last words none is) ∙ found, rest_is (is_last last) front last words none is)
 
 -- what holds of all holds at each place
 IfSome-place : {X : Type 0} (P : X → Type 0) (xs : List X) (i : ℕ) → All P xs → IfSome (slice_get xs i) P
@@ -79,9 +92,8 @@ module _ (network : Network) (is : IsNetwork network) where
   hose_back : (hose : List (ℕ × ℕ)) → IsHoseOf network hose → map (end_spelled network) (map (end_word network) hose) ≡ hose
   hose_back hose are = ends_back network is hose (λ k d below. record { is_end = are.is_hose.within k d below; is_node = are.nodes k d below })
 
-  -- no endpoint's word ends the endpoints, and `links` does
-  no_links_pass : (hose : List (ℕ × ℕ)) → All (λ word. is_links word ≡ false) (map (end_word network) hose)
-  no_links_pass hose = λ k d below. unequal (get_or (map (end_word network) hose) k d) (codes "links") (ends_no_links network hose k d below)
+  numbers_back : (numbers : List ℕ) → AreNumbers numbers → map number_spelled (map decimal numbers) ≡ numbers
+  numbers_back numbers are = map_back decimal number_spelled numbers (λ k d below. number_back (get_or numbers k d) (are.fit k d below))
 
   -- what fields tell is found again from their words
   pub values_back : (fields : Fields) (values : Values fields) → AreSound network fields values → values_in network fields (words_told network fields values) ≡ values
@@ -97,11 +109,13 @@ module _ (network : Network) (is : IsNetwork network) where
   values_back the_amounts amounts are = amounts_back amounts are
   values_back the_nodes side are = map_back (name_of network) (node_named network) side (λ k d below. node_back network (get_or side k d) is (are.nodes k d below))
   values_back (the_ends fields) (hose, values) (are, sound) =
-      let links = codes "links" in
-      let words = words_told network fields values in
-      let front = ap (map (end_spelled network)) (front_is is_links (map (end_word network) hose) links words (no_links_pass hose) refl) ∙ hose_back hose are in
-      let rest = ap (values_in network fields) (rest_is is_links (map (end_word network) hose) links words (no_links_pass hose) refl) ∙ values_back fields values sound in
-      λ i. (front i, rest i)
+      let found = until_found (end_spelled network) (codes "links") (map (end_word network) hose) hose (words_told network fields values) (ends_no_links network hose) (hose_back hose are) in
+      let rest = ap (values_in network fields) found.1 ∙ values_back fields values sound in
+      λ i. (found.0 i, rest i)
+  values_back (the_numbers fields) (numbers, values) (are, sound) =
+      let found = until_found number_spelled (codes "at") (map decimal numbers) numbers (words_told network fields values) (numbers_no_at numbers are.fit) (numbers_back numbers are) in
+      let rest = ap (values_in network fields) found.1 ∙ values_back fields values sound in
+      λ i. (found.0 i, rest i)
 
   -- ---- not wrong
 
@@ -122,6 +136,8 @@ module _ (network : Network) (is : IsNetwork network) where
   values_pass (the_ends fields) (hose, values) (are, sound) =
       pass_until (end_word network) (AreEnds network) LEAST_ENDS (codes "links") (form_of network fields) (words_told network fields values) (ends_closed network) (values_pass fields values sound)
       hose (ends_no_links network hose) are.is_hose.counted.enough (record { few = are.is_hose.counted.few; within = are.is_hose.within; ascending = are.is_hose.ascending; nodes = are.nodes })
+  values_pass (the_numbers fields) (numbers, values) (are, sound) =
+      pass_until decimal AreNumbers 0 (codes "at") (form_of network fields) (words_told network fields values) numbers_closed (values_pass fields values sound) numbers (numbers_no_at numbers are.fit) (omega arith) are
 
   -- ---- words
 
@@ -171,3 +187,6 @@ module _ (network : Network) (is : IsNetwork network) where
       AreWords-append (map (end_word network) hose) (codes "links" ∷ words_told network fields values)
       (AreWords-map (end_word network) hose IsWord-end (λ k d below. (are.nodes k d below, are.is_hose.within k d below)))
       (IsWord-known (codes "links") refl (omega arith), values_words fields values known sound)
+  values_words (the_numbers fields) (numbers, values) known (are, sound) =
+      AreWords-append (map decimal numbers) (codes "at" ∷ words_told network fields values) (AreWords-map decimal numbers IsWord-decimal are.fit)
+      (IsWord-known (codes "at") refl (omega arith), values_words fields values known sound)

@@ -18,9 +18,9 @@ use Rattle.hose_graph.specs.Hose.{IsEnd}
 use Rattle.hose_graph.specs.Network.{Network, IsNetwork, IsLinkOf, IsNodeOf, name_of}
 use Rattle.hose_graph.proofs.NodesByName.{same_node}
 use Rattle.hose_proto.specs.Command.{AreNewEnds}
-use Rattle.hose_proto.specs.Fields.{AreAmounts, AreEnds, IsSide, pair_word}
+use Rattle.hose_proto.specs.Fields.{AreAmounts, AreEnds, AreNumbers, IsSide, pair_word}
 use Rattle.hose_proto.specs.Places.{end_word}
-use Rattle.hose_proto.specs.Reading.{AreSoFar, IsEndOf, IsNewEnd, IsNextEnd, IsNextNode, IsNextPair}
+use Rattle.hose_proto.specs.Reading.{AreSoFar, IsEndOf, IsNewEnd, IsNextEnd, IsNextNode, IsNextNumber, IsNextPair}
 use Rattle.hose_proto.proofs.Colons.{end_cut, no_colon, no_colon_decimal, pair_cut, same_parts}
 use Rattle.hose_proto.proofs.Rising.{All-last, firsts_front, rising_front}
 
@@ -134,6 +134,30 @@ side_closed network = record {
   };
 }
 
+-- ---- numbers
+
+-- the numbers that were read so far are those of a list, and none
+pub numbers_so_far : (numbers : List ℕ) → AreSoFar AreNumbers numbers → AreNumbers numbers
+numbers_so_far numbers (inl none) = subst AreNumbers (sym none) (record { ascending = λ k below. absurd (omega (arith, below)); fit = All-nil Fits64 })
+numbers_so_far numbers (inr are) = are
+
+-- one number more
+pub numbers_more : (numbers : List ℕ) (number : ℕ) → AreNumbers numbers → IsNextNumber numbers number → AreNumbers (numbers ++ number ∷ [])
+numbers_more numbers number are next = record { ascending = next.ascending; fit = push Fits64 numbers number are.fit next.fits }
+
+pub makes_numbers : (numbers : List ℕ) → AreNumbers numbers → MakesList Fits64 decimal AreNumbers numbers (IsNextNumber numbers)
+makes_numbers numbers are = record {
+  apart = record { apart = decimal_injective };
+  each = λ others fine. fine.fit;
+  all = are.fit;
+  may_come = λ number fine. record { fits = All-last Fits64 numbers number fine.fit; ascending = fine.ascending };
+}
+
+pub numbers_closed : IsClosed AreNumbers
+numbers_closed = record {
+  front = λ xs ys some are. record { ascending = rising_front xs ys are.ascending; fit = All-front Fits64 xs ys are.fit };
+}
+
 -- ---- endpoints
 
 pub ends_spelled : (network : Network) → IsNetwork network → AreApart (IsEndOf network) (end_word network)
@@ -152,6 +176,12 @@ ends_spelled network is = record {
 pub ends_each : (network : Network) (ends : List (ℕ × ℕ)) → AreEnds network ends → All (IsEndOf network) ends
 ends_each network ends are = λ k d below. record { is_end = are.within k d below; is_node = are.nodes k d below }
 
+-- so are those that were read so far
+pub ends_so_far : (network : Network) (ends : List (ℕ × ℕ)) → AreSoFar (AreEnds network) ends → AreEnds network ends
+ends_so_far network ends (inl none) =
+    subst (AreEnds network) (sym none) (record { few = omega arith; within = All-nil IsEnd; ascending = λ k below. absurd (omega (arith, below)); nodes = All-nil (λ (e : ℕ × ℕ). IsNodeOf network e.0) })
+ends_so_far network ends (inr are) = are
+
 pub ends_more : (network : Network) (ends : List (ℕ × ℕ)) (end : ℕ × ℕ) → AreEnds network ends → IsNextEnd network ends end → AreEnds network (ends ++ end ∷ [])
 ends_more network ends end are next = record {
   few = omega (arith, next.room, length-append ends (end ∷ []));
@@ -165,6 +195,14 @@ end_may_come network ends end are = record {
   is_end = record { is_end = All-last IsEnd ends end are.within; is_node = All-last (λ (e : ℕ × ℕ). IsNodeOf network e.0) ends end are.nodes };
   ascending = subst IsStrictlyIncreasing (map-append (λ (p : ℕ × ℕ). p.0) ends (end ∷ [])) are.ascending;
   room = omega (arith, are.few, length-append ends (end ∷ []));
+}
+
+pub makes_in_order : (network : Network) (ends : List (ℕ × ℕ)) → IsNetwork network → AreEnds network ends → MakesList (IsEndOf network) (end_word network) (AreEnds network) ends (IsNextEnd network ends)
+makes_in_order network ends is are = record {
+  apart = ends_spelled network is;
+  each = ends_each network;
+  all = ends_each network ends are;
+  may_come = end_may_come network ends;
 }
 
 pub ends_closed : (network : Network) → IsClosed (AreEnds network)

@@ -2,12 +2,12 @@ pub mod Back
 pub mod Colons
 pub mod Costs
 pub mod EndWords
-pub mod EndsUntil
 pub mod Faults
 pub mod FieldLemmas
 pub mod Hoses
 pub mod ItemByItem
 pub mod Items
+pub mod ListsUntil
 pub mod NodeNames
 pub mod OneCommand
 pub mod ReplyLemmas

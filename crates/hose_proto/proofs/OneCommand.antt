@@ -1,5 +1,5 @@
 -- Words ask for one command at most, and then none of them is wrong.
-use Rattle.std.proofs.Common.{◌≡◌, ◌⊎◌, ◌∙◌, ℕ, List, [], get_or, map, drop, refl, sym, ap, subst, inl, inr, arith, Result, Ok, Err, IfOk}
+use Rattle.std.proofs.Common.{◌≡◌, ◌⊎◌, ◌∙◌, ℕ, List, [], decimal, get_or, map, drop, refl, sym, ap, subst, inl, inr, arith, Result, Ok, Err, IfOk}
 use Rattle.std.specs.List.Sorted.{IsPermutation}
 use Rattle.hose_words.specs.Form.{grammar_of}
 use Rattle.hose_words.specs.Grammar.{IsFirstNotAllowed}
@@ -7,7 +7,7 @@ use Rattle.hose_words.proofs.Passing.{Passes, pass_branch, pass_finish, pass_lis
 use Rattle.hose_graph.specs.Hose.{IsHose}
 use Rattle.hose_graph.specs.Network.{Network, IsNetwork}
 use Rattle.hose_graph.specs.declared.command.Command.{Command}
-use Rattle.hose_graph.specs.declared.command.Command.TheVariants.{Admit, Quote, Take, Release, Show, Link, Down, Up}
+use Rattle.hose_graph.specs.declared.command.Command.TheVariants.{Admit, AdmitAfter, Quote, Take, Release, Show, Vpns, Link, Down, Up}
 use Rattle.std.proofs.lemmas.List.Sorted.{length_permutation}
 use Rattle.hose_proto.specs.Command.{AreEndsOf, IsCommand, command_form, command_grammar, ends_form}
 use Rattle.hose_graph.specs.Naming.{AsksOf}
@@ -15,7 +15,7 @@ use Rattle.hose_proto.specs.declared.fault.ReadFault.{ReadFault}
 use Rattle.hose_proto.specs.declared.fault.ReadFault.TheVariants as fault
 use Rattle.hose_proto.specs.declared.verb.Verb.{Verb}
 use Rattle.hose_proto.specs.declared.verb.Verb.TheVariants as verb
-use Rattle.hose_proto.proofs.Back.{end_spelled, ends_back, number_back, told}
+use Rattle.hose_proto.proofs.Back.{end_spelled, ends_back, number_back, number_spelled, told}
 use Rattle.hose_proto.proofs.Hoses.{ends_of_hose, one_hose}
 use Rattle.hose_proto.proofs.Items.{new_ends_closed}
 use Rattle.hose_proto.proofs.Words.{links_apart, verb_of, verbs_apart}
@@ -25,10 +25,12 @@ use Rattle.hose_proto.proofs.Words.{links_apart, verb_of, verbs_apart}
 -- the command by its first word, with its endpoints in the order of the words
 abbrev command_by : Network → Verb → List (List ℕ) → Command
 command_by network verb.Admit words = Admit (map (end_spelled network) (drop 1 words))
+command_by network verb.AdmitAfter words = AdmitAfter (told words 1) (map (end_spelled network) (drop 2 words))
 command_by network verb.Quote words = Quote (map (end_spelled network) (drop 1 words))
 command_by network verb.Take words = Take (told words 1)
 command_by network verb.Release words = Release (told words 1)
 command_by network verb.Show words = Show (told words 1)
+command_by network verb.Vpns words = Vpns
 command_by network verb.Link words = Link (told words 1)
 command_by network verb.Down words = Down (told words 1)
 command_by network verb.Up words = Up (told words 1)
@@ -39,6 +41,7 @@ command_of network words = command_by network (verb_of (get_or words 0 [])) word
 -- the one command is the other but for the order of endpoints
 abbrev IsOrdered : Command → Command → Type 0
 IsOrdered (Admit ends) command = (hose : List (ℕ × ℕ)) × (command ≡ Admit hose) × IsPermutation ends hose × IsHose hose
+IsOrdered (AdmitAfter known ends) command = (hose : List (ℕ × ℕ)) × (command ≡ AdmitAfter known hose) × IsPermutation ends hose × IsHose hose
 IsOrdered (Quote ends) command = (hose : List (ℕ × ℕ)) × (command ≡ Quote hose) × IsPermutation ends hose × IsHose hose
 IsOrdered other command = command ≡ other
 
@@ -46,6 +49,8 @@ IsOrdered other command = command ≡ other
 ordered_unique : (command one other : Command) → IsOrdered command one → IsOrdered command other → one ≡ other
 ordered_unique (Admit ends) one other (hose, is, moved, sound) (hose', is', moved', sound') =
     is ∙ ap Admit (one_hose ends hose hose' moved moved' sound sound') ∙ sym is'
+ordered_unique (AdmitAfter known ends) one other (hose, is, moved, sound) (hose', is', moved', sound') =
+    is ∙ ap (AdmitAfter known) (one_hose ends hose hose' moved moved' sound sound') ∙ sym is'
 ordered_unique (Quote ends) one other (hose, is, moved, sound) (hose', is', moved', sound') =
     is ∙ ap Quote (one_hose ends hose hose' moved moved' sound sound') ∙ sym is'
 ordered_unique command one other is is' = is ∙ sym is'
@@ -62,6 +67,10 @@ module _ (network : Network) (is : IsNetwork network) where
   command_back words (Admit hose) (ends, cut, are) =
       subst (λ w. IsOrdered (command_of network w) (Admit hose)) (sym cut)
       (subst (λ (e : List (ℕ × ℕ)). IsOrdered (Admit e) (Admit hose)) (sym (ends_found ends hose are)) (hose, refl, are.same_ends, are.is_hose.is_hose))
+  command_back words (AdmitAfter known hose) (ends, cut, within, are) =
+      subst (λ w. IsOrdered (command_of network w) (AdmitAfter known hose)) (sym cut)
+      (subst (λ (e : List (ℕ × ℕ)). IsOrdered (AdmitAfter (number_spelled (decimal known)) e) (AdmitAfter known hose)) (sym (ends_found ends hose are))
+      (hose, ap (λ n. AdmitAfter n hose) (sym (number_back known (omega (arith, within)))), are.same_ends, are.is_hose.is_hose))
   command_back words (Quote hose) (ends, cut, are) =
       subst (λ w. IsOrdered (command_of network w) (Quote hose)) (sym cut)
       (subst (λ (e : List (ℕ × ℕ)). IsOrdered (Quote e) (Quote hose)) (sym (ends_found ends hose are)) (hose, refl, are.same_ends, are.is_hose.is_hose))
@@ -71,6 +80,7 @@ module _ (network : Network) (is : IsNetwork network) where
       subst (λ w. IsOrdered (command_of network w) (Release id)) (sym cut) (ap Release (sym (number_back id (omega (arith, within)))))
   command_back words (Show id) (cut, within) =
       subst (λ w. IsOrdered (command_of network w) (Show id)) (sym cut) (ap Show (sym (number_back id (omega (arith, within)))))
+  command_back words Vpns cut = subst (λ w. IsOrdered (command_of network w) Vpns) (sym cut) refl
   command_back words (Link link) (cut, within) =
       subst (λ w. IsOrdered (command_of network w) (Link link)) (sym cut) (ap Link (sym (number_back link (omega (arith, within, is.few_links)))))
   command_back words (Down link) (cut, within) =
@@ -88,6 +98,8 @@ module _ (network : Network) (is : IsNetwork network) where
   pass_command : (words : List (List ℕ)) (command : Command) → IsCommand network words command → Passes (command_form network) words
   pass_command words (Admit hose) (ends, cut, are) =
       subst (Passes (command_form network)) (sym cut) (pass_branch verb.Admit tt verbs_apart (pass_ends ends hose are))
+  pass_command words (AdmitAfter known hose) (ends, cut, within, are) =
+      subst (Passes (command_form network)) (sym cut) (pass_branch verb.AdmitAfter tt verbs_apart (pass_place (known, refl, within) (pass_ends ends hose are)))
   pass_command words (Quote hose) (ends, cut, are) =
       subst (Passes (command_form network)) (sym cut) (pass_branch verb.Quote tt verbs_apart (pass_ends ends hose are))
   pass_command words (Take quote) (cut, within) =
@@ -96,6 +108,7 @@ module _ (network : Network) (is : IsNetwork network) where
       subst (Passes (command_form network)) (sym cut) (pass_branch verb.Release tt verbs_apart (pass_place (id, refl, within) pass_finish))
   pass_command words (Show id) (cut, within) =
       subst (Passes (command_form network)) (sym cut) (pass_branch verb.Show tt verbs_apart (pass_place (id, refl, within) pass_finish))
+  pass_command words Vpns cut = subst (Passes (command_form network)) (sym cut) (pass_branch verb.Vpns tt verbs_apart pass_finish)
   pass_command words (Link link) (cut, within) =
       subst (Passes (command_form network)) (sym cut) (pass_branch verb.Link tt verbs_apart (pass_branch link within (links_apart network is) pass_finish))
   pass_command words (Down link) (cut, within) =
@@ -137,10 +150,12 @@ asked_for network words (Err fault.Memory) is ok bad command asks = inr refl
 -- the nodes and the link that a command names are the network's, and a number to be released is one that there can be
 asks_of : (network : Network) (words : List (List ℕ)) (command : Command) → IsCommand network words command → AsksOf network command
 asks_of network words (Admit hose) (ends, cut, are) = are.is_hose.nodes
+asks_of network words (AdmitAfter known hose) (ends, cut, within, are) = (within.1, are.is_hose.nodes)
 asks_of network words (Quote hose) (ends, cut, are) = are.is_hose.nodes
 asks_of network words (Take quote) asks = tt
 asks_of network words (Release id) asks = asks.1.1
 asks_of network words (Show id) asks = tt
+asks_of network words Vpns cut = tt
 asks_of network words (Link link) (cut, within) = within
 asks_of network words (Down link) (cut, within) = within
 asks_of network words (Up link) (cut, within) = within

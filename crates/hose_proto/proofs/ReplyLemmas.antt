@@ -10,7 +10,7 @@ use Rattle.hose_words.proofs.Spaced.{words_of-line}
 use Rattle.hose_graph.specs.Naming.{NamesPlaces}
 use Rattle.hose_graph.specs.Network.{Network, IsNetwork}
 use Rattle.hose_graph.specs.declared.command.Reply.{Reply}
-use Rattle.hose_graph.specs.declared.command.Reply.TheVariants.{Welcome, Admitted, Quoted, Refused, Stale, Released, NoVpn, NoQuote, TooMany, Shown, LinkState, Down, Up, Already, Denied, Full, Spent, Disk, Memory, Bad, Long, Bye}
+use Rattle.hose_graph.specs.declared.command.Reply.TheVariants.{Welcome, Admitted, Quoted, Refused, Stale, Released, NoVpn, NoQuote, TooMany, Shown, Vpns, Newest, LinkState, Down, Up, Already, Denied, Full, Spent, Disk, Memory, Bad, Long, Bye}
 use Rattle.hose_proto.specs.Fields.{Values, a_word}
 use Rattle.hose_proto.specs.Reading.{IsFaultOf}
 use Rattle.hose_proto.specs.ReplyLines.{IsOfKind, IsReply, head_fields, head_word, line_told, reply_form, reply_grammar, reply_words}
@@ -35,6 +35,8 @@ reply_by head.No (missing.Vpn, (id, (at, _))) = NoVpn id at
 reply_by head.No (missing.Quote, (quote, (at, _))) = NoQuote quote at
 reply_by head.Too (at, _) = TooMany at
 reply_by head.Vpn (id, (cost, (at, (hose, amounts)))) = Shown id cost at hose amounts
+reply_by head.Vpns (ids, (at, _)) = Vpns at ids
+reply_by head.Newest (id, (at, _)) = Newest id at
 reply_by head.Link (link, (load, (out, (at, _)))) = LinkState link load out at
 reply_by head.Down (link, (at, _)) = Down link at
 reply_by head.Up (link, (at, _)) = Up link at

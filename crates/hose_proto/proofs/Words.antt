@@ -45,7 +45,7 @@ no_choice word_of choices every word None none = λ one same. every (λ other. w
 
 -- the first word of a reply that a word is
 abbrev pub head_of : List ℕ → Head
-head_of word = choice_of head_word HEADS head.Bye word
+head_of word = choice_of head_word HEADS head.Welcome word
 
 pub head_of-word : (one : Head) → head_of (head_word one) ≡ one
 head_of-word head.Welcome = refl
@@ -56,7 +56,7 @@ heads_apart = apart_by head_of (λ one _. head_of-word one)
 
 -- what holds of all first words of replies holds of each
 pub every_head : (P : Head → Type 0) → All P HEADS → (one : Head) → P one
-every_head P all = every_choice head_word HEADS head.Bye head_of-word P all (all 20 head.Bye (omega arith))
+every_head P all = every_choice head_word HEADS head.Welcome head_of-word P all (all 0 head.Welcome (omega arith))
 
 -- the word after `no` that a word is
 abbrev pub missing_of : List ℕ → Missing
@@ -82,7 +82,7 @@ services_apart = apart_by service_of (λ one _. service_of-word one)
 
 -- the first word of a command that a word is
 abbrev pub verb_of : List ℕ → Verb
-verb_of word = choice_of verb_word VERBS verb.Link word
+verb_of word = choice_of verb_word VERBS verb.Admit word
 
 verb_of-word : (one : Verb) → verb_of (verb_word one) ≡ one
 verb_of-word verb.Admit = refl
@@ -93,7 +93,7 @@ verbs_apart = apart_by verb_of (λ one _. verb_of-word one)
 
 -- what holds of all first words of commands holds of each
 pub every_verb : (P : Verb → Type 0) → All P VERBS → (one : Verb) → P one
-every_verb P all = every_choice verb_word VERBS verb.Link verb_of-word P all (all 5 verb.Link (omega arith))
+every_verb P all = every_choice verb_word VERBS verb.Admit verb_of-word P all (all 0 verb.Admit (omega arith))
 
 pub links_apart : (network : Network) → IsNetwork network → AreApart (IsLinkOf network) decimal
 links_apart network is = record { apart = λ one other below below' same. decimal_injective one other (omega (arith, below, is.few_links)) (omega (arith, below', is.few_links)) same }

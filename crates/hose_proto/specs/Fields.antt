@@ -60,6 +60,11 @@ pub record AreEnds (network : Network) (ends : List Endpoint) : Type 0 where
   pub ascending : IsAscending ends
   pub nodes : All (λ end. IsNodeOf network (node_of end)) ends
 
+-- numbers that 64 bits hold, in ascending order
+pub record AreNumbers (numbers : List ℕ) : Type 0 where
+  pub ascending : IsStrictlyIncreasing numbers
+  pub fit : All Fits64 numbers
+
 -- ---- fields
 
 -- the fields of a line from some word on
@@ -84,6 +89,8 @@ pub data Fields : Type 0 where
   the_nodes : Fields
   -- the endpoints of a hose, and the word `links` after them
   the_ends : Fields → Fields
+  -- numbers in ascending order, and the word `at` after them
+  the_numbers : Fields → Fields
 
 -- what fields tell
 abbrev pub Values : Fields → Type 0
@@ -97,6 +104,7 @@ Values (a_service fields) = Bool × Values fields
 Values the_amounts = List ReservedLink
 Values the_nodes = List ℕ
 Values (the_ends fields) = List Endpoint × Values fields
+Values (the_numbers fields) = List ℕ × Values fields
 
 -- the words of fields that tell this
 abbrev pub words_told : Network → (fields : Fields) → Values fields → List (List ℕ)
@@ -118,6 +126,8 @@ words_told network the_amounts amounts = map pair_word amounts
 words_told network the_nodes side = map (name_of network) side
 words_told network (the_ends fields) (hose, values) =
     map (end_word network) hose ++ codes "links" ∷ words_told network fields values
+words_told network (the_numbers fields) (numbers, values) =
+    map decimal numbers ++ codes "at" ∷ words_told network fields values
 
 -- numbers that are told fit 64 bits, and places are those of the network
 abbrev pub AreSound : Network → (fields : Fields) → Values fields → Type 0
@@ -134,6 +144,8 @@ AreSound network the_amounts amounts = AreAmounts network amounts
 AreSound network the_nodes side = IsSide network side
 AreSound network (the_ends fields) (hose, values) =
     IsHoseOf network hose × AreSound network fields values
+AreSound network (the_numbers fields) (numbers, values) =
+    AreNumbers numbers × AreSound network fields values
 
 -- what may stand after the word that tells whether a link is out of service
 abbrev pub after_service : Form → Service → Form
@@ -156,6 +168,8 @@ form_of network the_amounts = list pair_word (AreAmounts network) 1
 form_of network the_nodes = list (name_of network) (IsSide network) 1
 form_of network (the_ends fields) =
     until (end_word network) (AreEnds network) least_ends (codes "links") (form_of network fields)
+form_of network (the_numbers fields) =
+    until decimal AreNumbers 0 (codes "at") (form_of network fields)
 
 -- fields that have lists, which take memory to read
 abbrev pub HaveLists : Fields → Type 0
@@ -169,3 +183,4 @@ HaveLists (a_service fields) = HaveLists fields
 HaveLists the_amounts = ⊤
 HaveLists the_nodes = ⊤
 HaveLists (the_ends fields) = ⊤
+HaveLists (the_numbers fields) = ⊤

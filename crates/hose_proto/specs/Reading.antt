@@ -8,8 +8,7 @@ use Rattle.hose_graph.specs.Amounts.{ReservedLink, amount_of, link_of}
 use Rattle.hose_graph.specs.Ascending.{firsts}
 use Rattle.hose_graph.specs.Hose.{IsEnd, Endpoint, node_of}
 use Rattle.hose_graph.specs.Network.{Network, IsLinkOf, IsNodeOf}
-use Rattle.hose_graph.specs.Limits.{least_ends, most_ends}
-use Rattle.hose_proto.specs.Places.{end_word}
+use Rattle.hose_graph.specs.Limits.{most_ends}
 use Rattle.hose_proto.specs.declared.fault.ReadFault.{ReadFault}
 use Rattle.hose_proto.specs.declared.fault.ReadFault.TheVariants.{Bad}
 
@@ -90,12 +89,16 @@ pub record IsNextNode (network : Network) (nodes : List ℕ) (node : ℕ) : Type
   pub is_node : IsNodeOf network node
   pub ascending : IsStrictlyIncreasing (nodes ++ node ∷ [])
 
--- the next word is neither an endpoint that may come next nor the end of the list
-pub record MissesEnd (network : Network) (ends : List Endpoint) (old : Position) (number : ℕ)
-    : Type 0 where
+-- a number may come after others
+pub record IsNextNumber (numbers : List ℕ) (number : ℕ) : Type 0 where
+  pub fits : Fits64 number
+  pub ascending : IsStrictlyIncreasing (numbers ++ number ∷ [])
+
+-- The next word tells no item more of a list, and is not the word that ends it once it has so many
+-- items. This is the word's number.
+pub record MissesUntil {A : Type 0} (word_of : A → List ℕ) (fine : List A → Type 0) (least : ℕ)
+    (last : List ℕ) (items : List A) (old : Position) (number : ℕ) : Type 0 where
   pub none : ¬ IsFirst
-      (λ word. (end : Endpoint) × (word ≡ end_word network end) × IsNextEnd network ends end)
-      old.left
-  pub no_last : ¬ IsFirst
-      (λ word. (word ≡ codes "links") × (least_ends ≤ length ends)) old.left
+      (λ word. TellsItems word_of fine (map word_of items ++ word ∷ [])) old.left
+  pub no_last : ¬ IsFirst (λ word. (word ≡ last) × (least ≤ length items)) old.left
   pub at : number ≡ old.read + 1

@@ -5,8 +5,8 @@ use Rattle.hose_words.specs.Form.{Form, branch, Each, grammar_of}
 use Rattle.hose_words.specs.Grammar.{Grammar}
 use Rattle.hose_graph.specs.Network.{Network}
 use Rattle.hose_graph.specs.declared.command.Reply.{Reply}
-use Rattle.hose_graph.specs.declared.command.Reply.TheVariants.{Welcome, Admitted, Quoted, Refused, Stale, Released, NoVpn, NoQuote, TooMany, Shown, LinkState, Down, Up, Already, Denied, Full, Spent, Disk, Memory, Bad, Long, Bye}
-use Rattle.hose_proto.specs.Fields.{Fields, no_more, a_word, a_number, a_link, a_link_told, a_missing, a_service, the_amounts, the_nodes, the_ends, Values, words_told, AreSound, HaveLists, form_of}
+use Rattle.hose_graph.specs.declared.command.Reply.TheVariants.{Welcome, Admitted, Quoted, Refused, Stale, Released, NoVpn, NoQuote, TooMany, Shown, Vpns, Newest, LinkState, Down, Up, Already, Denied, Full, Spent, Disk, Memory, Bad, Long, Bye}
+use Rattle.hose_proto.specs.Fields.{Fields, no_more, a_word, a_number, a_link, a_link_told, a_missing, a_service, the_amounts, the_nodes, the_ends, the_numbers, Values, words_told, AreSound, HaveLists, form_of}
 use Rattle.hose_proto.specs.declared.head.Missing.TheVariants as missing
 use Rattle.hose_proto.specs.declared.head.Head.{Head}
 use Rattle.hose_proto.specs.declared.head.Head.TheVariants as head
@@ -31,6 +31,8 @@ head_line head.Released = (codes "released", a_number an_epoch)
 head_line head.No = (codes "no", a_missing (a_number an_epoch))
 head_line head.Too = (codes "too", a_word (codes "many") (a_word (codes "quotes") an_epoch))
 head_line head.Vpn = (codes "vpn", a_cost (a_word (codes "ends") (the_ends the_amounts)))
+head_line head.Vpns = (codes "vpns", the_numbers (a_number no_more))
+head_line head.Newest = (codes "newest", a_number an_epoch)
 head_line head.Link =
     (codes "link", a_link_told (a_word (codes "load") (a_number (a_service (a_number no_more)))))
 head_line head.Down = (codes "down", a_link an_epoch)
@@ -74,6 +76,8 @@ line_told (NoQuote quote at) =
 line_told (TooMany at) = record { head = head.Too; values = (at, tt) }
 line_told (Shown id cost at hose amounts) =
     record { head = head.Vpn; values = (id, (cost, (at, (hose, amounts)))) }
+line_told (Vpns at ids) = record { head = head.Vpns; values = (ids, (at, tt)) }
+line_told (Newest id at) = record { head = head.Newest; values = (id, (at, tt)) }
 line_told (LinkState link load out at) =
     record { head = head.Link; values = (link, (load, (out, (at, tt)))) }
 line_told (Down link at) = record { head = head.Down; values = (link, (at, tt)) }

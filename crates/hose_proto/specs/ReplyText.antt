@@ -6,12 +6,16 @@ use Rattle.hose_graph.specs.Hose.{Endpoint, node_of, rate_of}
 use Rattle.hose_graph.specs.Network.{Network, name_of}
 use Rattle.hose_graph.specs.declared.topology.Link.{Link}
 use Rattle.hose_graph.specs.declared.command.Reply.{Reply}
-use Rattle.hose_graph.specs.declared.command.Reply.TheVariants.{Admitted, Quoted, Refused, Shown, LinkState}
+use Rattle.hose_graph.specs.declared.command.Reply.TheVariants.{Admitted, Quoted, Refused, Shown, Vpns, LinkState}
 use Rattle.hose_proto.specs.ReplyLines.{reply_words}
 
 -- a link and its amount
 abbrev pub pair_text : ReservedLink → List ℕ
 pair_text pair = codes " " ++ decimal (link_of pair) ++ codes ":" ++ decimal (amount_of pair)
+
+-- a number of a list
+abbrev pub number_text : ℕ → List ℕ
+number_text number = codes " " ++ decimal number
 
 -- the name of a node
 abbrev pub node_text : Network → ℕ → List ℕ
@@ -50,6 +54,7 @@ pub record IsShort (reply : Reply) : Type 0 where
   pub not_refused : (at : ℕ) (side : List ℕ) → reply ≢ Refused at side
   pub not_shown : (id cost at : ℕ) (hose : List Endpoint) (amounts : List ReservedLink)
       → reply ≢ Shown id cost at hose amounts
+  pub not_vpns : (at : ℕ) (ids : List ℕ) → reply ≢ Vpns at ids
   pub not_state : (link load : ℕ) (out : Bool) (at : ℕ) → reply ≢ LinkState link load out at
 
 -- a line of output: a text and a line feed

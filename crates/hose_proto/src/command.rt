@@ -1,5 +1,5 @@
 // Commands read from words.
-ghost use Rattle.std.specs.Prelude.{◌≡◌, ◌⊎◌, ℕ, List, ◌+◌, ◌≤◌, ◌↔◌, [], ◌∷◌, decimal, length, drop, Ok, Err, IfOk, IfErr, IsTrue, Any};
+ghost use Rattle.std.specs.Prelude.{◌≡◌, ◌⊎◌, ℕ, List, ◌+◌, ◌≤◌, ◌↔◌, [], ◌∷◌, codes, decimal, length, drop, Ok, Err, IfOk, IfErr, IsTrue, Any};
 ghost use Rattle.hose_words.specs.Cursor.{IsWrong};
 ghost use Rattle.hose_words.specs.Form.{IsChoice, grammar_of};
 ghost use Rattle.hose_words.specs.Grammar.{IsFirst, IsFirstNotAllowed};
@@ -7,7 +7,7 @@ ghost use Rattle.hose_words.specs.Words.{words_of};
 ghost use Rattle.hose_graph.specs.Hose.{Endpoint, node_of};
 ghost use Rattle.hose_graph.specs.Network.{IsNetwork, IsLinkOf};
 ghost use Rattle.hose_graph.specs.declared.command.Command.{Command};
-ghost use Rattle.hose_proto.specs.Command.{AreEndsOf, AreNewEnds, IsId, IsCommand, TakesMemory, command_form, command_grammar, ends_form, verb_form, sole_id_form, sole_link_form, verb_word};
+ghost use Rattle.hose_proto.specs.Command.{AreEndsOf, AreNewEnds, IsId, IsCommand, TakesMemory, command_form, command_grammar, ends_form, known_ends_form, verb_form, sole_id_form, sole_link_form, verb_word};
 ghost use Rattle.hose_proto.specs.Places.{end_word};
 ghost use Rattle.hose_proto.specs.Reading.{IsFaultOf, IsNewEnd, TellsNext};
 ghost use Rattle.hose_graph.specs.Naming.{AsksOf};
@@ -101,14 +101,30 @@ fn read_after(
 {
     match verb {
         Verb::Admit => Ok(Command::Admit(read_hose(alloc, top, words)?)),
+        Verb::AdmitAfter => read_bound(alloc, top, words),
         Verb::Quote => Ok(Command::Quote(read_hose(alloc, top, words)?)),
         Verb::Take => Ok(Command::Take(read_id(words)?)),
         Verb::Release => Ok(Command::Release(read_id(words)?)),
         Verb::Show => Ok(Command::Show(read_id(words)?)),
+        Verb::Vpns => {
+            words.finish()?;
+            Ok(Command::Vpns)
+        }
         Verb::Link => Ok(Command::Link(read_link(top, words)?)),
         Verb::Down => Ok(Command::Down(read_link(top, words)?)),
         Verb::Up => Ok(Command::Up(read_link(top, words)?)),
     }
+}
+
+// After `admit-after`.
+fn read_bound(alloc: Global, top: &Topology, words: &mut Cursor<'_>) -> Result<Command, ReadFault>
+    requires { IsNetwork top.now }
+    ensures ok { IfOk result (IsCommand top.now (codes "admit-after" ∷ words.old.left)) }
+    ensures bad { IfErr result (IsFaultOf (known_ends_form top.now) words.old) }
+{
+    let known = words.number_within(0, MOST_EPOCH)?;
+    let hose = read_hose(alloc, top, words)?;
+    Ok(Command::AdmitAfter { known, hose })
 }
 
 // The number of a VPN or of a quote that stands alone after a command's first word.

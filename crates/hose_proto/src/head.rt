@@ -17,6 +17,8 @@ pub(crate) enum Head {
     No,
     Too,
     Vpn,
+    Vpns,
+    Newest,
     Link,
     Down,
     Up,
@@ -31,7 +33,7 @@ pub(crate) enum Head {
     Bye,
 }
 
-const HEADS: [Head; 21] = [
+const HEADS: [Head; 23] = [
     Head::Welcome,
     Head::Admitted,
     Head::Quoted,
@@ -41,6 +43,8 @@ const HEADS: [Head; 21] = [
     Head::No,
     Head::Too,
     Head::Vpn,
+    Head::Vpns,
+    Head::Newest,
     Head::Link,
     Head::Down,
     Head::Up,
@@ -77,6 +81,8 @@ impl HasWord for Head {
             Head::No => b"no",
             Head::Too => b"too",
             Head::Vpn => b"vpn",
+            Head::Vpns => b"vpns",
+            Head::Newest => b"newest",
             Head::Link => b"link",
             Head::Down => b"down",
             Head::Up => b"up",

@@ -1,7 +1,7 @@
 // Words that name something of a network, and the parts of words.
-ghost use Rattle.std.specs.Prelude.{◌≡◌, ◌++◌, ◌∷◌, ℕ, decimal, Contains, IfOk, IfErr, IfSome, IfNone};
+ghost use Rattle.std.specs.Prelude.{◌≡◌, ◌++◌, ◌∷◌, ℕ, decimal, Contains, IfOk, IfErr, IfSome, IfNone, Some};
 ghost use Rattle.hose_words.specs.Cursor.{Took, Misses};
-ghost use Rattle.hose_words.specs.Form.{IsChoice};
+ghost use Rattle.hose_words.specs.Form.{Fits64, IsChoice};
 ghost use Rattle.hose_graph.specs.Hose.{Endpoint};
 ghost use Rattle.hose_graph.specs.Limit.{IsUpTo};
 ghost use Rattle.hose_graph.specs.Name.{IsName};
@@ -63,6 +63,14 @@ pub(crate) fn link_number(top: &Topology, word: &[u8]) -> Option<u32>
     } else {
         None
     }
+}
+
+// The number that a word tells.
+pub(crate) fn number_told(word: &[u8]) -> Option<u64>
+    ensures told { IfSome result (λ value. (word.now ≡ decimal value) × Fits64 value) }
+    ensures only { (value : ℕ) → word.now ≡ decimal value → Fits64 value → result ≡ Some value }
+{
+    number(word, u64::MAX)
 }
 
 /// The endpoint that a word spells.

@@ -1,22 +1,22 @@
 // The lists of replies, read from words.
-ghost use Rattle.std.specs.Prelude.{◌≡◌, ◌↔◌, ℕ, ◌<◌, ◌≤◌, ◌++◌, [], ◌∷◌, codes, length, map, IfOk, OnOk, IfErr, IfSome, IfNone, IsTrue};
+ghost use Rattle.std.specs.Prelude.{◌≡◌, ◌↔◌, ℕ, ◌++◌, [], ◌∷◌, codes, decimal, map, IfOk, OnOk, IfErr, IfSome, IfNone, IsTrue};
 ghost use Rattle.std.specs.List.Sorted.{IsStrictlyIncreasing};
-ghost use Rattle.hose_words.specs.Cursor.{Took, IsWrong};
+ghost use Rattle.hose_words.specs.Cursor.{IsWrong};
 ghost use Rattle.hose_graph.specs.Amounts.{ReservedLink};
 ghost use Rattle.hose_graph.specs.Hose.{Endpoint};
 ghost use Rattle.hose_graph.specs.Ascending.{IsAscending, firsts};
 ghost use Rattle.hose_graph.specs.Network.{IsNetwork, name_of};
 ghost use Rattle.hose_proto.specs.Places.{IsHoseOf, end_word};
-ghost use Rattle.hose_proto.specs.Reading.{IsFaultOf, IsNextEnd, IsNextNode, IsNextPair, MissesEnd, TellsNext};
-ghost use Rattle.hose_proto.specs.Fields.{AreAmounts, IsSide, Fields, form_of, pair_word, the_amounts, the_ends, the_nodes};
+ghost use Rattle.hose_proto.specs.Reading.{IsFaultOf, IsNextEnd, IsNextNode, IsNextNumber, IsNextPair, TellsNext};
+ghost use Rattle.hose_proto.specs.Fields.{AreAmounts, AreEnds, AreNumbers, IsSide, Fields, form_of, pair_word, the_amounts, the_ends, the_nodes, the_numbers};
 
 use crate::fault::ReadFault;
-use crate::lists::{Items, read_items};
-use crate::places::{endpoint, link_number, parts};
+use crate::lists::{Items, read_items, read_until};
+use crate::places::{endpoint, link_number, number_told, parts};
 use hose_graph::{
-    Amounts, Endpoint, Hose, LEAST_ENDS, MOST_ENDS, Name, NodeList, ReservedLink, Topology,
+    Amounts, Endpoint, Hose, LEAST_ENDS, MOST_ENDS, Name, NodeList, ReservedLink, Topology, VpnList,
 };
-use hose_words::{Cursor, WrongWord, number};
+use hose_words::{Cursor, number};
 use std::alloc::Global;
 
 // Amounts on links, to the end of the line.
@@ -133,36 +133,23 @@ pub(crate) fn read_hose(
     ensures bad { IfErr result
         (λ fault. (rest : Fields) → IsFaultOf (form_of top.now (the_ends rest)) words.old fault) }
 {
-    let mut ends = Vec::new(alloc);
-    while let Some(end) = next_end(top, &ends, words)? {
-        ends.push(end)?;
-    }
+    let ends = read_until::<Ends>(alloc, top, LEAST_ENDS, b"links", words)?;
     let hose = Hose::from_ends(alloc, &ends)?;
     Ok(hose)
 }
 
-// The endpoint that the next word tells, or none where that is `links`.
-fn next_end(
-    top: &Topology,
-    ends: &[Endpoint],
-    words: &mut Cursor<'_>,
-) -> Result<Option<Endpoint>, WrongWord>
-    requires ascending { IsAscending ends.now }
-    requires network { IsNetwork top.now }
-    ensures next { IfOk result (λ next. IfSome next
-        (λ end. Took words.old words.new (end_word top.now end) × IsNextEnd top.now ends.now end)) }
-    ensures last { IfOk result (λ next. IfNone next
-        (Took words.old words.new (codes "links") × (LEAST_ENDS ≤ length ends.now))) }
-    ensures wrong { IfErr result (λ wrong. MissesEnd top.now ends.now words.old wrong.number) }
-{
-    let wrong = words.wrong();
-    match words.next() {
-        None => Err(wrong),
-        Some(b"links") if ends.len() >= LEAST_ENDS => Ok(None),
-        Some(word) => match end_after(top, ends, word) {
-            None => Err(wrong),
-            end => Ok(end),
-        },
+// Endpoints in ascending order of nodes.
+struct Ends;
+
+impl Items for Ends {
+    type Item = Endpoint;
+
+    ghost word_of = { end_word };
+
+    ghost fine = { AreEnds };
+
+    fn next(top: &Topology, ends: &[Endpoint], word: &[u8]) -> Option<Endpoint> {
+        end_after(top, ends, word)
     }
 }
 
@@ -194,5 +181,55 @@ fn comes_after(pairs: &[(u32, u64)], number: u32) -> bool
     match pairs.last() {
         Some(last) => last.0 < number,
         None => true,
+    }
+}
+
+// The numbers of VPNs up to `at`, and that word.
+pub(crate) fn read_ids(
+    alloc: Global,
+    top: &Topology,
+    words: &mut Cursor<'_>,
+) -> Result<VpnList, ReadFault>
+    requires { IsNetwork top.now }
+    ensures told { IfOk result (λ ids.
+        words.old.left ≡ map decimal ids ++ codes "at" ∷ words.new.left) }
+    ensures ids { IfOk result AreNumbers }
+    ensures later { OnOk result ((rest : Fields) (place : ℕ)
+        → IsWrong (form_of top.now rest) words.new place
+        → IsWrong (form_of top.now (the_numbers rest)) words.old place) }
+    ensures bad { IfErr result (λ fault. (rest : Fields)
+        → IsFaultOf (form_of top.now (the_numbers rest)) words.old fault) }
+{
+    let ids = read_until::<Numbers>(alloc, top, 0, b"at", words)?;
+    Ok(VpnList::from_vec(ids))
+}
+
+// Numbers in ascending order.
+struct Numbers;
+
+impl Items for Numbers {
+    type Item = u64;
+
+    ghost word_of = { λ _. decimal };
+
+    ghost fine = { λ _. AreNumbers };
+
+    fn next(_top: &Topology, numbers: &[u64], word: &[u8]) -> Option<u64> {
+        number_after(numbers, word)
+    }
+}
+
+// The number that a word tells, where it comes after the others.
+fn number_after(numbers: &[u64], word: &[u8]) -> Option<u64>
+    requires { IsStrictlyIncreasing numbers.now }
+    ensures some { IfSome result
+        (λ number. (word.now ≡ decimal number) × IsNextNumber numbers.now number) }
+    ensures none { IfNone result ((number : ℕ)
+        → word.now ≡ decimal number → IsNextNumber numbers.now number → ⊥) }
+{
+    let told = number_told(word)?;
+    match numbers.last() {
+        Some(last) if *last >= told => None,
+        _ => Some(told),
     }
 }

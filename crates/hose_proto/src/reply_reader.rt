@@ -10,12 +10,12 @@ ghost use Rattle.hose_proto.specs.Fields.{a_link, a_number, a_service, a_word, f
 ghost use Rattle.hose_proto.specs.Reading.{IsFaultOf, at_form, cost_form, cost_words, id_form};
 ghost use Rattle.hose_proto.specs.ReplyLines.{HasLists, IsPriced, IsReply, a_cost, an_epoch, head_form, head_word, reply_form, reply_grammar};
 ghost use Rattle.hose_graph.specs.Naming.{NamesPlaces};
-ghost use Rattle.hose_proto.specs.declared.head.Head.TheVariants.{Link, Refused, Vpn};
+ghost use Rattle.hose_proto.specs.declared.head.Head.TheVariants.{Link, Refused, Vpn, Vpns};
 
 use crate::fault::ReadFault;
 use crate::head::{Head, Missing, Service};
 use crate::places::read_link_number;
-use crate::reply_lists::{read_amounts, read_hose, read_side};
+use crate::reply_lists::{read_amounts, read_hose, read_ids, read_side};
 use hose_graph::{Reply, Topology};
 use hose_words::{Cursor, WrongWord};
 use std::alloc::Global;
@@ -78,6 +78,11 @@ fn read_after(
         Head::No => Ok(read_none(words)?),
         Head::Too => Ok(read_too_many(words)?),
         Head::Vpn => read_shown(alloc, top, words),
+        Head::Vpns => read_vpns(alloc, top, words),
+        Head::Newest => {
+            let (id, at) = read_id(words)?;
+            Ok(Reply::Newest { id, at })
+        }
         Head::Link => Ok(read_link(top, words)?),
         Head::Down => {
             let (link, at) = read_changed(top, words)?;
@@ -203,6 +208,17 @@ fn read_shown(alloc: Global, top: &Topology, words: &mut Cursor<'_>) -> Result<R
         hose,
         amounts,
     })
+}
+
+// After `vpns`.
+fn read_vpns(alloc: Global, top: &Topology, words: &mut Cursor<'_>) -> Result<Reply, ReadFault>
+    requires { IsNetwork top.now }
+    ensures ok { IfOk result (IsReply top.now (codes "vpns" ∷ words.old.left)) }
+    ensures bad { IfErr result (IsFaultOf (head_form top.now Vpns) words.old) }
+{
+    let ids = read_ids(alloc, top, words)?;
+    let at = last(words)?;
+    Ok(Reply::Vpns { at, ids })
 }
 
 // After `link`.

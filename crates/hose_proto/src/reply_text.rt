@@ -6,15 +6,15 @@ ghost use Rattle.hose_io.specs.Gather.{IsAdded};
 ghost use Rattle.hose_io.specs.Writing.{IsPut};
 ghost use Rattle.hose_graph.specs.Hose.{node_of};
 ghost use Rattle.hose_graph.specs.Network.{Network, IsLinkOf, IsNodeOf};
-ghost use Rattle.hose_graph.specs.declared.command.Reply.TheVariants.{LinkState, Refused, Shown};
+ghost use Rattle.hose_graph.specs.declared.command.Reply.TheVariants.{LinkState, Refused, Shown, Vpns};
 ghost use Rattle.hose_proto.specs.Fields.{a_number, a_service, no_more, pair_word, words_told};
 ghost use Rattle.hose_proto.specs.ReplyLines.{IsOfKind, IsReply};
-ghost use Rattle.hose_proto.specs.ReplyText.{IsShort, line_of, node_text, reply_text, spaced};
+ghost use Rattle.hose_proto.specs.ReplyText.{IsShort, line_of, node_text, number_text, reply_text, spaced};
 ghost use Rattle.hose_graph.specs.Naming.{NamesPlaces};
 ghost use Rattle.hose_words.specs.Words.{words_of};
 
 use crate::pieces::{add_ends, add_link, add_node, add_pairs};
-use hose_graph::{Amounts, Hose, NodeList, Reply, Topology};
+use hose_graph::{Amounts, Hose, NodeList, Reply, Topology, VpnList};
 use hose_io::{Failed, GATHER_LIMIT, Gather, Sink};
 
 /// Writes a reply as a line. A line of up to 4,096 bytes is given to the sink as one piece, and
@@ -64,6 +64,7 @@ fn add_reply<S: Sink>(gather: &mut Gather, sink: &mut S, top: &Topology, reply: 
             hose,
             amounts,
         } => add_shown(gather, sink, top, (*id, *cost, *at), hose, amounts),
+        Reply::Vpns { at, ids } => add_vpns(gather, sink, *at, ids),
         Reply::LinkState {
             link,
             load,
@@ -87,6 +88,7 @@ fn add_short<S: Sink>(gather: &mut Gather, sink: &mut S, reply: &Reply)
         Reply::NoVpn { id, at } => add_at(gather, sink, b"no vpn ", *id, *at),
         Reply::NoQuote { quote, at } => add_at(gather, sink, b"no quote ", *quote, *at),
         Reply::TooMany { at } => add_last(gather, sink, b"too many quotes at ", *at),
+        Reply::Newest { id, at } => add_at(gather, sink, b"newest ", *id, *at),
         Reply::Down { link, at } => add_at(gather, sink, b"down ", *link, *at),
         Reply::Up { link, at } => add_at(gather, sink, b"up ", *link, *at),
         Reply::Already { link, at } => add_at(gather, sink, b"already ", *link, *at),
@@ -102,6 +104,7 @@ fn add_short<S: Sink>(gather: &mut Gather, sink: &mut S, reply: &Reply)
         Reply::Quoted { .. } => {}
         Reply::Refused { .. } => {}
         Reply::Shown { .. } => {}
+        Reply::Vpns { .. } => {}
         Reply::LinkState { .. } => {}
     }
 }
@@ -189,6 +192,26 @@ fn add_shown<S: Sink>(
     add_ends(gather, sink, top, hose.ends());
     gather.add(sink, b" links");
     add_pairs(gather, sink, amounts.pairs());
+}
+
+// Adds the numbers of a customer's VPNs, and an epoch.
+fn add_vpns<S: Sink>(gather: &mut Gather, sink: &mut S, at: u64, ids: &VpnList)
+    ensures { (network : Network) → IsAdded S.Sink gather.old sink.old gather.new sink.new
+        (reply_text network (Vpns at ids.now)) }
+{
+    gather.add(sink, b"vpns");
+    add_ids(gather, sink, ids.ids());
+    add_last(gather, sink, b" at ", at);
+}
+
+// Adds the numbers of VPNs.
+fn add_ids<S: Sink>(gather: &mut Gather, sink: &mut S, ids: &[u64])
+    ensures { IsAdded S.Sink gather.old sink.old gather.new sink.new
+        (flat_map number_text ids.now) }
+{
+    for id in ids {
+        gather.add_numbered(sink, b" ", *id);
+    }
 }
 
 // Adds what there is to tell of a link: what is reserved on it, whether it is out of service, and

@@ -8,21 +8,25 @@ use hose_words::Keyword;
 #[derive(Clone, Copy, Debug)]
 pub(crate) enum Verb {
     Admit,
+    AdmitAfter,
     Quote,
     Take,
     Release,
     Show,
+    Vpns,
     Link,
     Down,
     Up,
 }
 
-const VERBS: [Verb; 8] = [
+const VERBS: [Verb; 10] = [
     Verb::Admit,
+    Verb::AdmitAfter,
     Verb::Quote,
     Verb::Take,
     Verb::Release,
     Verb::Show,
+    Verb::Vpns,
     Verb::Link,
     Verb::Down,
     Verb::Up,
@@ -42,10 +46,12 @@ impl HasWord for Verb {
     fn word(self) -> &'static [u8] {
         match self {
             Verb::Admit => b"admit",
+            Verb::AdmitAfter => b"admit-after",
             Verb::Quote => b"quote",
             Verb::Take => b"take",
             Verb::Release => b"release",
             Verb::Show => b"show",
+            Verb::Vpns => b"vpns",
             Verb::Link => b"link",
             Verb::Down => b"down",
             Verb::Up => b"up",

@@ -12,6 +12,9 @@ returns-in-Refused g c = rw c.in-Refused.is c.add_refused.ensures
 pub returns-in-Shown : goal.returns-in-Shown
 returns-in-Shown g c = rw c.in-Shown.is c.add_shown.ensures
 
+pub returns-in-Vpns : goal.returns-in-Vpns
+returns-in-Vpns g c = rw c.in-Vpns.is (c.add_vpns.ensures c.args.top.now)
+
 pub returns-in-LinkState : goal.returns-in-LinkState
 returns-in-LinkState g c = rw c.in-LinkState.is c.add_state.ensures
 
@@ -21,6 +24,7 @@ add_short-requires g c = record {
   not_quoted = c.in_default.not-Quoted;
   not_refused = c.in_default.not-Refused;
   not_shown = c.in_default.not-Shown;
+  not_vpns = c.in_default.not-Vpns;
   not_state = c.in_default.not-LinkState;
 }
 

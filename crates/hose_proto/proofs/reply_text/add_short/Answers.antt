@@ -15,6 +15,9 @@ returns-in-NoQuote g c network = rw c.in-NoQuote.is c.add_at-in-NoQuote.ensures
 pub returns-in-TooMany : goal.returns-in-TooMany
 returns-in-TooMany g c network = rw c.in-TooMany.is c.add_last-in-TooMany.ensures
 
+pub returns-in-Newest : goal.returns-in-Newest
+returns-in-Newest g c network = rw c.in-Newest.is c.add_at-in-Newest.ensures
+
 pub returns-in-Down : goal.returns-in-Down
 returns-in-Down g c network = rw c.in-Down.is c.add_at-in-Down.ensures
 
