@@ -7,8 +7,8 @@ ghost use Rattle.hose_crew.specs.Crew.{ServesDoor};
 ghost use Rattle.hose_crew.specs.Desk.{AreArrived, HasStopped, started_at};
 ghost use Rattle.hose_crew.specs.Hands.{AreBack, HasWorked, HaveWorked, IsGathered, IsIdle, MayServe};
 
-use crate::desk::{Closed, Desk, LockedDesk, Start};
-use crate::hand::{Gathered, Hand, Place, Work};
+use crate::desk::{Closed, Desk, DoorStart, LockedDesk};
+use crate::hand::{GatheredCrew, Hand, Place, Work};
 use hose_disk::Disk;
 use hose_io::{Door, Failed};
 use hose_pool::{Gate, MOST_WORKERS};
@@ -32,12 +32,12 @@ pub struct CrewEnd<L> {
 
 /// Workers, with room for the connections that they are to serve.
 #[derive(Drop)]
-pub struct Crew<L: Door, N: Start> {
+pub struct Crew<L: Door, N: DoorStart> {
     hands: Vec<Hand<L, N>>,
     connections: u32,
 }
 
-impl<L: Door, N: Start> Model for Crew<L, N> {
+impl<L: Door, N: DoorStart> Model for Crew<L, N> {
     ghost use Rattle.std.specs.Prelude.{◌<◌, ◌≤◌, All, length};
     ghost use Rattle.hose_pool.specs.declared.rows.TheConstants.{MOST_WORKERS};
     ghost use Rattle.hose_crew.specs.Crew.{CrewState};
@@ -55,7 +55,7 @@ impl<L: Door, N: Start> Model for Crew<L, N> {
         × All (IsIdle crew.connections) crew.hands.items };
 }
 
-impl<L: Door + Send, N: Start + Send + Sync> Crew<L, N> {
+impl<L: Door + Send, N: DoorStart + Send + Sync> Crew<L, N> {
     /// So many workers, from 1 to 16, with room for so many connections.
     pub fn new(alloc: Global, workers: u32, connections: u32) -> Result<Crew<L, N>, AllocError>
         requires workers { (1 ≤ workers) × (workers ≤ MOST_WORKERS) }
@@ -105,7 +105,7 @@ impl<L: Door + Send, N: Start + Send + Sync> Crew<L, N> {
             tally,
             stopped,
         } = serve_all(&work, first, desk, &mut hands);
-        let left = Gathered {
+        let left = GatheredCrew {
             pass,
             share,
             tally,
@@ -121,7 +121,7 @@ impl<L: Door + Send, N: Start + Send + Sync> Crew<L, N> {
 }
 
 // Each worker takes a part of the first pass.
-fn take_places<D: Disk, B: Begun<D>, L: Door, N: Start>(
+fn take_places<D: Disk, B: Begun<D>, L: Door, N: DoorStart>(
     shared: &Shared<D, B>,
     pass: &mut Pass,
     share: &mut Share<N>,
@@ -155,7 +155,7 @@ fn serve_all<
     B: Begun<D> + Send,
     G: Gate + Sync,
     L: Door + Send,
-    N: Start + Send + Sync,
+    N: DoorStart + Send + Sync,
 >(
     work: &Work<'_, R, D, B, G>,
     first: &Snapshot<Pass>,
@@ -187,7 +187,7 @@ fn serve_at_once<
     B: Begun<D> + Send,
     G: Gate + Sync,
     L: Door + Send,
-    N: Start + Send + Sync,
+    N: DoorStart + Send + Sync,
 >(
     work: &Work<'_, R, D, B, G>,
     first: &Snapshot<Pass>,
@@ -225,9 +225,9 @@ fn serve_at_once<
 }
 
 // Each worker gives up its place, and the connections that it ended go back to the door.
-fn gather<D: Disk, B: Begun<D>, L: Door, N: Start>(
+fn gather<D: Disk, B: Begun<D>, L: Door, N: DoorStart>(
     shared: &Shared<D, B>,
-    left: Gathered<L, N>,
+    left: GatheredCrew<L, N>,
     hands: Vec<Hand<L, N>>,
     first: &Snapshot<Pass>,
 ) -> (Pass, L)
@@ -252,7 +252,7 @@ fn gather<D: Disk, B: Begun<D>, L: Door, N: Start>(
     }
     // That the whole share is the total is told by this call.
     gathered.tally.audit(&mut gathered.share);
-    let Gathered {
+    let GatheredCrew {
         pass,
         share: _share,
         tally: _tally,

@@ -9,12 +9,12 @@ use std::sync::{Mutex, Wait};
 
 /// What a crew's door was at the start. A caller names it here, since a lock has no other way to
 /// tell what became of it.
-pub trait Start: Ledger {
+pub trait DoorStart: Ledger {
     ghost start: { Started };
 }
 
 // A caller's proof names the door.
-impl Start for Brand {
+impl DoorStart for Brand {
     ghost use Rattle.std.specs.Prelude.{None, []};
 
     ghost start = { record {
@@ -35,7 +35,7 @@ pub struct Accepted<L: Door> {
 }
 
 /// Where a worker asks for the next connection: a desk, by itself or under its lock.
-pub trait Accept<L: Door, N: Start> {
+pub trait Accept<L: Door, N: DoorStart> {
     /// What is known of it where no connection comes any more.
     ghost is_over: { Self → Type 0 };
 
@@ -53,14 +53,14 @@ pub trait Accept<L: Door, N: Start> {
 }
 
 /// What accepting came to, with the door and the tally of what was accepted.
-pub struct Closed<L: Door, N: Start> {
+pub struct Closed<L: Door, N: DoorStart> {
     pub door: L,
     pub tally: Tally<N>,
     pub stopped: Result<(), Failed>,
 }
 
 /// A door, and how many connections it has accepted.
-pub struct Desk<L: Door, N: Start> {
+pub struct Desk<L: Door, N: DoorStart> {
     door: L,
     connections: u32,
     accepted: u32,
@@ -68,7 +68,7 @@ pub struct Desk<L: Door, N: Start> {
     tally: Tally<N>,
 }
 
-impl<L: Door, N: Start> Model for Desk<L, N> {
+impl<L: Door, N: DoorStart> Model for Desk<L, N> {
     ghost use Rattle.hose_crew.specs.Desk.{DeskState, IsDesk};
 
     ghost Value = { DeskState L };
@@ -90,7 +90,7 @@ impl<L: Door, N: Start> Model for Desk<L, N> {
     }) };
 }
 
-impl<L: Door, N: Start> Desk<L, N> {
+impl<L: Door, N: DoorStart> Desk<L, N> {
     /// A door that is to accept so many connections.
     pub fn new(door: L, connections: u32, tally: Tally<N>) -> Desk<L, N>
         requires start { N.start ≡ started_at L.Door door connections }
@@ -129,7 +129,7 @@ impl<L: Door, N: Start> Desk<L, N> {
     }
 }
 
-impl<L: Door, N: Start> Accept<L, N> for Desk<L, N> {
+impl<L: Door, N: DoorStart> Accept<L, N> for Desk<L, N> {
     ghost use Rattle.std.specs.Prelude.{IsSome};
 
     ghost is_over = { λ desk. IsSome desk.stopped };
@@ -175,13 +175,13 @@ impl<L: Door, N: Start> Accept<L, N> for Desk<L, N> {
 
 /// A desk that workers share, under its lock.
 #[derive(Drop)]
-pub struct LockedDesk<'a, W, L: Door, N: Start> {
+pub struct LockedDesk<'a, W, L: Door, N: DoorStart> {
     pub rt: &'a W,
     pub desk: &'a Mutex<Desk<L, N>>,
 }
 
 // That a connection is the last one is known only while the lock is held.
-impl<'a, W: Wait, L: Door, N: Start> Accept<L, N> for LockedDesk<'a, W, L, N> {
+impl<'a, W: Wait, L: Door, N: DoorStart> Accept<L, N> for LockedDesk<'a, W, L, N> {
     ghost use Rattle.std.specs.Prelude.{⊤};
 
     ghost is_over = { λ _. ⊤ };

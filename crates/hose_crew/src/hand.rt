@@ -7,7 +7,7 @@ ghost use Rattle.hose_shared.specs.Sharing.{IsPassOf, IsSamePass};
 ghost use Rattle.hose_crew.specs.Desk.{AreArrived, AreFresh};
 ghost use Rattle.hose_crew.specs.Hands.{AllComeBack, AllMayComeBack, AreBack, HasWorked, IsGathered, IsIdle, MayServe, Works, part_of};
 
-use crate::desk::{Accept, Accepted, Start};
+use crate::desk::{Accept, Accepted, DoorStart};
 use hose_disk::Disk;
 use hose_io::Door;
 use hose_paths::{RowMaker, RowTable, TableRows};
@@ -32,12 +32,12 @@ pub struct Work<'a, W, D: Disk, B: Begun<D>, G> {
 
 /// A worker's place: its pass, and its share of what was accepted.
 #[derive(Drop)]
-pub struct Place<N: Start> {
+pub struct Place<N: DoorStart> {
     pub pass: Pass,
     pub share: Share<N>,
 }
 
-impl<N: Start> Model for Place<N> {
+impl<N: DoorStart> Model for Place<N> {
     ghost use Rattle.hose_crew.specs.Hands.{PlaceState};
 
     ghost Value = { PlaceState };
@@ -51,7 +51,7 @@ impl<N: Start> Model for Place<N> {
 
 /// What workers gave up, as far as they did: it is part of the first pass and of its share again,
 /// and what they ended is back at the door.
-pub struct Gathered<L: Door, N: Start> {
+pub struct GatheredCrew<L: Door, N: DoorStart> {
     pub pass: Pass,
     pub share: Share<N>,
     pub tally: Tally<N>,
@@ -60,12 +60,12 @@ pub struct Gathered<L: Door, N: Start> {
 
 /// A worker.
 #[derive(Drop)]
-pub struct Hand<L: Door, N: Start> {
+pub struct Hand<L: Door, N: DoorStart> {
     place: Option<Place<N>>,
     ended: Vec<L::Done>,
 }
 
-impl<L: Door, N: Start> Model for Hand<L, N> {
+impl<L: Door, N: DoorStart> Model for Hand<L, N> {
     ghost use Rattle.std.specs.Prelude.{vec_capacity};
     ghost use Rattle.hose_crew.specs.Hands.{HandState};
 
@@ -78,7 +78,7 @@ impl<L: Door, N: Start> Model for Hand<L, N> {
     } };
 }
 
-impl<L: Door, N: Start> Hand<L, N> {
+impl<L: Door, N: DoorStart> Hand<L, N> {
     /// A worker with room for so many connections.
     pub fn new(alloc: Global, connections: u32) -> Result<Hand<L, N>, AllocError>
         ensures { IfOk result (IsIdle connections) }
@@ -92,7 +92,7 @@ impl<L: Door, N: Start> Hand<L, N> {
 
 impl<'a, W: Wait, D: Disk, B: Begun<D>, G: Gate> Work<'a, W, D, B, G> {
     // Serves a connection to its end, along the pass.
-    fn serve<L: Door, N: Start, R: RowMaker>(
+    fn serve<L: Door, N: DoorStart, R: RowMaker>(
         &self,
         one: Accepted<L>,
         pass: Pass,
@@ -123,7 +123,7 @@ impl<'a, W: Wait, D: Disk, B: Begun<D>, G: Gate> Work<'a, W, D, B, G> {
 }
 
 // Serves one connection after another, until no more is told of.
-fn serve_one_by_one<W: Wait, D: Disk, B: Begun<D>, G: Gate, L: Door, N: Start, A: Accept<L, N>>(
+fn serve_one_by_one<W: Wait, D: Disk, B: Begun<D>, G: Gate, L: Door, N: DoorStart, A: Accept<L, N>>(
     work: &Work<'_, W, D, B, G>,
     first: &Snapshot<Pass>,
     from: &mut A,
@@ -155,7 +155,7 @@ fn serve_one_by_one<W: Wait, D: Disk, B: Begun<D>, G: Gate, L: Door, N: Start, A
     }
 }
 
-impl<L: Door, N: Start> Hand<L, N> {
+impl<L: Door, N: DoorStart> Hand<L, N> {
     /// Takes a place that is a part of the first pass, and of which nothing was made.
     pub fn take_place(&mut self, place: Place<N>, first: &Snapshot<Pass>)
         requires idle { IsIdle N.start.connections self.old }
@@ -186,12 +186,12 @@ impl<L: Door, N: Start> Hand<L, N> {
     }
 }
 
-impl<L: Door, N: Start> Hand<L, N> {
+impl<L: Door, N: DoorStart> Hand<L, N> {
     /// Gives up the place to the first pass, and the connections back to the door.
     pub fn end<D: Disk, B: Begun<D>>(
         self,
         shared: &Shared<D, B>,
-        gathered: &mut Gathered<L, N>,
+        gathered: &mut GatheredCrew<L, N>,
         first: &Snapshot<Pass>,
         was: &Snapshot<L>,
     )

@@ -14,6 +14,6 @@ mod desk;
 mod hand;
 
 pub use crew::{Crew, CrewEnd};
-pub use desk::Start;
+pub use desk::DoorStart;
 pub use hand::Work;
 pub use hose_shared::Context;

@@ -93,8 +93,8 @@ free_node nodes ends node (suc more) =
     if has_node ends node then free_node nodes ends ((node + 1) % nodes) more else node
 
 -- an endpoint that is drawn at a state: its node, which none of those before it is at, and its rate
-abbrev pub end_at : ℕ → List Endpoint → ℕ → Endpoint
-end_at nodes ends state =
+abbrev pub endpoint_at : ℕ → List Endpoint → ℕ → Endpoint
+endpoint_at nodes ends state =
     (free_node nodes ends (drawn state nodes) nodes, 1 + drawn (next_state state) 20)
 
 -- the state after the first endpoints
@@ -107,7 +107,7 @@ abbrev pub first_ends : ℕ → ℕ → ℕ → List Endpoint
 first_ends nodes state zero = []
 first_ends nodes state (suc end) =
     let before = first_ends nodes state end in
-    before ++ end_at nodes before (after_ends state end) ∷ []
+    before ++ endpoint_at nodes before (after_ends state end) ∷ []
 
 -- an endpoint among others, which are in order of nodes
 abbrev pub placed : Endpoint → List Endpoint → List Endpoint

@@ -5,7 +5,7 @@ ghost use Rattle.hose_graph.specs.Hose.{IsEnd, MakesHose, node_of};
 ghost use Rattle.hose_graph.specs.Naming.{AsksOf};
 ghost use Rattle.hose_graph.specs.Network.{Network};
 ghost use Rattle.hose_gen.specs.Draws.{next_state};
-ghost use Rattle.hose_gen.specs.Generated.{admission_at, after_admission, after_ends, after_orders, after_hoses, customer_at, end_at, first_ends, first_orders, free_node, has_node, orders_at, release_at};
+ghost use Rattle.hose_gen.specs.Generated.{admission_at, after_admission, after_ends, after_orders, after_hoses, customer_at, endpoint_at, first_ends, first_orders, free_node, has_node, orders_at, release_at};
 ghost use Rattle.hose_gen.specs.Limits.{least_nodes, most_hoses};
 
 use crate::draws::{Draws, numbered};
@@ -136,7 +136,7 @@ fn draw_ends(
 fn draw_end(draws: &mut Draws, nodes: u32, ends: &[Endpoint]) -> Endpoint
     requires enough { LEAST_NODES ≤ nodes }
     requires few { nodes ≤ MOST_NODES }
-    ensures end { result ≡ end_at nodes ends.now draws.old.state }
+    ensures end { result ≡ endpoint_at nodes ends.now draws.old.state }
     ensures state { draws.new.state ≡ next_state (next_state draws.old.state) }
     ensures fits { IsEnd result }
     ensures within { node_of result < nodes }

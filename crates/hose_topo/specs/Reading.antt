@@ -22,9 +22,9 @@ StopsInTopology fault text left =
 
 -- A fault of reading is kept. Without one the reader has none, and want of memory leaves it as it
 -- was.
-abbrev pub KeepsFault : Option LineFault → Option LineFault → Result Network TopoFault → Type 0
-KeepsFault old new (Ok network) = (old ≡ None) × (new ≡ None)
-KeepsFault old new (Err (At line word)) = (old ≡ None) × (new ≡ None)
-KeepsFault old new (Err Read) = new ≡ Some line.Read
-KeepsFault old new (Err TooLong) = new ≡ Some line.TooLong
-KeepsFault old new (Err Memory) = new ≡ old
+abbrev pub KeepsLineFault : Option LineFault → Option LineFault → Result Network TopoFault → Type 0
+KeepsLineFault old new (Ok network) = (old ≡ None) × (new ≡ None)
+KeepsLineFault old new (Err (At line word)) = (old ≡ None) × (new ≡ None)
+KeepsLineFault old new (Err Read) = new ≡ Some line.Read
+KeepsLineFault old new (Err TooLong) = new ≡ Some line.TooLong
+KeepsLineFault old new (Err Memory) = new ≡ old

@@ -4,7 +4,7 @@ ghost use Rattle.hose_io.specs.Frame.{Rose};
 ghost use Rattle.hose_words.specs.Reading.{ReadsOn, WhereTold};
 ghost use Rattle.hose_words.specs.declared.lines.LineFault.{LineFault};
 ghost use Rattle.hose_graph.specs.Network.{Network, IsNetwork};
-ghost use Rattle.hose_topo.specs.Reading.{StopsInTopology, fault_of, KeepsFault};
+ghost use Rattle.hose_topo.specs.Reading.{StopsInTopology, fault_of, KeepsLineFault};
 ghost use Rattle.hose_topo.specs.Taken.{TakesNext};
 ghost use Rattle.hose_topo.specs.TopologyText.{IsTopologyText, IsWrongAt};
 
@@ -50,7 +50,7 @@ pub fn read<S: Source>(alloc: Global, lines: &mut LineReader<S>) -> Result<Topol
         StopsInTopology fault (lines.old.pending ++ before) after) }
     ensures memory { result ≡ Err TopoFault.Memory → lines.new ≡ lines.old }
 
-    ensures fault { KeepsFault lines.old.fault lines.new.fault result }
+    ensures fault { KeepsLineFault lines.old.fault lines.new.fault result }
     ensures reads_on { ReadsOn S.Source lines.old lines.new }
     ensures limit { lines.old.taken ≤ INPUT_LIMIT + 1 → lines.new.taken ≤ INPUT_LIMIT + 1 }
 {

@@ -29,4 +29,4 @@ mod view;
 
 pub use pass::{ALL_SHARES, Held, Pass, law_limit};
 pub use turn::Turn;
-pub use view::{Origin, Stands};
+pub use view::{HoldsHistory, Origin};

@@ -8,7 +8,7 @@ ghost use Rattle.hose_turn.specs.Views.{nobody, cut, branch, glued};
 ghost use Rattle.hose_turn.specs.Steps.{OpensLock, Draws, Looks, Settles, Counts, PassesOn};
 ghost use Rattle.hose_turn.specs.Faults.{rise, no_rise};
 
-use crate::view::{Counted, Stands, View};
+use crate::view::{Counted, HoldsHistory, View};
 use atomic_table::{Join, Play, Seat, Split, Table, TableRule};
 use std::alloc::Global;
 use std::marker::PhantomData;
@@ -21,7 +21,7 @@ pub(crate) const SERVING: usize = 2;
 
 pub(crate) struct OneHistory;
 
-impl<S: Stands> TableRule<Option<S>, View, ()> for OneHistory {
+impl<S: HoldsHistory> TableRule<Option<S>, View, ()> for OneHistory {
     ghost use Rattle.hose_turn.specs.Rule.{RuleHolds};
     ghost use Rattle.hose_turn.specs.Views.{unborn};
 
@@ -37,14 +37,14 @@ pub(crate) type Place<S> = Seat<Option<S>, View>;
 /// The first pass takes the turn at a table that has no value yet.
 pub(crate) struct Begin;
 
-impl<S: Stands> Play<Option<S>, View> for Begin {
+impl<S: HoldsHistory> Play<Option<S>, View> for Begin {
     ghost then = { OpensLock S.stands S.faults };
 }
 
 /// The first pass gives the value to the table.
 pub(crate) struct Open;
 
-impl<S: Stands> Play<Option<S>, View> for Open {
+impl<S: HoldsHistory> Play<Option<S>, View> for Open {
     ghost then = { PassesOn S.faults no_rise };
 }
 
@@ -58,7 +58,7 @@ impl<S> Play<Option<S>, View> for Draw {
 /// A pass looks whether its turn has come, and takes the value where it has.
 pub(crate) struct Look;
 
-impl<S: Stands> Play<Option<S>, View> for Look {
+impl<S: HoldsHistory> Play<Option<S>, View> for Look {
     ghost then = { Looks S.stands S.faults };
 }
 
@@ -74,7 +74,7 @@ impl<S, N: Counted> Play<Option<S>, View> for Count<N> {
 /// A pass gives the value back, and the turn to the next ticket.
 pub(crate) struct PassOn;
 
-impl<S: Stands> Play<Option<S>, View> for PassOn {
+impl<S: HoldsHistory> Play<Option<S>, View> for PassOn {
     ghost then = { PassesOn S.faults rise };
 }
 

@@ -16,7 +16,7 @@ use crate::pass::{ALL_SHARES, Held, Pass};
 use crate::rule::{
     Begin, Board, Count, Cut, Draw, EPOCH, Glue, Look, Open, PassOn, Place, SERVING, Settle, TICKET,
 };
-use crate::view::{Counted, Stands};
+use crate::view::{Counted, HoldsHistory};
 use atomic_table::{Badge, Table};
 use hose_graph::Entry;
 use std::alloc::{AllocError, Global};
@@ -36,12 +36,12 @@ const FAR_LOOKS: u32 = 50;
 ///
 /// A contract sees it as which lock it is.
 #[derive(Drop)]
-pub struct Turn<S: Stands + Drop> {
+pub struct Turn<S: HoldsHistory + Drop> {
     board: Board<S>,
     bells: Bells,
 }
 
-impl<S: Stands + Drop> Model for Turn<S> {
+impl<S: HoldsHistory + Drop> Model for Turn<S> {
     ghost use Rattle.atomic_table.specs.Seated.{TableId, table_id_coded};
     ghost use Rattle.hose_turn.specs.Rule.{IsSized};
 
@@ -54,7 +54,7 @@ impl<S: Stands + Drop> Model for Turn<S> {
     ghost invariant = { λ turn. IsSized turn.board.shared.table_id };
 }
 
-impl<S: Stands + Drop> Turn<S> {
+impl<S: HoldsHistory + Drop> Turn<S> {
     /// A lock round the value, and its first pass, which has all shares.
     ///
     /// The value has to stand for some list, since that list itself. Nothing names that list here:

@@ -7,7 +7,7 @@ use hose_graph::{Entry, Topology};
 use std::marker::Brand;
 
 /// A value that stands for a list of entries.
-pub trait Stands {
+pub trait HoldsHistory {
     /// The value stands for the list, with what was fixed when its lock was made.
     ghost stands: { Origin → List Entry → Self → Type 0 };
 

@@ -13,14 +13,14 @@ loop-hand-init g c =
       none_gathered _ _ c.args.left.pass c.args.left.share.parts asked.pass (search rules) asked.share.0 asked.of.places,
       search rules,
       refl,
-      none_returned g.N.Start.start.told (g.L.Door.told c.args.left.door) c.args.left.tally.total c.args.left.share.amount c.args.left.pass asked.share.1 (none_accounts c.args.left.pass (search rules)),
+      none_returned g.N.DoorStart.start.told (g.L.Door.told c.args.left.door) c.args.left.tally.total c.args.left.share.amount c.args.left.pass asked.share.1 (none_accounts c.args.left.pass (search rules)),
       refl,
       refl,
     )
 
 pub loop-hand-preserved : goal.loop-hand-preserved
 loop-hand-preserved g c =
-    let Worked = HasWorked g.L.Door.came_to g.N.Start.start c.args.first.now.value in
+    let Worked = HasWorked g.L.Door.came_to g.N.DoorStart.start c.args.first.now.value in
     let step = c.in-Some.ensures.steps.0 in (
       search rules,
       search rules,

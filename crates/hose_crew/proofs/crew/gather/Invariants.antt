@@ -6,7 +6,7 @@ abbrev pub invariant-loop-hand : goal.invariant-loop-hand
 invariant-loop-hand g l =
     (goal.iterator-loop-hand g).can_next l.hand-iterator
     × (goal.iterator-loop-hand g).is_finite l.hand-iterator
-    × HaveWorked g.L.Door.came_to g.N.Start.start l.fn.first.value l.hand-iterator.rest.items
+    × HaveWorked g.L.Door.came_to g.N.DoorStart.start l.fn.first.value l.hand-iterator.rest.items
     × IsGathered g.N.Ledger.parts l.fn.first.value l.gathered.pass l.gathered.share.parts
     × (l.gathered.share.parts + length l.hand-iterator.rest.items ≡ g.N.Ledger.parts)
     × (l.gathered.tally.total ≡ l.fn.left.tally.total)

@@ -9,5 +9,5 @@ invariant-loop-number g l =
     × (l.pass.share + l.number ≡ l.first.value.share)
     × (l.share.parts + l.number ≡ length l.fn.hands)
     × (l.share.amount ≡ 0)
-    × ((k : ℕ) (d : _) → k < l.number → HasWorked g.L.Door.came_to g.N.Start.start l.first.value (slice_index_or l.hands k d))
-    × ((k : ℕ) (d : _) → l.number ≤ k → k < length l.hands → IsIdle g.N.Start.start.connections (slice_index_or l.hands k d))
+    × ((k : ℕ) (d : _) → k < l.number → HasWorked g.L.Door.came_to g.N.DoorStart.start l.first.value (slice_index_or l.hands k d))
+    × ((k : ℕ) (d : _) → l.number ≤ k → k < length l.hands → IsIdle g.N.DoorStart.start.connections (slice_index_or l.hands k d))

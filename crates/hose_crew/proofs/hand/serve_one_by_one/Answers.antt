@@ -6,7 +6,7 @@ use Rattle.hose_crew.proofs.hand.serve_one_by_one.Goals as goal
 
 pub loop-one-preserved : goal.loop-one-preserved
 loop-one-preserved g c =
-    let told = g.N.Start.start.told in
+    let told = g.N.DoorStart.start.told in
     let works = c.loop-one.invariant.0 in
     let served = c.serve-done.ensures in
     let more = works_more told _ _ (record { pass = c.serve-done.result.1; parts = c.accept.new.share.parts; amount = c.accept.new.share.amount }) _ (g.L.Door.came_to c.serve-done.result.0) c.requires.may.since works

@@ -4,11 +4,11 @@ use Rattle.hose_crew.proofs.hand.serve_one_by_one.Given as goal
 
 abbrev pub invariant-loop-one : goal.invariant-loop-one
 invariant-loop-one g l =
-    Works g.N.Start.start.told l.first.value
+    Works g.N.DoorStart.start.told l.first.value
     (record { pass = l.pass; parts = l.share.parts; amount = l.share.amount })
     (map g.L.Door.came_to l.ended.items)
-    × (g.N.Start.start.connections ≤ vec_capacity l.ended)
+    × (g.N.DoorStart.start.connections ≤ vec_capacity l.ended)
     × (vec_capacity l.ended ≡ vec_capacity l.initial.ended)
 
 abbrev pub decreases-loop-one : goal.decreases-loop-one
-decreases-loop-one g l = g.N.Start.start.connections - length l.ended.items
+decreases-loop-one g l = g.N.DoorStart.start.connections - length l.ended.items

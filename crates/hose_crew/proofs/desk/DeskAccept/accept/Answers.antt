@@ -5,7 +5,7 @@ use Rattle.hose_crew.proofs.desk.DeskAccept.accept.Goals as goal
 -- the last one was accepted, and the door is closed
 pub invariant_of-self-then-self-2 : goal.invariant_of-self-then-self-2
 invariant_of-self-then-self-2 g c =
-    let start = g.N.Start.start in
+    let start = g.N.DoorStart.start in
     let came = rw c.in-Ok-Some.field-0-is at c.in-Ok-Some.ensures.accepted in
     let held = c.self.invariant in
     record {
@@ -19,7 +19,7 @@ invariant_of-self-then-self-2 g c =
 
 pub invariant_of-self-else-self-2 : goal.invariant_of-self-else-self-2
 invariant_of-self-else-self-2 g c =
-    let start = g.N.Start.start in
+    let start = g.N.DoorStart.start in
     let came = rw c.in-Ok-Some.field-0-is at c.in-Ok-Some.ensures.accepted in
     let held = c.self.invariant in
     record {

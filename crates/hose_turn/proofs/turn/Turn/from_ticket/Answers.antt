@@ -13,9 +13,9 @@ fetch_add-requires g c =
     let floor = ap (λ view. view.floor) view in (
       search rules,
       search rules,
-      passes g.S.Stands.stands g.S.Stands.faults no_rise _ _ _ c.args.value (λ floor count le small. omega arith)
+      passes g.S.HoldsHistory.stands g.S.HoldsHistory.faults no_rise _ _ _ c.args.value (λ floor count le small. omega arith)
           (subst (λ view. 0 < view.share) (sym view) (omega arith)) (ap (λ view. view.has_turn) view) (ap (λ me. me.1) begun.3)
-          (subst (λ view. g.S.Stands.stands view.origin view.seen c.args.value) (sym view) begun.2) (omega arith),
+          (subst (λ view. g.S.HoldsHistory.stands view.origin view.seen c.args.value) (sym view) begun.2) (omega arith),
     )
 
 pub of-requires-clause-rests : goal.of-requires-clause-rests
@@ -41,4 +41,4 @@ returns-clause-stands g c =
     let begun = c.begin.ensures.begun in
     let passed = c.fetch_add.ensures.2 c.args.value (ap (λ me. me.1) begun.3) in
     let origin = ap (λ known. known.origin) c.of.ensures ∙ (ap (λ me. me.0.origin) passed ∙ ap (λ me. me.0.origin) begun.3) in
-    subst (λ origin. g.S.Stands.stands origin origin.since c.args.value) (sym origin) begun.2
+    subst (λ origin. g.S.HoldsHistory.stands origin origin.since c.args.value) (sym origin) begun.2

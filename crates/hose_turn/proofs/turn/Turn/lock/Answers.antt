@@ -5,14 +5,14 @@ use Rattle.hose_turn.proofs.turn.Turn.lock.Goals as goal
 
 pub fetch_add-mine-requires : goal.fetch_add-mine-requires
 fetch_add-mine-requires g c = let rests = c.into_place-place.ensures.rests in
-    (search rules, search rules, draws g.S.Stands.stands g.S.Stands.faults _ _ _ rests.live rests.ticket)
+    (search rules, search rules, draws g.S.HoldsHistory.stands g.S.HoldsHistory.faults _ _ _ rests.live rests.ticket)
 
 pub load-requires : goal.load-requires
 load-requires g c =
     let rests = c.into_place-place.ensures.rests in
     let me = c.loop.invariant.1 ∙ c.fetch_add-mine.ensures.2.2 in
     let share = ap (λ me. me.0.share) me in let live = rests.live in
-    (search rules, search rules, looks g.S.Stands.stands g.S.Stands.faults _ _ _ (omega arith) (ap (λ me. me.0.has_turn) me ∙ rests.turn))
+    (search rules, search rules, looks g.S.HoldsHistory.stands g.S.HoldsHistory.faults _ _ _ (omega arith) (ap (λ me. me.0.has_turn) me ∙ rests.turn))
 
 pub exchange-requires : goal.exchange-requires
 exchange-requires g c =

@@ -8,4 +8,4 @@ split_seat-other-requires g c =
     let views : c.pass.inside.badge.views ≡ c.into_seat-place.result.me.0 ∷ [] = search rules in
     let share = ap (λ views. (view_of views).share) views in
     let known = ap (λ known. known.share) c.pass.view_is in let two = c.requires.share in
-    (search rules, search rules, splits g.S.Stands.stands g.S.Stands.faults _ _ (omega arith))
+    (search rules, search rules, splits g.S.HoldsHistory.stands g.S.HoldsHistory.faults _ _ (omega arith))

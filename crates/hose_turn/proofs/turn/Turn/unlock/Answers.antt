@@ -8,7 +8,7 @@ pub fetch_add-mine-requires : goal.fetch_add-mine-requires
 fetch_add-mine-requires g c = let view = ap (λ me. me.0) c.exchange.ensures.3 in (
   search rules,
   search rules,
-  passes g.S.Stands.stands g.S.Stands.faults rise _ _ _ c.args.held.value rise_fits (search rules) (search rules) (search rules)
-      (subst (λ v. g.S.Stands.stands v.origin v.seen c.args.held.value) (sym view) c.requires.stands)
-      (subst (λ v. v.floor ≤ g.S.Stands.faults c.args.held.value) (sym view) c.requires.faults),
+  passes g.S.HoldsHistory.stands g.S.HoldsHistory.faults rise _ _ _ c.args.held.value rise_fits (search rules) (search rules) (search rules)
+      (subst (λ v. g.S.HoldsHistory.stands v.origin v.seen c.args.held.value) (sym view) c.requires.stands)
+      (subst (λ v. v.floor ≤ g.S.HoldsHistory.faults c.args.held.value) (sym view) c.requires.faults),
 )
