@@ -1,18 +1,15 @@
 -- What the steps of a beginning leave.
-use Rattle.std.proofs.Common.{◌≡◌, ◌≢◌, inl, inr, ℕ, ◌+◌, ◌≤◌, List, [], ◌∷◌, ◌++◌, length, get_or, take, drop, refl, sym, ◌∙◌, ap, subst, arith, length-append, append-nil}
+use Rattle.std.proofs.Common.{◌≡◌, ◌≢◌, inl, inr, ℕ, ◌+◌, ◌≤◌, List, [], ◌∷◌, ◌++◌, length, get_or, take, drop, sym, ◌∙◌, ap, subst, arith, length-append, append-nil}
 use Rattle.std.proofs.lemmas.Bool.{cases_eq, cases_lt}
 use Rattle.std.proofs.lemmas.List.{take_all, drop_all, length-take}
 use Rattle.hose_disk.specs.Disk.{Torn, IsCut, IsTruncated, StepsTo, NoneNew, Elapses}
 use Rattle.hose_disk.specs.Images.{overwritten}
 use Rattle.hose_disk.specs.declared.disk.Disk.{Ghosts}
 use Rattle.hose_journal.specs.declared.layout.TheConstants.{OPEN, CLOSED, MARK, CHAINED, DIGEST_BYTES, EMPTY_BYTES, HEAD_BYTES}
-use Rattle.hose_journal.specs.Entries.{IsListOf}
 use Rattle.hose_journal.specs.Image.{IsUnbegun, head}
 use Rattle.hose_journal.specs.Moments.{Images, IsTornFrom, Lands, LeavesOnly}
+use Rattle.hose_journal.specs.Opening.{HasNoRecord}
 use Rattle.hose_journal.proofs.Runs.{started, goes_on, joined, weaker}
-
-pub unbegun_list : (digest image : List ℕ) → IsUnbegun image → IsListOf digest [] image
-unbegun_list digest image unbegun = inl (unbegun, refl)
 
 -- a cut leaves what was not begun so
 pub cut_unbegun : (len : ℕ) (was image : List ℕ) → IsCut len was image → IsUnbegun was → IsUnbegun image
@@ -39,33 +36,23 @@ head_unbegun count was (gate ∷ image) few same torn = elim (cases_lt (length (
 ]
 
 -- a whole head, after a gate that is open or not
-begun_list : (digest image tail : List ℕ) (gate : ℕ) → length digest ≡ DIGEST_BYTES → tail ≡ (MARK ++ CHAINED ∷ digest) ++ CLOSED ∷ [] → image ≡ gate ∷ tail → IsListOf digest [] image
-begun_list digest image tail gate size tail_is same = elim (cases_eq gate OPEN) [
+begun_whole : (digest image tail : List ℕ) (gate : ℕ) → length digest ≡ DIGEST_BYTES → tail ≡ (MARK ++ CHAINED ∷ digest) ++ CLOSED ∷ [] → image ≡ gate ∷ tail → HasNoRecord digest image
+begun_whole digest image tail gate size tail_is same = elim (cases_eq gate OPEN) [
   | inl opened ↦ inr (record {
-    version = CHAINED;
-    is_version = inr refl;
-    items = [];
-    view = refl;
-    are = tt;
-    closed = record {
-      gate = CLOSED;
-      rest = [];
-      shut = omega arith;
-      is =
-          same
-          ∙ ap (λ (g : ℕ). g ∷ tail) opened
-          ∙ ap (λ (l : List ℕ). OPEN ∷ l) tail_is
-          ∙ ap (λ (l : List ℕ). l ++ CLOSED ∷ []) (sym (append-nil (head CHAINED digest)));
-    };
+    gate = CLOSED;
+    rest = [];
+    shut = omega arith;
+    is =
+        same
+        ∙ ap (λ (g : ℕ). g ∷ tail) opened
+        ∙ ap (λ (l : List ℕ). OPEN ∷ l) tail_is
+        ∙ ap (λ (l : List ℕ). l ++ CLOSED ∷ []) (sym (append-nil (head CHAINED digest)));
   })
   | inr shut ↦
-      inl (
-        inr (
-          omega (arith, size, ap length same, ap length tail_is, length-append (MARK ++ CHAINED ∷ digest) (CLOSED ∷ []), length-append MARK (CHAINED ∷ digest)),
-          λ opened. shut (sym (ap (λ (l : List ℕ). get_or l 0 0) same) ∙ opened),
-        ),
-        refl,
-      )
+      inl (inr (
+        omega (arith, size, ap length same, ap length tail_is, length-append (MARK ++ CHAINED ∷ digest) (CLOSED ∷ []), length-append MARK (CHAINED ∷ digest)),
+        λ opened. shut (sym (ap (λ (l : List ℕ). get_or l 0 0) same) ∙ opened),
+      ))
 ]
 
 -- the first gate of a head may be written in part
@@ -81,23 +68,23 @@ head_landed tail was image same is =
 -- from an empty disk with a closed gate: a head is written after the gate, and then the gate
 module _ {D : Type 0} (disk : Ghosts D) (old mid : D) (digest tail : List ℕ) (size : length digest ≡ DIGEST_BYTES) (tail_is : tail ≡ (MARK ++ CHAINED ∷ digest) ++ CLOSED ∷ []) (closed : Images disk old (λ image. image ≡ CLOSED ∷ []))
     (first : LeavesOnly disk old mid (IsTornFrom disk old 1 (length tail))) where
-  pub head_moments : LeavesOnly disk old mid (IsListOf digest [])
+  pub head_moments : LeavesOnly disk old mid (HasNoRecord digest)
   head_moments =
       let few : length tail ≤ HEAD_BYTES = omega (arith, size, ap length tail_is, length-append (MARK ++ CHAINED ∷ digest) (CLOSED ∷ []), length-append MARK (CHAINED ∷ digest)) in
-      weaker disk old mid (IsTornFrom disk old 1 (length tail)) (IsListOf digest []) (λ image (was, is_image, torn). unbegun_list digest image (head_unbegun (length tail) was image few (closed was is_image) torn)) first
+      weaker disk old mid (IsTornFrom disk old 1 (length tail)) (HasNoRecord digest) (λ image (was, is_image, torn). inl (head_unbegun (length tail) was image few (closed was is_image) torn)) first
 
-  pub gate_moments : (new : D) → Lands disk old mid 1 tail → LeavesOnly disk mid new (IsTornFrom disk mid 0 1) → LeavesOnly disk old new (IsListOf digest [])
+  pub gate_moments : (new : D) → Lands disk old mid 1 tail → LeavesOnly disk mid new (IsTornFrom disk mid 0 1) → LeavesOnly disk old new (HasNoRecord digest)
   gate_moments new lands second =
-      joined disk old mid new (IsListOf digest []) head_moments
-      (weaker disk mid new (IsTornFrom disk mid 0 1) (IsListOf digest [])
+      joined disk old mid new (HasNoRecord digest) head_moments
+      (weaker disk mid new (IsTornFrom disk mid 0 1) (HasNoRecord digest)
       (λ image (was, is_image, torn).
       let from = lands was is_image in
       let gate = gate_torn tail was image (head_landed tail from.0 was (closed from.0 from.1) from.2) torn in
-      begun_list digest image tail gate.0 size tail_is gate.1) second)
+      begun_whole digest image tail gate.0 size tail_is gate.1) second)
 
 -- writes after a disk was cleared
-pub cleared_then : {D : Type 0} (disk : Ghosts D) (old mid new : D) (digest : List ℕ) → LeavesOnly disk old mid IsUnbegun → LeavesOnly disk mid new (IsListOf digest []) → LeavesOnly disk old new (IsListOf digest [])
-cleared_then disk old mid new digest clear run = joined disk old mid new (IsListOf digest []) (weaker disk old mid IsUnbegun (IsListOf digest []) (unbegun_list digest) clear) run
+pub cleared_then : {D : Type 0} (disk : Ghosts D) (old mid new : D) (digest : List ℕ) → LeavesOnly disk old mid IsUnbegun → LeavesOnly disk mid new (HasNoRecord digest) → LeavesOnly disk old new (HasNoRecord digest)
+cleared_then disk old mid new digest clear run = joined disk old mid new (HasNoRecord digest) (weaker disk old mid IsUnbegun (HasNoRecord digest) (λ image unbegun. inl unbegun) clear) run
 
 module _ {D : Type 0} (disk : Ghosts D) (old new : D) where
   pub cut_empties : ((image : List ℕ) → disk.may_leave new image → (was : List ℕ) × disk.may_leave old was × IsTruncated 0 was image) → Images disk new (λ image. image ≡ [])

@@ -6,7 +6,7 @@ use Rattle.hose_codec.specs.Spelling.{IsEntry}
 use Rattle.hose_journal.specs.declared.layout.TheConstants.{OPEN, CLOSED}
 use Rattle.hose_journal.specs.Entries.{IsListOf, Item, closed_record, entered, entries_format, entries_in, entries_reader, front_of, is_chained, sealed}
 use Rattle.hose_journal.specs.Gates.{Starts, IsDoubtful}
-use Rattle.hose_journal.specs.Image.{Format, RecordReader, IsVersion, records, AreItems, head, front, journal_of, IsClosed, HasMeaning, listed}
+use Rattle.hose_journal.specs.Image.{Format, RecordReader, IsVersion, records, AreItems, head, front, journal_bytes, IsClosed, HasMeaning, listed}
 use Rattle.hose_journal.proofs.Gates.{shut_gate}
 use Rattle.hose_journal.proofs.Items.{entries_push, entries_seal}
 
@@ -62,11 +62,11 @@ closed_is_list reader version digest image items is_version are closed =
     inr (record { version = version; is_version = is_version; items = items; view = refl; are = are; closed = closed })
 
 pub journal_is_list : {X Y : Type 0} (reader : RecordReader X Y) (version : ℕ) (digest rest : List ℕ) (items : List X) → IsVersion version → AreItems (reader.format version digest) [] items
-    → HasMeaning reader digest (journal_of (reader.format version digest) version digest items ++ rest) (listed (reader.view items))
+    → HasMeaning reader digest (journal_bytes (reader.format version digest) version digest items ++ rest) (listed (reader.view items))
 journal_is_list reader version digest rest items is_version are =
     let format = reader.format version digest in
-    closed_is_list reader version digest (journal_of format version digest items ++ rest) items is_version are
-    (shut_gate (front format version digest items) [] (journal_of format version digest items ++ rest) CLOSED (omega arith) (rest, refl))
+    closed_is_list reader version digest (journal_bytes format version digest items ++ rest) items is_version are
+    (shut_gate (front format version digest items) [] (journal_bytes format version digest items ++ rest) CLOSED (omega arith) (rest, refl))
 
 -- ---- entries and seals
 

@@ -12,7 +12,7 @@ use Rattle.hose_journal.specs.declared.piece.Piece.{Piece}
 use Rattle.hose_journal.specs.Entries.{entries_reader, front_of, IsListOf}
 use Rattle.hose_journal.specs.Image.{IsUnbegun, IsVersion, IsHeadless, IsUnmarked, IsOther, IsClosed, head}
 use Rattle.hose_journal.specs.Moments.{Images, LeavesOnly, ReadsItsImages}
-use Rattle.hose_journal.specs.Opening.{HasHead, IsFront, IsHeadOf, IsOpened, IsRefusedJournal, KeepsList}
+use Rattle.hose_journal.specs.Opening.{AddsNoRecord, HasHead, HasNoRecord, IsFront, IsHeadOf, IsOpened, IsRefusedJournal, KeepsList}
 use Rattle.hose_journal.specs.Reading.{IsOpen, IsReadUpTo, OnlyRead}
 use Rattle.hose_journal.proofs.Lists.{closed_is_list}
 use Rattle.hose_journal.proofs.Readings.{both, closed_images}
@@ -175,6 +175,20 @@ module _ {D : Type 0} (disk : Ghosts D) where
   pub begun_told : (now : D) (digest : List ℕ) → IfSome (disk.content now) (disk.may_leave now) → Images disk now (IsClosed (front_of CHAINED digest [])) → IfSome (disk.content now) (IsClosed (front_of CHAINED digest []))
   begun_told now digest is_image closed = each (disk.content now) _ _ closed is_image
 
+  no_record_list : (digest image : List ℕ) → HasNoRecord digest image → IsListOf digest [] image
+  no_record_list digest image (inl unbegun) = inl (unbegun, refl)
+  no_record_list digest image (inr closed) = closed_is_list entries_reader CHAINED digest image [] (inr refl) tt closed
+
+  -- what is read after the writes that begin a journal, which may have failed
+  pub adds_none : (old loaded begun : D) (digest : List ℕ) → disk.content loaded ≡ disk.content old → IfSome (disk.content loaded) IsUnbegun → LeavesOnly disk loaded begun (HasNoRecord digest)
+      → ((t : ℕ) (image : List ℕ) → t ≤ disk.moment begun → disk.may_leave begun image → disk.left_since begun t image) → IfSome (disk.content begun) (disk.may_leave begun)
+      → AddsNoRecord (disk.content old) (disk.content begun) digest
+  adds_none old loaded begun digest same unbegun run counts is_image =
+      inr (along _ _ _ (sym same) unbegun, each (disk.content begun) _ _ (now_too disk loaded begun (HasNoRecord digest) counts run) is_image)
+
+  pub adds_still : (old begun now : D) (digest : List ℕ) → OnlyRead disk begun now → AddsNoRecord (disk.content old) (disk.content begun) digest → AddsNoRecord (disk.content old) (disk.content now) digest
+  adds_still old begun now digest only adds = subst (λ (content : Option (List ℕ)). AddsNoRecord (disk.content old) content digest) (sym only.same) adds
+
   pub open_new : (begun now : D) (piece : Piece) (end : ℕ) (digest : List ℕ) → length digest ≡ DIGEST_BYTES → HEAD_BYTES < end → ReadsItsImages disk begun → OnlyRead disk begun now → IsFront disk now piece end → IfSome (disk.content begun) (IsClosed (front_of CHAINED digest []))
       → IsOpen disk now piece (record { end = end; chained = true }) digest
   open_new begun now piece end digest size within reads only front closed = record {
@@ -216,24 +230,24 @@ module _ {D : Type 0} (disk : Ghosts D) where
       let sync_run = goes_on disk old old synced (disk.may_leave old) begin time same in
       joined disk old synced loaded (disk.may_leave old) sync_run (weaker disk synced loaded _ (disk.may_leave old) same only.run)
 
-  begun_run : (old loaded begun : D) (digest : List ℕ) → LeavesOnly disk old loaded (disk.may_leave old) → disk.content loaded ≡ disk.content old → IfSome (disk.content loaded) IsUnbegun → LeavesOnly disk loaded begun (IsListOf digest [])
+  begun_run : (old loaded begun : D) (digest : List ℕ) → LeavesOnly disk old loaded (disk.may_leave old) → disk.content loaded ≡ disk.content old → IfSome (disk.content loaded) IsUnbegun → LeavesOnly disk loaded begun (HasNoRecord digest)
       → LeavesOnly disk old begun (IsOpened disk old digest)
   begun_run old loaded begun digest first same unbegun second =
       joined disk old loaded begun (IsOpened disk old digest) (weaker disk old loaded _ (IsOpened disk old digest) (λ image was. inl was) first)
-      (weaker disk loaded begun _ (IsOpened disk old digest) (λ image list. inr (along _ _ _ (sym same) unbegun, list)) second)
+      (weaker disk loaded begun _ (IsOpened disk old digest) (λ image none. inr (along _ _ _ (sym same) unbegun, no_record_list digest image none)) second)
 
   reloaded_run : (old loaded begun now : D) (digest : List ℕ) → ((t : ℕ) (image : List ℕ) → t ≤ disk.moment begun → disk.may_leave begun image → disk.left_since begun t image)
-      → LeavesOnly disk old loaded (disk.may_leave old) → disk.content loaded ≡ disk.content old → IfSome (disk.content loaded) IsUnbegun → LeavesOnly disk loaded begun (IsListOf digest []) → OnlyRead disk begun now
+      → LeavesOnly disk old loaded (disk.may_leave old) → disk.content loaded ≡ disk.content old → IfSome (disk.content loaded) IsUnbegun → LeavesOnly disk loaded begun (HasNoRecord digest) → OnlyRead disk begun now
       → LeavesOnly disk old now (IsOpened disk old digest)
   reloaded_run old loaded begun now digest counts first same unbegun second only =
-      let lists = now_too disk loaded begun (IsListOf digest []) counts second in
+      let none = now_too disk loaded begun (HasNoRecord digest) counts second in
       joined disk old begun now (IsOpened disk old digest) (begun_run old loaded begun digest first same unbegun second)
-      (weaker disk begun now _ (IsOpened disk old digest) (λ image is_image. inr (along _ _ _ (sym same) unbegun, lists image is_image)) only.run)
+      (weaker disk begun now _ (IsOpened disk old digest) (λ image is_image. inr (along _ _ _ (sym same) unbegun, no_record_list digest image (none image is_image))) only.run)
 
   -- from before the sync of an opening up to the writes that begin a journal, and to the read after them
   module _ (old synced loaded begun : D) (piece : Piece) (end : ℕ) (digest : List ℕ) (only_now : (image : List ℕ) → disk.left_since old (disk.moment old) image → disk.may_leave old image)
       (time : Elapses (disk.moment old) (disk.moment synced) (disk.left_since old) (disk.left_since synced) (disk.may_leave synced)) (none_new : NoneNew (disk.may_leave old) (disk.may_leave synced)) (same : disk.content synced ≡ disk.content old)
-      (only : OnlyRead disk synced loaded) (front : IsFront disk loaded piece end) (unbegun : IsUnbegun (held piece)) (begin : LeavesOnly disk loaded begun (IsListOf digest [])) where
+      (only : OnlyRead disk synced loaded) (front : IsFront disk loaded piece end) (unbegun : IsUnbegun (held piece)) (begin : LeavesOnly disk loaded begun (HasNoRecord digest)) where
     pub until_begun : LeavesOnly disk old begun (IsOpened disk old digest)
     until_begun = begun_run old loaded begun digest (loaded_run old synced loaded only_now time none_new only) (only.same ∙ same) (unbegun_told loaded piece end front unbegun) begin
 

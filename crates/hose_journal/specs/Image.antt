@@ -36,8 +36,8 @@ abbrev pub front : {X : Type 0} → Format X → ℕ → List ℕ → List X →
 front format version digest items = head version digest ++ records format [] items
 
 -- the journal of these items
-abbrev pub journal_of : {X : Type 0} → Format X → ℕ → List ℕ → List X → List ℕ
-journal_of format version digest items = front format version digest items ++ closed_gate ∷ []
+abbrev pub journal_bytes : {X : Type 0} → Format X → ℕ → List ℕ → List X → List ℕ
+journal_bytes format version digest items = front format version digest items ++ closed_gate ∷ []
 
 -- ---- reading an image
 

@@ -29,6 +29,18 @@ abbrev pub KeepsOrBegins : Option (List ℕ) → Option (List ℕ) → List ℕ 
 KeepsOrBegins old new digest = (new ≡ old)
     ⊎ IfSome new (IsClosed (front_of chained_version digest []))
 
+-- No journal was begun, or it is one of the version whose records have chain values, and no record
+-- stands in it.
+abbrev pub HasNoRecord : List ℕ → List ℕ → Type 0
+HasNoRecord digest image =
+    IsUnbegun image ⊎ IsClosed (front_of chained_version digest []) image
+
+-- What is read is as before, also where a call failed; or none was begun, and no record stands
+-- there. So no seal was written.
+abbrev pub AddsNoRecord : Option (List ℕ) → Option (List ℕ) → List ℕ → Type 0
+AddsNoRecord old new digest = (new ≡ old)
+    ⊎ (IfSome old IsUnbegun × IfSome new (HasNoRecord digest))
+
 -- the first piece of a disk of this length
 pub record IsFront {D : Type 0} (disk : Ghosts D) (now : D) (piece : Piece) (end : ℕ) :
     Type 0 where

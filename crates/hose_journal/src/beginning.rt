@@ -1,10 +1,11 @@
 // Beginning a journal. Until the last write a stop leaves one that was not begun.
 ghost use Rattle.std.specs.Prelude.{◌≡◌, ◌∷◌, ◌++◌, [], OnOk};
 ghost use Rattle.hose_disk.specs.Disk.{IsCalled};
-ghost use Rattle.hose_journal.specs.Entries.{IsListOf, front_of};
+ghost use Rattle.hose_journal.specs.Entries.{front_of};
 ghost use Rattle.hose_journal.specs.Image.{IsClosed, IsUnbegun};
 ghost use Rattle.hose_journal.specs.declared.layout.TheConstants.{CHAINED};
 ghost use Rattle.hose_journal.specs.Moments.{Images, LeavesOnly, ReadsItsImages, TellsAsBefore};
+ghost use Rattle.hose_journal.specs.Opening.{HasNoRecord};
 
 use crate::layout::{CHAINED, CLOSED, DIGEST_BYTES, HEAD_BYTES, MARK, OPEN, VERSION_AT};
 use crate::steps::put;
@@ -13,7 +14,7 @@ use hose_disk::{Disk, Failed};
 /// Makes a journal without an entry of a disk on which none was begun.
 pub fn begin<D: Disk>(disk: &mut D, digest: &[u8; DIGEST_BYTES]) -> Result<(), Failed>
     requires { Images D.Disk disk.old IsUnbegun }
-    ensures any_moment { LeavesOnly D.Disk disk.old disk.new (IsListOf digest.now []) }
+    ensures any_moment { LeavesOnly D.Disk disk.old disk.new (HasNoRecord digest.now) }
     ensures begun { OnOk result
         (Images D.Disk disk.new (IsClosed (front_of CHAINED digest.now []))) }
     ensures durable { OnOk result (ReadsItsImages D.Disk disk.new) }

@@ -2,7 +2,7 @@
 ghost use Rattle.std.specs.Prelude.{◌≡◌, ◌⊎◌, ◌↔◌, [], ◌++◌, List, ℕ, IfErr, IfOk, IfSome, IsErr, IsTrue, MatchResult, OnOk, length};
 ghost use Rattle.hose_journal.specs.Image.{IsUnbegun};
 ghost use Rattle.hose_journal.specs.Moments.{KeepsCount, LeavesOnly};
-ghost use Rattle.hose_journal.specs.Opening.{HasHead, IsFront, IsOpened, IsRefusedJournal, KeepsDisk, KeepsList, KeepsOrBegins};
+ghost use Rattle.hose_journal.specs.Opening.{AddsNoRecord, HasHead, IsFront, IsOpened, IsRefusedJournal, KeepsDisk, KeepsList, KeepsOrBegins};
 ghost use Rattle.hose_journal.specs.Reading.{HasFailed, IsOpen, OnlyRead, Reads};
 
 use crate::beginning::begin;
@@ -41,6 +41,9 @@ pub fn open<D: Disk>(
         KeepsList (D.content disk) (D.content reading.disk) digest) }
     ensures version { IfOk result (λ reading.
         KeepsOrBegins (D.content disk) (D.content reading.disk) digest) }
+    ensures adds { MatchResult result
+        (λ reading. AddsNoRecord (D.content disk) (D.content reading.disk) digest)
+        (λ refused. AddsNoRecord (D.content disk) (D.content refused.1) digest) }
     ensures fault { IfOk result (λ reading. reading.fault ≡ None) }
     ensures count { IfOk result (λ reading. KeepsCount D.Disk disk reading.disk) }
     ensures refused { IfErr result (λ refused.
@@ -75,6 +78,7 @@ fn prepare<D: Disk>(
         (KeepsList (D.content disk.old) (D.content disk.new) digest.now) }
     ensures version { OnOk result
         (KeepsOrBegins (D.content disk.old) (D.content disk.new) digest.now) }
+    ensures adds { AddsNoRecord (D.content disk.old) (D.content disk.new) digest.now }
     ensures count { OnOk result (KeepsCount D.Disk disk.old disk.new) }
     ensures refused { IfErr result (IsRefusedJournal D.Disk disk.old disk.new digest.now) }
     ensures keeps { KeepsDisk D.Disk disk.old disk.new }

@@ -4,7 +4,7 @@ ghost use Rattle.hose_graph.specs.declared.entry.Entry.{Entry};
 ghost use Rattle.hose_journal.specs.AtGate.{BeginsSeal};
 ghost use Rattle.hose_journal.specs.Chain.{chain};
 ghost use Rattle.hose_journal.specs.Entries.{IsListOf, Item, entries_format, entries_in};
-ghost use Rattle.hose_journal.specs.Image.{AreItems, IsVersion, journal_of};
+ghost use Rattle.hose_journal.specs.Image.{AreItems, IsVersion, journal_bytes};
 ghost use Rattle.hose_journal.specs.Journal.{Stands};
 ghost use Rattle.hose_journal.specs.Moments.{KeepsCount};
 ghost use Rattle.hose_journal.specs.Reading.{AtGate, HasFailed, HasRead, IsAtNoSeal, IsOpen, KeepsJournalFault, OnlyRead, CoversRecord, Reads, held_from};
@@ -275,7 +275,7 @@ pub fn law_one_list(digest: &[u8; DIGEST_BYTES])
     ensures read { (version : ℕ) → (items : List Item) → (rest : List ℕ) → IsVersion version →
         AreItems (entries_format version digest.now) [] items →
         IsListOf digest.now (entries_in items)
-        (journal_of (entries_format version digest.now) version digest.now items ++ rest) }
+        (journal_bytes (entries_format version digest.now) version digest.now items ++ rest) }
     ensures alone { (image : List ℕ) → (one other : List Entry) → IsListOf digest.now one image →
         IsListOf digest.now other image → one ≡ other }
 {}

@@ -4,8 +4,8 @@ use Rattle.hose_journal.specs.declared.layout.TheConstants.{CHAINED, DIGEST_BYTE
 use Rattle.hose_journal.specs.Entries.{front_of}
 use Rattle.hose_journal.specs.Image.{IsClosed, IsUnbegun}
 use Rattle.hose_journal.specs.Moments.{LeavesOnly, ReadsItsImages}
-use Rattle.hose_journal.specs.Opening.{HasHead, IsHeadOf, IsOpened}
-use Rattle.hose_journal.proofs.Openings.{unbegun_told, head_refused, reads_kept, unbegun_images, open_begun, begun_told, open_new, list_new, short_new, until_begun, until_reloaded}
+use Rattle.hose_journal.specs.Opening.{AddsNoRecord, HasHead, IsHeadOf, IsOpened}
+use Rattle.hose_journal.proofs.Openings.{adds_none, adds_still, unbegun_told, head_refused, reads_kept, unbegun_images, open_begun, begun_told, open_new, list_new, short_new, until_begun, until_reloaded}
 use Rattle.hose_journal.proofs.Runs.{only_content}
 use Rattle.hose_journal.proofs.opening.prepare.Goals.{After-is_unbegun, After-load_front, After-load_front-2}
 use Rattle.hose_journal.proofs.opening.prepare.Goals as goal
@@ -32,6 +32,41 @@ reloaded g c =
 -- what the disk tells of a journal that begins
 begun : (g : _) (c : After-load_front-2 g) → IfSome (g.D.Disk.content c.begin.new.disk) (IsClosed (front_of CHAINED c.args.digest.now []))
 begun g c = begun_told g.D.Disk c.begin.new.disk c.args.digest.now (g.met.D.Disk.reads_an_image c.begin.new.disk) c.in_ok-begin.ensures.begun
+
+-- what is read after the writes that begin a journal
+reloaded_adds : (g : _) (c : After-load_front-2 g) → AddsNoRecord (g.D.Disk.content c.args.disk.now) (g.D.Disk.content c.load_front-2.new.disk) c.args.digest.now
+reloaded_adds g c =
+    adds_still g.D.Disk c.args.disk.now c.begin.new.disk c.load_front-2.new.disk c.args.digest.now c.load_front-2.ensures.only
+    (adds_none g.D.Disk c.args.disk.now c.load_front.new.disk c.begin.new.disk c.args.digest.now (c.load_front.ensures.only.same ∙ c.sync.ensures.same)
+    (unbegun_told g.D.Disk c.load_front.new.disk c.load_front.new.piece c.in_ok-end.end c.in_ok-end.ensures.front (subst IsUnbegun c.rest.ensures (c.is_unbegun.ensures.0 c.if-not-is_unbegun.false)))
+    c.begin.ensures.any_moment (g.met.D.Disk.counts_now c.begin.new.disk) (g.met.D.Disk.reads_an_image c.begin.new.disk))
+
+pub returns-in_err-sync-clause-adds : goal.returns-in_err-sync-clause-adds
+returns-in_err-sync-clause-adds g c = inl c.sync.ensures.same
+
+pub returns-in_err-end-clause-adds : goal.returns-in_err-end-clause-adds
+returns-in_err-end-clause-adds g c = inl (c.load_front.ensures.only.same ∙ c.sync.ensures.same)
+
+pub returns-in-Ok-clause-adds : goal.returns-in-Ok-clause-adds
+returns-in-Ok-clause-adds g c = inl (c.load_front.ensures.only.same ∙ c.sync.ensures.same)
+
+pub returns-in-Err-clause-adds : goal.returns-in-Err-clause-adds
+returns-in-Err-clause-adds g c = inl (c.load_front.ensures.only.same ∙ c.sync.ensures.same)
+
+pub returns-in_err-begin-clause-adds : goal.returns-in_err-begin-clause-adds
+returns-in_err-begin-clause-adds g c =
+    adds_none g.D.Disk c.args.disk.now c.load_front.new.disk c.begin.new.disk c.args.digest.now (c.load_front.ensures.only.same ∙ c.sync.ensures.same)
+    (unbegun_told g.D.Disk c.load_front.new.disk c.load_front.new.piece c.in_ok-end.end c.in_ok-end.ensures.front (subst IsUnbegun c.rest.ensures (c.is_unbegun.ensures.0 c.if-not-is_unbegun.false)))
+    c.begin.ensures.any_moment (g.met.D.Disk.counts_now c.begin.new.disk) (g.met.D.Disk.reads_an_image c.begin.new.disk)
+
+pub returns-in_err-end-2-clause-adds : goal.returns-in_err-end-2-clause-adds
+returns-in_err-end-2-clause-adds g c = reloaded_adds g (goal.at.returns-in_err-end-2-clause-adds g c).After-load_front-2
+
+pub returns-then-end-clause-adds : goal.returns-then-end-clause-adds
+returns-then-end-clause-adds g c = reloaded_adds g (goal.at.returns-then-end-clause-adds g c).After-load_front-2
+
+pub returns-clause-adds : goal.returns-clause-adds
+returns-clause-adds g c = reloaded_adds g (goal.at.returns-clause-adds g c).After-load_front-2
 
 pub returns-in-Ok-clause-open : goal.returns-in-Ok-clause-open
 returns-in-Ok-clause-open g c =
