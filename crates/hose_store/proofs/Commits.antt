@@ -19,12 +19,12 @@ use Rattle.hose_journal.proofs.Accounts.{stands_amid}
 use Rattle.hose_journal.proofs.Runs.{weaker}
 use Rattle.hose_store.specs.Commit.{Went, IsLeft}
 use Rattle.hose_store.specs.Recovery.{IsHistoryOf}
-use Rattle.hose_store.specs.Store.{Kept, HasHistory, IsAmid, account_of}
+use Rattle.hose_store.specs.Store.{KeptStore, HasHistory, IsAmid, account_of}
 use Rattle.hose_store.proofs.Histories.{few_entries, sound_with, history_of_list, history_amid}
 
 module _ {D : Type 0} (disk : Ghosts D) where
   -- a journal under another book's history
-  pub has_history : (store : Kept D) (history : List Entry) (doubt : Option Entry) → store.ledger.book ≡ book_of 0 history → Tracks 0 history store.ledger.recent → IsSound store.ledger.network 0 history
+  pub has_history : (store : KeptStore D) (history : List Entry) (doubt : Option Entry) → store.ledger.book ≡ book_of 0 history → Tracks 0 history store.ledger.recent → IsSound store.ledger.network 0 history
       → IsSoundWith store.ledger.network (book_of 0 history) doubt → Stands disk store.journal (account_of store.ledger.network history doubt) → IsTrue store.journal.sealed → HasHistory disk store history doubt
   has_history store history doubt book tracks sound at stands sealed = record {
     book = book;
@@ -37,7 +37,7 @@ module _ {D : Type 0} (disk : Ghosts D) where
   }
 
   -- the entry was added
-  has_pushed : (old : Kept D) (journal : Journal D) (history : List Entry) (doubt : Option Entry) (entry : Entry) → HasHistory disk old history doubt → IsSoundAt old.ledger.network old.ledger.book entry
+  has_pushed : (old : KeptStore D) (journal : Journal D) (history : List Entry) (doubt : Option Entry) (entry : Entry) → HasHistory disk old history doubt → IsSoundAt old.ledger.network old.ledger.book entry
       → TracksOn old.ledger entry (next_ledger old.ledger entry) → Stands disk journal (account_of old.ledger.network (history ++ entry ∷ []) None)
       → IsTrue journal.sealed → HasHistory disk (record { ledger = next_ledger old.ledger entry; journal = journal }) (history ++ entry ∷ []) None
   has_pushed old journal history doubt entry has at tracks stands sealed =
@@ -46,13 +46,13 @@ module _ {D : Type 0} (disk : Ghosts D) where
       has_history (record { ledger = next_ledger old.ledger entry; journal = journal }) (history ++ entry ∷ []) None book (tracks 0 history has.book has.tracks) (sound_with old.ledger.network history entry has.sound sound_at) tt stands sealed
 
   -- the history stays, whatever is in doubt
-  has_still : (old : Kept D) (journal : Journal D) (history : List Entry) (doubt now : Option Entry) → HasHistory disk old history doubt → IsSoundWith old.ledger.network (book_of 0 history) now
+  has_still : (old : KeptStore D) (journal : Journal D) (history : List Entry) (doubt now : Option Entry) → HasHistory disk old history doubt → IsSoundWith old.ledger.network (book_of 0 history) now
       → Stands disk journal (account_of old.ledger.network history now) → IsTrue journal.sealed → HasHistory disk (record { ledger = old.ledger; journal = journal }) history now
   has_still old journal history doubt now has at stands sealed = has_history (record { ledger = old.ledger; journal = journal }) history now has.book has.tracks has.sound at stands sealed
 
   -- ---- a commit
 
-  module _ (old : Kept D) (journal : Journal D) (entry : Entry) (ready : Ready) (is_ready : IsReady entry ready) (at : IsSoundAt old.ledger.network old.ledger.book entry)
+  module _ (old : KeptStore D) (journal : Journal D) (entry : Entry) (ready : Ready) (is_ready : IsReady entry ready) (at : IsSoundAt old.ledger.network old.ledger.book entry)
       (moments : (account : Account) (one : Entry) → Stands disk old.journal account → IsReady one ready → length account.entries < MOST_EPOCH → LeavesOnly disk old.journal.disk journal.disk (IsListAmid account (Some one)))
       (tells : TellsAsBefore disk old.journal.disk journal.disk) (opened : (disk.frame journal.disk).opened ≡ (disk.frame old.journal.disk).opened) (sealed : IsTrue journal.sealed) where
     amid : (history : List Entry) (doubt : Option Entry) → HasHistory disk old history doubt → LeavesOnly disk old.journal.disk journal.disk (IsAmid old.ledger.network history doubt (Some entry))
@@ -98,7 +98,7 @@ module _ {D : Type 0} (disk : Ghosts D) where
     }
 
   -- the history that the store has after a commit
-  pub left_with : (history : List Entry) (doubt : Option Entry) (entry : Entry) (result : Committed) (new : Kept D) → IsLeft disk history doubt entry result new → (now : List Entry) × (other : Option Entry) × HasHistory disk new now other
+  pub left_with : (history : List Entry) (doubt : Option Entry) (entry : Entry) (result : Committed) (new : KeptStore D) → IsLeft disk history doubt entry result new → (now : List Entry) × (other : Option Entry) × HasHistory disk new now other
   left_with history doubt entry Done new has = (history ++ entry ∷ [], None, has)
   left_with history doubt entry Disk new (inl has) = (history, doubt, has)
   left_with history doubt entry Disk new (inr (inl has)) = (history, None, has)
@@ -106,13 +106,13 @@ module _ {D : Type 0} (disk : Ghosts D) where
 
   -- ---- closing
 
-  pub closing_amid : (old : Kept D) (new : D) → ((account : Account) → Stands disk old.journal account → LeavesOnly disk old.journal.disk new (IsListAmid account None))
+  pub closing_amid : (old : KeptStore D) (new : D) → ((account : Account) → Stands disk old.journal account → LeavesOnly disk old.journal.disk new (IsListAmid account None))
       → (history : List Entry) (doubt : Option Entry) → HasHistory disk old history doubt → LeavesOnly disk old.journal.disk new (IsAmid old.ledger.network history doubt None)
   closing_amid old new run history doubt has =
       let network = old.ledger.network in
       weaker disk old.journal.disk new (IsListAmid (account_of network history doubt) None) (IsAmid network history doubt None)
       (λ image is. history_amid network history doubt None image has.sound has.sound_doubt tt is) (run (account_of network history doubt) has.journal)
 
-  pub closing_images : (old : Kept D) (new : D) → ((account : Account) → Stands disk old.journal account → Images disk new (IsListOf account.digest account.entries))
+  pub closing_images : (old : KeptStore D) (new : D) → ((account : Account) → Stands disk old.journal account → Images disk new (IsListOf account.digest account.entries))
       → (history : List Entry) (doubt : Option Entry) → HasHistory disk old history doubt → Images disk new (IsHistoryOf old.ledger.network history)
   closing_images old new settled history doubt has = λ image is. history_of_list old.ledger.network history image has.sound (settled (account_of old.ledger.network history doubt) has.journal image is)

@@ -1,3 +1,5 @@
+pub mod Becoming
+pub mod Begins
 pub mod Commits
 pub mod Histories
 pub mod OneMeaning

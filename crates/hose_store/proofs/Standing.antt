@@ -19,7 +19,7 @@ use Rattle.hose_store.specs.Beginning.{Beginning, HasLeft, IsOrInDoubt, IsPartOf
 use Rattle.hose_store.specs.Commit.{Closes, IsLeft, Went, store_books}
 use Rattle.hose_store.specs.Opening.{IsAtOpening, IsOpenedOn}
 use Rattle.hose_store.specs.Recovery.{IsHistoryOf, digest_of}
-use Rattle.hose_store.specs.Store.{HasHistory, IsAmid, IsHistoryWith, Kept}
+use Rattle.hose_store.specs.Store.{HasHistory, IsAmid, IsHistoryWith, KeptStore}
 use Rattle.hose_journal.proofs.OneList.{one_list}
 use Rattle.hose_store.proofs.Histories.{list_of_history}
 
@@ -45,11 +45,11 @@ amid_part Kind beginning history doubt writing image since in_doubt at (inr (inr
 
 module _ {D : Type 0} (disk : Ghosts D) where
   module _ (Kind : EntryKind) (Had : List ℕ → Type 0) (beginning : Beginning) where
-    abbrev Stood : List Entry → Kept D → Type 0
+    abbrev Stood : List Entry → KeptStore D → Type 0
     Stood history store = StandsFor disk Kind Had beginning history store
 
     -- each image since the opening, after calls within which each stands for the history or for it and one entry more
-    pub moments_after : (old : Kept D) (new : D) (history : List Entry) (writing : Option Entry) (stood : Stood history old) → IfSome writing (Kind beginning.network (book_of 0 history))
+    pub moments_after : (old : KeptStore D) (new : D) (history : List Entry) (writing : Option Entry) (stood : Stood history old) → IfSome writing (Kind beginning.network (book_of 0 history))
         → LeavesOnly disk old.journal.disk new (IsAmid old.ledger.network history stood.doubt writing) → (image : List ℕ) → disk.left_since new beginning.moment image → IsPartOf Kind beginning history image ⊎ Had image
     moments_after old new history writing stood at run image left =
         ⊎_elim (stood.moments image)
@@ -71,7 +71,7 @@ module _ {D : Type 0} (disk : Ghosts D) where
     untold_too (Some was) now tells none = absurd cc
 
     -- a store that was opened stands for its history, since that history, and since any moment from which on the disk had just these images
-    pub opened_stands : (old : D) (store : Kept D) (opened : IsOpenedOn disk old beginning.network store) → opened.history ≡ beginning.since
+    pub opened_stands : (old : D) (store : KeptStore D) (opened : IsOpenedOn disk old beginning.network store) → opened.history ≡ beginning.since
         → LeavesOnly disk old store.journal.disk (IsAtOpening disk old beginning.network) → is_some (disk.content store.journal.disk) ≡ is_some (disk.content old) → is_some (disk.content old) ≡ beginning.tells
         → ((t : ℕ) (image : List ℕ) → t ≤ disk.moment old → disk.may_leave old image → disk.left_since old t image)
         → ((t : ℕ) (image : List ℕ) → disk.content store.journal.disk ≡ None → disk.left_since store.journal.disk t image → ⊥)
@@ -94,7 +94,7 @@ module _ {D : Type 0} (disk : Ghosts D) where
 
     -- ---- commits
 
-    goes_on : (old new : Kept D) (history now : List Entry) (doubt : Option Entry) (entry : Entry) (stood : Stood history old) → Kind beginning.network (book_of 0 history) entry
+    goes_on : (old new : KeptStore D) (history now : List Entry) (doubt : Option Entry) (entry : Entry) (stood : Stood history old) → Kind beginning.network (book_of 0 history) entry
         → LeavesOnly disk old.journal.disk new.journal.disk (IsAmid old.ledger.network history stood.doubt (Some entry)) → TellsAsBefore disk old.journal.disk new.journal.disk → new.ledger.network ≡ old.ledger.network
         → HasHistory disk new now doubt → IsPrefix beginning.since now → AreFrom Kind beginning.network (opening_book 0) (length beginning.since) now → IfSome doubt (Kind beginning.network (book_of 0 now))
         → ((image : List ℕ) → IsPartOf Kind beginning history image → IsPartOf Kind beginning now image) → Stood now new
@@ -110,7 +110,7 @@ module _ {D : Type 0} (disk : Ghosts D) where
       tells = tells ∙ stood.tells;
     }
 
-    fails : (old new : Kept D) (history : List Entry) (entry : Entry) (stood : Stood history old) → Kind beginning.network (book_of 0 history) entry → Went disk old entry Disk new → IsLeft disk history stood.doubt entry Disk new → Stood history new
+    fails : (old new : KeptStore D) (history : List Entry) (entry : Entry) (stood : Stood history old) → Kind beginning.network (book_of 0 history) entry → Went disk old entry Disk new → IsLeft disk history stood.doubt entry Disk new → Stood history new
     fails old new history entry stood at went (inl has) =
         goes_on old new history history stood.doubt entry stood at (went.any_moment history stood.doubt stood.has) went.tells (ap (λ (l : Ledger). l.network) went.commits) has stood.since stood.added stood.doubtful (λ image is. is)
     fails old new history entry stood at went (inr (inl has)) =
@@ -118,7 +118,7 @@ module _ {D : Type 0} (disk : Ghosts D) where
     fails old new history entry stood at went (inr (inr has)) =
         goes_on old new history history (Some entry) entry stood at (went.any_moment history stood.doubt stood.has) went.tells (ap (λ (l : Ledger). l.network) went.commits) has stood.since stood.added at (λ image is. is)
 
-    by_result : (old new : Kept D) (history : List Entry) (entry : Entry) (result : Committed) (stood : Stood history old) → Kind beginning.network (book_of 0 history) entry → Went disk old entry result new → Stood (history_after history entry result) new
+    by_result : (old new : KeptStore D) (history : List Entry) (entry : Entry) (result : Committed) (stood : Stood history old) → Kind beginning.network (book_of 0 history) entry → Went disk old entry result new → Stood (history_after history entry result) new
     by_result old new history entry Done stood at went =
         let added = from_push Kind beginning.network (opening_book 0) (length beginning.since) history entry stood.added at in
         goes_on old new history (history ++ entry ∷ []) None entry stood at (went.any_moment history stood.doubt stood.has) went.tells (ap (λ (l : Ledger). l.network) went.commits)
@@ -126,7 +126,7 @@ module _ {D : Type 0} (disk : Ghosts D) where
     by_result old new history entry Disk stood at went = fails old new history entry stood at went (went.left history stood.doubt stood.has)
 
     -- a run of commits
-    pub run_stands : (first : List Entry) (old : Kept D) (last : List Entry) (new : Kept D) → Stood first old → GoesOn (store_books disk) Kind beginning.network first old last new → Stood last new
+    pub run_stands : (first : List Entry) (old : KeptStore D) (last : List Entry) (new : KeptStore D) → Stood first old → GoesOn (store_books disk) Kind beginning.network first old last new → Stood last new
     run_stands first old last new stood none_yet = stood
     run_stands first old last new stood (entry_more entry result before at went) =
         by_result _ new _ entry result (run_stands first old _ _ stood before) at went
@@ -139,7 +139,7 @@ module _ {D : Type 0} (disk : Ghosts D) where
     left_now history doubt image (inr (inr none)) = absurd none
 
     -- what is left of the disk
-    pub closed_left : (T : Type 0) (store : Kept D) (left : D) (history : List Entry) (result : Result T Failed) → ((t : ℕ) (image : List ℕ) → t ≤ disk.moment left → disk.may_leave left image → disk.left_since left t image)
+    pub closed_left : (T : Type 0) (store : KeptStore D) (left : D) (history : List Entry) (result : Result T Failed) → ((t : ℕ) (image : List ℕ) → t ≤ disk.moment left → disk.may_leave left image → disk.left_since left t image)
         → Stood history store → Closes disk store left result → HasLeft disk Kind Had beginning history left result
     closed_left T store left history result counts stood closes =
         let run = closes.any_moment history stood.doubt stood.has in record {

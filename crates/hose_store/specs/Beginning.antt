@@ -9,7 +9,7 @@ use Rattle.hose_law.specs.History.{AreFrom, EntryKind, book_of, opening_book}
 use Rattle.hose_disk.specs.declared.disk.Disk.{Ghosts}
 use Rattle.hose_journal.specs.Moments.{Images}
 use Rattle.hose_store.specs.Recovery.{IsHistoryOf}
-use Rattle.hose_store.specs.Store.{Kept, HasHistory, IsHistoryWith}
+use Rattle.hose_store.specs.Store.{KeptStore, HasHistory, IsHistoryWith}
 
 -- what is fixed when a store is opened: the history that it had then, its network, the moment of
 -- the opening, and whether the disk tells its content
@@ -41,7 +41,7 @@ IsPartOf Kind beginning history image =
 -- since the opening is of this kind; and at each moment since then each image stands for a part of
 -- the history, for such a part and one entry more, or is one that the disk had.
 pub record StandsFor {D : Type 0} (disk : Ghosts D) (Kind : EntryKind) (Had : List ℕ → Type 0)
-    (beginning : Beginning) (history : List Entry) (store : Kept D) : Type 0 where
+    (beginning : Beginning) (history : List Entry) (store : KeptStore D) : Type 0 where
   pub doubt : Option Entry
   pub network : store.ledger.network ≡ beginning.network
   pub has : HasHistory disk store history doubt

@@ -12,12 +12,12 @@ use Rattle.hose_journal.specs.Journal.{IsReady}
 use Rattle.hose_journal.specs.declared.prepared.Ready.{Ready}
 use Rattle.hose_journal.specs.Moments.{Images, LeavesOnly, TellsAsBefore}
 use Rattle.hose_store.specs.Recovery.{IsHistoryOf}
-use Rattle.hose_store.specs.Store.{Kept, HasHistory, IsAmid}
+use Rattle.hose_store.specs.Store.{KeptStore, HasHistory, IsAmid}
 
 -- The store has the history with the entry; or that of before, and in doubt is the entry that was,
 -- none, or this one.
 abbrev pub IsLeft : {D : Type 0} → Ghosts D → List Entry → Option Entry → Entry → Committed
-    → Kept D → Type 0
+    → KeptStore D → Type 0
 IsLeft disk history doubt entry Done new = HasHistory disk new (history ++ entry ∷ []) None
 IsLeft disk history doubt entry Disk new = HasHistory disk new history doubt
     ⊎ (HasHistory disk new history None ⊎ HasHistory disk new history (Some entry))
@@ -29,8 +29,8 @@ is_disk Disk = true
 
 -- For every history that the store had: at each moment each image stands for it, or for it and one
 -- entry more, the one in doubt or this one; and what the store has now.
-pub record Went {D : Type 0} (disk : Ghosts D) (old : Kept D) (entry : Entry) (result : Committed)
-    (new : Kept D) : Type 0 where
+pub record Went {D : Type 0} (disk : Ghosts D) (old : KeptStore D) (entry : Entry)
+    (result : Committed) (new : KeptStore D) : Type 0 where
   pub commits : Commits old.ledger entry result new.ledger
   pub tracks : KeepsTracks old.ledger entry result new.ledger
   pub any_moment : (history : List Entry) (doubt : Option Entry) → HasHistory disk old history doubt
@@ -44,7 +44,7 @@ pub record Went {D : Type 0} (disk : Ghosts D) (old : Kept D) (entry : Entry) (r
 
 -- For every history that the store had: at each moment of closing each image stands for it, or for
 -- it and the entry in doubt; and for it alone after a success.
-pub record Closes {D T : Type 0} (disk : Ghosts D) (old : Kept D) (left : D)
+pub record Closes {D T : Type 0} (disk : Ghosts D) (old : KeptStore D) (left : D)
     (result : Result T Failed) : Type 0 where
   pub any_moment : (history : List Entry) (doubt : Option Entry) → HasHistory disk old history doubt
       → LeavesOnly disk old.journal.disk left (IsAmid old.ledger.network history doubt None)
@@ -54,7 +54,7 @@ pub record Closes {D T : Type 0} (disk : Ghosts D) (old : Kept D) (left : D)
   pub tells : TellsAsBefore disk old.journal.disk left
 
 -- a store as books
-abbrev pub store_books : {D : Type 0} → Ghosts D → BooksGhosts (Kept D) Ready
+abbrev pub store_books : {D : Type 0} → Ghosts D → BooksGhosts (KeptStore D) Ready
 store_books disk = record {
   ledger = λ store. store.ledger;
   frame = λ store. object_frame (disk.frame store.journal.disk);

@@ -1,3 +1,4 @@
+pub mod Becoming
 pub mod Beginning
 pub mod Commit
 pub mod Entries

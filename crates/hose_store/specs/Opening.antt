@@ -12,14 +12,14 @@ use Rattle.hose_journal.specs.Moments.{Images, LeavesOnly}
 use Rattle.hose_journal.specs.Reading.{HasFailed, Reads}
 use Rattle.hose_journal.specs.declared.reading.Reading.{Reading}
 use Rattle.hose_store.specs.Recovery.{digest_of, IsHistoryOf, IsRecoveredAs, IsSoundAfter}
-use Rattle.hose_store.specs.Store.{Kept, HasHistory}
+use Rattle.hose_store.specs.Store.{KeptStore, HasHistory}
 use Rattle.hose_store.specs.declared.fault.StoreFault.{StoreFault}
 use Rattle.hose_store.specs.declared.fault.StoreFault.TheVariants.{Disk, Other, Damaged, Memory}
 
 -- The store has the history for which the disk stood as it was read, and each image now stands for
 -- it.
-pub record IsOpenedOn {D : Type 0} (disk : Ghosts D) (old : D) (top : Network) (store : Kept D) :
-    Type 0 where
+pub record IsOpenedOn {D : Type 0} (disk : Ghosts D) (old : D) (top : Network)
+    (store : KeptStore D) : Type 0 where
   pub history : List Entry
   pub network : store.ledger.network ≡ top
   pub has : HasHistory disk store history None

@@ -12,7 +12,7 @@ use Rattle.hose_journal.specs.declared.journal.Journal.{Journal}
 use Rattle.hose_store.specs.Recovery.{digest_of, IsHistoryOf}
 
 -- a network with its book, and the journal on a disk
-pub record Kept (D : Type 0) : Type 0 where
+pub record KeptStore (D : Type 0) : Type 0 where
   pub ledger : Ledger
   pub journal : Journal D
 
@@ -36,7 +36,7 @@ IsAmid network history doubt writing image = IsHistoryOf network history image
 -- The book is that of this history, which it tracks and which is sound, and so is the entry in
 -- doubt. The journal is sealed. What a stop may leave now stands for the history, with the one in
 -- doubt or without it.
-pub record HasHistory {D : Type 0} (disk : Ghosts D) (store : Kept D) (history : List Entry)
+pub record HasHistory {D : Type 0} (disk : Ghosts D) (store : KeptStore D) (history : List Entry)
     (doubt : Option Entry) : Type 0 where
   pub book : HasBookOf 0 history store.ledger
   pub tracks : Tracks 0 history store.ledger.recent

@@ -11,7 +11,7 @@ ghost use Rattle.hose_store.specs.Beginning.{Beginning, HasLeft, StandsFor};
 ghost use Rattle.hose_store.specs.Commit.{Closes, store_books};
 ghost use Rattle.hose_store.specs.Opening.{IsAtOpening, IsOpenedOn};
 ghost use Rattle.hose_store.specs.Recovery.{IsRecoveredAs};
-ghost use Rattle.hose_store.specs.Store.{Kept};
+ghost use Rattle.hose_store.specs.Store.{KeptStore};
 
 use hose_disk::Disk;
 use hose_graph::Topology;
@@ -45,7 +45,7 @@ impl Premises for Decided {
 /// A store that was opened stands for the history that it has, since that history, and since any
 /// moment from which on the disk had just the images that it had once, as `was`.
 pub fn law_opened<D: Disk, P: Premises>()
-    ensures { (beginning : Beginning) → (was old : D) → (store : Kept D) →
+    ensures { (beginning : Beginning) → (was old : D) → (store : KeptStore D) →
         (opened : IsOpenedOn D.Disk old beginning.network store) →
         opened.history ≡ beginning.since →
         LeavesOnly D.Disk old store.journal.disk (IsAtOpening D.Disk old beginning.network) →
@@ -59,7 +59,7 @@ pub fn law_opened<D: Disk, P: Premises>()
 /// kind leads to, whichever of them the disk refused.
 pub fn law_run<D: Disk, P: Premises>()
     ensures { (beginning : Beginning) → (was : D) → (first last : List Entry) →
-        (old new : Kept D) →
+        (old new : KeptStore D) →
         StandsFor D.Disk P.kind (D.may_leave was) beginning first old →
         GoesOn (store_books D.Disk) P.kind beginning.network first old last new →
         StandsFor D.Disk P.kind (D.may_leave was) beginning last new }
@@ -68,7 +68,7 @@ pub fn law_run<D: Disk, P: Premises>()
 /// What a store that stands for a history leaves of its disk, once it is closed.
 pub fn law_closed<D: Disk, P: Premises>()
     ensures { (beginning : Beginning) → (was left : D) → (history : List Entry) →
-        (store : Kept D) → (result : Result ⊤ Failed) →
+        (store : KeptStore D) → (result : Result ⊤ Failed) →
         StandsFor D.Disk P.kind (D.may_leave was) beginning history store →
         Closes D.Disk store left result →
         HasLeft D.Disk P.kind (D.may_leave was) beginning history left result }

@@ -1,11 +1,13 @@
 // A journal whose entries are read one after another and sent on.
-ghost use Rattle.std.specs.Prelude.{◌≡◌, ◌+◌, ◌≤◌, [], List, IfErr, IfOk, OnOk, OnSome, length};
+ghost use Rattle.std.specs.Prelude.{◌≡◌, ◌+◌, ◌≤◌, [], List, None, Ok, IfErr, IfOk, IsTrue, MatchResult, OnOk, OnSome, length};
 ghost use Rattle.hose_graph.specs.Network.{Network};
 ghost use Rattle.hose_graph.specs.declared.entry.Entry.{Entry};
 ghost use Rattle.hose_law.specs.History.{last_epoch};
 ghost use Rattle.hose_journal.specs.Chain.{chain};
 ghost use Rattle.hose_journal.specs.Moments.{KeepsCount};
-ghost use Rattle.hose_journal.specs.Reading.{OnlyRead};
+ghost use Rattle.hose_journal.specs.Opening.{AddsNoRecord};
+ghost use Rattle.hose_journal.specs.Reading.{HasFailed, OnlyRead};
+ghost use Rattle.hose_store.specs.Becoming.{BeginsAtMost, IsStoreOf};
 ghost use Rattle.hose_store.specs.Entries.{HasEntries};
 ghost use Rattle.hose_store.specs.Opening.{HasGiven, IsRecovering, IsRefusedStore, IsStopped};
 ghost use Rattle.hose_store.specs.Recovery.{digest_of};
@@ -13,6 +15,7 @@ ghost use Rattle.hose_store.specs.Replaying.{GivesNext, HasReplayed, IsOnlyOpene
 
 use crate::fault::StoreFault;
 use crate::recovery::next_sound;
+use crate::store::Store;
 use hose_book::Book;
 use hose_disk::Disk;
 use hose_graph::Topology;
@@ -35,7 +38,12 @@ impl<D: Disk> Replay<D> {
         ensures opened { IfOk result (λ replay. IsReplaying D.Disk disk top replay []) }
         ensures refused { IfErr result (λ refused.
             IsRefusedStore D.Disk disk refused.1 top refused.0
-            × IsOnlyOpened D.Disk disk refused.1 top) }
+            × IsOnlyOpened D.Disk disk refused.1 top
+            × AddsNoRecord (D.content disk) (D.content refused.1) (digest_of top)) }
+        // Where a journal was begun before, no image is another one than before.
+        ensures begins { MatchResult result
+            (λ replay. BeginsAtMost D.Disk disk replay.reading.disk top)
+            (λ refused. BeginsAtMost D.Disk disk refused.1 top) }
     {
         let digest = digest(&top);
         let Ok(book) = Book::new(alloc, top) else {
@@ -62,6 +70,8 @@ impl<D: Disk> Replay<D> {
         ensures more { IfOk result (λ next. OnSome next
             ((self.new.book.book.epoch ≡ self.old.book.book.epoch + 1)
             × (self.new.book.book.epoch ≤ last_epoch))) }
+        ensures closed { result ≡ Ok None → IsTrue self.new.reading.closed }
+        ensures only { OnlyRead D.Disk self.old.reading.disk self.new.reading.disk }
     {
         read_next(self.alloc, &mut self.book, &mut self.reading)
     }
@@ -86,6 +96,28 @@ impl<D: Disk> Replay<D> {
             HasEntries network (D.content was) entries }
     {
         self.reading.chain()
+    }
+
+    /// The book that the entries lead to that it has given.
+    pub fn book(&self) -> &Book
+        ensures { result.now ≡ self.now.book }
+    {
+        &self.book
+    }
+
+    /// The store that the journal is, once all its entries were given. As an opening does, it seals
+    /// a journal that is not sealed. Where that fails the disk comes back.
+    pub fn into_store(self) -> Result<Store<D>, D>
+        requires { (was : D) × (network : Network) × (entries : List Entry)
+            × IsReplaying D.Disk was network self entries × IsTrue self.reading.closed }
+        ensures becomes { IfOk result (λ store. (was : D) → (network : Network) →
+            (entries : List Entry) → IsReplaying D.Disk was network self entries →
+            IsStoreOf D.Disk was network entries store) }
+        ensures failed { IfErr result (λ disk. (was : D) → (network : Network) →
+            (entries : List Entry) → IsReplaying D.Disk was network self entries →
+            HasFailed D.Disk was disk × IsOnlyOpened D.Disk was disk network) }
+    {
+        Store::from_reading(self.book, self.reading)
     }
 
     /// Hands back the disk.

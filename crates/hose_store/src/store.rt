@@ -1,14 +1,16 @@
 // The book on a disk.
-ghost use Rattle.std.specs.Prelude.{◌≡◌, List, Option, IfErr, IfOk, MatchResult};
+ghost use Rattle.std.specs.Prelude.{◌≡◌, List, None, Option, IfErr, IfOk, IsTrue, MatchResult};
 ghost use Rattle.hose_io.specs.Frame.{Frame};
 ghost use Rattle.hose_graph.specs.declared.entry.Entry.{Entry};
 ghost use Rattle.hose_disk.specs.Disk.{IsCalled, object_frame};
 ghost use Rattle.hose_journal.specs.Chain.{chain};
+ghost use Rattle.hose_journal.specs.Entries.{IsListOf};
 ghost use Rattle.hose_journal.specs.Journal.{IsReady};
 ghost use Rattle.hose_journal.specs.Moments.{KeepsCount, LeavesOnly};
 ghost use Rattle.hose_journal.specs.Opening.{KeepsDisk};
+ghost use Rattle.hose_journal.specs.Reading.{HasFailed};
 ghost use Rattle.hose_store.specs.Commit.{Closes, Went};
-ghost use Rattle.hose_store.specs.Opening.{IsAtOpening, IsOpenedOn, IsRefusedStore};
+ghost use Rattle.hose_store.specs.Opening.{HasGiven, IsAtOpening, IsOpenedOn, IsRefusedStore};
 ghost use Rattle.hose_store.specs.Recovery.{digest_of};
 ghost use Rattle.hose_store.specs.Store.{HasHistory};
 
@@ -19,7 +21,7 @@ use crate::sealing::seal_plain;
 use hose_book::{Book, Books, Committed};
 use hose_disk::{Disk, Failed};
 use hose_graph::{Entry, Topology};
-use hose_journal::{Journal, Ready, open, ready};
+use hose_journal::{Journal, Reading, Ready, open, ready};
 use hose_topo::digest;
 use std::alloc::{AllocError, Global};
 use std::marker::Model;
@@ -36,9 +38,9 @@ pub struct Store<D: Disk> {
 impl<D: Disk> Model for Store<D> {
     ghost use Rattle.std.specs.Prelude.{List, Option};
     ghost use Rattle.hose_graph.specs.declared.entry.Entry.{Entry};
-    ghost use Rattle.hose_store.specs.Store.{Kept, HasHistory};
+    ghost use Rattle.hose_store.specs.Store.{KeptStore, HasHistory};
 
-    ghost Value = { Kept D };
+    ghost Value = { KeptStore D };
 
     ghost view = { λ store. record { ledger = store.book; journal = store.journal } };
 
@@ -78,6 +80,33 @@ impl<D: Disk> Store<D> {
                 Err(disk) => Err((StoreFault::Disk, disk)),
             },
             Err(fault) => Err((fault, reading.stop())),
+        }
+    }
+
+    // The store of a journal whose entries were all read, which it seals where it is not sealed.
+    // Where that fails the disk comes back.
+    pub(crate) fn from_reading(book: Book, reading: Reading<D>) -> Result<Store<D>, D>
+        requires { (entries : List Entry) × HasGiven D.Disk book reading entries
+            × IsTrue reading.closed }
+        ensures ledger { IfOk result (λ store. store.ledger ≡ book) }
+        ensures has { IfOk result (λ store. (entries : List Entry) →
+            HasGiven D.Disk book reading entries → HasHistory D.Disk store entries None) }
+        ensures any_moment { (entries : List Entry) → HasGiven D.Disk book reading entries →
+            MatchResult result
+            (λ store. LeavesOnly D.Disk reading.disk store.journal.disk
+            (IsListOf (digest_of book.network) entries))
+            (λ disk. LeavesOnly D.Disk reading.disk disk
+            (IsListOf (digest_of book.network) entries)) }
+        ensures count { IfOk result (λ store.
+            KeepsCount D.Disk reading.disk store.journal.disk) }
+        ensures failed { IfErr result (HasFailed D.Disk reading.disk) }
+        ensures keeps { MatchResult result
+            (λ store. KeepsDisk D.Disk reading.disk store.journal.disk)
+            (KeepsDisk D.Disk reading.disk) }
+    {
+        match seal_plain(reading.finish()) {
+            Ok(journal) => Ok(Store { book, journal }),
+            Err(disk) => Err(disk),
         }
     }
 

@@ -2,7 +2,7 @@ use Rattle.std.proofs.Common.{subst, sym}
 use Rattle.hose_book.specs.Ledger.{Ledger, TracksOn}
 use Rattle.hose_book.specs.declared.books.Committed.TheVariants.{Done}
 use Rattle.hose_store.specs.Commit.{Went}
-use Rattle.hose_store.specs.Store.{Kept, account_of}
+use Rattle.hose_store.specs.Store.{KeptStore, account_of}
 use Rattle.hose_store.proofs.Commits.{went_done, went_failed}
 use Rattle.hose_store.proofs.Histories.{few_entries}
 use Rattle.hose_store.proofs.committing.add.Goals as goal
@@ -25,7 +25,7 @@ returns-in-Err-clause-went g c =
 
 pub returns-in-Ok-clause-went : goal.returns-in-Ok-clause-went
 returns-in-Ok-clause-went g c =
-    let old : Kept g.row.D.Denot = record { ledger = c.args.book.now; journal = c.args.journal.now } in
+    let old : KeptStore g.row.D.Denot = record { ledger = c.args.book.now; journal = c.args.journal.now } in
     let book = c.args.book.now in
     let entry = c.args.entry in
     let tracks = subst (TracksOn book entry) c.apply.ensures.ledger c.apply.ensures.tracks in

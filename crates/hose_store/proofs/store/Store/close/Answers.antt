@@ -1,7 +1,7 @@
 use Rattle.std.proofs.Common.{subst}
 use Rattle.std.proofs.lemmas.Result.{on_ok_weaker}
 use Rattle.hose_store.specs.Commit.{Closes}
-use Rattle.hose_store.specs.Store.{Kept}
+use Rattle.hose_store.specs.Store.{KeptStore}
 use Rattle.hose_store.proofs.Commits.{closing_amid, closing_images}
 use Rattle.hose_store.proofs.store.Store.close.Goals as goal
 
@@ -9,8 +9,8 @@ pub returns-clause-closes : goal.returns-clause-closes
 returns-clause-closes g c =
     let result = c.settle_or_sync-result.result.0 in
     let new = c.settle_or_sync-result.result.1 in
-    let inside : Kept g.row.D.Denot = record { ledger = c.self.inside.book; journal = c.self.inside.journal } in
-    subst (λ (old : Kept g.row.D.Denot). Closes g.D.Disk old new result) c.self.view_is (record {
+    let inside : KeptStore g.row.D.Denot = record { ledger = c.self.inside.book; journal = c.self.inside.journal } in
+    subst (λ (old : KeptStore g.row.D.Denot). Closes g.D.Disk old new result) c.self.view_is (record {
       any_moment = closing_amid g.D.Disk inside new c.settle_or_sync-result.ensures.any_moment;
       closed = on_ok_weaker result (closing_images g.D.Disk inside new) c.settle_or_sync-result.ensures.settled;
       tells = c.settle_or_sync-result.ensures.tells;
