@@ -6,7 +6,7 @@ use Rattle.hose_io.specs.declared.source.Source.{Ghosts as SourceGhosts}
 use Rattle.hose_io.proofs.Frames.{Stays-none}
 use Rattle.hose_disk.specs.Disk.{object_frame}
 use Rattle.hose_disk.specs.declared.disk.Disk.{Ghosts as DiskGhosts}
-use Rattle.hose_store.specs.Store.{Kept}
+use Rattle.hose_store.specs.Store.{KeptStore}
 use Rattle.hose_io.proofs.Streams.{Gives-nil}
 use Rattle.hose_follow.specs.Ends.{FollowsInput}
 use Rattle.hose_follow.specs.Offering.{none_yet}
@@ -15,7 +15,7 @@ use Rattle.hose_follow.specs.declared.following.FollowEnd.TheVariants.{Memory}
 
 module _ {S O D : Type 0} (source : SourceGhosts S) (sink : SinkGhosts O) (disk : DiskGhosts D) where
   -- nothing was done
-  pub nothing_done : (input : S) (output : O) (store : Kept D) → FollowsInput source sink disk input input output output store store Memory
+  pub nothing_done : (input : S) (output : O) (store : KeptStore D) → FollowsInput source sink disk input input output output store store Memory
   nothing_done input output store = record {
     bytes = [];
     gives = Gives-nil (source.content input);

@@ -13,7 +13,7 @@ use Rattle.hose_io.proofs.Frames.{Stays-none, Stays-next, Stays-same}
 use Rattle.hose_io.proofs.Streams.{Grows-append, Grows-nil}
 use Rattle.hose_disk.specs.Disk.{object_frame}
 use Rattle.hose_disk.specs.declared.disk.Disk.{Ghosts as DiskGhosts}
-use Rattle.hose_store.specs.Store.{Kept}
+use Rattle.hose_store.specs.Store.{KeptStore}
 use Rattle.hose_follow.specs.Answers.{TellsDiskAnswers, answer_line, offered_texts, disk_answers_in, one_if_disk_failed}
 use Rattle.hose_follow.specs.Arriving.{BeginsPacket}
 use Rattle.hose_follow.specs.Ends.{AllLinesOut, EndsSo, FollowsInput}
@@ -50,24 +50,24 @@ passed pending after rest packet size begins is_size is =
     is ∙ ap (λ (l : List ℕ). drop size l) begins.is ∙ drop_at (packet_bytes packet) rest size (length-packet packet begins.is_packet ∙ sym is_size)
 
 module _ {D : Type 0} (disk : DiskGhosts D) where
-  abbrev frame_of : Kept D → Frame
+  abbrev frame_of : KeptStore D → Frame
   frame_of store = object_frame (disk.frame store.journal.disk)
 
   -- an answer tells a failure of the disk only where its count rose
-  pub record Tells (old : Kept D) (answer : Offered) (new : Kept D) : Type 0 where
+  pub record Tells (old : KeptStore D) (answer : Offered) (new : KeptStore D) : Type 0 where
     pub stays : Stays (frame_of old) (frame_of new)
     pub rose : ((disk.frame old.journal.disk).faults + one_if_disk_failed answer ≤ (disk.frame new.journal.disk).faults) ⊎ (2 ^ 64 - 1 ≤ (disk.frame new.journal.disk).faults)
 
-  kept : (old new : Kept D) (answer : Offered) → one_if_disk_failed answer ≡ 0 → frame_of new ≡ frame_of old → Tells old answer new
+  kept : (old new : KeptStore D) (answer : Offered) → one_if_disk_failed answer ≡ 0 → frame_of new ≡ frame_of old → Tells old answer new
   kept old new answer none same = record {
     stays = Stays-same same;
     rose = inl (omega (arith, none, ap (λ (f : Frame). f.faults) same));
   }
 
-  same_store : (old new : Kept D) → new ≡ old → frame_of new ≡ frame_of old
+  same_store : (old new : KeptStore D) → new ≡ old → frame_of new ≡ frame_of old
   same_store old new same = ap frame_of same
 
-  tells : (old new : Kept D) (packet : Packet) (answer : Offered) → IsOffered disk old packet answer new → Tells old answer new
+  tells : (old new : KeptStore D) (packet : Packet) (answer : Offered) → IsOffered disk old packet answer new → Tells old answer new
   tells old new packet (Have n) (inl past) = kept old new (Have n) refl (same_store old new past.same)
   tells old new packet (Have n) (inr (entry, _, enters)) = kept old new (Have n) refl enters.met
   tells old new packet (Want n) offered = kept old new (Want n) refl (same_store old new offered.2)
@@ -80,7 +80,7 @@ module _ {D : Type 0} (disk : DiskGhosts D) where
   disks_push [] answer = omega arith
   disks_push (first ∷ answers) answer = omega (arith, disks_push answers answer)
 
-  told_more : (first mid new : Kept D) (answers : List Offered) (answer : Offered) → TellsDiskAnswers (disk.frame first.journal.disk).faults answers (disk.frame mid.journal.disk).faults → Tells mid answer new
+  told_more : (first mid new : KeptStore D) (answers : List Offered) (answer : Offered) → TellsDiskAnswers (disk.frame first.journal.disk).faults answers (disk.frame mid.journal.disk).faults → Tells mid answer new
       → TellsDiskAnswers (disk.frame first.journal.disk).faults (answers ++ answer ∷ []) (disk.frame new.journal.disk).faults
   told_more first mid new answers answer (inl before) more = grind (arith, before, more.rose, disks_push answers answer)
   told_more first mid new answers answer (inr full) more = inr (omega (arith, full, more.stays.never_falls))
@@ -165,14 +165,14 @@ module _ {S O D : Type 0} (source : SourceGhosts S) (sink : SinkGhosts O) (disk 
         ∙ ap (λ (l : List ℕ). packets_bytes before.packets ++ l) (sym more.pending_is);
     are = before.are;
     answers = before.answers;
-    offered = subst (λ (s : Kept D). AreOffered disk first.store before.packets before.answers s) (sym none.same_store) before.offered;
+    offered = subst (λ (s : KeptStore D). AreOffered disk first.store before.packets before.answers s) (sym none.same_store) before.offered;
     taken = omega (arith, more.taken_is, before.taken, length-append before.bytes more.bytes);
     limit = more.limit;
     out = subst (λ (s : O). Grows (sink.content first.sink) (sink.content s) (offered_texts before.answers)) (sym none.same_sink) before.out;
     source_held = more.frame ∙ before.source_held;
     sink_held = ap sink.frame none.same_sink ∙ before.sink_held;
-    stays = subst (λ (s : Kept D). Stays (object_frame (disk.frame first.store.journal.disk)) (object_frame (disk.frame s.journal.disk))) (sym none.same_store) before.stays;
-    disks = subst (λ (s : Kept D). TellsDiskAnswers (disk.frame first.store.journal.disk).faults before.answers (disk.frame s.journal.disk).faults) (sym none.same_store) before.disks;
+    stays = subst (λ (s : KeptStore D). Stays (object_frame (disk.frame first.store.journal.disk)) (object_frame (disk.frame s.journal.disk))) (sym none.same_store) before.stays;
+    disks = subst (λ (s : KeptStore D). TellsDiskAnswers (disk.frame first.store.journal.disk).faults before.answers (disk.frame s.journal.disk).faults) (sym none.same_store) before.disks;
   }
 
   pub exchanged : (first now next : FollowState S O D) (value : ⊤) → FollowsOn source sink disk first now → AdvancesTo source sink disk now next (Ok value) → FollowsOn source sink disk first next
@@ -194,13 +194,13 @@ module _ {S O D : Type 0} (source : SourceGhosts S) (sink : SinkGhosts O) (disk 
     parts = ap (λ (l : List ℕ). l ++ more) before.parts ∙ append_assoc (packets_bytes before.packets) now.pending more;
     are = before.are;
     answers = before.answers;
-    offered = subst (λ (s : Kept D). AreOffered disk first.store before.packets before.answers s) (sym none.same_store) before.offered;
+    offered = subst (λ (s : KeptStore D). AreOffered disk first.store before.packets before.answers s) (sym none.same_store) before.offered;
     ends = ends;
     limit = omega (arith, limit, length-append before.bytes more);
     too_long = (λ long. omega (arith, long_to long, length-append before.bytes more), λ above. to_long (omega (arith, above, length-append before.bytes more)));
     memory = λ is. absurd (memory is);
-    stays = subst (λ (s : Kept D). Stays (object_frame (disk.frame first.store.journal.disk)) (object_frame (disk.frame s.journal.disk))) (sym none.same_store) before.stays;
-    disks = subst (λ (s : Kept D). TellsDiskAnswers (disk.frame first.store.journal.disk).faults before.answers (disk.frame s.journal.disk).faults) (sym none.same_store) before.disks;
+    stays = subst (λ (s : KeptStore D). Stays (object_frame (disk.frame first.store.journal.disk)) (object_frame (disk.frame s.journal.disk))) (sym none.same_store) before.stays;
+    disks = subst (λ (s : KeptStore D). TellsDiskAnswers (disk.frame first.store.journal.disk).faults before.answers (disk.frame s.journal.disk).faults) (sym none.same_store) before.disks;
   }
 
   -- all lines are out

@@ -23,7 +23,7 @@ use Rattle.hose_journal.specs.Chain.{chain}
 use Rattle.hose_journal.specs.Image.{Meaning, listed}
 use Rattle.hose_store.specs.Commit.{Closes, IsLeft}
 use Rattle.hose_store.specs.Recovery.{IsHistoryOf, IsRecoveredAs, digest_of}
-use Rattle.hose_store.specs.Store.{HasHistory, IsAmid, IsHistoryWith, Kept}
+use Rattle.hose_store.specs.Store.{HasHistory, IsAmid, IsHistoryWith, KeptStore}
 use Rattle.hose_follow.specs.Event.{Event, accepts, sends, offers, stops, closes, stops_within}
 use Rattle.hose_follow.specs.Offering.{Brings, Enters, IsDue, IsOffered, epoch_of}
 use Rattle.hose_follow.specs.Packet.{Packet, packet_after}
@@ -64,14 +64,14 @@ module _ {D : Type 0} (disk : Ghosts D) (network : Network) where
 
   -- ---- the answers that never come
 
-  pub never_differs : (state : Replication D) (packet : Packet) (at : ℕ) (own given : List ℕ) (left : Kept D) → IsFollowing disk network state → Contains state.sent packet → ¬ IsOffered disk state.store packet (Differs at own given) left
+  pub never_differs : (state : Replication D) (packet : Packet) (at : ℕ) (own given : List ℕ) (left : KeptStore D) → IsFollowing disk network state → Contains state.sent packet → ¬ IsOffered disk state.store packet (Differs at own given) left
   never_differs state packet at own given left following there (other, _) =
       let next = next_of state packet following there other.epoch in
       let mine : own ≡ chain (digest_of network) following.own =
       other.own following.own following.doubt following.has ∙ ap (λ (n : Network). chain (digest_of n) following.own) following.is_network in
       other.differs (other.given ∙ ap (λ (p : Packet). p.chain) next.is ∙ sym mine)
 
-  pub never_unsound : (state : Replication D) (packet : Packet) (epoch : ℕ) (left : Kept D) → IsFollowing disk network state → Contains state.sent packet → ¬ IsOffered disk state.store packet (Unsound epoch) left
+  pub never_unsound : (state : Replication D) (packet : Packet) (epoch : ℕ) (left : KeptStore D) → IsFollowing disk network state → Contains state.sent packet → ¬ IsOffered disk state.store packet (Unsound epoch) left
   never_unsound state packet epoch left following there (due, none, _, _) =
       let next = next_of state packet following there due.epoch in
       let sound = next_sound network state.leader following.own packet following.leader next in
@@ -99,12 +99,12 @@ module _ {D : Type 0} (disk : Ghosts D) (network : Network) where
       of_leader state.leader following.own following.doubt None state.told image following.begins following.doubtful tt following.told amid
 
   module _ (only_now : (now : D) (image : List ℕ) → disk.left_since now (disk.moment now) image → disk.may_leave now image) where
-    kept_image : (state : Replication D) (left : Kept D) (image : List ℕ) → IsFollowing disk network state → left ≡ state.store → disk.left_since left.journal.disk (disk.moment state.store.journal.disk) image → IsOfLeader network state.leader state.told image
+    kept_image : (state : Replication D) (left : KeptStore D) (image : List ℕ) → IsFollowing disk network state → left ≡ state.store → disk.left_since left.journal.disk (disk.moment state.store.journal.disk) image → IsOfLeader network state.leader state.told image
     kept_image state left image following same is =
-        let here = subst (λ (store : Kept D). disk.left_since store.journal.disk (disk.moment state.store.journal.disk) image) same is in
+        let here = subst (λ (store : KeptStore D). disk.left_since store.journal.disk (disk.moment state.store.journal.disk) image) same is in
         image_of state image following (only_now state.store.journal.disk image here)
 
-    entered_image : (state : Replication D) (packet : Packet) (entry : Entry) (result : Committed) (left : Kept D) (image : List ℕ) → IsFollowing disk network state → Contains state.sent packet → Enters disk state.store packet entry result left
+    entered_image : (state : Replication D) (packet : Packet) (entry : Entry) (result : Committed) (left : KeptStore D) (image : List ℕ) → IsFollowing disk network state → Contains state.sent packet → Enters disk state.store packet entry result left
         → disk.left_since left.journal.disk (disk.moment state.store.journal.disk) image → IsOfLeader network state.leader state.told image
     entered_image state packet entry result left image following there enters is =
         let prefix = brought state packet entry following there enters.due enters.brings in
@@ -113,7 +113,7 @@ module _ {D : Type 0} (disk : Ghosts D) (network : Network) where
         of_leader state.leader following.own following.doubt (Some entry) state.told image following.begins following.doubtful prefix following.told amid
 
     -- at each moment within an offer
-    pub moment_of : (state : Replication D) (packet : Packet) (answer : Offered) (left : Kept D) (image : List ℕ) → IsFollowing disk network state → Contains state.sent packet → IsOffered disk state.store packet answer left
+    pub moment_of : (state : Replication D) (packet : Packet) (answer : Offered) (left : KeptStore D) (image : List ℕ) → IsFollowing disk network state → Contains state.sent packet → IsOffered disk state.store packet answer left
         → disk.left_since left.journal.disk (disk.moment state.store.journal.disk) image → IsOfLeader network state.leader state.told image
     moment_of state packet (Have n) left image following there (inl past) is = kept_image state left image following past.same is
     moment_of state packet (Have n) left image following there (inr (entry, _, enters)) is = entered_image state packet entry committed.Done left image following there enters is
@@ -124,7 +124,7 @@ module _ {D : Type 0} (disk : Ghosts D) (network : Network) where
     moment_of state packet (Disk at) left image following there (entry, _, enters) is = entered_image state packet entry committed.Disk left image following there enters is
 
   -- at each moment of an orderly closing
-  closing_image : (state : Replication D) (left : D) (image : List ℕ) → IsFollowing disk network state → (result : Result ⊤ Failed) → Closes disk state.store left result → disk.left_since left (disk.moment state.store.journal.disk) image → IsOfLeader network state.leader state.told image
+  pub closing_image : (state : Replication D) (left : D) (image : List ℕ) → IsFollowing disk network state → (result : Result ⊤ Failed) → Closes disk state.store left result → disk.left_since left (disk.moment state.store.journal.disk) image → IsOfLeader network state.leader state.told image
   closing_image state left image following result closed since =
       let run = closed.any_moment following.own following.doubt following.has in
       let amid = subst (λ (n : Network). IsAmid n following.own following.doubt None image) following.is_network (run.each image since) in
@@ -132,7 +132,7 @@ module _ {D : Type 0} (disk : Ghosts D) (network : Network) where
 
   -- ---- an answer more
 
-  goes_on : (state : Replication D) (left : Kept D) (told : ℕ) (own : List Entry) (doubt : Option Entry) → IsFollowing disk network state → left.ledger.network ≡ network → HasHistory disk left own doubt → IsPrefix own state.leader
+  goes_on : (state : Replication D) (left : KeptStore D) (told : ℕ) (own : List Entry) (doubt : Option Entry) → IsFollowing disk network state → left.ledger.network ≡ network → HasHistory disk left own doubt → IsPrefix own state.leader
       → IfSome doubt (λ entry. IsPrefix (own ++ entry ∷ []) state.leader) → told ≤ length own → IsFollowing disk network (record state { store = left; told = told })
   goes_on state left told own doubt following is_network has begins doubtful low = record {
     leader = following.leader;
@@ -146,12 +146,12 @@ module _ {D : Type 0} (disk : Ghosts D) (network : Network) where
     told = low;
   }
 
-  still : (state : Replication D) (left : Kept D) (told : ℕ) (following : IsFollowing disk network state) → left ≡ state.store → told ≤ length following.own → IsFollowing disk network (record state { store = left; told = told })
+  still : (state : Replication D) (left : KeptStore D) (told : ℕ) (following : IsFollowing disk network state) → left ≡ state.store → told ≤ length following.own → IsFollowing disk network (record state { store = left; told = told })
   still state left told following same low =
-      goes_on state left told following.own following.doubt following (ap (λ (store : Kept D). store.ledger.network) same ∙ following.is_network)
-      (subst (λ (store : Kept D). HasHistory disk store following.own following.doubt) (sym same) following.has) following.begins following.doubtful low
+      goes_on state left told following.own following.doubt following (ap (λ (store : KeptStore D). store.ledger.network) same ∙ following.is_network)
+      (subst (λ (store : KeptStore D). HasHistory disk store following.own following.doubt) (sym same) following.has) following.begins following.doubtful low
 
-  failed : (state : Replication D) (packet : Packet) (entry : Entry) (left : Kept D) (following : IsFollowing disk network state) → Contains state.sent packet → (enters : Enters disk state.store packet entry committed.Disk left)
+  failed : (state : Replication D) (packet : Packet) (entry : Entry) (left : KeptStore D) (following : IsFollowing disk network state) → Contains state.sent packet → (enters : Enters disk state.store packet entry committed.Disk left)
       → IsLeft disk following.own following.doubt entry committed.Disk left → IsFollowing disk network (record state { store = left })
   failed state packet entry left following there enters (inl has) =
       goes_on state left state.told following.own following.doubt following (ap (λ (l : Ledger). l.network) enters.went.commits ∙ following.is_network) has following.begins following.doubtful following.told
@@ -161,7 +161,7 @@ module _ {D : Type 0} (disk : Ghosts D) (network : Network) where
       goes_on state left state.told following.own (Some entry) following (ap (λ (l : Ledger). l.network) enters.went.commits ∙ following.is_network) has following.begins
       (brought state packet entry following there enters.due enters.brings) following.told
 
-  answered : (state : Replication D) (packet : Packet) (answer : Offered) (left : Kept D) (following : IsFollowing disk network state) → Contains state.sent packet → IsOffered disk state.store packet answer left
+  answered : (state : Replication D) (packet : Packet) (answer : Offered) (left : KeptStore D) (following : IsFollowing disk network state) → Contains state.sent packet → IsOffered disk state.store packet answer left
       → IsFollowing disk network (record state { store = left; told = told_after state.told answer })
   answered state packet (Have n) left following there (inl past) = still state left (max state.told n) following past.same (max_low state.told n (length following.own) following.told (omega (arith, past.own, epoch_own state following)))
   answered state packet (Have n) left following there (inr (entry, is, enters)) =
@@ -218,7 +218,7 @@ module _ {D : Type 0} (disk : Ghosts D) (network : Network) where
     read_of : (was : D) (image : List ℕ) (history : List Entry) → disk.content was ≡ Some image → IfSome (disk.content was) (IsHistoryOf network history) → IsHistoryOf network history image
     read_of was image history holds read = subst (λ (content : Option (List ℕ)). IfSome content (IsHistoryOf network history)) holds read
 
-    reopened : (state : Replication D) (image : List ℕ) (store : Kept D) → IsFollowing disk network state → IsOfLeader network state.leader state.told image → IsReopened disk network image store → IsFollowing disk network (record state { store = store })
+    reopened : (state : Replication D) (image : List ℕ) (store : KeptStore D) → IsFollowing disk network state → IsOfLeader network state.leader state.told image → IsReopened disk network image store → IsFollowing disk network (record state { store = store })
     reopened state image store following of (was, holds, opened) =
         let stands = read_of was image opened.history holds opened.read in
         let same = listed_same of.list opened.history (once image (listed of.list) (listed opened.history) of.stands stands) in

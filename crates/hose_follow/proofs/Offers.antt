@@ -9,23 +9,23 @@ use Rattle.hose_book.specs.Ledger.{Ledger}
 use Rattle.hose_book.specs.declared.books.Committed.TheVariants as committed
 use Rattle.hose_disk.specs.declared.disk.Disk.{Ghosts}
 use Rattle.hose_store.specs.Commit.{IsLeft}
-use Rattle.hose_store.specs.Store.{HasHistory, Kept}
+use Rattle.hose_store.specs.Store.{HasHistory, KeptStore}
 use Rattle.hose_follow.specs.Chained.{LeadsOn}
 use Rattle.hose_follow.specs.Offering.{AreOffered, Brings, Enters, IsOffered, none_yet, packet_more}
 use Rattle.hose_follow.specs.Packet.{Packet}
 use Rattle.hose_follow.specs.declared.answers.Offered.{Offered}
 use Rattle.hose_follow.specs.declared.answers.Offered.TheVariants.{Have, Want, Differs, Memory, Unsound, Disk}
 
-module _ {D : Type 0} (disk : Ghosts D) (first : Kept D) (since : List Entry) where
-  same_too : (middle now : Kept D) → now ≡ middle → LeadsOn disk first since middle → LeadsOn disk first since now
+module _ {D : Type 0} (disk : Ghosts D) (first : KeptStore D) (since : List Entry) where
+  same_too : (middle now : KeptStore D) → now ≡ middle → LeadsOn disk first since middle → LeadsOn disk first since now
   same_too middle now same on = subst (LeadsOn disk first since) (sym same) on
 
-  sound_in : (middle : Kept D) (packet : Packet) (entry : Entry) (on : LeadsOn disk first since middle) → Brings middle.ledger packet entry → IsSoundAt first.ledger.network (book_of 0 on.history) entry
+  sound_in : (middle : KeptStore D) (packet : Packet) (entry : Entry) (on : LeadsOn disk first since middle) → Brings middle.ledger packet entry → IsSoundAt first.ledger.network (book_of 0 on.history) entry
   sound_in middle packet entry on brings =
       subst (λ (network : Network). IsSoundAt network (book_of 0 on.history) entry) on.network
       (subst (λ (book : Book). IsSoundAt middle.ledger.network book entry) on.has.book brings.sound)
 
-  with_doubt : (middle now : Kept D) (packet : Packet) (entry : Entry) (on : LeadsOn disk first since middle) → Enters disk middle packet entry committed.Disk now → (doubt : Option Entry) → HasHistory disk now on.history doubt → LeadsOn disk first since now
+  with_doubt : (middle now : KeptStore D) (packet : Packet) (entry : Entry) (on : LeadsOn disk first since middle) → Enters disk middle packet entry committed.Disk now → (doubt : Option Entry) → HasHistory disk now on.history doubt → LeadsOn disk first since now
   with_doubt middle now packet entry on enters doubt has =
       record {
         history = on.history;
@@ -36,7 +36,7 @@ module _ {D : Type 0} (disk : Ghosts D) (first : Kept D) (since : List Entry) wh
       }
 
   -- an entry that was committed, or whose commit failed
-  entered : (middle now : Kept D) (packet : Packet) (entry : Entry) → LeadsOn disk first since middle → Enters disk middle packet entry committed.Done now → LeadsOn disk first since now
+  entered : (middle now : KeptStore D) (packet : Packet) (entry : Entry) → LeadsOn disk first since middle → Enters disk middle packet entry committed.Done now → LeadsOn disk first since now
   entered middle now packet entry on enters =
       record {
         history = on.history ++ entry ∷ [];
@@ -46,12 +46,12 @@ module _ {D : Type 0} (disk : Ghosts D) (first : Kept D) (since : List Entry) wh
         goes_on = entry_more entry committed.Done on.goes_on (sound_in middle packet entry on enters.brings) enters.went;
       }
 
-  failed : (middle now : Kept D) (packet : Packet) (entry : Entry) (on : LeadsOn disk first since middle) → Enters disk middle packet entry committed.Disk now → IsLeft disk on.history on.doubt entry committed.Disk now → LeadsOn disk first since now
+  failed : (middle now : KeptStore D) (packet : Packet) (entry : Entry) (on : LeadsOn disk first since middle) → Enters disk middle packet entry committed.Disk now → IsLeft disk on.history on.doubt entry committed.Disk now → LeadsOn disk first since now
   failed middle now packet entry on enters (inl has) = with_doubt middle now packet entry on enters on.doubt has
   failed middle now packet entry on enters (inr (inl has)) = with_doubt middle now packet entry on enters None has
   failed middle now packet entry on enters (inr (inr has)) = with_doubt middle now packet entry on enters (Some entry) has
 
-  one_more : (middle now : Kept D) (packet : Packet) (answer : Offered) → LeadsOn disk first since middle → IsOffered disk middle packet answer now → LeadsOn disk first since now
+  one_more : (middle now : KeptStore D) (packet : Packet) (answer : Offered) → LeadsOn disk first since middle → IsOffered disk middle packet answer now → LeadsOn disk first since now
   one_more middle now packet (Have n) on (inl past) = same_too middle now past.same on
   one_more middle now packet (Have n) on (inr (entry, _, enters)) = entered middle now packet entry on enters
   one_more middle now packet (Want n) on offered = same_too middle now offered.2 on
@@ -60,7 +60,7 @@ module _ {D : Type 0} (disk : Ghosts D) (first : Kept D) (since : List Entry) wh
   one_more middle now packet (Unsound epoch) on offered = same_too middle now offered.3 on
   one_more middle now packet (Disk at) on (entry, _, enters) = failed middle now packet entry on enters (enters.went.left on.history on.doubt on.has)
 
-  pub leads_on : (doubt : Option Entry) (packets : List Packet) (answers : List Offered) (last : Kept D) → HasHistory disk first since doubt → AreOffered disk first packets answers last → LeadsOn disk first since last
+  pub leads_on : (doubt : Option Entry) (packets : List Packet) (answers : List Offered) (last : KeptStore D) → HasHistory disk first since doubt → AreOffered disk first packets answers last → LeadsOn disk first since last
   leads_on doubt packets answers last has none_yet =
       record { history = since; doubt = doubt; network = refl; has = has; goes_on = nothing_yet }
   leads_on doubt packets answers last has (packet_more packet answer before offered) =

@@ -1,5 +1,5 @@
 -- What the packets of entries come to.
-use Rattle.std.proofs.Common.{◌≡◌, ◌⊎◌, ◌∙◌, ℕ, zero, suc, ◌+◌, ◌-◌, ◌<◌, ◌≤◌, List, [], ◌∷◌, ◌++◌, Option, None, Some, Result, Ok, Err, refl, sym, inl, ap, arith, subst, drop, length, append_assoc, append-nil, length-append, ⊎_elim}
+use Rattle.std.proofs.Common.{◌≡◌, ◌⊎◌, ◌∙◌, ℕ, zero, suc, ◌+◌, ◌-◌, ◌<◌, ◌≤◌, List, [], ◌∷◌, ◌++◌, Option, None, Some, Result, Ok, Err, refl, sym, inl, inr, ap, arith, subst, drop, length, append_assoc, append-nil, length-append, ⊎_elim}
 use Rattle.std.specs.Prelude.{⊤}
 use Rattle.std.proofs.lemmas.Bool.{cases_lt}
 use Rattle.std.proofs.lemmas.Grind.{flat_map-append}
@@ -16,12 +16,16 @@ use Rattle.hose_graph.specs.Network.{Network}
 use Rattle.hose_graph.specs.declared.entry.Entry.{Entry}
 use Rattle.hose_disk.specs.declared.disk.Disk.{Ghosts as DiskGhosts}
 use Rattle.hose_journal.specs.Chain.{chain}
+use Rattle.hose_journal.specs.Entries.{front_of}
+use Rattle.hose_journal.specs.Image.{IsClosed}
+use Rattle.hose_journal.specs.Layout.{chained_version}
 use Rattle.hose_journal.specs.Moments.{LeavesOnly}
+use Rattle.hose_journal.specs.Opening.{AddsNoRecord, HasNoRecord}
 use Rattle.hose_journal.specs.declared.prepared.Ready.{Ready}
 use Rattle.hose_journal.proofs.Runs.{started}
 use Rattle.hose_store.specs.Entries.{BeginsWith, HasEntries}
 use Rattle.hose_store.specs.Recovery.{digest_of}
-use Rattle.hose_store.specs.Replaying.{HasReplayed, IsOnlyOpened, IsReplaying}
+use Rattle.hose_store.specs.Replaying.{HasReplayed, IsOnlyOpened, IsReplaying, KeepsRead}
 use Rattle.hose_store.specs.declared.fault.StoreFault.{StoreFault}
 use Rattle.hose_store.specs.declared.replay.Replay.{Replay}
 use Rattle.hose_follow.specs.Packet.{Packet, packet_after, packet_bytes, packets_after, packets_bytes, packets_from}
@@ -88,6 +92,14 @@ module _ {S D : Type 0} (sink : SinkGhosts S) (disk : DiskGhosts D) where
   -- the disk was not touched
   pub untouched : (was : D) → ((image : List ℕ) → disk.left_since was (disk.moment was) image → disk.may_leave was image) → LeavesOnly disk was was (disk.may_leave was)
   untouched was only_now = started disk was (disk.may_leave was) only_now (λ image is. is)
+
+  kept_adds_none : (was left : D) (network : Network) → KeepsRead disk was left network → AddsNoRecord (disk.content was) (disk.content left) (digest_of network)
+  kept_adds_none was left network (inl same) = inl same
+  kept_adds_none was left network (inr begun) = inr (begun.0, closed (disk.content left) begun.1)
+    where
+      closed : (content : Option (List ℕ)) → IfSome content (IsClosed (front_of chained_version (digest_of network) [])) → IfSome content (HasNoRecord (digest_of network))
+      closed None is = tt
+      closed (Some bytes) is = inr is
 
   module _ (was : D) (network : Network) (from : ℕ) where
     -- before the first entry
@@ -187,7 +199,7 @@ module _ {S D : Type 0} (sink : SinkGhosts S) (disk : DiskGhosts D) where
           )
       shipped (Err fault) (Ok done) count up finished counted =
           let put = IsPut-finished (Ok done) up.added finished in
-          (record { entries = up.entries; held = up.held; out = put.ok }, put.met.ok, up.refused)
+          (record { entries = up.entries; held = up.held; out = put.ok }, put.met.ok, up.refused, kept_adds_none was replay.reading.disk network up.kept)
 
       pub shipped_opened : (added : Result ⊤ StoreFault) → Adds added → IsOnlyOpened disk was replay.reading.disk network
       shipped_opened (Ok value) all = all.opened

@@ -5,11 +5,11 @@ use Rattle.hose_law.specs.History.{IsSoundAt}
 use Rattle.hose_book.specs.GoingOn.{GoesOn}
 use Rattle.hose_disk.specs.declared.disk.Disk.{Ghosts}
 use Rattle.hose_store.specs.Commit.{store_books}
-use Rattle.hose_store.specs.Store.{Kept, HasHistory}
+use Rattle.hose_store.specs.Store.{KeptStore, HasHistory}
 
 -- A store that had a history has one that goes on from there, by commits of sound entries.
-pub record LeadsOn {D : Type 0} (disk : Ghosts D) (first : Kept D) (since : List Entry)
-    (last : Kept D) : Type 0 where
+pub record LeadsOn {D : Type 0} (disk : Ghosts D) (first : KeptStore D) (since : List Entry)
+    (last : KeptStore D) : Type 0 where
   pub history : List Entry
   pub doubt : Option Entry
   pub network : last.ledger.network ≡ first.ledger.network

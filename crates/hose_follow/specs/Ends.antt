@@ -6,7 +6,7 @@ use Rattle.hose_io.specs.declared.sink.Sink.{Ghosts as SinkGhosts}
 use Rattle.hose_io.specs.declared.source.Source.{Ghosts as SourceGhosts}
 use Rattle.hose_disk.specs.Disk.{object_frame}
 use Rattle.hose_disk.specs.declared.disk.Disk.{Ghosts as DiskGhosts}
-use Rattle.hose_store.specs.Store.{Kept}
+use Rattle.hose_store.specs.Store.{KeptStore}
 use Rattle.hose_follow.specs.Answers.{CutsLastAnswer, TellsDiskAnswers, offered_texts}
 use Rattle.hose_follow.specs.Offering.{AreOffered}
 use Rattle.hose_follow.specs.Packet.{BeginsNoPacket, IsPacket, IsPartOfPacket, Packet, packets_bytes}
@@ -44,7 +44,7 @@ module _ {S O : Type 0} (source : SourceGhosts S) (sink : SinkGhosts O) (old new
 -- What following an input comes to: the packets that were taken of it were answered, each at the
 -- store that the one before it left. At `Memory` nothing was done.
 pub record FollowsInput {S O D : Type 0} (source : SourceGhosts S) (sink : SinkGhosts O)
-    (disk : DiskGhosts D) (old new : S) (before after : O) (first last : Kept D)
+    (disk : DiskGhosts D) (old new : S) (before after : O) (first last : KeptStore D)
     (end : FollowEnd) : Type 0 where
   -- what the source gave, and the packets of it that were answered
   pub bytes : List ℕ

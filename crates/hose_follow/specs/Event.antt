@@ -1,7 +1,7 @@
 -- What may happen to a leader and its follower.
 use Rattle.std.specs.Prelude.{ℕ, List}
 use Rattle.hose_graph.specs.declared.entry.Entry.{Entry}
-use Rattle.hose_store.specs.Store.{Kept}
+use Rattle.hose_store.specs.Store.{KeptStore}
 use Rattle.hose_follow.specs.Packet.{Packet}
 use Rattle.hose_follow.specs.declared.answers.Offered.{Offered}
 
@@ -21,4 +21,4 @@ pub data Event (D : Type 0) : Type 0 where
   closes : D → List ℕ → Event D
   -- within an offer, at any moment of it, the follower stops, and opens what this image holds; this
   -- is the store that the offer would have left
-  stops_within : Packet → Offered → Kept D → List ℕ → Event D
+  stops_within : Packet → Offered → KeptStore D → List ℕ → Event D

@@ -7,7 +7,7 @@ use Rattle.hose_io.specs.declared.sink.Sink.{Ghosts as SinkGhosts}
 use Rattle.hose_io.specs.declared.source.Source.{Ghosts as SourceGhosts}
 use Rattle.hose_disk.specs.Disk.{object_frame}
 use Rattle.hose_disk.specs.declared.disk.Disk.{Ghosts as DiskGhosts}
-use Rattle.hose_store.specs.Store.{Kept}
+use Rattle.hose_store.specs.Store.{KeptStore}
 use Rattle.hose_follow.specs.Answers.{TellsDiskAnswers, answer_line, offered_texts}
 use Rattle.hose_follow.specs.Arriving.{BeginsPacket}
 use Rattle.hose_follow.specs.Offering.{AreOffered, IsOffered}
@@ -24,7 +24,7 @@ pub record FollowState (S O D : Type 0) : Type 0 where
   pub pending : List ℕ
   pub taken : ℕ
   pub sink : O
-  pub store : Kept D
+  pub store : KeptStore D
 
 -- ---- taking more
 

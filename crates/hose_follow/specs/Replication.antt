@@ -10,7 +10,7 @@ use Rattle.hose_disk.specs.declared.disk.Disk.{Ghosts}
 use Rattle.hose_store.specs.Commit.{Closes}
 use Rattle.hose_store.specs.Opening.{IsOpenedOn}
 use Rattle.hose_store.specs.Recovery.{IsHistoryOf}
-use Rattle.hose_store.specs.Store.{Kept, HasHistory}
+use Rattle.hose_store.specs.Store.{KeptStore, HasHistory}
 use Rattle.hose_follow.specs.Event.{Event, accepts, sends, offers, stops, closes, stops_within}
 use Rattle.hose_follow.specs.Offering.{IsOffered}
 use Rattle.hose_follow.specs.Packet.{Packet, packet_after}
@@ -22,7 +22,7 @@ use Rattle.hose_follow.specs.declared.answers.Offered.TheVariants.{Have, Want, D
 pub record Replication (D : Type 0) : Type 0 where
   pub leader : List Entry
   pub sent : List Packet
-  pub store : Kept D
+  pub store : KeptStore D
   pub told : ℕ
 
 -- the packet of a place of a list
@@ -60,7 +60,7 @@ pub record IsBeginning {D : Type 0} (disk : Ghosts D) (network : Network) (state
 -- ---- what happens
 
 -- a store was opened on a disk that held this image
-abbrev pub IsReopened : {D : Type 0} → Ghosts D → Network → List ℕ → Kept D → Type 0
+abbrev pub IsReopened : {D : Type 0} → Ghosts D → Network → List ℕ → KeptStore D → Type 0
 IsReopened {D} disk network image store =
     (was : D) × (disk.content was ≡ Some image) × IsOpenedOn disk was network store
 

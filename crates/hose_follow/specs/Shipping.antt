@@ -10,9 +10,10 @@ use Rattle.hose_graph.specs.Network.{Network}
 use Rattle.hose_graph.specs.declared.entry.Entry.{Entry}
 use Rattle.hose_disk.specs.declared.disk.Disk.{Ghosts as DiskGhosts}
 use Rattle.hose_journal.specs.Moments.{KeepsCount}
+use Rattle.hose_journal.specs.Opening.{AddsNoRecord}
 use Rattle.hose_store.specs.Entries.{HasEntries}
 use Rattle.hose_store.specs.Opening.{IsRefusedStore}
-use Rattle.hose_store.specs.Recovery.{IsHistoryOf}
+use Rattle.hose_store.specs.Recovery.{IsHistoryOf, digest_of}
 use Rattle.hose_store.specs.Replaying.{IsOnlyOpened, IsReplaying, KeepsRead}
 use Rattle.hose_store.specs.declared.fault.StoreFault.{StoreFault}
 use Rattle.hose_store.specs.declared.replay.Replay.{Replay}
@@ -38,8 +39,9 @@ pub record ShipsAll {D : Type 0} (disk : DiskGhosts D) (was : D) (network : Netw
 
 module _ {S D : Type 0} (sink : SinkGhosts S) (disk : DiskGhosts D) (before after : S) where
   -- What shipping comes to. At a fault packets of entries with which the journal begins are out, or
-  -- a part of such packets where the sink failed. Where the journal was read to its end, or the
-  -- sink failed, what is read of the disk is as before, and no seal was written.
+  -- a part of such packets where the sink failed. What is read of the disk is as before, or a
+  -- journal without a record was begun there; where a call on the disk failed, it may be begun in
+  -- part. So no seal was written.
   abbrev pub Ships : D → D → Network → ℕ → Result ℕ ShipFault → Type 0
   Ships was left network from (Ok count) =
       ShipsAll disk was network from (Grows (sink.content before) (sink.content after)) count
@@ -48,6 +50,7 @@ module _ {S D : Type 0} (sink : SinkGhosts S) (disk : DiskGhosts D) (before afte
   Ships was left network from (Err (Store fault)) =
       ShipsUpTo disk was network from (Grows (sink.content before) (sink.content after))
       × (sink.frame after ≡ sink.frame before) × IsRefusedStore disk was left network fault
+      × AddsNoRecord (disk.content was) (disk.content left) (digest_of network)
   Ships was left network from (Err Write) =
       ShipsUpTo disk was network from (GrowsInPart (sink.content before) (sink.content after))
       × Rose (sink.frame before) (sink.frame after) × KeepsRead disk was left network

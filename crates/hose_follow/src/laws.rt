@@ -1,8 +1,10 @@
 // What is true of every follower.
-ghost use Rattle.std.specs.Prelude.{◌≡◌, ℕ, List, Contains, Option};
+ghost use Rattle.std.specs.Prelude.{◌≡◌, ℕ, List, Contains, Option, Result, ⊤};
+ghost use Rattle.hose_io.specs.declared.Failed.{Failed};
 ghost use Rattle.hose_graph.specs.declared.entry.Entry.{Entry};
 ghost use Rattle.hose_law.specs.History.{IsDecided};
-ghost use Rattle.hose_store.specs.Store.{HasHistory, Kept};
+ghost use Rattle.hose_store.specs.Commit.{Closes};
+ghost use Rattle.hose_store.specs.Store.{HasHistory, KeptStore};
 ghost use Rattle.hose_follow.specs.Chained.{LeadsOn};
 ghost use Rattle.hose_follow.specs.Event.{Event};
 ghost use Rattle.hose_follow.specs.Offering.{AreOffered, IsOffered};
@@ -33,16 +35,22 @@ pub fn law_following<D: Disk>(top: &Topology)
         IsOfLeader top.now state.leader state.told image }
     // At each moment within an offer an image is one of the leader, too.
     ensures moments { (state : Replication D) → (packet : Packet) → (answer : Offered) →
-        (left : Kept D) → (image : List ℕ) → IsFollowing D.Disk top.now state →
+        (left : KeptStore D) → (image : List ℕ) → IsFollowing D.Disk top.now state →
         Contains state.sent packet → IsOffered D.Disk state.store packet answer left →
         D.left_since left.journal.disk (D.moment state.store.journal.disk) image →
         IsOfLeader top.now state.leader state.told image }
+    // At each moment within an orderly closing as well.
+    ensures closings { (state : Replication D) → (left : D) → (result : Result ⊤ Failed) →
+        (image : List ℕ) → IsFollowing D.Disk top.now state →
+        Closes D.Disk state.store left result →
+        D.left_since left (D.moment state.store.journal.disk) image →
+        IsOfLeader top.now state.leader state.told image }
     ensures never_differs { (state : Replication D) → (packet : Packet) → (at : ℕ) →
-        (own given : List ℕ) → (left : Kept D) → IsFollowing D.Disk top.now state →
+        (own given : List ℕ) → (left : KeptStore D) → IsFollowing D.Disk top.now state →
         Contains state.sent packet →
         ¬ IsOffered D.Disk state.store packet (Offered.Differs at own given) left }
     ensures never_unsound { (state : Replication D) → (packet : Packet) → (epoch : ℕ) →
-        (left : Kept D) → IsFollowing D.Disk top.now state → Contains state.sent packet →
+        (left : KeptStore D) → IsFollowing D.Disk top.now state → Contains state.sent packet →
         ¬ IsOffered D.Disk state.store packet (Offered.Unsound epoch) left }
 {
     // What an image stands for, it stands for alone.
@@ -61,7 +69,7 @@ impl Premises for Sound {
 /// Packets that were offered one after another lead a store from the history that it had to one
 /// that goes on from there by commits of sound entries.
 pub fn law_offered<D: Disk>()
-    ensures { (first last : Kept D) → (packets : List Packet) → (answers : List Offered) →
+    ensures { (first last : KeptStore D) → (packets : List Packet) → (answers : List Offered) →
         (since : List Entry) → (doubt : Option Entry) → HasHistory D.Disk first since doubt →
         AreOffered D.Disk first packets answers last → LeadsOn D.Disk first since last }
 {}

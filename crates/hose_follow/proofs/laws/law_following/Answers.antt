@@ -1,4 +1,4 @@
-use Rattle.hose_follow.proofs.Follows.{begun, follows, image_of, legal, moment_of, never_differs, never_unsound}
+use Rattle.hose_follow.proofs.Follows.{begun, closing_image, follows, image_of, legal, moment_of, never_differs, never_unsound}
 use Rattle.hose_follow.proofs.laws.law_following.Goals as goal
 
 pub returns-clause-begins : goal.returns-clause-begins
@@ -17,6 +17,9 @@ returns-clause-images g c = λ state image following left. image_of g.D.Disk c.a
 pub returns-clause-moments : goal.returns-clause-moments
 returns-clause-moments g c = λ state packet answer left image following there offered since.
     moment_of g.D.Disk c.args.top.now g.met.D.Disk.only_now state packet answer left image following there offered since
+
+pub returns-clause-closings : goal.returns-clause-closings
+returns-clause-closings g c = λ state left result image following closed since. closing_image g.D.Disk c.args.top.now state left image following result closed since
 
 pub returns-clause-never_differs : goal.returns-clause-never_differs
 returns-clause-never_differs g c = λ state packet at own given left following there. never_differs g.D.Disk c.args.top.now state packet at own given left following there
