@@ -1,0 +1,10 @@
+mod Beginnings
+mod Changes
+mod Collected
+mod Committed
+mod Compared
+mod Complete
+mod Parts
+mod Readings
+mod Renumbered
+mod Statements

@@ -1,0 +1,102 @@
+-- What a journal states once its entries were read.
+use Rattle.std.proofs.Common.{◌≡◌, ◌∙◌, ℕ, ◌≤◌, List, [], ◌∷◌, Option, None, Some, IfSome, All, filter, length, map, inl, refl, sym, ap, subst}
+use Rattle.std.specs.Prelude.{Ok}
+use Rattle.std.specs.List.{range_with_len}
+use Rattle.std.proofs.lemmas.List.Elements.{All-nil}
+use Rattle.hose_graph.specs.Limits.{most_links}
+use Rattle.hose_graph.specs.Network.{Network}
+use Rattle.hose_graph.specs.Ranges.{IsInRanges}
+use Rattle.hose_graph.specs.declared.entry.Entry.{Entry}
+use Rattle.hose_law.specs.Book.{Book}
+use Rattle.hose_law.specs.History.{book_of}
+use Rattle.hose_law.specs.Service.{is_out}
+use Rattle.hose_disk.specs.declared.disk.Disk.{Ghosts}
+use Rattle.hose_journal.specs.Image.{IsUnbegun}
+use Rattle.hose_journal.specs.Moments.{KeepsCount}
+use Rattle.hose_store.specs.Becoming.{BeginsAtMost}
+use Rattle.hose_store.specs.Opening.{IsRefusedStore}
+use Rattle.hose_store.specs.Recovery.{IsHistoryOf}
+use Rattle.hose_store.specs.declared.fault.StoreFault.{StoreFault}
+use Rattle.hose_store.specs.declared.fault.StoreFault.TheVariants as store
+use Rattle.hose_store.specs.declared.replay.Replay.{Replay}
+use Rattle.hose_store.proofs.Replays.{has_entries}
+use Rattle.hose_move.specs.Collecting.{HasPassedAll, IsReadNoFurther}
+use Rattle.hose_move.specs.Stating.{StatesAll, StatesHistory, down_entry, live_entries, number_of}
+use Rattle.hose_move.specs.declared.stating.Scope.{Scope}
+use Rattle.hose_move.specs.declared.stating.Scope.TheVariants.{All as AllEntries, Live}
+use Rattle.hose_move.specs.declared.stating.Stated.{Stated}
+use Rattle.hose_move.proofs.Collected.{all_in_ranges}
+use Rattle.hose_move.proofs.Statements.{stated_ranges}
+
+module _ {D : Type 0} (disk : Ghosts D) (was : D) (network : Network) where
+  -- ---- after the last entry
+
+  module _ (replay : Replay D) (entries : List Entry) (stated : Stated) (all : HasPassedAll disk was network replay entries) where
+    pub states_entries : stated.entries.items ≡ entries → stated.numbers.items ≡ [] → StatesAll disk was replay.reading.disk network AllEntries (Ok stated)
+    states_entries same none = (
+      record {
+        history = entries;
+        sound = (has_entries disk was network replay entries all.passed.replaying).sound;
+        read = all.read;
+        is = record { entries = same; numbers = none };
+        count = all.count;
+      },
+      subst (λ (l : List Entry). All IsInRanges l) (sym same) (all_in_ranges entries all.passed.spelled),
+      all.begins,
+    )
+
+    pub states_live : stated.entries.items ≡ live_entries replay.book.network replay.book.book → stated.numbers.items ≡ map number_of replay.book.book.live → length replay.book.network.links ≤ most_links
+        → StatesAll disk was replay.reading.disk network Live (Ok stated)
+    states_live same numbers few =
+        let here = all.passed.replaying.is_network in
+        let book = all.passed.replaying.given.book in
+        let listed : stated.entries.items ≡ live_entries network (book_of 0 entries) = same ∙ ap (λ (n : Network). live_entries n replay.book.book) here ∙ ap (λ (b : Book). live_entries network b) book in (
+          record {
+            history = entries;
+            sound = (has_entries disk was network replay entries all.passed.replaying).sound;
+            read = all.read;
+            is = record { entries = listed; numbers = numbers ∙ ap (λ (b : Book). map number_of b.live) book };
+            count = all.count;
+          },
+          subst (λ (l : List Entry). All IsInRanges l) (sym listed) (stated_ranges network entries (subst (λ (n : Network). length n.links ≤ most_links) here few) (all_in_ranges entries all.passed.spelled)),
+          all.begins,
+        )
+
+  -- there was too little memory
+  pub no_further : (left : D) → BeginsAtMost disk was left network → IsReadNoFurther disk was network left store.Memory
+  no_further left begins = record { refused = λ not. absurd (not refl); begins = begins }
+
+  pub refused_open : (left : D) (fault : StoreFault) → IsRefusedStore disk was left network fault → BeginsAtMost disk was left network → IsReadNoFurther disk was network left fault
+  refused_open left fault refused begins = record { refused = λ not. refused; begins = begins }
+
+  -- ---- a journal that was not begun
+
+  none_filtered : (links : List ℕ) → filter (is_out []) links ≡ []
+  none_filtered [] = refl
+  none_filtered (link ∷ links) = none_filtered links
+
+  nothing_live : live_entries network (book_of 0 []) ≡ []
+  nothing_live = ap (λ (l : List ℕ). map down_entry l) (none_filtered (range_with_len 0 (length network.links)))
+
+  unbegun_read : (content : Option (List ℕ)) → IfSome content IsUnbegun → IfSome content (IsHistoryOf network [])
+  unbegun_read None unbegun = tt
+  unbegun_read (Some bytes) unbegun = inl (unbegun, refl)
+
+  pub states_nothing : (left : D) (scope : Scope) (stated : Stated) → stated.entries.items ≡ [] → stated.numbers.items ≡ [] → IfSome (disk.content was) IsUnbegun → KeepsCount disk was left → StatesHistory disk was left network scope stated
+  states_nothing left AllEntries stated same none unbegun count = record {
+    history = [];
+    sound = tt;
+    read = unbegun_read (disk.content was) unbegun;
+    is = record { entries = same; numbers = none };
+    count = count;
+  }
+  states_nothing left Live stated same none unbegun count = record {
+    history = [];
+    sound = tt;
+    read = unbegun_read (disk.content was) unbegun;
+    is = record { entries = same ∙ sym nothing_live; numbers = none };
+    count = count;
+  }
+
+pub no_ranges : (entries : List Entry) → entries ≡ [] → All IsInRanges entries
+no_ranges entries none = subst (λ (l : List Entry). All IsInRanges l) (sym none) (All-nil IsInRanges)

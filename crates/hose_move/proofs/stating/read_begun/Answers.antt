@@ -1,0 +1,21 @@
+use Rattle.std.proofs.Common.{subst}
+use Rattle.hose_graph.specs.Network.{Network}
+use Rattle.hose_store.specs.Becoming.{BeginsAtMost}
+use Rattle.hose_store.specs.Opening.{IsRefusedStore}
+use Rattle.hose_store.proofs.Begins.{nothing_begun}
+use Rattle.hose_move.proofs.Readings.{no_further, refused_open}
+use Rattle.hose_move.proofs.stating.read_begun.Goals as goal
+
+pub returns-in_default : goal.returns-in_default
+returns-in_default g c = no_further g.D.Disk c.args.disk c.args.old.now c.args.disk (nothing_begun g.D.Disk c.args.disk c.args.old.now (g.met.D.Disk.only_now c.args.disk))
+
+pub returns-in-Err : goal.returns-in-Err
+returns-in-Err g c =
+    refused_open g.D.Disk c.args.disk c.args.old.now c.in-Err.refused.1 c.in-Err.refused.0
+    (subst (λ (n : Network). IsRefusedStore g.D.Disk c.args.disk c.in-Err.refused.1 n c.in-Err.refused.0) c.in-Ok.ensures c.in-Err.ensures.refused.0)
+    (subst (λ (n : Network). BeginsAtMost g.D.Disk c.args.disk c.in-Err.refused.1 n) c.in-Ok.ensures c.in-Err.ensures.begins)
+
+pub returns : goal.returns
+returns g c =
+    let states = c.state_all-stated.ensures c.args.disk c.in-Ok.topology c.in-Ok-open.ensures.opened in
+    rw (← c.in-Ok.ensures, c.stop.ensures) states
