@@ -97,8 +97,9 @@ module _ (network : Network) (history : List Entry) (from : ℕ) (tells : Tellin
 -- were answered along the history that the pass has seen since. The session's entries are the
 -- pass's own, and no others that it had not before; each was decided and costs least at its place.
 -- Failures of the disk were told no more often than the pass has met faults.
-pub record ServesAlong (network : Network) (tells : Telling SessionLine) (before after : Option (List ℕ))
-    (ReadFails WriteFails : Type 0) (old new : Known) (end : SessionEnd) : Type 0 where
+pub record ServesAlong (network : Network) (tells : Telling SessionLine)
+    (before after : Option (List ℕ)) (ReadFails WriteFails : Type 0) (old new : Known)
+    (end : SessionEnd) : Type 0 where
   pub replies : List Reply
   pub own : List ℕ
   pub session : IsSession network new.seen (length old.seen) tells before after ReadFails WriteFails

@@ -150,10 +150,14 @@ impl<'a, W: Wait, D: Disk, B: Begun<D>, G: Gate> Session<'a, W, D, B, G> {
         };
         match command {
             Command::Admit(hose) => shared.admit(&caller, pass, hose, rows),
+            Command::AdmitAfter { known, hose } => {
+                shared.admit_after(&caller, pass, known, hose, rows)
+            }
             Command::Quote(hose) => shared.quote(&caller, pass, &mut client.quotes, hose, rows),
             Command::Take(quote) => shared.take(&caller, pass, &mut client.quotes, quote),
             Command::Release(id) => shared.release(&caller, pass, id),
             Command::Show(id) => shared.show(&caller, pass, id),
+            Command::Vpns => shared.vpns(&caller, pass),
             Command::Link(link) => shared.link(&caller, pass, link),
             Command::Down(link) => shared.operate(&caller, pass, link, true),
             Command::Up(link) => shared.operate(&caller, pass, link, false),

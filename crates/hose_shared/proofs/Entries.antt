@@ -1,5 +1,5 @@
 -- Which entry joined, and what an admission's take and the replies without an entry are as steps.
-use Rattle.std.proofs.Common.{◌≡◌, ◌≢◌, ◌⊎◌, ℕ, Bool, true, false, List, ◌++◌, length, take, Option, None, Some, IfSome, IsSome, MatchResult, Result, inl, inr, refl, sym, ap, subst, ◌∙◌, append-nil, arith, ◌≤◌, ◌<◌}
+use Rattle.std.proofs.Common.{◌≡◌, ◌≢◌, ◌⊎◌, ℕ, Bool, true, false, List, length, take, Option, None, Some, IfSome, IsSome, inl, inr, refl, sym, ap, subst, ◌∙◌, append-nil, arith, ◌≤◌, ◌<◌}
 use Rattle.std.specs.Prelude.{IfNone, replicate}
 use Rattle.std.proofs.lemmas.List.{length-append, length-take-le, take-append-le, take_all}
 use mathlib.Core.List.{IsPrefix}
@@ -15,8 +15,8 @@ use Rattle.hose_graph.specs.declared.entry.Entry.{Entry}
 use Rattle.hose_graph.specs.declared.entry.Entry.TheVariants.{Admit, Release}
 use Rattle.hose_graph.specs.declared.command.Reply.{Reply}
 use Rattle.hose_graph.specs.declared.command.Reply.TheVariants as reply
-use Rattle.hose_law.specs.Answer.{IsAdmitAnswer, IsAnswer, IsOperatorAnswer, IsPlannedAnswer, IsReleaseAnswer, IsStepOf, IsStepOfKind, IsTakeAnswer, IsTakingAnswer, with_entry}
-use Rattle.hose_law.specs.Book.{Book, loads_of}
+use Rattle.hose_law.specs.Answer.{IsAdmitAnswer, IsAfterAnswer, IsAnswer, IsOperatorAnswer, IsPlannedAnswer, IsReleaseAnswer, IsStepOf, IsStepOfKind, IsTakeAnswer, IsTakingAnswer}
+use Rattle.hose_law.specs.Book.{Book}
 use Rattle.hose_law.specs.Decision.{HasFirstFit, HaveEqualGrounds, IsPlanned}
 use Rattle.hose_law.specs.History.{book_of}
 use Rattle.hose_law.specs.Plan.{AreNodes, plan_cost}
@@ -25,9 +25,9 @@ use Rattle.hose_law.specs.ReplyKind.{ReplyKind, kind_of}
 use Rattle.hose_law.specs.ReplyKind.ReplyKind.{ByTheBook, ForDisk, ForMemory, ForNoCommand}
 use Rattle.hose_law.specs.Room.{first_links, room_of, safe_links}
 use Rattle.hose_law.specs.Service.{service_entry}
-use Rattle.hose_book.specs.Ledger.{Ledger}
 use Rattle.hose_book.specs.declared.books.Committed.{Committed}
 use Rattle.hose_book.specs.declared.books.Committed.TheVariants.{Done, Disk}
+use Rattle.hose_core.specs.Bound.{admission_of}
 use Rattle.hose_core.specs.Holding.{AreHeld, IsMadeAt, IsQuoteOf}
 use Rattle.hose_core.specs.Planning.{AdmitsAtOnce, EntersPlan, HasTold, IsNotPlanned, IsPlannedFor}
 use Rattle.hose_core.specs.Serving.{service_command}
@@ -36,16 +36,16 @@ use Rattle.hose_core.specs.declared.quotes.Quote.{Quote}
 use Rattle.hose_plan.specs.Planning.{allowed_links}
 use Rattle.hose_disk.specs.declared.disk.Disk.{Ghosts}
 use Rattle.hose_store.specs.Commit.{store_books}
-use Rattle.hose_store.specs.Store.{Kept as KeptStore}
+use Rattle.hose_store.specs.Store.{KeptStore}
 use Rattle.hose_turn.specs.Known.{Known}
-use Rattle.hose_shared.specs.Along.{StepsAlong, StepsHolding, is_stale}
+use Rattle.hose_shared.specs.Along.{StepsAlong, StepsHolding}
 use Rattle.hose_shared.specs.Sharing.{HasSeenMore}
-use Rattle.hose_shared.specs.Turns.{AnswersTurn, BeginsTurn, StepsAt, joined_of, place_of}
+use Rattle.hose_shared.specs.Turns.{AnswersTurn, BeginsTurn, joined_of}
 use Rattle.hose_law.proofs.Fronts.{prefix_same}
 use Rattle.hose_law.proofs.Steps.{step_cases}
 use Rattle.hose_law.proofs.Epochs.{epoch_of}
 use Rattle.hose_shared.proofs.Passes.{along_of}
-use Rattle.hose_shared.proofs.Turned.{answers_turn, none_joined, told_is}
+use Rattle.hose_shared.proofs.Turned.{answers_turn, told_is}
 
 -- what holds of an entry that was committed holds of the one that joined
 joined_is : (P : Entry → Type 0) (entry : Option Entry) (result : Committed) → ((one : Entry) → entry ≡ Some one → result ≡ Done → P one) → IfSome (joined_of entry result) P
@@ -113,6 +113,11 @@ module _ (network : Network) (book : Book) (customer : List ℕ) (hose : List En
   planned_is plan cost (reply.Admitted id told at amounts) entry tells is = is.6 ∙ ap (Admit customer hose) tells.0
   planned_is plan cost answer entry tells is = absurd is
 
+  -- so is one that is bound, where something is to be entered
+  after_admits : (known : ℕ) (answer : Reply) (entry : Entry) → IsAfterAnswer network book customer known hose answer (Some entry) → IsAdmitAnswer network book customer hose answer (Some entry)
+  after_admits known (reply.Newest id at) entry is = is.1
+  after_admits known answer entry is = is.1
+
   admit_planned : (answer : Reply) (entry : Entry) → IsAdmitAnswer network book customer hose answer (Some entry) → IsPlannedAnswer network book customer hose answer (Some entry)
   admit_planned (reply.Refused at side) entry is = is
   admit_planned answer entry is = is
@@ -128,29 +133,21 @@ module _ (network : Network) (earlier book : Book) (customer : List ℕ) (hose :
   taking_planned (reply.Stale seen now) entry is = is.1
   taking_planned answer entry is = is.1
 
-  -- what has a plan is answered as an admission
-  planned_admits : (answer : Reply) (entry : Option Entry) → IsPlannedAnswer network book customer hose answer entry → IsAdmitAnswer network book customer hose answer entry
-  planned_admits (reply.Spent at) None is = is
-  planned_admits (reply.Full at) None is = is
-  planned_admits (reply.Admitted id cost at amounts) (Some entry) is = is
-  planned_admits answer entry is = absurd is
-
-  taking_admits : (answer : Reply) (entry : Option Entry) → is_stale answer ≡ false → IsTakingAnswer network earlier book customer hose answer entry → IsAdmitAnswer network book customer hose answer entry
-  taking_admits (reply.Stale seen now) entry fresh is = absurd (cc fresh)
-  taking_admits answer entry fresh is = planned_admits answer entry is.1
-
-  taking_entered : (answer : Reply) (entry : Entry) → IsTakingAnswer network earlier book customer hose answer (Some entry) → IsAdmitAnswer network book customer hose answer (Some entry)
-  taking_entered answer entry is = planned_admits answer (Some entry) (taking_planned answer entry is)
-
 -- ---- an admission
 
-pub admit_entry : (network : Network) (history : List Entry) (customer : List ℕ) (held : Held) (hose : List Endpoint) (answer : Reply) (mine : Entry) (entry : Option Entry) (next : List Entry) (after : Held) → EntersPlan customer hose answer mine
-    → IsStepOf network 0 history customer held (command.Admit hose) answer entry next after → IfSome (joined_of entry (committed_of answer)) (λ joined. joined ≡ mine)
-admit_entry network history customer held hose answer mine entry next after enters step = joined_is (λ joined. joined ≡ mine) entry (committed_of answer) (λ joined is done.
-    entered_is network (book_of 0 history) customer hose answer joined mine enters
-    (answered network history customer held (command.Admit hose) answer joined next after done (subst (λ (e : Option Entry). IsStepOf network 0 history customer held (command.Admit hose) answer e next after) is step)).0)
+module _ (network : Network) (history : List Entry) (customer : List ℕ) (held : Held) (hose : List Endpoint) where
+  -- an entry is that of an admission, bound to a number or to none
+  bound_admits : (bound : Option ℕ) (answer : Reply) (entry : Entry) (after : Held) → IsAnswer network 0 history customer held (admission_of bound hose) answer (Some entry) after → IsAdmitAnswer network (book_of 0 history) customer hose answer (Some entry)
+  bound_admits None answer entry after is = is.0
+  bound_admits (Some known) answer entry after is = after_admits network (book_of 0 history) customer hose known answer entry is.0
 
--- ---- a take that is not stale
+  pub admit_entry : (bound : Option ℕ) (answer : Reply) (mine : Entry) (entry : Option Entry) (next : List Entry) (after : Held) → EntersPlan customer hose answer mine
+      → IsStepOf network 0 history customer held (admission_of bound hose) answer entry next after → IfSome (joined_of entry (committed_of answer)) (λ joined. joined ≡ mine)
+  admit_entry bound answer mine entry next after enters step = joined_is (λ joined. joined ≡ mine) entry (committed_of answer) (λ joined is done.
+      entered_is network (book_of 0 history) customer hose answer joined mine enters (bound_admits bound answer joined after
+      (answered network history customer held (admission_of bound hose) answer joined next after done (subst (λ (e : Option Entry). IsStepOf network 0 history customer held (admission_of bound hose) answer e next after) is step))))
+
+-- ---- a take that is stale, or not
 
 -- the decisions on a hose at one book cannot but have the same grounds
 grounds_same : (network : Network) (book : Book) (hose : List Endpoint) → (HaveEqualGrounds network book book hose → ⊥) → ⊥
@@ -178,31 +175,6 @@ module _ (network : Network) (history : List Entry) (customer : List ℕ) (held 
       (taking_planned network earlier (book_of 0 history) customer one.hose answer joined
       (taking answer (Some joined) after (answered network history customer held (command.Take number) answer joined next after done (subst (λ (e : Option Entry). Taken answer e next after) is step)))))
 
-  entered_admits : (mine : Held) (given : Reply) (entry : Option Entry) (after : Held) → IsSome entry → IsTakeAnswer network 0 history customer number held (at_number held number) given entry after
-      → IsAnswer network 0 history customer mine (command.Admit one.hose) given entry mine
-  entered_admits mine given None after some is = absurd (cc some)
-  entered_admits mine given (Some entry) after some is = (taking_entered network earlier (book_of 0 history) customer one.hose given entry (taking given (Some entry) after is), refl)
-
-  -- A take of a quote that is not stale answers the admission of its hose.
-  take_admits : (mine : Held) (answer : Reply) (entry : Option Entry) (next : List Entry) (after : Held) → is_stale answer ≡ false → Taken answer entry next after
-      → IsStepOf network 0 history customer mine (command.Admit one.hose) answer entry next mine
-  take_admits mine answer entry next after fresh step = at (kind_of answer) step
-    where
-      at : (kind : ReplyKind) → IsStepOfKind network 0 history customer held (command.Take number) kind answer entry next after → IsStepOfKind network 0 history customer mine (command.Admit one.hose) kind answer entry next mine
-      at ByTheBook is = ((taking_admits network earlier (book_of 0 history) customer one.hose answer entry fresh (taking answer entry after is.0), refl), is.1)
-      at (ForDisk failed) is = (is.0, is.1, (is.2.0, entered_admits mine is.2.0 entry after is.1 is.2.1), is.3)
-      at ForMemory is = (tt, is.1, is.2, refl)
-      at ForNoCommand is = absurd is
-
-  -- at the place of its quote a take is not stale
-  pub fresh_there : one.place ≡ length history → (answer : Reply) (entry : Option Entry) (next : List Entry) (after : Held) → Taken answer entry next after → is_stale answer ≡ false
-  fresh_there here (reply.Stale seen now) None next after step =
-      let whole : take one.place history ≡ history = take_all one.place history (omega (arith, here)) in
-      let differ = (taking (reply.Stale seen now) None after step.0).2 in
-      absurd (grounds_same network (book_of 0 history) one.hose (subst (λ (all : List Entry). HaveEqualGrounds network (book_of 0 all) (book_of 0 history) one.hose → ⊥) whole differ))
-  fresh_there here (reply.Stale seen now) (Some entry) next after step = absurd (taking (reply.Stale seen now) (Some entry) after step.0).1
-  fresh_there here answer entry next after step = refl
-
   -- a quote that is stale at a place was made at an earlier one
   pub stale_later : one.place ≤ length history → (answer : Reply) (seen now : ℕ) (entry : Option Entry) (next : List Entry) (after : Held) → answer ≡ reply.Stale seen now → Taken answer entry next after → (seen < now) × (now ≡ length history)
   stale_later within answer seen now None next after is step =
@@ -215,33 +187,6 @@ module _ (network : Network) (history : List Entry) (customer : List ℕ) (held 
       (λ earlier. omega arith) in
       (before, here)
   stale_later within answer seen now (Some entry) next after is step = absurd (taking (reply.Stale seen now) (Some entry) after (subst (λ (r : Reply). Taken r (Some entry) next after) is step).0).1
-
-  stale_stays : (answer : Reply) (entry : Option Entry) (next : List Entry) (after : Held) → is_stale answer ≡ true → Taken answer entry next after → next ≡ history
-  stale_stays (reply.Stale seen now) None next after stale step = step.1
-  stale_stays (reply.Stale seen now) (Some entry) next after stale step = absurd (taking (reply.Stale seen now) (Some entry) after step.0).1
-  stale_stays answer entry next after stale step = absurd (cc stale)
-
-  -- a take of what is stale adds nothing of the pass's own
-  pub stale_more : (answer : Reply) (old new : Known) → is_stale answer ≡ true → StepsAt network customer held (command.Take number) answer history old new → HasSeenMore old new
-  stale_more answer old new stale at =
-      let none = none_joined history at.joined (ap length (stale_stays answer at.entry (with_entry history at.joined) at.after stale at.step)) in
-      record { same = at.same; own = at.own ∙ ap (λ (joined : Option Entry). old.own ++ place_of history joined) none ∙ append-nil old.own }
-
-  -- a take of a pass that is not stale answers the admission of its hose
-  pub admits_at : (mine : Held) (answer : Reply) (old new : Known) → is_stale answer ≡ false → StepsAt network customer held (command.Take number) answer history old new
-      → StepsAt network customer mine (command.Admit one.hose) answer history old new
-  admits_at mine answer old new fresh at = record {
-    entry = at.entry;
-    joined = at.joined;
-    after = mine;
-    step = take_admits mine answer at.entry (with_entry history at.joined) at.after fresh at.step;
-    decided = at.decided;
-    cheapest = at.cheapest;
-    same = at.same;
-    seen = at.seen;
-    own = at.own;
-    failed = at.failed;
-  }
 
 -- ---- what a turn answered, by the command
 
@@ -278,16 +223,19 @@ module _ {D : Type 0} {disk : Ghosts D} {Begins : List Entry → KeptStore D →
       (take_entry old.ledger.network known.seen customer held number one there quote.amounts quote.cost answer stepped.entry stepped.next stepped.after tells stepped.step))
 
   -- an admission may have had no entry, and then the store is as it was
-  pub admit_turn : (hose : List Endpoint) → AdmitsAtOnce (store_books disk) old new customer hose answer told → Turn (command.Admit hose)
-  admit_turn hose admits = answers_turn disk known.seen old was new told customer held (command.Admit hose) answer same stepped answered.network answered.met (joined told admits.none admits.enters)
+  pub admit_turn : (bound : Option ℕ) (hose : List Endpoint) → AdmitsAtOnce (store_books disk) old new customer bound hose answer told → Turn (admission_of bound hose)
+  admit_turn bound hose admits = answers_turn disk known.seen old was new told customer held asked answer same stepped answered.network answered.met (joined told admits.none admits.enters)
     where
-      stepped : Stepped (command.Admit hose)
-      stepped = step_of (command.Admit hose) admits.step
+      asked : Command
+      asked = admission_of bound hose
+
+      stepped : Stepped asked
+      stepped = step_of asked admits.step
 
       joined : (told : Option Entry) → IfNone told (new ≡ old) → IfSome told (EntersPlan customer hose answer) → (new ≡ old) ⊎ IfSome (joined_of stepped.entry (committed_of answer)) (λ one. told ≡ Some one)
       joined None none enters = inl none
       joined (Some entry) none enters = inr (told_is (joined_of stepped.entry (committed_of answer)) (Some entry) entry refl
-          (admit_entry old.ledger.network known.seen customer held hose answer entry stepped.entry stepped.next stepped.after enters stepped.step))
+          (admit_entry old.ledger.network known.seen customer held hose bound answer entry stepped.entry stepped.next stepped.after enters stepped.step))
 
 -- ---- replies without an entry
 
@@ -316,11 +264,6 @@ stays_holding after more done step are = record { along = stays_along after more
 -- ---- what was planned, or not
 
 module _ (network : Network) (seen : List Entry) (customer : List ℕ) (held : Held) (hose : List Endpoint) where
-  pub unplanned_admit : (answer : Reply) → IsNotPlanned network (book_of 0 seen) hose answer → IsStepOf network 0 seen customer held (command.Admit hose) answer None seen held
-  unplanned_admit reply.Memory is = (tt, refl, refl, refl)
-  unplanned_admit (reply.Refused at side) is = (((is.0, is.1), refl), refl)
-  unplanned_admit answer is = absurd is
-
   pub unplanned_quote : (answer : Reply) → IsSome (free_number held) → IsNotPlanned network (book_of 0 seen) hose answer → IsStepOf network 0 seen customer held (command.Quote hose) answer None seen held
   unplanned_quote reply.Memory some is = (some, refl, refl, refl)
   unplanned_quote (reply.Refused at side) some is = ((refl, (is.0, some, is.1, refl)), refl)
@@ -388,13 +331,3 @@ quote_in_turn {D = D} {network = network} {pass = pass} {known = known} {one = o
 -- nodes of a network are those of an equal one
 pub nodes_here : (hose : List Endpoint) (network top : Network) → top ≡ network → AreNodes network hose → AreNodes top hose
 nodes_here hose network top same are = subst (λ (n : Network). AreNodes n hose) (sym same) are
-
--- What comes of planning over the links in service of a book and beside its loads is so at all that was seen, where the book is that of it.
-pub planned_here : (here : Ledger) (network : Network) (seen : List Entry) (top : Network) (service : List Bool) (loads : List ℕ) (epoch : ℕ) (hose : List Endpoint) (result : Result Quote Reply) → top ≡ here.network → top ≡ network
-    → here.book ≡ book_of 0 seen → service ≡ first_links here.network here.book → loads ≡ loads_of here.network here.book → epoch ≡ here.book.epoch
-    → ((book : Book) → service ≡ first_links top book → loads ≡ loads_of top book → epoch ≡ book.epoch → MatchResult result (IsPlannedFor top book hose) (IsNotPlanned top book hose))
-    → MatchResult result (IsPlannedFor network (book_of 0 seen) hose) (IsNotPlanned network (book_of 0 seen) hose)
-planned_here here network seen top service loads epoch hose result is_here same is_book is_service is_loads is_epoch plans =
-    let served = is_service ∙ ap (first_links here.network) is_book ∙ ap (λ (n : Network). first_links n (book_of 0 seen)) (sym is_here) in
-    let there = is_loads ∙ ap (loads_of here.network) is_book ∙ ap (λ (n : Network). loads_of n (book_of 0 seen)) (sym is_here) in
-    subst (λ (n : Network). MatchResult result (IsPlannedFor n (book_of 0 seen) hose) (IsNotPlanned n (book_of 0 seen) hose)) same (plans (book_of 0 seen) served there (is_epoch ∙ ap (λ (b : Book). b.epoch) is_book))

@@ -1,3 +1,4 @@
+mod Bound
 mod Entries
 pub mod Passes
 mod Recently

@@ -23,7 +23,7 @@ use Rattle.hose_core.proofs.Leading.{decided as entry_decided, leads as step_lea
 use Rattle.hose_disk.specs.Disk.{object_frame}
 use Rattle.hose_disk.specs.declared.disk.Disk.{Ghosts}
 use Rattle.hose_store.specs.Commit.{Went, store_books}
-use Rattle.hose_store.specs.Store.{Kept as KeptStore}
+use Rattle.hose_store.specs.Store.{KeptStore}
 use Rattle.hose_turn.specs.declared.view.Origin.{Origin}
 use Rattle.hose_turn.specs.Faults.{rise}
 use Rattle.hose_turn.specs.Known.{HasOwnPlaces, Known}

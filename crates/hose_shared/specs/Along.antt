@@ -1,14 +1,13 @@
 -- Commands that are answered along a history.
-use Rattle.std.specs.Prelude.{◌≡◌, ℕ, ◌<◌, ◌≤◌, All, Bool, true, false, List, ◌++◌, length, take, slice_get, Option, Some, Result, Ok, Err, ⊤}
+use Rattle.std.specs.Prelude.{◌≡◌, ◌⊎◌, ℕ, ◌<◌, ◌≤◌, All, Bool, List, ◌++◌, length, take, slice_get, Option, Some, Result, Ok, Err, ⊤}
 use Rattle.hose_graph.specs.Hose.{Endpoint}
 use Rattle.hose_graph.specs.Network.{Network}
 use Rattle.hose_graph.specs.Naming.{NamesPlaces}
 use Rattle.hose_graph.specs.declared.command.Command.{Command}
-use Rattle.hose_graph.specs.declared.command.Command.TheVariants.{Admit as AdmitHose}
 use Rattle.hose_graph.specs.declared.entry.Entry.{Entry}
 use Rattle.hose_graph.specs.declared.entry.Entry.TheVariants.{Admit, Release, Down, Up}
 use Rattle.hose_graph.specs.declared.command.Reply.{Reply}
-use Rattle.hose_graph.specs.declared.command.Reply.TheVariants.{Stale}
+use Rattle.hose_graph.specs.declared.command.Reply.TheVariants.{Memory}
 use Rattle.hose_law.specs.Book.{Book}
 use Rattle.hose_law.specs.Cheapest.{IsCheapest}
 use Rattle.hose_law.specs.Decision.{IsAllowed}
@@ -17,7 +16,9 @@ use Rattle.hose_law.specs.Quotes.{Held}
 use Rattle.hose_law.specs.Room.{room_of}
 use Rattle.hose_law.specs.Transcript.{IsPlacedStep}
 use Rattle.hose_book.specs.declared.books.Committed.TheVariants.{Disk}
+use Rattle.hose_core.specs.Bound.{admission_of}
 use Rattle.hose_core.specs.Holding.{AreHeld}
+use Rattle.hose_core.specs.Planning.{IsNotAdmitted}
 use Rattle.hose_core.specs.Stepping.{committed_of}
 use Rattle.hose_core.specs.declared.quotes.Quote.{Quote}
 use Rattle.hose_turn.specs.Known.{Known}
@@ -62,16 +63,17 @@ pub record StepsHolding (network : Network) (customer : List ℕ) (held : Held) 
   pub along : StepsAlong network customer held command answer old new
   pub holds : AreHeld network 0 new.seen along.left quotes
 
--- the reply is that a quote went stale
-abbrev pub is_stale : Reply → Bool
-is_stale (Stale seen now) = true
-is_stale reply = false
+-- An admission, which may be bound to a number, has nothing to be entered at a book, or memory was
+-- wanting before that was looked at.
+abbrev pub IsNotTried : Network → Book → List ℕ → Option ℕ → List Endpoint → Reply → Type 0
+IsNotTried network book customer known hose answer =
+    (answer ≡ Memory) ⊎ IsNotAdmitted network book customer known hose answer
 
--- An admission was answered so, with a reply that names what is there; or its plan went stale, and
--- the hose is still to be admitted.
-abbrev pub IsTried : Network → List ℕ → List Endpoint → Known → Known
+-- Such an admission was answered by a step along a history, with a reply that names what is there;
+-- or its plan went stale, and the hose is still to be admitted.
+abbrev pub IsTried : Network → List ℕ → Option ℕ → List Endpoint → Known → Known
     → Result Reply (List Endpoint) → Type 0
-IsTried network customer hose old new (Ok answer) =
-    ((held : Held) → StepsAlong network customer held (AdmitHose hose) answer old new)
+IsTried network customer known hose old new (Ok answer) =
+    ((held : Held) → StepsAlong network customer held (admission_of known hose) answer old new)
     × NamesPlaces network answer
-IsTried network customer hose old new (Err same) = (same ≡ hose) × HasSeenMore old new
+IsTried network customer known hose old new (Err same) = (same ≡ hose) × HasSeenMore old new

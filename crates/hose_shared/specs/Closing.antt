@@ -4,7 +4,7 @@ use Rattle.hose_graph.specs.declared.entry.Entry.{Entry}
 use Rattle.hose_law.specs.History.{IsDecidedAt}
 use Rattle.hose_disk.specs.declared.disk.Disk.{Ghosts}
 use Rattle.hose_store.specs.Beginning.{Beginning, StandsFor}
-use Rattle.hose_store.specs.Store.{Kept as KeptStore}
+use Rattle.hose_store.specs.Store.{KeptStore}
 use Rattle.hose_turn.specs.Known.{HasWholeHistory, Known}
 use Rattle.hose_shared.specs.Keeping.{StandsShared}
 

@@ -7,7 +7,7 @@ use Rattle.hose_book.specs.GoingOn.{GoesOn}
 use Rattle.hose_book.specs.Ledger.{HasBookOf}
 use Rattle.hose_disk.specs.declared.disk.Disk.{Ghosts}
 use Rattle.hose_store.specs.Commit.{store_books}
-use Rattle.hose_store.specs.Store.{Kept as KeptStore}
+use Rattle.hose_store.specs.Store.{KeptStore}
 use Rattle.hose_turn.specs.declared.view.Origin.{Origin}
 
 -- The store's book is that of the history, which it tracks. The store with which the lock was made

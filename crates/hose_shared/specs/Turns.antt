@@ -15,7 +15,7 @@ use Rattle.hose_core.specs.Stepping.{HasStepped, committed_of}
 use Rattle.hose_disk.specs.Disk.{object_frame}
 use Rattle.hose_disk.specs.declared.disk.Disk.{Ghosts}
 use Rattle.hose_store.specs.Commit.{store_books}
-use Rattle.hose_store.specs.Store.{Kept as KeptStore}
+use Rattle.hose_store.specs.Store.{KeptStore}
 use Rattle.hose_turn.specs.Known.{Known, with_own_entry}
 use Rattle.hose_shared.specs.Along.{IsCheapestEntry}
 use Rattle.hose_shared.specs.Keeping.{StandsShared}

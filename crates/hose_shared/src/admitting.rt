@@ -1,23 +1,24 @@
 // Admissions.
-ghost use Rattle.std.specs.Prelude.{◌≡◌, MatchResult};
 ghost use Rattle.hose_graph.specs.Naming.{NamesPlaces};
 ghost use Rattle.hose_graph.specs.declared.command.Command.{Command};
 ghost use Rattle.hose_law.specs.History.{book_of};
 ghost use Rattle.hose_law.specs.Plan.{AreNodes};
 ghost use Rattle.hose_law.specs.Quotes.{Held as HeldQuotes};
+ghost use Rattle.hose_core.specs.Bound.{admission_of};
 ghost use Rattle.hose_core.specs.Holding.{IsMadeAt};
-ghost use Rattle.hose_shared.specs.Along.{IsTried, StepsAlong, is_stale};
+ghost use Rattle.hose_shared.specs.Along.{IsTried, StepsAlong};
 ghost use Rattle.hose_shared.specs.Sharing.{IsPassOf};
 
 use crate::caller::Caller;
 use crate::kept::Begun;
 use crate::shared::Shared;
-use hose_core::{Quote, admit_now, claim_take};
+use hose_core::{Quote, admit_claimed_now, admit_now, claim_take};
 use hose_disk::Disk;
 use hose_graph::{Hose, Reply};
 use hose_paths::RowMaker;
 use hose_pool::{Gate, Point};
 use hose_turn::Pass;
+use std::snapshot::Snapshot;
 use std::sync::Wait;
 
 // How often an admission is planned outside of the lock.
@@ -40,10 +41,48 @@ impl<D: Disk, B: Begun<D>> Shared<D, B> {
             caller.now.customer.now held (Command.Admit hose) result.0 pass result.1 }
         ensures names { NamesPlaces self.now.network result.0 }
     {
+        self.admit_bound(caller, pass, None, hose, rows)
+    }
+
+    /// Admits a hose as `admit` does, where the customer's newest live VPN has this number, or it
+    /// is 0 and the customer has none. Else the reply is `Newest`, which comes before all others
+    /// but `Memory`. It is looked at together with the loads, and again where the plan is taken.
+    pub fn admit_after<W: Wait, G: Gate, R: RowMaker>(
+        &self,
+        caller: &Caller<'_, W, G>,
+        pass: Pass,
+        known: u64,
+        hose: Hose,
+        rows: &mut R,
+    ) -> (Reply, Pass)
+        requires of { IsPassOf self.now pass }
+        requires nodes { AreNodes self.now.network hose }
+        ensures steps { (held : HeldQuotes) → StepsAlong self.now.network
+            caller.now.customer.now held (Command.AdmitAfter known hose) result.0 pass result.1 }
+        ensures names { NamesPlaces self.now.network result.0 }
+    {
+        self.admit_bound(caller, pass, Some(known), hose, rows)
+    }
+
+    // Admits a hose, bound to the customer's newest VPN where a number is named.
+    fn admit_bound<W: Wait, G: Gate, R: RowMaker>(
+        &self,
+        caller: &Caller<'_, W, G>,
+        pass: Pass,
+        known: Option<u64>,
+        hose: Hose,
+        rows: &mut R,
+    ) -> (Reply, Pass)
+        requires of { IsPassOf self.now pass }
+        requires nodes { AreNodes self.now.network hose }
+        ensures steps { (held : HeldQuotes) → StepsAlong self.now.network
+            caller.now.customer.now held (admission_of known hose) result.0 pass result.1 }
+        ensures names { NamesPlaces self.now.network result.0 }
+    {
         let mut pass = pass;
         let mut hose = hose;
         for _ in 0..TRIES {
-            let (planned, seen) = self.plan(caller.context, pass, hose, rows);
+            let (planned, seen) = self.plan(caller, pass, known, hose, rows);
             let quote = match planned {
                 Ok(quote) => quote,
                 Err(reply) => return (reply, seen),
@@ -51,37 +90,42 @@ impl<D: Disk, B: Begun<D>> Shared<D, B> {
             caller.context.gate.at(Point::Planned {
                 session: caller.session,
             });
-            let (tried, later) = self.take_planned(caller, seen, quote);
+            let (tried, later) = self.take_planned(caller, seen, known, quote);
             pass = later;
             match tried {
                 Ok(reply) => return (reply, pass),
                 Err(same) => hose = same,
             }
         }
-        self.admit_in_turn(caller, pass, hose, rows)
+        self.admit_in_turn(caller, pass, known, hose, rows)
     }
 
-    // Takes a plan that was made of all that the pass has seen. Where it is stale by now, its hose
-    // comes back.
+    // Takes a plan that was made of all that the pass has seen, bound as before. Where it is stale
+    // by now, its hose comes back.
     fn take_planned<W: Wait, G: Gate>(
         &self,
         caller: &Caller<'_, W, G>,
         pass: Pass,
+        known: Option<u64>,
         quote: Quote,
     ) -> (Result<Reply, Hose>, Pass)
         requires of { IsPassOf self.now pass }
         requires planned { IsMadeAt self.now.network (book_of 0 pass.seen) quote }
-        ensures { IsTried self.now.network caller.now.customer.now quote.hose pass result.1
+        ensures { IsTried self.now.network caller.now.customer.now known quote.hose pass result.1
             result.0 }
     {
         let Ok(claim) = claim_take(caller.context.alloc, caller.customer, &quote) else {
             return (Ok(Reply::Memory), pass);
         };
-        let (reply, pass) = self.take_claimed(caller.context.rt, pass, &quote, claim);
-        if is_stale(&reply) {
-            return (Err(quote.hose), pass);
+        let entry = Snapshot::of(claim.entry());
+        let (mut held, start) = self.begin_turn(caller.context.rt, pass);
+        let store = &mut held.value_mut().store;
+        let settled = admit_claimed_now(store, caller.customer, known, &quote, claim);
+        let pass = self.end_turn(held, start, Some(entry));
+        match settled {
+            Some(reply) => (Ok(reply), pass),
+            None => (Err(quote.hose), pass),
         }
-        (Ok(reply), pass)
     }
 
     // Plans a hose and admits it, all under the lock.
@@ -89,25 +133,20 @@ impl<D: Disk, B: Begun<D>> Shared<D, B> {
         &self,
         caller: &Caller<'_, W, G>,
         pass: Pass,
+        known: Option<u64>,
         hose: Hose,
         rows: &mut R,
     ) -> (Reply, Pass)
         requires of { IsPassOf self.now pass }
         requires nodes { AreNodes self.now.network hose }
         ensures steps { (held : HeldQuotes) → StepsAlong self.now.network
-            caller.now.customer.now held (Command.Admit hose) result.0 pass result.1 }
+            caller.now.customer.now held (admission_of known hose) result.0 pass result.1 }
         ensures names { NamesPlaces self.now.network result.0 }
     {
         let (mut held, start) = self.begin_turn(caller.context.rt, pass);
+        let (alloc, customer) = (caller.context.alloc, caller.customer);
         let store = &mut held.value_mut().store;
-        let (reply, entry) = admit_now(caller.context.alloc, store, caller.customer, hose, rows);
+        let (reply, entry) = admit_now(alloc, store, customer, known, hose, rows);
         (reply, self.end_turn(held, start, entry))
     }
-}
-
-// Whether a reply tells that a quote went stale.
-fn is_stale(reply: &Reply) -> bool
-    ensures { result ≡ is_stale reply.now }
-{
-    matches!(reply, Reply::Stale { .. })
 }

@@ -11,7 +11,7 @@ ghost use Rattle.hose_shared.specs.Sharing.{IsPassOf};
 use crate::caller::Caller;
 use crate::kept::Begun;
 use crate::shared::Shared;
-use hose_core::{claim_release, link_now, release_now, show_now};
+use hose_core::{claim_release, link_now, release_now, show_now, vpns_now};
 use hose_disk::Disk;
 use hose_graph::Reply;
 use hose_pool::Gate;
@@ -39,6 +39,19 @@ impl<D: Disk, B: Begun<D>> Shared<D, B> {
             caller.customer,
             id,
         );
+        (reply, self.end_turn(held, start, None))
+    }
+
+    /// Tells a customer the numbers of the VPNs that are live and the customer's: `Vpns` or
+    /// `Memory`.
+    pub fn vpns<W: Wait, G: Gate>(&self, caller: &Caller<'_, W, G>, pass: Pass) -> (Reply, Pass)
+        requires { IsPassOf self.now pass }
+        ensures steps { (held : HeldQuotes) → StepsAlong self.now.network
+            caller.now.customer.now held Command.Vpns result.0 pass result.1 }
+        ensures names { NamesPlaces self.now.network result.0 }
+    {
+        let (held, start) = self.begin_turn(caller.context.rt, pass);
+        let reply = vpns_now(caller.context.alloc, &held.value().store, caller.customer);
         (reply, self.end_turn(held, start, None))
     }
 

@@ -16,7 +16,7 @@ use crate::kept::{Begun, Kept};
 use crate::shared::Shared;
 use hose_disk::Disk;
 use hose_graph::Entry;
-use hose_turn::{Held, Pass, Stands};
+use hose_turn::{Held, HoldsHistory, Pass};
 use std::snapshot::Snapshot;
 use std::sync::Wait;
 

@@ -1,12 +1,12 @@
 // The value under the lock.
 ghost use Rattle.std.specs.Prelude.{List, ⊤};
 ghost use Rattle.hose_graph.specs.declared.entry.Entry.{Entry};
-ghost use Rattle.hose_store.specs.Store.{Kept as KeptStore};
+ghost use Rattle.hose_store.specs.Store.{KeptStore};
 
 use hose_book::Books;
 use hose_disk::Disk;
 use hose_store::Store;
-use hose_turn::Stands;
+use hose_turn::HoldsHistory;
 use std::marker::PhantomData;
 
 /// What is known of the store with which a lock is made, and of the list for which it stood then.
@@ -34,7 +34,7 @@ pub struct Kept<D: Disk, B: Begun<D>> {
     pub(crate) begun: PhantomData<B>,
 }
 
-impl<D: Disk, B: Begun<D>> Stands for Kept<D, B> {
+impl<D: Disk, B: Begun<D>> HoldsHistory for Kept<D, B> {
     ghost use Rattle.hose_disk.specs.Disk.{DiskFrame};
     ghost use Rattle.hose_shared.specs.Keeping.{StandsShared};
 

@@ -1,18 +1,20 @@
 // Planning over a copy of the links in service, and beside one of the loads.
-ghost use Rattle.std.specs.Prelude.{◌≡◌, MatchResult, length};
+ghost use Rattle.std.specs.Prelude.{◌≡◌, MatchOption, MatchResult, length};
 ghost use Rattle.hose_law.specs.Book.{loads_of};
 ghost use Rattle.hose_law.specs.History.{book_of};
 ghost use Rattle.hose_law.specs.Plan.{AreNodes};
 ghost use Rattle.hose_law.specs.Room.{first_links};
 ghost use Rattle.hose_tree.specs.Amounts.{AreCarried};
-ghost use Rattle.hose_core.specs.Planning.{IsNotPlanned, IsPlannedFor};
+ghost use Rattle.hose_core.specs.Bound.{HasNewest, TellsNewest};
+ghost use Rattle.hose_core.specs.Planning.{IsPlannedFor};
+ghost use Rattle.hose_shared.specs.Along.{IsNotTried};
 ghost use Rattle.hose_shared.specs.Sharing.{HasSeenMore, IsPassOf};
 
-use crate::caller::Context;
+use crate::caller::Caller;
 use crate::kept::Begun;
 use crate::shared::Shared;
 use hose_book::Books;
-use hose_core::{BookView, Quote, plan_beside};
+use hose_core::{BookView, Quote, newest_now, plan_beside};
 use hose_disk::Disk;
 use hose_graph::{Hose, Reply};
 use hose_links::LinkSet;
@@ -22,12 +24,14 @@ use std::sync::Wait;
 
 impl<D: Disk, B: Begun<D>> Shared<D, B> {
     /// The plan of a hose over the links in service at a place of the history, which the pass has
-    /// seen then, and beside the loads there; or the reply where it has none. It is made outside of
-    /// the lock.
+    /// seen then, and beside the loads there; or the reply where it has none. Where a number is
+    /// named and the customer's newest VPN there has another one, the reply tells that. It is made
+    /// outside of the lock.
     pub(crate) fn plan<W: Wait, G, R: RowMaker>(
         &self,
-        context: &Context<'_, W, G>,
+        caller: &Caller<'_, W, G>,
         pass: Pass,
+        known: Option<u64>,
         hose: Hose,
         rows: &mut R,
     ) -> (Result<Quote, Reply>, Pass)
@@ -36,16 +40,19 @@ impl<D: Disk, B: Begun<D>> Shared<D, B> {
         ensures more { HasSeenMore pass result.1 }
         ensures planned { let book = book_of 0 result.1.seen in
             MatchResult result.0 (IsPlannedFor self.now.network book hose)
-            (IsNotPlanned self.now.network book hose) }
+            (IsNotTried self.now.network book caller.now.customer.now known hose) }
     {
-        let alloc = context.alloc;
+        let alloc = caller.context.alloc;
         let Ok(mut loads) = Vec::from_elem(alloc, 0, self.topology.links() as usize) else {
             return (Err(Reply::Memory), pass);
         };
         let Ok(mut service) = LinkSet::new(alloc, self.topology.links()) else {
             return (Err(Reply::Memory), pass);
         };
-        let (epoch, pass) = self.look(context.rt, pass, &mut service, &mut loads);
+        let (epoch, instead, pass) = self.look(caller, pass, known, &mut service, &mut loads);
+        if let Some(reply) = instead {
+            return (Err(reply), pass);
+        }
         let seen = BookView {
             top: &self.topology,
             service: &service,
@@ -57,28 +64,34 @@ impl<D: Disk, B: Begun<D>> Shared<D, B> {
     }
 
     // Copies the links in service and the loads of all links at a place of the history, and tells
-    // the epoch there.
-    fn look<W: Wait>(
+    // the epoch there, and whether the customer's newest VPN there has another number than the one
+    // that is named.
+    fn look<W: Wait, G>(
         &self,
-        rt: &W,
+        caller: &Caller<'_, W, G>,
         pass: Pass,
+        known: Option<u64>,
         service: &mut LinkSet,
         loads: &mut [u64],
-    ) -> (u64, Pass)
+    ) -> (u64, Option<Reply>, Pass)
         requires of { IsPassOf self.now pass }
         requires links { length service.old ≡ length self.now.network.links }
         requires places { length loads.old ≡ length self.now.network.links }
-        ensures more { HasSeenMore pass result.1 }
-        ensures epoch { result.0 ≡ (book_of 0 result.1.seen).epoch }
-        ensures service { service.new ≡ first_links self.now.network (book_of 0 result.1.seen) }
-        ensures loads { loads.new ≡ loads_of self.now.network (book_of 0 result.1.seen) }
+        ensures more { HasSeenMore pass result.2 }
+        ensures epoch { result.0 ≡ (book_of 0 result.2.seen).epoch }
+        ensures instead { let book = book_of 0 result.2.seen in
+            MatchOption result.1 (HasNewest book caller.now.customer.now known)
+            (TellsNewest book caller.now.customer.now known) }
+        ensures service { service.new ≡ first_links self.now.network (book_of 0 result.2.seen) }
+        ensures loads { loads.new ≡ loads_of self.now.network (book_of 0 result.2.seen) }
         ensures carried { AreCarried self.now.network loads.new }
     {
-        let held = self.turn.lock(rt, pass);
+        let held = self.turn.lock(caller.context.rt, pass);
         let book = held.value().store.book();
         service.copy_from(book.service());
         loads.copy_from_slice(book.loads());
         let epoch = book.epoch();
-        (epoch, self.turn.unlock(held))
+        let instead = newest_now(book, caller.customer, known);
+        (epoch, instead, self.turn.unlock(held))
     }
 }

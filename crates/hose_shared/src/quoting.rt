@@ -44,7 +44,7 @@ impl<D: Disk, B: Begun<D>> Shared<D, B> {
             let (at, pass) = self.now(caller.context.rt, pass);
             return (Reply::TooMany { at }, pass);
         };
-        let (planned, pass) = self.plan(caller.context, pass, hose, rows);
+        let (planned, pass) = self.plan(caller, pass, None, hose, rows);
         match planned {
             Err(reply) => (reply, pass),
             Ok(quote) => (quotes.hold(caller.context.alloc, number, quote), pass),

@@ -1,8 +1,8 @@
 use Rattle.std.proofs.Common.{◌∙◌, ap, subst, sym}
 use Rattle.hose_graph.specs.Naming.{NamesPlaces}
 use Rattle.hose_graph.specs.Network.{Network}
-use Rattle.hose_graph.specs.declared.command.Command.TheVariants.{Admit}
 use Rattle.hose_law.specs.Quotes.{none_held}
+use Rattle.hose_core.specs.Bound.{admission_of}
 use Rattle.hose_shared.proofs.Entries.{admit_turn, nodes_here}
 use Rattle.hose_shared.proofs.Passes.{along_of}
 use Rattle.hose_shared.proofs.shared.Shared.admit_in_turn.Goals as goal
@@ -16,16 +16,18 @@ pub end_turn-requires-clause-answers : goal.end_turn-requires-clause-answers
 end_turn-requires-clause-answers g c =
     let same = ap (λ (k : _). k.store) (c.value_mut.ensures.value ∙ sym c.begin_turn-held.ensures.value) in
     let customer = c.args.caller.now.customer.now in
+    let known = c.args.known in
     let called = c.admit_now-reply.ensures in
-    (customer, none_held, Admit c.args.hose, c.admit_now-reply.result.0, admit_turn c.begin_turn-held.ensures.begins same called.answered _ customer none_held c.args.hose called)
+    (customer, none_held, admission_of known c.args.hose, c.admit_now-reply.result.0, admit_turn c.begin_turn-held.ensures.begins same called.answered _ customer none_held known c.args.hose called)
 
 pub returns-clause-steps : goal.returns-clause-steps
 returns-clause-steps g c = λ held.
     let same = ap (λ (k : _). k.store) (c.value_mut.ensures.value ∙ sym c.begin_turn-held.ensures.value) in
     let customer = c.args.caller.now.customer.now in
+    let known = c.args.known in
     let called = c.admit_now-reply.ensures in
     along_of _ customer held _ _ _ _ _ c.begin_turn-held.ensures.more
-    (c.end_turn.ensures customer held (Admit c.args.hose) c.admit_now-reply.result.0 (admit_turn c.begin_turn-held.ensures.begins same called.answered _ customer held c.args.hose called))
+    (c.end_turn.ensures customer held (admission_of known c.args.hose) c.admit_now-reply.result.0 (admit_turn c.begin_turn-held.ensures.begins same called.answered _ customer held known c.args.hose called))
 
 pub returns-clause-names : goal.returns-clause-names
 returns-clause-names g c =

@@ -4,6 +4,7 @@ use Rattle.hose_law.specs.Quotes.{free_number}
 use Rattle.hose_core.specs.Planning.{IsNotPlanned, IsPlannedFor}
 use Rattle.hose_core.proofs.Decided.{unplanned_done}
 use Rattle.hose_core.proofs.HeldQuotes.{free_alike, held_on, held_with}
+use Rattle.hose_shared.proofs.Bound.{unbound}
 use Rattle.hose_shared.proofs.Entries.{stays_holding, told_quote, unplanned_quote}
 use Rattle.hose_law.proofs.Epochs.{epoch_of}
 use Rattle.hose_shared.proofs.shared.Shared.quote.Goals as goal
@@ -21,7 +22,8 @@ returns-in-Err-clause-steps g c = λ customer held are.
     let seen = c.plan-planned.result.1.seen in
     let more = c.plan-planned.ensures.more in
     let free : free_number held ≡ Some c.in-Some.number = free_alike _ _ _ _ _ are ∙ sym c.free.ensures.lowest ∙ c.in-Some.is in
-    let none : IsNotPlanned network (book_of 0 seen) c.args.hose c.in-Err.reply = rw c.in-Err.is at c.plan-planned.ensures.planned in
+    let none : IsNotPlanned network (book_of 0 seen) c.args.hose c.in-Err.reply =
+    unbound network (book_of 0 seen) c.args.caller.now.customer.now c.args.hose c.in-Err.reply (rw c.in-Err.is at c.plan-planned.ensures.planned) in
     let some : IsSome (free_number held) = subst IsSome (sym free) refl in
     stays_holding held more (unplanned_done network (book_of 0 seen) c.args.hose c.in-Err.reply none) (unplanned_quote network seen customer held c.args.hose c.in-Err.reply some none)
     (held_on more.same.seen are)

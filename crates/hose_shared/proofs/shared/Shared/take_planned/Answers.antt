@@ -1,46 +1,79 @@
-use Rattle.std.proofs.Common.{◌∙◌, [], ◌∷◌, Some, length, refl, sym}
-use Rattle.hose_law.specs.Quotes.{HeldQuote}
-use Rattle.hose_shared.proofs.Entries.{admits_at, quote_there, stale_more, stays_along}
+use Rattle.std.proofs.Common.{◌≡◌, ◌∙◌, [], Some, ap, length, refl, subst, sym}
+use Rattle.hose_graph.specs.Naming.{NamesPlaces}
+use Rattle.hose_graph.specs.Network.{Network}
+use Rattle.hose_graph.specs.declared.command.Command.TheVariants.{Admit}
+use Rattle.hose_graph.specs.declared.command.Reply.TheVariants.{Memory}
+use Rattle.hose_law.specs.History.{book_of}
+use Rattle.hose_law.specs.Quotes.{HeldQuote, none_held}
+use Rattle.hose_law.specs.Tracks.{Tracks}
+use Rattle.hose_core.specs.Bound.{admission_of}
+use Rattle.hose_core.specs.Holding.{IsMadeAt}
+use Rattle.hose_core.specs.Planning.{AdmitsAtOnce}
+use Rattle.hose_store.specs.Commit.{store_books}
+use Rattle.hose_turn.specs.Held.{holder}
+use Rattle.hose_shared.proofs.Bound.{claimed_turn, idle_more, idle_turn, memory_step, settled_turn}
+use Rattle.hose_shared.proofs.Entries.{quote_in_turn, quote_there, stays_along}
 use Rattle.hose_shared.proofs.Passes.{along_of, more_on, more_same}
+use Rattle.hose_shared.proofs.Recently.{grounds_since}
 use Rattle.hose_shared.proofs.shared.Shared.take_planned.Goals as goal
 
 pub returns-in_default : goal.returns-in_default
 returns-in_default g c = (
-  λ held. stays_along held (more_same c.args.pass c.requires.of.places) refl (tt, refl, refl, refl),
+  λ held. stays_along held (more_same c.args.pass c.requires.of.places) refl (memory_step c.args.self.now.network c.args.pass.seen c.args.caller.now.customer.now c.args.known c.args.quote.hose held),
   tt,
 )
 
-pub take_claimed-reply-requires-clause-quote : goal.take_claimed-reply-requires-clause-quote
-take_claimed-reply-requires-clause-quote g c =
-    let quote = c.args.quote in
-    let one : HeldQuote = record { hose = quote.hose; place = length c.args.pass.seen } in
-    (one, quote_there c.args.self.now.network c.args.pass.seen c.args.caller.now.customer.now [] quote.hose quote (record { of = refl; made = c.requires.planned }))
+pub admit_claimed_now-settled-requires-clause-made : goal.admit_claimed_now-settled-requires-clause-made
+admit_claimed_now-settled-requires-clause-made g c =
+    let same = ap (λ (k : _). k.store.ledger.network) (c.value_mut.ensures.value ∙ sym c.begin_turn-held.ensures.value) in
+    let book = book_of 0 c.args.pass.seen in
+    (book, subst (λ (n : Network). IsMadeAt n book c.args.quote) (sym (same ∙ c.begin_turn-held.ensures.network)) c.requires.planned)
 
-pub returns-then-is_stale : goal.returns-then-is_stale
-returns-then-is_stale g c =
-    let network = c.args.self.now.network in
-    let customer = c.args.caller.now.customer.now in
+pub admit_claimed_now-settled-requires-clause-since : goal.admit_claimed_now-settled-requires-clause-since
+admit_claimed_now-settled-requires-clause-since g c =
+    let same = ap (λ (k : _). k.store) (c.value_mut.ensures.value ∙ sym c.begin_turn-held.ensures.value) in
+    let known = holder c.begin_turn-held.result.0 in
+    let begun = c.begin_turn-held.ensures in
+    let stood = begun.begins.stands in
     let quote = c.args.quote in
     let pass = c.args.pass in
+    let tracks = subst (λ (s : _). Tracks 0 known.seen s.ledger.recent) (sym same) stood.tracks in
     let one : HeldQuote = record { hose = quote.hose; place = length pass.seen } in
-    let of = quote_there network pass.seen customer [] quote.hose quote (record { of = refl; made = c.requires.planned }) in
-    let turn = c.take_claimed-reply.ensures.steps customer (Some one ∷ []) 1 one c.in-Ok.ensures refl of in
-    let stale = sym c.is_stale.ensures ∙ c.if-is_stale.true in
-    (refl, more_on pass turn.known c.take_claimed-reply.result.1 turn.more (stale_more network turn.known.seen customer (Some one ∷ []) 1 one refl c.take_claimed-reply.result.0 turn.known c.take_claimed-reply.result.1 stale turn.at))
+    let of = quote_there c.args.self.now.network pass.seen c.args.caller.now.customer.now [] quote.hose quote (record { of = refl; made = c.requires.planned }) in
+    grounds_since c.value_mut.result.now.store.ledger known.seen one quote (ap (λ (s : _). s.ledger.book) same ∙ stood.book) tracks (quote_in_turn same begun.network begun.more of)
 
-pub returns : goal.returns
-returns g c =
+pub end_turn-pass-requires-clause-answers : goal.end_turn-pass-requires-clause-answers
+end_turn-pass-requires-clause-answers g c =
+    let same = ap (λ (k : _). k.store) (c.value_mut.ensures.value ∙ sym c.begin_turn-held.ensures.value) in
+    let called = c.admit_claimed_now-settled in
+    settled_turn c.begin_turn-held.ensures.begins same _ c.args.caller.now.customer.now c.args.known c.args.quote.hose c.in-Ok.claim.entry (ap Some (c.of-entry.ensures ∙ c.entry.ensures)) called.result called.ensures.admits
+
+pub returns-in-Some : goal.returns-in-Some
+returns-in-Some g c =
+    let same = ap (λ (k : _). k.store) (c.value_mut.ensures.value ∙ sym c.begin_turn-held.ensures.value) in
+    let begun = c.begin_turn-held.ensures in
     let network = c.args.self.now.network in
     let customer = c.args.caller.now.customer.now in
-    let quote = c.args.quote in
-    let pass = c.args.pass in
-    let answer = c.take_claimed-reply.result.0 in
-    let new = c.take_claimed-reply.result.1 in
-    let one : HeldQuote = record { hose = quote.hose; place = length pass.seen } in
-    let of = quote_there network pass.seen customer [] quote.hose quote (record { of = refl; made = c.requires.planned }) in
-    let fresh = sym c.is_stale.ensures ∙ c.if-is_stale.false in
-    let turn = c.take_claimed-reply.ensures.steps customer (Some one ∷ []) 1 one c.in-Ok.ensures refl of in (
-      λ held. along_of network customer held _ answer pass turn.known new turn.more
-          (admits_at network turn.known.seen customer (Some one ∷ []) 1 one refl held answer turn.known new fresh turn.at),
-      c.take_claimed-reply.ensures.names,
+    let known = c.args.known in
+    let hose = c.args.quote.hose in
+    let reply = c.in-Some.reply in
+    let entry = c.in-Ok.claim.entry in
+    let admits : AdmitsAtOnce (store_books g.D.Disk) c.value_mut.result.now.store c.admit_claimed_now-settled.new.books customer known hose reply (Some entry) = rw c.in-Some.is at c.admit_claimed_now-settled.ensures.admits in (
+      λ held. along_of network customer held (admission_of known hose) reply c.args.pass (holder c.begin_turn-held.result.0) c.end_turn-pass.result begun.more
+          (c.end_turn-pass.ensures customer held (admission_of known hose) reply (claimed_turn begun.begins same _ customer known hose entry (ap Some (c.of-entry.ensures ∙ c.entry.ensures)) held reply admits)),
+      subst (λ (n : Network). NamesPlaces n reply) (ap (λ (s : _). s.ledger.network) same ∙ begun.network) admits.answered.names,
+    )
+
+pub returns-in-None : goal.returns-in-None
+returns-in-None g c =
+    let same = ap (λ (k : _). k.store) (c.value_mut.ensures.value ∙ sym c.begin_turn-held.ensures.value) in
+    let begun = c.begin_turn-held.ensures in
+    let customer = c.args.caller.now.customer.now in
+    let hose = c.args.quote.hose in
+    let known = holder c.begin_turn-held.result.0 in
+    let new = c.end_turn-pass.result in
+    let stays : c.admit_claimed_now-settled.new.books ≡ c.value_mut.result.now.store = rw c.in-None.is at c.admit_claimed_now-settled.ensures.admits in (
+      refl,
+      more_on c.args.pass known new begun.more (idle_more c.args.self.now.network known.seen customer none_held (Admit hose) known new
+          (c.end_turn-pass.ensures customer none_held (Admit hose) Memory (idle_turn begun.begins same _ customer c.args.known hose stays))),
     )

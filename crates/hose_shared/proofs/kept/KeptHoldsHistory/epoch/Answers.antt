@@ -2,7 +2,7 @@ use Rattle.std.proofs.Common.{◌∙◌, ap, arith}
 use Rattle.hose_law.specs.Book.{Book}
 use Rattle.hose_book.specs.Ledger.{Ledger}
 use Rattle.hose_law.proofs.Epochs.{epoch_of}
-use Rattle.hose_shared.proofs.kept.KeptStands.epoch.Goals as goal
+use Rattle.hose_shared.proofs.kept.KeptHoldsHistory.epoch.Goals as goal
 
 pub returns : goal.returns
 returns g c = λ origin history stood.
