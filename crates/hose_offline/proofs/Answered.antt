@@ -14,12 +14,12 @@ use Rattle.hose_disk.specs.declared.disk.Disk.{Ghosts}
 use Rattle.hose_journal.specs.Chain.{chain}
 use Rattle.hose_store.specs.Commit.{IsLeft, store_books}
 use Rattle.hose_store.specs.Recovery.{digest_of}
-use Rattle.hose_store.specs.Store.{HasHistory, Kept}
+use Rattle.hose_store.specs.Store.{HasHistory, KeptStore}
 use Rattle.hose_follow.specs.Offering.{AreOffered, Brings, Enters, IsDue, IsOffered, none_yet as none_offered, packet_more as offered_more}
 use Rattle.hose_follow.specs.Packet.{Packet, packets_bytes}
 use Rattle.hose_follow.specs.declared.answers.Offered.{Offered}
 use Rattle.hose_follow.specs.declared.answers.Offered.TheVariants.{Have, Want, Differs, Memory, Unsound, Disk}
-use Rattle.hose_offline.specs.Following.{AnswersAt, ArePacketsAnswered, BringsAt, IsBrought, IsDueAt, none_yet, packet_more}
+use Rattle.hose_offline.specs.Following.{AnswersPacket, ArePacketsAnswered, BringsAt, IsBrought, IsDueAt, none_yet, packet_more}
 use Rattle.hose_offline.proofs.Packets.{some_bytes}
 
 -- where no byte was taken no packet was answered
@@ -27,9 +27,9 @@ pub none_answered : (network : Network) (since : List Entry) (packets : List Pac
 none_answered network since packets answers history rest none_yet same = refl
 none_answered network since packets answers history rest (packet_more packet answer before at) same = absurd (some_bytes _ packet rest same)
 
-module _ {D : Type 0} (disk : Ghosts D) (first : Kept D) (since : List Entry) (all : List Packet) where
+module _ {D : Type 0} (disk : Ghosts D) (first : KeptStore D) (since : List Entry) (all : List Packet) where
   -- packets that were offered, each one of these, were answered so by a history, which the store has then
-  pub record Leads (packets : List Packet) (answers : List Offered) (now : Kept D) : Type 0 where
+  pub record Leads (packets : List Packet) (answers : List Offered) (now : KeptStore D) : Type 0 where
     pub history : List Entry
     pub doubt : Option Entry
     pub same_network : now.ledger.network ≡ first.ledger.network
@@ -38,7 +38,7 @@ module _ {D : Type 0} (disk : Ghosts D) (first : Kept D) (since : List Entry) (a
     pub answered : ArePacketsAnswered first.ledger.network since packets answers history
     pub begins : IsPrefix since history
 
-  module _ (packets : List Packet) (answers : List Offered) (middle : Kept D) (on : Leads packets answers middle) where
+  module _ (packets : List Packet) (answers : List Offered) (middle : KeptStore D) (on : Leads packets answers middle) where
     epoch : middle.ledger.book.epoch ≡ length on.history
     epoch = ap (λ (b : Book). b.epoch) on.has.book ∙ epoch_of on.history
 
@@ -75,7 +75,7 @@ module _ {D : Type 0} (disk : Ghosts D) (first : Kept D) (since : List Entry) (a
     }
 
     -- the store was not touched
-    stays : (now : Kept D) (packet : Packet) (answer : Offered) → now ≡ middle → AnswersAt first.ledger.network on.history packet answer on.history → Leads (packets ++ packet ∷ []) (answers ++ answer ∷ []) now
+    stays : (now : KeptStore D) (packet : Packet) (answer : Offered) → now ≡ middle → AnswersPacket first.ledger.network on.history packet answer on.history → Leads (packets ++ packet ∷ []) (answers ++ answer ∷ []) now
     stays now packet answer same at = subst (Leads (packets ++ packet ∷ []) (answers ++ answer ∷ [])) (sym same) (record {
       history = on.history;
       doubt = on.doubt;
@@ -87,7 +87,7 @@ module _ {D : Type 0} (disk : Ghosts D) (first : Kept D) (since : List Entry) (a
     })
 
     -- an entry was committed
-    entered : (now : Kept D) (packet : Packet) (entry : Entry) (n : ℕ) → Contains all packet → n ≡ packet.epoch → Enters disk middle packet entry committed.Done now → Leads (packets ++ packet ∷ []) (answers ++ Have n ∷ []) now
+    entered : (now : KeptStore D) (packet : Packet) (entry : Entry) (n : ℕ) → Contains all packet → n ≡ packet.epoch → Enters disk middle packet entry committed.Done now → Leads (packets ++ packet ∷ []) (answers ++ Have n ∷ []) now
     entered now packet entry n offered is enters =
         let is_due = due packet enters.due in
         let bring = brings packet entry enters.brings in
@@ -102,7 +102,7 @@ module _ {D : Type 0} (disk : Ghosts D) (first : Kept D) (since : List Entry) (a
         }
 
     -- the disk failed at it
-    with_doubt : (now : Kept D) (packet : Packet) (entry : Entry) (at : ℕ) (doubt : Option Entry) → Contains all packet → at ≡ length on.history → Enters disk middle packet entry committed.Disk now → HasHistory disk now on.history doubt
+    with_doubt : (now : KeptStore D) (packet : Packet) (entry : Entry) (at : ℕ) (doubt : Option Entry) → Contains all packet → at ≡ length on.history → Enters disk middle packet entry committed.Disk now → HasHistory disk now on.history doubt
         → Leads (packets ++ packet ∷ []) (answers ++ Disk at ∷ []) now
     with_doubt now packet entry at doubt offered is enters has =
         let bring = brings packet entry enters.brings in
@@ -116,12 +116,12 @@ module _ {D : Type 0} (disk : Ghosts D) (first : Kept D) (since : List Entry) (a
           begins = on.begins;
         }
 
-    failed : (now : Kept D) (packet : Packet) (entry : Entry) (at : ℕ) → Contains all packet → at ≡ length on.history → Enters disk middle packet entry committed.Disk now → IsLeft disk on.history on.doubt entry committed.Disk now → Leads (packets ++ packet ∷ []) (answers ++ Disk at ∷ []) now
+    failed : (now : KeptStore D) (packet : Packet) (entry : Entry) (at : ℕ) → Contains all packet → at ≡ length on.history → Enters disk middle packet entry committed.Disk now → IsLeft disk on.history on.doubt entry committed.Disk now → Leads (packets ++ packet ∷ []) (answers ++ Disk at ∷ []) now
     failed now packet entry at offered is enters (inl has) = with_doubt now packet entry at on.doubt offered is enters has
     failed now packet entry at offered is enters (inr (inl has)) = with_doubt now packet entry at None offered is enters has
     failed now packet entry at offered is enters (inr (inr has)) = with_doubt now packet entry at (Some entry) offered is enters has
 
-    one_more : (now : Kept D) (packet : Packet) (answer : Offered) → Contains all packet → IsOffered disk middle packet answer now → Leads (packets ++ packet ∷ []) (answers ++ answer ∷ []) now
+    one_more : (now : KeptStore D) (packet : Packet) (answer : Offered) → Contains all packet → IsOffered disk middle packet answer now → Leads (packets ++ packet ∷ []) (answers ++ answer ∷ []) now
     one_more now packet (Have n) there (inl past) =
         stays now packet (Have n) past.same (inl (omega (arith, past.past, epoch), omega (arith, past.own, epoch), refl))
     one_more now packet (Have n) there (inr (entry, is, enters)) = entered now packet entry n there is enters
@@ -143,7 +143,7 @@ module _ {D : Type 0} (disk : Ghosts D) (first : Kept D) (since : List Entry) (a
     one_more now packet (Disk at) there (entry, is, enters) =
         failed now packet entry at there (omega (arith, is, epoch)) enters (enters.went.left on.history on.doubt on.has)
 
-  pub leads : (doubt : Option Entry) (packets : List Packet) (answers : List Offered) (last : Kept D) → ((packet : Packet) → Contains packets packet → Contains all packet) → HasHistory disk first since doubt → AreOffered disk first packets answers last → Leads packets answers last
+  pub leads : (doubt : Option Entry) (packets : List Packet) (answers : List Offered) (last : KeptStore D) → ((packet : Packet) → Contains packets packet → Contains all packet) → HasHistory disk first since doubt → AreOffered disk first packets answers last → Leads packets answers last
   leads doubt packets answers last within has none_offered = record {
     history = since;
     doubt = doubt;

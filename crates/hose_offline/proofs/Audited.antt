@@ -14,7 +14,7 @@ use Rattle.hose_audit.specs.Audit.{audit_text}
 use Rattle.hose_book.specs.Ledger.{Ledger}
 use Rattle.hose_disk.specs.Cabinet.{object_of}
 use Rattle.hose_store.specs.Recovery.{IsHistoryOf}
-use Rattle.hose_store.specs.Store.{Kept}
+use Rattle.hose_store.specs.Store.{KeptStore}
 use Rattle.hose_offline.specs.AuditOutcome.{AuditOutcome, AuditsJournal, EndsNamed, EndsRefused, EndsTold, IsAudited, JournalIs, NamedOutcome, NamesOutcome, NoneFailed, Purpose, to_audit}
 use Rattle.hose_offline.specs.Auditing.{HasAudited, IsNotRead, IsTextServable, PricedNames, ReadsTopology, named_text}
 use Rattle.hose_offline.specs.Ending.{IsOut}
@@ -106,7 +106,7 @@ module _ {I O C E : Type 0} (tells : Tellings I O C E) (names : PricedNames) (be
 
     -- what was read of the journal of a network, and what it was told to be
     abbrev Told : Network → (List ℕ → Type 0) → Type 0
-    Told network Is = JournalIsTold tells.cabinet tells.disk before.cabinet after.cabinet (Some names.journal) Is
+    Told network Is = JournalIsTold tells.cabinet tells.disk before.cabinet (Some names.journal) Is
 
     pub named_not_read : (why : Fault) (status : ℕ) → ReadsNothing tells names before after why → status ≡ status_of why → IsOut tells.sink before.output after.output (last_line why) → purpose.Untouched → after.input ≡ before.input → NamedOutcome tells names before after purpose status
     named_not_read why status reads is out untouched input = record {
@@ -204,7 +204,7 @@ module _ {I O C E : Type 0} (tells : Tellings I O C E) (names : PricedNames) (be
 
 module _ {I O C E : Type 0} (tells : Tellings I O C E) (journal : List ℕ) (before after : Parts I O C) (network : Network) where
   -- the book of the journal was read, and is told
-  pub book_told : (Kind : EntryKind) (mid : C) (store : Kept E) (closing : Result ⊤ Failed) (ledger : Ledger) (status : ℕ) → OpensJournal tells.cabinet tells.disk Kind journal before.cabinet mid network store → ClosesJournal tells.cabinet tells.disk mid after.cabinet store closing
+  pub book_told : (Kind : EntryKind) (mid : C) (store : KeptStore E) (closing : Result ⊤ Failed) (ledger : Ledger) (status : ℕ) → OpensJournal tells.cabinet tells.disk Kind journal before.cabinet mid network store → ClosesJournal tells.cabinet tells.disk mid after.cabinet store closing
       → ledger ≡ store.ledger → EndsTold tells.sink before.output after.output status (first_of (Ok tt) closing) (audit_text ledger.network ledger.book) → AuditsJournal tells journal before after status network
   book_told Kind mid store closing ledger status opens closes is ends = inl (
     opens.opens.opened.history,

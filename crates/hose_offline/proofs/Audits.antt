@@ -18,7 +18,7 @@ use Rattle.hose_disk.specs.Cabinet.{Has, IsTextCall, absent_after, object_of}
 use Rattle.hose_disk.specs.declared.cabinet.Cabinet.{Ghosts as CabinetGhosts}
 use Rattle.hose_disk.specs.declared.disk.Disk.{Ghosts as DiskGhosts}
 use Rattle.hose_journal.specs.Image.{Meaning, damaged, other}
-use Rattle.hose_topo.specs.Reading.{KeepsFault, StopsInTopology, fault_of}
+use Rattle.hose_topo.specs.Reading.{KeepsLineFault, StopsInTopology, fault_of}
 use Rattle.hose_topo.specs.TopologyText.{IsTopologyText, IsWrongAt}
 use Rattle.hose_topo.specs.declared.fault.TopoFault.{TopoFault}
 use Rattle.hose_topo.specs.declared.fault.TopoFault.TheVariants as topo
@@ -186,7 +186,7 @@ module _ {C E : Type 0} (cabinet : CabinetGhosts C E) (old new : C) (name : List
       → ((line word : ℕ) → result ≡ Err (topo.At line word) → told (λ before _. (network : Network) (rest : List ℕ) → IsTopologyText (first.pending ++ before) network rest → ⊥))
       → (first.fault ≡ None → (met : LineFault) → result ≡ Err (fault_of met) → told (λ before after. StopsInTopology met (first.pending ++ before) after))
       → (result ≡ Err topo.Read → (first.fault ≡ Some line.Read) ⊎ Rose (reading_frame cabinet first.source) (reading_frame cabinet last.source))
-      → (first.taken ≤ INPUT_LIMIT → ((result ≡ Err topo.TooLong) ↔ (INPUT_LIMIT < last.taken))) → (result ≡ Err topo.Memory → last ≡ first) → KeepsFault first.fault last.fault result
+      → (first.taken ≤ INPUT_LIMIT → ((result ≡ Err topo.TooLong) ↔ (INPUT_LIMIT < last.taken))) → (result ≡ Err topo.Memory → last ≡ first) → KeepsLineFault first.fault last.fault result
       → ReadsText cabinet old new notation.Lines own_costs name (Err (of_topology fault.Cabinet why))
   lines_err result why at wrong no_text front failed too_long starved kept =
       read_err cabinet old new name first.source last.source (ap (λ (t : TextState C). t.cabinet.now) begun ∙ value) (ap (λ (t : TextState C). t.name) begun ∙ named) (ap (λ (t : TextState C). t.from) begun ∙ from) behind reads.gone there
@@ -194,7 +194,7 @@ module _ {C E : Type 0} (cabinet : CabinetGhosts C E) (old new : C) (name : List
       (λ l word is. wrong_told (text_source cabinet) first last l word pending (wrong l word (at ∙ ap Err is)) (no_text l word (at ∙ ap Err is)))
       (λ met stopped. stopped_told (text_source cabinet) first last met pending (front no_fault met (at ∙ ap Err stopped)))
       (λ is. rose_now (text_source cabinet) first last no_fault (failed (at ∙ ap Err is)))
-      (λ other. reads.unfailed (not_read why first.fault last.fault no_fault (subst (KeepsFault first.fault last.fault) at kept) other))
+      (λ other. reads.unfailed (not_read why first.fault last.fault no_fault (subst (KeepsLineFault first.fault last.fault) at kept) other))
       (λ none. ap (λ (r : Reader (TextState C)). r.source) (starved (at ∙ ap Err none)))
       ((λ is. let more = (too_long few).0 (at ∙ ap Err is) in omega (arith, more, count)), λ more. cc ((too_long few).1 (omega (arith, more, count)), at))
 
@@ -277,7 +277,7 @@ module _ {C E : Type 0} (cabinet : CabinetGhosts C E) (disk : DiskGhosts E) (old
       let found = has (subst IsTrue (sym only.tells) told) in
       (found.0, ap (λ (h : List ℕ → Option E). h name) (sym only.disks) ∙ found.1, found.2)
 
-  pub held_before : (name : List ℕ) (P : List ℕ → Type 0) → HadContent cabinet disk mid new name P → HadContent cabinet disk old new name P
+  pub held_before : (name : List ℕ) (P : List ℕ → Type 0) → HadContent cabinet disk mid name P → HadContent cabinet disk old name P
   held_before name P held = has_before name (λ was. IfSome (disk.content was) P) held
 
   pub unopened_before : (network : Network) (name : List ℕ) → IsUnopened cabinet disk mid new network name → IsUnopened cabinet disk old new network name

@@ -1,6 +1,6 @@
 -- Lines of a script, one after another, and what they lead to.
-use Rattle.std.proofs.Common.{◌≡◌, ◌⊎◌, inl, inr, ⊎_elim, ℕ, ◌+◌, ◌-◌, ◌^◌, ◌≤◌, List, [], ◌∷◌, ◌++◌, Result, None, Some, Option, Ok, Err, false, refl, sym, ◌∙◌, ap, subst, arith, length, append-nil}
-use Rattle.std.specs.Prelude.{IfSome}
+use Rattle.std.proofs.Common.{◌≡◌, ◌⊎◌, inl, inr, ⊎_elim, ℕ, zero, suc, ◌+◌, ◌-◌, ◌^◌, ◌≤◌, List, [], ◌∷◌, ◌++◌, Result, None, Some, Option, Ok, Err, false, refl, sym, ◌∙◌, ap, subst, arith, length, append-nil}
+use Rattle.std.specs.Prelude.{IfSome, slice_get}
 use mathlib.Core.List.{IsPrefix}
 use Rattle.hose_words.proofs.OnReading.{WhereTold-map}
 use Rattle.hose_words.specs.Grammar.{IsFirstNotAllowed}
@@ -17,14 +17,15 @@ use Rattle.hose_graph.specs.declared.entry.Entry.{Entry}
 use Rattle.hose_graph.specs.declared.command.Command.{Command}
 use Rattle.hose_graph.specs.declared.command.Reply.{Reply}
 use Rattle.hose_graph.specs.Network.{Network}
-use Rattle.hose_law.specs.History.{book_of, IsDecided, IsDecidedAt, IsSound, IsSoundAt, IsSoundWith}
+use Rattle.hose_law.specs.Book.{Book}
+use Rattle.hose_law.specs.History.{EntryKind, book_of, IsDecided, IsDecidedAt, IsSound, IsSoundAt, IsSoundWith}
 use Rattle.hose_law.specs.Answer.{IsStepOf}
-use Rattle.hose_law.specs.Quotes.{nothing_held, with_held}
+use Rattle.hose_law.specs.Quotes.{Held, Holdings, nothing_held, with_held}
 use Rattle.hose_law.proofs.Fronts.{prefix_push}
 use Rattle.hose_law.proofs.Scripts.{decided_end, decided_push, disks_push, script_push}
 use Rattle.hose_law.specs.ReplyKind.{ReplyKind, failures_of, kind_of}
 use Rattle.hose_law.specs.ReplyKind.ReplyKind.{ByTheBook, ForDisk, ForMemory, ForNoCommand}
-use Rattle.hose_law.specs.Script.{ReadLine, IsLineStep, one_if_disk}
+use Rattle.hose_law.specs.Script.{ReadLine, IsLineStep, IsScript, one_if_disk}
 use Rattle.hose_law.specs.Script.ReadLine.{Asks, IsBad, IsLong, Unread}
 use Rattle.hose_offline.specs.ScriptLine.{IsAsking, WantsMemory, script_grammar}
 use Rattle.hose_words.specs.Reading.{WhereTold}
@@ -42,7 +43,7 @@ use Rattle.hose_core.specs.Holding.{State}
 use Rattle.hose_core.specs.Stepping.{FitsHistory, Goes, committed_for, committed_of, history_with}
 use Rattle.hose_offline.specs.Fault.{done_of_talk}
 use Rattle.hose_offline.specs.Talk.{talk}
-use Rattle.hose_offline.specs.Talking.{AnswersLine, HasAnswered, Says, SaysAlone, SaysNext, SaysRead, SayOneThingEach, Talks, TalksUpTo as UpTo, TalkTellings, TellsDisks, line_more, none_said}
+use Rattle.hose_offline.specs.Talking.{AnswersLine, HasAnswered, IsAskedBy, Says, SaysAlone, SaysNext, SaysRead, SayOneThingEach, Talks, AnswersUpTo as UpTo, TalkTellings, TellsDisks, line_more, none_said}
 
 -- what a reader shows of a line says what the line says
 pub says_shown : (network : Network) (shown : Line) (bytes : List ℕ) (said : ReadLine) → Shows shown bytes → SaysRead network shown said → Says network bytes said
@@ -86,29 +87,99 @@ disks_more before middle after replies reply (inl told) stays (inr most) = inr m
 disks_more before middle after replies reply (inr most) stays one = inr (omega (arith, most, stays.never_falls))
 
 -- What is known of a history that books went on to.
-record Leads {K R : Type 0} (books : BooksGhosts K R) (network : Network) (since : List Entry) (first : K) (history : List Entry) (now : K) : Type 0 where
+record Leads {K R : Type 0} (books : BooksGhosts K R) (Kind : EntryKind) (network : Network) (since : List Entry) (first : K) (history : List Entry) (now : K) : Type 0 where
   decided : IsDecided network 0 (length since) history
   begins : IsPrefix since history
-  goes_on : GoesOn books IsDecidedAt network since first history now
+  goes_on : GoesOn books Kind network since first history now
 
-module _ {K R : Type 0} (books : BooksGhosts K R) (network : Network) (since : List Entry) (first middle now : K) (history : List Entry) (answer : Reply) (was : Leads books network since first history middle) where
-  committed : (entry : Entry) (result : Committed) → IsDecidedAt network (book_of 0 history) entry → IsSoundAt network (book_of 0 history) entry → books.went middle entry result now → Leads books network since first (history_after history entry result) now
-  committed entry Done decided sound went = record {
+module _ {K R : Type 0} (books : BooksGhosts K R) (Kind : EntryKind) (network : Network) (since : List Entry) (first middle now : K) (history : List Entry) (answer : Reply) (was : Leads books Kind network since first history middle) where
+  committed : (entry : Entry) (result : Committed) → IsDecidedAt network (book_of 0 history) entry → IsSoundAt network (book_of 0 history) entry → Kind network (book_of 0 history) entry → books.went middle entry result now → Leads books Kind network since first (history_after history entry result) now
+  committed entry Done decided sound is went = record {
     decided = decided_push network 0 (length since) history entry was.decided decided sound;
     begins = prefix_push since history entry was.begins;
-    goes_on = entry_more entry Done was.goes_on decided went;
+    goes_on = entry_more entry Done was.goes_on is went;
   }
-  committed entry Failing decided sound went = record { decided = was.decided; begins = was.begins; goes_on = entry_more entry Failing was.goes_on decided went }
+  committed entry Failing decided sound is went = record { decided = was.decided; begins = was.begins; goes_on = entry_more entry Failing was.goes_on is went }
 
   -- a step leads on
-  leads_on : (entry : Option Entry) → IfSome entry (IsDecidedAt network (book_of 0 history)) → IsSoundWith network (book_of 0 history) entry → Goes books middle answer entry now
-      → Leads books network since first (history_with history entry (committed_of answer)) now
-  leads_on None decided sound same = subst (λ (k : K). Leads books network since first history k) (sym same) was
-  leads_on (Some entry) decided sound went = committed entry (committed_of answer) decided sound went
+  leads_on : (entry : Option Entry) → IfSome entry (IsDecidedAt network (book_of 0 history)) → IsSoundWith network (book_of 0 history) entry → IfSome entry (Kind network (book_of 0 history)) → Goes books middle answer entry now
+      → Leads books Kind network since first (history_with history entry (committed_of answer)) now
+  leads_on None decided sound is same = subst (λ (k : K). Leads books Kind network since first history k) (sym same) was
+  leads_on (Some entry) decided sound is went = committed entry (committed_of answer) decided sound is went
+
+-- what is committed of one kind is of each that says no more
+goes_weaker : {K R : Type 0} (books : BooksGhosts K R) (One Other : EntryKind) (network : Network) (since : List Entry) (first : K) → ((book : Book) (entry : Entry) → One network book entry → Other network book entry)
+    → {history : List Entry} {now : K} → GoesOn books One network since first history now → GoesOn books Other network since first history now
+goes_weaker books One Other network since first weaker none_yet = none_yet
+goes_weaker books One Other network since first weaker (entry_more {history} entry result before is went) =
+    entry_more entry result (goes_weaker books One Other network since first weaker before) (weaker (book_of 0 history) entry is) went
+
+-- ---- what lines ask for
+
+there : {X : Type 0} (xs : List X) (x : X) → slice_get (xs ++ x ∷ []) (length xs) ≡ Some x
+there [] x = refl
+there (first ∷ xs) x = there xs x
+
+still_there : {X : Type 0} (xs more : List X) (place : ℕ) (x : X) → slice_get xs place ≡ Some x → slice_get (xs ++ more) place ≡ Some x
+still_there [] more place x is = absurd (cc is)
+still_there (first ∷ xs) more zero x is = is
+still_there (first ∷ xs) more (suc place) x is = still_there xs more place x is
+
+-- each line has a reply
+as_many : (network : Network) (epoch : ℕ) (history : List Entry) (holdings : Holdings) (lines : List ReadLine) (replies : List Reply) (last : List Entry) (left : Holdings) → IsScript network epoch history holdings lines replies last left → length lines ≡ length replies
+as_many network epoch history holdings [] [] last left script = refl
+as_many network epoch history holdings (line ∷ lines) (reply ∷ replies) last left (next, after, step, more) = ap suc (as_many network epoch next after lines replies last left more)
+as_many network epoch history holdings [] (reply ∷ replies) last left script = absurd script
+as_many network epoch history holdings (line ∷ lines) [] last left script = absurd script
+
+-- what lines ask for more of them ask for
+asked_more : (lines : List ReadLine) (replies : List Reply) (line : ReadLine) (reply : Reply) (network : Network) (book : Book) (entry : Entry) → IsAskedBy lines replies network book entry → IsAskedBy (lines ++ line ∷ []) (replies ++ reply ∷ []) network book entry
+asked_more lines replies line reply network book entry is = record {
+  decided = is.decided;
+  place = is.place;
+  customer = is.customer;
+  command = is.command;
+  reply = is.reply;
+  line = still_there lines (line ∷ []) is.place _ is.line;
+  answer = still_there replies (reply ∷ []) is.place _ is.answer;
+  history = is.history;
+  is_book = is.is_book;
+  held = is.held;
+  next = is.next;
+  after = is.after;
+  step = is.step;
+}
+
+-- what the last line asks for
+asked_last : (lines : List ReadLine) (replies : List Reply) (customer : List ℕ) (command : Command) (reply : Reply) (network : Network) (history next : List Entry) (held after : Held) (entry : Option Entry) → length lines ≡ length replies
+    → IfSome entry (IsDecidedAt network (book_of 0 history)) → IsStepOf network 0 history customer held command reply entry next after → IfSome entry (IsAskedBy (lines ++ Asks customer command ∷ []) (replies ++ reply ∷ []) network (book_of 0 history))
+asked_last lines replies customer command reply network history next held after None many decided step = tt
+asked_last lines replies customer command reply network history next held after (Some entry) many decided step = record {
+  decided = decided;
+  place = length lines;
+  customer = customer;
+  command = command;
+  reply = reply;
+  line = there lines (Asks customer command);
+  answer = subst (λ (place : ℕ). slice_get (replies ++ reply ∷ []) place ≡ Some reply) (sym many) (there replies reply);
+  history = history;
+  is_book = refl;
+  held = held;
+  next = next;
+  after = after;
+  step = step;
+}
 
 module _ {K R : Type 0} (books : BooksGhosts K R) (since : List Entry) (first old new : State K) (lines : List ReadLine) (replies : List Reply) (was : HasAnswered books since first old lines replies) where
   abbrev network : Network
   network = (books.ledger first.books).network
+
+  -- what a line more may ask for
+  abbrev Asked : ReadLine → Reply → EntryKind
+  Asked line reply = IsAskedBy (lines ++ line ∷ []) (replies ++ reply ∷ [])
+
+  longer : (line : ReadLine) (reply : Reply) → GoesOn books (Asked line reply) network since first.books was.answered.history old.books
+  longer line reply = goes_weaker books (IsAskedBy lines replies) (Asked line reply) network since first.books (asked_more lines replies line reply network) was.answered.goes_on
 
   -- a command was answered by a step
   command_more : (customer : List ℕ) (command : Command) (reply : Reply) → AnswersLine books old new (Asks customer command) reply → HasAnswered books since first new (lines ++ Asks customer command ∷ []) (replies ++ reply ∷ [])
@@ -121,9 +192,11 @@ module _ {K R : Type 0} (books : BooksGhosts K R) (since : List Entry) (first ol
       let step = subst (λ (n : Network). IsStepOf n 0 history customer held command reply entry on.stepped.next on.stepped.after) was.network on.stepped.step in
       let sound = subst (λ (n : Network). IsSoundWith n (book_of 0 history) entry) was.network on.stepped.sound in
       let decided = subst (λ (n : Network). IfSome entry (IsDecidedAt n (book_of 0 history))) was.network on.decided in
-      let before : Leads books network since first.books history old.books = record { decided = was.answered.decided; begins = was.answered.begins; goes_on = was.answered.goes_on } in
-      let leads = subst (λ (all : List Entry). Leads books network since first.books all new.books) (sym on.leads)
-      (leads_on books network since first.books old.books new.books history reply before entry decided sound on.stepped.goes) in
+      let many = as_many network 0 since nothing_held lines replies history left was.answered.script in
+      let asked = asked_last lines replies customer command reply network history on.stepped.next held on.stepped.after entry many decided step in
+      let before : Leads books (Asked (Asks customer command) reply) network since first.books history old.books = record { decided = was.answered.decided; begins = was.answered.begins; goes_on = longer (Asks customer command) reply } in
+      let leads = subst (λ (all : List Entry). Leads books (Asked (Asks customer command) reply) network since first.books all new.books) (sym on.leads)
+      (leads_on books (Asked (Asks customer command) reply) network since first.books old.books new.books history reply before entry decided sound asked on.stepped.goes) in
       let line : IsLineStep network 0 history left (Asks customer command) reply on.stepped.next (with_held left customer on.stepped.after) = (on.stepped.after, (entry, step), refl) in
       let told = kept (books.frame old.books) (books.frame new.books) reply answers.2 in
       record {
@@ -151,7 +224,7 @@ module _ {K R : Type 0} (books : BooksGhosts K R) (since : List Entry) (first ol
       script = script_push network 0 since nothing_held lines replies was.answered.history was.answered.left said reply was.answered.history was.answered.left was.answered.script line;
       decided = was.answered.decided;
       begins = was.answered.begins;
-      goes_on = was.answered.goes_on;
+      goes_on = longer said reply;
       stays = was.answered.stays;
       disks = disks_more (books.frame first.books).faults (books.frame old.books) (books.frame old.books) replies reply was.answered.disks (Stays-none (books.frame old.books)) (inl (omega (arith, no_disk)));
     };

@@ -10,7 +10,7 @@ use Rattle.hose_disk.specs.Cabinet.{CabinetFrame}
 use Rattle.hose_store.specs.Commit.{store_books}
 use Rattle.hose_store.specs.Opening.{IsOpenedOn}
 use Rattle.hose_store.specs.Recovery.{IsHistoryOf}
-use Rattle.hose_store.specs.Store.{Kept}
+use Rattle.hose_store.specs.Store.{KeptStore}
 use Rattle.hose_follow.specs.Answers.{TellsDiskAnswers}
 use Rattle.hose_follow.specs.Ends.{FollowsInput}
 use Rattle.hose_follow.specs.declared.answers.Offered.{Offered}
@@ -30,7 +30,7 @@ tells_within : (answers : List Offered) (before after low high : ℕ) → low �
 tells_within answers before after low high under above (inl told) = inl (omega (arith, told, under, above))
 tells_within answers before after low high under above (inr most) = inr (omega (arith, most, above))
 
-module _ {I O C E : Type 0} (tells : Tellings I O C E) (name : List ℕ) (before after : Parts I O C) (mid : C) (network : Network) (store last : Kept E) (ended : FollowEnd) (closing : Result ⊤ Failed)
+module _ {I O C E : Type 0} (tells : Tellings I O C E) (name : List ℕ) (before after : Parts I O C) (mid : C) (network : Network) (store last : KeptStore E) (ended : FollowEnd) (closing : Result ⊤ Failed)
     (follows : FollowsInput tells.source tells.sink tells.disk before.input after.input before.output after.output store last ended)
     (opens : OpensJournal tells.cabinet tells.disk (IsBrought follows.packets) name before.cabinet mid network store)
     (closes : ClosesJournal tells.cabinet tells.disk mid after.cabinet last closing) where

@@ -9,7 +9,9 @@ use Rattle.hose_graph.specs.Network.{Network}
 use Rattle.hose_graph.specs.declared.entry.Entry.{Entry}
 use Rattle.hose_graph.specs.declared.command.Reply.{Reply}
 use Rattle.hose_law.specs.History.{EntryKind, IsDecidedAt, IsSound, book_of}
+use Rattle.hose_law.specs.Script.{ReadLine}
 use Rattle.hose_audit.specs.Audit.{audit_text}
+use Rattle.hose_book.specs.GoingOn.{GoesOn}
 use Rattle.hose_book.specs.Ledger.{Ledger}
 use Rattle.hose_disk.specs.Cabinet.{CabinetFrame}
 use Rattle.hose_disk.specs.declared.cabinet.Cabinet.{Ghosts as CabinetGhosts}
@@ -18,10 +20,11 @@ use Rattle.hose_journal.specs.Image.{Meaning, listed, damaged, other}
 use Rattle.hose_journal.specs.Moments.{LeavesOnly}
 use Rattle.hose_journal.proofs.Runs.{joined, weaker}
 use Rattle.hose_journal.specs.declared.prepared.Ready.{Ready}
+use Rattle.hose_store.specs.Beginning.{HasLeft}
 use Rattle.hose_store.specs.Commit.{Closes, store_books}
 use Rattle.hose_store.specs.Opening.{IsAtOpening, IsOpenedOn, IsRefusedStore}
 use Rattle.hose_store.specs.Recovery.{IsHistoryOf, IsRecoveredAs}
-use Rattle.hose_store.specs.Store.{IsAmid, Kept}
+use Rattle.hose_store.specs.Store.{IsAmid, KeptStore}
 use Rattle.hose_store.proofs.Standing.{closed_left, opened_stands, run_stands}
 use Rattle.hose_store.specs.declared.fault.StoreFault.{StoreFault}
 use Rattle.hose_store.specs.declared.fault.StoreFault.TheVariants as store
@@ -31,12 +34,12 @@ use Rattle.hose_offline.specs.Journal.{ClosesJournal, IsJustOpened, IsLeftWith, 
 use Rattle.hose_offline.specs.Parts.{Parts, Tellings, parts, tellings}
 use Rattle.hose_offline.specs.OnDisk.{opening_of}
 use Rattle.hose_offline.specs.Talk.{talk}
-use Rattle.hose_offline.specs.Talking.{Talks, TalkTellings, TellsDisks, talk_tellings}
+use Rattle.hose_offline.specs.Talking.{IsAskedBy, Talks, TalkTellings, TellsDisks, talk_tellings}
 use Rattle.hose_offline.specs.TalkingOnDisk.{HasTalkedInCabinet}
 use Rattle.hose_offline.specs.ServingOnDisk.{IsNotOpened, IsNotServed, first_of}
 use Rattle.hose_offline.specs.declared.fault.Fault.{Fault}
 use Rattle.hose_offline.specs.declared.fault.Fault.TheVariants.{Memory, TooLong}
-use Rattle.hose_offline.proofs.PutBack.{IsPutBack, TakenFrom, at_opening, counts, held_as, left_as, left_in, not_served}
+use Rattle.hose_offline.proofs.PutBack.{IsPutBack, TakenFrom, at_opening, counts, held_as, left_as, left_as_kind, not_served}
 
 -- ---- on a disk
 
@@ -47,7 +50,7 @@ alone network history image (inr (inl none)) = absurd none
 alone network history image (inr (inr none)) = absurd none
 
 -- A store was opened, and closed before anything was added to it: the disk is left with its history.
-module _ {E : Type 0} (disk : DiskGhosts E) (network : Network) (old left : E) (store : Kept E) (closing : Result ⊤ Failed)
+module _ {E : Type 0} (disk : DiskGhosts E) (network : Network) (old left : E) (store : KeptStore E) (closing : Result ⊤ Failed)
     (counts_now : (d : E) (t : ℕ) (image : List ℕ) → t ≤ disk.moment d → disk.may_leave d image → disk.left_since d t image)
     (opened : IsOpenedOn disk old network store) (opening : LeavesOnly disk old store.journal.disk (IsAtOpening disk old network)) (closes : Closes disk store left closing) where
   amid : LeavesOnly disk store.journal.disk left (IsAmid store.ledger.network opened.history None None)
@@ -66,9 +69,18 @@ module _ {E : Type 0} (disk : DiskGhosts E) (network : Network) (old left : E) (
       at image (inl before) = opening.each image before
       at image (inr in_closing) = inr (opened.history, opened.read, stands image in_closing)
 
+-- however a store that was just opened is closed, after commits of entries of whatever kind
+pub leaves_for : {E : Type 0} (disk : DiskGhosts E) → ((at : E) (t : ℕ) (image : List ℕ) → t ≤ disk.moment at → disk.may_leave at image → disk.left_since at t image) → ((at : E) (t : ℕ) (image : List ℕ) → disk.content at ≡ None → disk.left_since at t image → ⊥)
+    → ((at : E) (image : List ℕ) → disk.left_since at (disk.moment at) image → disk.may_leave at image) → (One Other : EntryKind) (network : Network) (old : E) (store : KeptStore E) (is : IsJustOpened disk One old network store) (history : List Entry) (last : KeptStore E) (left : E) (closing : Result ⊤ Failed)
+    → GoesOn (store_books disk) Other network is.opened.history store history last → Closes disk last left closing → HasLeft disk Other (disk.may_leave old) (opening_of disk network is.opened.history old) history left closing
+leaves_for disk counts untold only_now One Other network old store is history last left closing goes closes =
+    let begins = opening_of disk network is.opened.history old in
+    let stands = opened_stands disk Other (disk.may_leave old) begins old store is.opened refl is.images is.stands.tells refl (counts old) (untold store.journal.disk) (le_refl _) (only_now old) in
+    closed_left disk Other (disk.may_leave old) begins ⊤ last left history closing (counts left) (run_stands disk Other (disk.may_leave old) begins is.opened.history store history last stands goes) closes
+
 -- what is told of a store that was just opened is told for entries of each kind
 pub opened_for : {E : Type 0} (disk : DiskGhosts E) → ((at : E) (t : ℕ) (image : List ℕ) → t ≤ disk.moment at → disk.may_leave at image → disk.left_since at t image) → ((at : E) (t : ℕ) (image : List ℕ) → disk.content at ≡ None → disk.left_since at t image → ⊥)
-    → ((at : E) (image : List ℕ) → disk.left_since at (disk.moment at) image → disk.may_leave at image) → (One Other : EntryKind) (network : Network) (old : E) (store : Kept E) → IsJustOpened disk One old network store → IsJustOpened disk Other old network store
+    → ((at : E) (image : List ℕ) → disk.left_since at (disk.moment at) image → disk.may_leave at image) → (One Other : EntryKind) (network : Network) (old : E) (store : KeptStore E) → IsJustOpened disk One old network store → IsJustOpened disk Other old network store
 opened_for disk counts untold only_now One Other network old store is =
     let begins = opening_of disk network is.opened.history old in
     let stands = opened_stands disk Other (disk.may_leave old) begins old store is.opened refl is.images is.stands.tells refl (counts old) (untold store.journal.disk) (le_refl _) (only_now old) in
@@ -78,12 +90,12 @@ opened_for disk counts untold only_now One Other network old store is =
       count = is.count;
       stands = stands;
       unused = is.unused;
-      leaves = λ history last left closing goes closes. closed_left disk Other (disk.may_leave old) begins ⊤ last left history closing (counts left) (run_stands disk Other (disk.may_leave old) begins is.opened.history store history last stands goes) closes;
+      leaves = leaves_for disk counts untold only_now One Other network old store is;
     }
 
 -- A store was opened, and closed before anything was asked of it: at each moment an image is one of
 -- before, or stands for what the disk stood for.
-pub closed_unused : {E : Type 0} (disk : DiskGhosts E) (Kind : EntryKind) (network : Network) (old left : E) (store : Kept E) (closing : Result ⊤ Failed) → IsJustOpened disk Kind old network store → Closes disk store left closing → IsNotOpened disk old left network (Err Memory)
+pub closed_unused : {E : Type 0} (disk : DiskGhosts E) (Kind : EntryKind) (network : Network) (old left : E) (store : KeptStore E) (closing : Result ⊤ Failed) → IsJustOpened disk Kind old network store → Closes disk store left closing → IsNotOpened disk old left network (Err Memory)
 closed_unused disk Kind network old left store closing opens closes =
     let opened = opens.opened in
     let history = opened.history in
@@ -126,13 +138,13 @@ pub not_too_long : {C E : Type 0} (cabinet : CabinetGhosts C E) (disk : DiskGhos
 not_too_long cabinet disk name old new network why not is = subst (λ (fault : Fault). IsNotServed cabinet disk name old new network (Err fault)) is not
 
 -- a core begins with a sound history where its store does
-pub first_sound : {E : Type 0} (first store : Kept E) (history : List Entry) → first ≡ store → IsSound store.ledger.network 0 history → IsSound first.ledger.network 0 history
-first_sound {E} first store history same sound = subst (λ (kept : Kept E). IsSound kept.ledger.network 0 history) (sym same) sound
+pub first_sound : {E : Type 0} (first store : KeptStore E) (history : List Entry) → first ≡ store → IsSound store.ledger.network 0 history → IsSound first.ledger.network 0 history
+first_sound {E} first store history same sound = subst (λ (kept : KeptStore E). IsSound kept.ledger.network 0 history) (sym same) sound
 
 -- ---- in a cabinet
 
-module _ {C E : Type 0} (cabinet : CabinetGhosts C E) (disk : DiskGhosts E) (name : List ℕ) (old mid new : C) (network : Network) (store : Kept E) where
-  pub put_back : (Kind : EntryKind) (opens : OpensJournal cabinet disk Kind name old mid network store) (last : Kept E) (closing : Result ⊤ Failed) (closes : ClosesJournal cabinet disk mid new last closing) → IsPutBack cabinet disk name old mid new opens.was closes.left
+module _ {C E : Type 0} (cabinet : CabinetGhosts C E) (disk : DiskGhosts E) (name : List ℕ) (old mid new : C) (network : Network) (store : KeptStore E) where
+  pub put_back : (Kind : EntryKind) (opens : OpensJournal cabinet disk Kind name old mid network store) (last : KeptStore E) (closing : Result ⊤ Failed) (closes : ClosesJournal cabinet disk mid new last closing) → IsPutBack cabinet disk name old mid new opens.was closes.left
   put_back Kind opens last closing closes = record { out = opens.taken; in_place = closes.back }
 
   -- the store was closed before anything was asked of it, for want of memory
@@ -142,9 +154,11 @@ module _ {C E : Type 0} (cabinet : CabinetGhosts C E) (disk : DiskGhosts E) (nam
 
   -- ---- a run
 
-  module _ {S O : Type 0} (source : SourceGhosts S) (sink : SinkGhosts O) (start now : Reader S) (output output' : O) (first last : Kept E) (served : Result ⊤ Fault) (closing : Result ⊤ Failed)
-      (opens : OpensJournal cabinet disk IsDecidedAt name old mid network store) (closes : ClosesJournal cabinet disk mid new last closing) where
-    abbrev tells : TalkTellings S O (Kept E) Ready
+  module _ {S O : Type 0} (source : SourceGhosts S) (sink : SinkGhosts O) (start now : Reader S) (output output' : O) (first last : KeptStore E) (served : Result ⊤ Fault) (closing : Result ⊤ Failed)
+      (opens : OpensJournal cabinet disk IsDecidedAt name old mid network store) (closes : ClosesJournal cabinet disk mid new last closing)
+      (asked : (lines : List ReadLine) (replies : List Reply) (history : List Entry) (last : KeptStore E) (left : E) (closing : Result ⊤ Failed) → GoesOn (store_books disk) (IsAskedBy lines replies) network opens.opens.opened.history store history last → Closes disk last left closing
+      → HasLeft disk (IsAskedBy lines replies) (disk.may_leave opens.was) (opening_of disk network opens.opens.opened.history opens.was) history left closing) where
+    abbrev tells : TalkTellings S O (KeptStore E) Ready
     tells = talk_tellings source sink (store_books disk)
 
     back : IsPutBack cabinet disk name old mid new opens.was closes.left
@@ -165,10 +179,11 @@ module _ {C E : Type 0} (cabinet : CabinetGhosts C E) (disk : DiskGhosts E) (nam
       last = last;
       begun = held_as cabinet disk name old mid new network opens.was closes.left back (IsHistoryOf network opens.opens.opened.history) opens.opens.opened.read;
       talks = talks;
-      keeps = λ history replies goes told. record {
+      keeps = λ history lines replies goes told. record {
         told = told_back _ _ replies closes.call.met.stays.never_falls told;
         met = counts cabinet disk name old mid new network opens.was closes.left back closing closes.call.told;
-        left = left_in cabinet disk name old mid new network opens.was closes.left back opens.opens.opened.history history closing (opens.opens.leaves history last closes.left closing goes closes.closes);
+        left = left_as_kind cabinet disk name old mid new network opens.was closes.left back (IsAskedBy lines replies) opens.opens.opened.history history closing
+            (asked lines replies history last closes.left closing goes closes.closes);
       };
     }
 
@@ -177,11 +192,11 @@ module _ {C E : Type 0} (cabinet : CabinetGhosts C E) (disk : DiskGhosts E) (nam
         → HasTalkedInCabinet (tellings source sink cabinet disk) name (parts start output old) (parts now output' new) network served closing
     talked_in same talks = talks_in
         (subst (λ (n : Network). Talks tells n opens.opens.opened.history (talk start output store) (talk now output' last) served) opens.opens.opened.network
-        (subst (λ (kept : Kept E). Talks tells kept.ledger.network opens.opens.opened.history (talk start output kept) (talk now output' last) served) same talks))
+        (subst (λ (kept : KeptStore E). Talks tells kept.ledger.network opens.opens.opened.history (talk start output kept) (talk now output' last) served) same talks))
 
 -- ---- an audit
 
-module _ {I O C E : Type 0} (tells : Tellings I O C E) (name : List ℕ) (before after : Parts I O C) (mid : C) (network : Network) (store : Kept E) (Kind : EntryKind) (closing : Result ⊤ Failed)
+module _ {I O C E : Type 0} (tells : Tellings I O C E) (name : List ℕ) (before after : Parts I O C) (mid : C) (network : Network) (store : KeptStore E) (Kind : EntryKind) (closing : Result ⊤ Failed)
     (opens : OpensJournal tells.cabinet tells.disk Kind name before.cabinet mid network store) (closes : ClosesJournal tells.cabinet tells.disk mid after.cabinet store closing) where
   abbrev opened : IsOpenedOn tells.disk opens.was network store
   opened = opens.opens.opened

@@ -57,7 +57,7 @@ module _ (prices : Network → Network → Type 0) {S O C E : Type 0} (source : 
   leaves_in_memory done more (inl (is_memory, stays, same)) =
       subst (Leaves None place) (sym is_memory) (inr (inl (has_text stays, refl)), input_held stays, same)
   leaves_in_memory done more (inr (first, now, serves)) =
-      ran prices source sink start middle last told network priced output output' is empty text one reads none plain_books in_memory [] first now refl (λ history replies on told. never_told replies told) more
+      ran prices source sink start middle last told network priced output output' is empty text one reads none plain_books in_memory [] first now refl (λ history lines replies on told. never_told replies told) more
       (Leaves None place)
       (λ run held out. (run, held, out))
       (λ run out rose. (inr (Ok tt, run, out), rose))

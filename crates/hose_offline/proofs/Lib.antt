@@ -11,6 +11,12 @@ pub mod Journals
 pub mod JsonLemmas
 mod Judging
 pub mod Leaving
+mod Lending
+mod MoveComplete
+mod MoveEnds
+mod MoveLines
+mod MoveTexts
+mod MoveWhole
 mod OfLeaders
 pub mod OneReading
 pub mod OneRun

@@ -9,11 +9,11 @@ use Rattle.hose_follow.specs.Replication.{IsLeader, IsSentOf}
 use Rattle.hose_follow.specs.declared.answers.Offered.{Offered}
 use Rattle.hose_follow.specs.declared.answers.Offered.TheVariants.{Have, Want, Differs, Memory, Unsound, Disk}
 use Rattle.hose_follow.proofs.Sent.{next_brought, next_sent, next_sound}
-use Rattle.hose_offline.specs.Following.{AnswersAt, ArePacketsAnswered, FollowsLeaders, IsNoRefusal, none_yet, packet_more}
+use Rattle.hose_offline.specs.Following.{AnswersPacket, ArePacketsAnswered, FollowsLeaders, IsNoRefusal, none_yet, packet_more}
 
 module _ (network : Network) (leader : List Entry) (legal : IsLeader network leader) where
   -- one packet more
-  one_more : (packet : Packet) (old new : List Entry) (answer : Offered) → IsSentOf network leader packet → IsPrefix old leader → AnswersAt network old packet answer new → IsPrefix new leader × IsNoRefusal answer
+  one_more : (packet : Packet) (old new : List Entry) (answer : Offered) → IsSentOf network leader packet → IsPrefix old leader → AnswersPacket network old packet answer new → IsPrefix new leader × IsNoRefusal answer
   one_more packet old new (Have n) sent begins (inl past) = (subst (λ (l : List Entry). IsPrefix l leader) (sym past.2) begins, tt)
   one_more packet old new (Have n) sent begins (inr (entry, due, brings, _, is)) =
       let next = next_sent network leader old packet legal begins sent due.epoch in

@@ -100,7 +100,7 @@ of_run prices keeping None new bytes network lines replies stops Is gives run al
 
 module _ {C E : Type 0} (cabinet : CabinetGhosts C E) (disk : DiskGhosts E) (old new : C) where
   -- what a journal was read as, and what it was told to be
-  pub clash : (name : List ℕ) (P Q : List ℕ → Type 0) → ((bytes : List ℕ) → P bytes → Q bytes → ⊥) → HadContent cabinet disk old new name P → JournalIsTold cabinet disk old new (Some name) Q → ⊥
+  pub clash : (name : List ℕ) (P Q : List ℕ → Type 0) → ((bytes : List ℕ) → P bytes → Q bytes → ⊥) → HadContent cabinet disk old name P → JournalIsTold cabinet disk old (Some name) Q → ⊥
   clash name P Q apart held told =
       let found = held told.0 in
       let same : found.0 ≡ told.1 = cc (found.1, told.2) in
@@ -154,7 +154,7 @@ module _ {I O C E : Type 0} (tells : Tellings I O C E) (prices : Network → Net
     other_journal Given meaning read told = at journal read.is (of_read Lines prices old new bytes read.network _ gives read.text told)
       where
         at : (one : Option (List ℕ)) → MatchOption one ⊥ (λ name. Given read.network × IsRefusedOnDisk tells.cabinet tells.disk before.cabinet left.cabinet read.network name meaning)
-            → JournalIsTold tells.cabinet tells.disk before.cabinet left.cabinet one (λ image. (history : List Entry) × IsHistoryOf read.network history image) → ⊥
+            → JournalIsTold tells.cabinet tells.disk before.cabinet one (λ image. (history : List Entry) × IsHistoryOf read.network history image) → ⊥
         at None refused is = refused
         at (Some name) refused is = clash tells.cabinet tells.disk before.cabinet left.cabinet name _ _ (λ image none history. none history.0 history.1) refused.1.none is
 
@@ -176,7 +176,7 @@ module _ {I O C E : Type 0} (tells : Tellings I O C E) (prices : Network → Net
         → Told (λ network image. (history : List Entry) → ¬ IsHistoryOf network history image) → ⊥
     no_such_run closing some run told = at journal some run.run.begun (of_run prices (keeping tells prices journal before left closing) old new bytes run.network run.lines run.replies IsAllTaken _ gives run.run told)
       where
-        at : (one : Option (List ℕ)) → IsSome one → (keeping_of tells.cabinet tells.disk before.cabinet left.cabinet one closing).Begins run.network run.run.since → JournalIsTold tells.cabinet tells.disk before.cabinet left.cabinet one (λ image. (history : List Entry) → ¬ IsHistoryOf run.network history image) → ⊥
+        at : (one : Option (List ℕ)) → IsSome one → (keeping_of tells.cabinet tells.disk before.cabinet left.cabinet one closing).Begins run.network run.run.since → JournalIsTold tells.cabinet tells.disk before.cabinet one (λ image. (history : List Entry) → ¬ IsHistoryOf run.network history image) → ⊥
         at None is begun told_as = absurd (cc is)
         at (Some name) is begun told_as = clash tells.cabinet tells.disk before.cabinet left.cabinet name _ _ (λ image history none. none run.run.since history) begun told_as
 

@@ -81,7 +81,7 @@ module _ {C E : Type 0} (cabinet : CabinetGhosts C E) (disk : DiskGhosts E) (nam
       taken_from)
 
   -- what was read of the disk is what it held
-  pub held_as : (P : List ℕ → Type 0) → IfSome (disk.content opened) P → HadContent cabinet disk old new name P
+  pub held_as : (P : List ℕ → Type 0) → IfSome (disk.content opened) P → HadContent cabinet disk old name P
   held_as P is = has_weaker was_tells (cabinet.held old name) _ _ (λ was same. subst (λ (c : Option (List ℕ)). IfSome c P) same is) back.out.content
 
   -- the count of the cabinet

@@ -12,7 +12,6 @@ use Rattle.hose_words.proofs.OnReading.{IsAfterLines-then, WhereTold-both, Where
 use Rattle.hose_graph.specs.Network.{Network, IsNetwork}
 use Rattle.hose_graph.specs.declared.entry.Entry.{Entry}
 use Rattle.hose_graph.specs.declared.command.Reply.{Reply}
-use Rattle.hose_law.specs.History.{IsDecidedAt}
 use Rattle.hose_law.specs.ReplyKind.{ReplyKind, IsDiskKind, failures_of, kind_of}
 use Rattle.hose_law.specs.ReplyKind.ReplyKind.{ByTheBook, ForDisk, ForMemory, ForNoCommand}
 use Rattle.hose_law.specs.Script.{IsForDisk, ReadLine, WithoutDisk}
@@ -33,8 +32,8 @@ use Rattle.hose_offline.specs.TopologyTold.{TellsPriced}
 use Rattle.hose_offline.specs.declared.notation.Notation.TheVariants.{Lines}
 use Rattle.hose_offline.specs.declared.notation.Refusal.TheVariants.{Word}
 use Rattle.hose_offline.specs.Talk.{Talk, talk}
-use Rattle.hose_offline.specs.Talking.{SayOneThingEach, Talks, TalksUntil, TalksUpTo, TalkTellings, TellsDisks, SaysNext, talk_tellings}
-use Rattle.hose_topo.specs.Reading.{fault_of, KeepsFault, StopsInTopology}
+use Rattle.hose_offline.specs.Talking.{IsAskedBy, SayOneThingEach, Talks, TalksUntil, AnswersUpTo, TalkTellings, TellsDisks, SaysNext, talk_tellings}
+use Rattle.hose_topo.specs.Reading.{fault_of, KeepsLineFault, StopsInTopology}
 use Rattle.hose_topo.specs.TopologyText.{IsTopologyText, IsWrongAt}
 use Rattle.hose_offline.specs.declared.fault.Fault.{Fault}
 use Rattle.hose_offline.specs.declared.fault.Fault.TheVariants as fault
@@ -71,12 +70,12 @@ wrong_told source start last line word empty wrong none =
 
 -- a network was read, and then lines were answered; what `stops` says behind the topology it says of the whole input
 abbrev pub has_run : {S O K R : Type 0} (prices : Network → Network → Type 0) (tells : TalkTellings S O K R) (keeping : Keeping) (start : Reader S) (before after : Talk (Reader S) O K) (told network : Network) (priced : prices told network) (since : List Entry) → keeping.Begins network since
-    → ((history : List Entry) (replies : List Reply) → GoesOn tells.books IsDecidedAt network since before.by history after.by → TellsDisks (tells.books.frame before.by).faults replies (tells.books.frame after.by).faults → keeping.Keeps network since history replies)
+    → ((history : List Entry) (lines : List ReadLine) (replies : List Reply) → GoesOn tells.books (IsAskedBy lines replies) network since before.by history after.by → TellsDisks (tells.books.frame before.by).faults replies (tells.books.frame after.by).faults → keeping.Keeps network since history lines replies)
     → IsNetwork network → (stops : List ℕ → List ℕ → List ℕ → Type 0) (puts : List Reply → Type 0) → start.pending ≡ []
     → WhereTold (tells.source.content start.source) (tells.source.content before.lines.source) (λ input left. IsTopologyText (start.pending ++ input) told (before.lines.pending ++ left))
     → ReadsOn tells.source start before.lines
     → WhereTold (tells.source.content start.source) (tells.source.content before.lines.source) (λ input left. (behind rest : List ℕ) → stops (before.lines.pending ++ left) behind rest → stops (start.pending ++ input) behind rest)
-    → (served : TalksUpTo tells network since before after stops puts)
+    → (served : AnswersUpTo tells network since before after stops puts)
     → HasRun prices keeping (tells.source.content start.source) (tells.source.content after.lines.source) network served.lines served.replies stops
 has_run prices tells keeping start before after told network priced since begun keeps is stops puts empty text reads joins served = record {
   told = told;
@@ -97,7 +96,7 @@ has_run prices tells keeping start before after told network priced since begun 
   left = served.answered.left;
   script = served.answered.script;
   decided = served.answered.decided;
-  keeps = keeps served.answered.history served.replies served.answered.goes_on served.answered.disks;
+  keeps = keeps served.answered.history served.lines served.replies served.answered.goes_on served.answered.disks;
   none_oversold = λ place l. sold network 0 served.answered.history place l served.answered.decided.sound;
   held = live_held 0 served.answered.history;
   kept = stays_live 0 served.answered.history;
@@ -147,7 +146,7 @@ never_told (reply ∷ replies) (inl told) = All-cons (λ r. ¬ IsForDisk r) repl
 -- ---- what a run leaves
 
 -- the reader has no fault of reading where that is not why no topology was read
-pub not_read : (topology : TopoFault) (old new : Option LineFault) → old ≡ None → KeepsFault old new (Err topology) → (topology ≡ Read → ⊥) → new ≢ Some line.Read
+pub not_read : (topology : TopoFault) (old new : Option LineFault) → old ≡ None → KeepsLineFault old new (Err topology) → (topology ≡ Read → ⊥) → new ≢ Some line.Read
 not_read (At l word) old new none kept other read = cc (kept.1, read)
 not_read Read old new none kept other read = other refl
 not_read TooLong old new none kept other read = cc (kept, read)
@@ -179,7 +178,7 @@ module _ (prices : Network → Network → Type 0) {S O : Type 0} (source : Ghos
 
   -- and then lines were answered
   module _ {K R : Type 0} (books : BooksGhosts K R) (keeping : Keeping) (since : List Entry) (first now : K) (begun : keeping.Begins network since)
-      (keeps : (history : List Entry) (replies : List Reply) → GoesOn books IsDecidedAt network since first history now → TellsDisks (books.frame first).faults replies (books.frame now).faults → keeping.Keeps network since history replies)
+      (keeps : (history : List Entry) (lines : List ReadLine) (replies : List Reply) → GoesOn books (IsAskedBy lines replies) network since first history now → TellsDisks (books.frame first).faults replies (books.frame now).faults → keeping.Keeps network since history lines replies)
       (more : ReadsOn source middle last) where
     abbrev tells : TalkTellings S O K R
     tells = talk_tellings source sink books

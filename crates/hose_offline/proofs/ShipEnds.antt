@@ -14,6 +14,7 @@ use Rattle.hose_journal.specs.Entries.{front_of}
 use Rattle.hose_journal.specs.Image.{IsClosed, IsUnbegun, Meaning}
 use Rattle.hose_journal.specs.Layout.{chained_version}
 use Rattle.hose_journal.specs.Moments.{LeavesOnly}
+use Rattle.hose_journal.specs.Opening.{AddsNoRecord}
 use Rattle.hose_store.specs.Entries.{BeginsWith}
 use Rattle.hose_store.specs.Opening.{IsAtOpening}
 use Rattle.hose_store.specs.Recovery.{IsHistoryOf, IsRecoveredAs, digest_of}
@@ -31,7 +32,7 @@ use Rattle.hose_offline.specs.Fault.{of_store}
 use Rattle.hose_offline.specs.OnDisk.{CabinetFailed, HadContent, IsUnopened, JournalIsTold}
 use Rattle.hose_offline.specs.Parts.{Parts, Tellings}
 use Rattle.hose_offline.specs.ServingOnDisk.{IsNotServed}
-use Rattle.hose_offline.specs.ShipOutcome.{IsReadAsBefore, ShipOutcome, ShipsJournal, ShipsPart, shipping_done, to_ship}
+use Rattle.hose_offline.specs.ShipOutcome.{IsLeftWithoutRecord, IsReadAsBefore, ShipOutcome, ShipsJournal, ShipsPart, shipping_done, to_ship}
 use Rattle.hose_offline.specs.declared.fault.Fault.{Fault}
 use Rattle.hose_offline.specs.declared.fault.Fault.TheVariants as fault
 use Rattle.hose_offline.proofs.Audited.{named_not_1, named_read}
@@ -57,6 +58,7 @@ module _ {I O C E : Type 0} (tells : Tellings I O C E) (name : List ℕ) (from :
     (inl same, failed),
     record { entries = []; sound = tt; held = inl refl; out = subst (λ (o : O). Grows (tells.sink.content before.output) (tells.sink.content o) (packets_bytes (packets_from network from []))) (sym no_output) (none_out network from (tells.sink.content before.output)) },
     ap tells.sink.frame no_output,
+    inl same,
   )
 
   module _ (mid : C) (opened left : E) (back : IsPutBack tells.cabinet tells.disk name before.cabinet mid after.cabinet opened left) where
@@ -68,13 +70,17 @@ module _ {I O C E : Type 0} (tells : Tellings I O C E) (name : List ℕ) (from :
       out = up.out;
     }
       where
-        at : (up.entries ≡ []) ⊎ IfSome (tells.disk.content opened) (BeginsWith (digest_of network) up.entries) → (up.entries ≡ []) ⊎ HadContent tells.cabinet tells.disk before.cabinet after.cabinet name (BeginsWith (digest_of network) up.entries)
+        at : (up.entries ≡ []) ⊎ IfSome (tells.disk.content opened) (BeginsWith (digest_of network) up.entries) → (up.entries ≡ []) ⊎ HadContent tells.cabinet tells.disk before.cabinet name (BeginsWith (digest_of network) up.entries)
         at (inl none) = inl none
         at (inr begins) = inr (held_as tells.cabinet tells.disk name before.cabinet mid after.cabinet network opened left back (BeginsWith (digest_of network) up.entries) begins)
 
     as_before : KeepsRead tells.disk opened left network → IsReadAsBefore tells name from before after network
     as_before keeps = left_as tells.cabinet tells.disk name before.cabinet mid after.cabinet network opened left back (λ was now. KeepsRead tells.disk was now network)
         (λ was taken. subst (λ (content : Option (List ℕ)). (tells.disk.content left ≡ content) ⊎ (IfSome content IsUnbegun × IfSome (tells.disk.content left) (IsClosed (front_of chained_version (digest_of network) [])))) taken.0 keeps)
+
+    without_record : AddsNoRecord (tells.disk.content opened) (tells.disk.content left) (digest_of network) → IsLeftWithoutRecord tells name from before after network
+    without_record adds = inr (left_as tells.cabinet tells.disk name before.cabinet mid after.cabinet network opened left back (λ was now. AddsNoRecord (tells.disk.content was) (tells.disk.content now) (digest_of network))
+        (λ was taken. subst (λ (content : Option (List ℕ)). AddsNoRecord content (tells.disk.content left) (digest_of network)) taken.0 adds))
 
     module _ (one : (image : List ℕ) (one two : Meaning Entry) → IsRecoveredAs network image one → IsRecoveredAs network image two → one ≡ two) (run : LeavesOnly tells.disk opened left (IsAtOpening tells.disk opened network)) where
       not_shipped : (why : StoreFault) → Ships tells.sink tells.disk before.output after.output opened left network from (Err (Store why)) → IsNotServed tells.cabinet tells.disk name before.cabinet after.cabinet network (Err (of_store why))
@@ -91,10 +97,10 @@ module _ {I O C E : Type 0} (tells : Tellings I O C E) (name : List ℕ) (from :
         read = as_before ships.3;
       }
       ships_in (Err Write) ships = (part _ ships.0, ships.1, as_before ships.2)
-      ships_in (Err (Store store.Disk)) ships = (not_shipped store.Disk ships, part _ ships.0, ships.1)
-      ships_in (Err (Store (store.Other kept given))) ships = (not_shipped (store.Other kept given) ships, part _ ships.0, ships.1)
-      ships_in (Err (Store (store.Damaged at))) ships = (not_shipped (store.Damaged at) ships, part _ ships.0, ships.1)
-      ships_in (Err (Store store.Memory)) ships = (not_shipped store.Memory ships, part _ ships.0, ships.1)
+      ships_in (Err (Store store.Disk)) ships = (not_shipped store.Disk ships, part _ ships.0, ships.1, without_record ships.3)
+      ships_in (Err (Store (store.Other kept given))) ships = (not_shipped (store.Other kept given) ships, part _ ships.0, ships.1, without_record ships.3)
+      ships_in (Err (Store (store.Damaged at))) ships = (not_shipped (store.Damaged at) ships, part _ ships.0, ships.1, without_record ships.3)
+      ships_in (Err (Store store.Memory)) ships = (not_shipped store.Memory ships, part _ ships.0, ships.1, without_record ships.3)
 
 -- ---- the outcome
 
@@ -113,12 +119,16 @@ module _ {I O C E : Type 0} (tells : Tellings I O C E) (from : ℕ) where
       part_before : (Puts : List ℕ → Type 0) → ShipsPart tells names.journal from (record before { cabinet = read }) after network Puts → ShipsPart tells names.journal from before after network Puts
       part_before Puts is = record { entries = is.entries; sound = is.sound; held = at is.held; out = is.out }
         where
-          at : (is.entries ≡ []) ⊎ HadContent tells.cabinet tells.disk read after.cabinet names.journal (BeginsWith (digest_of network) is.entries) → (is.entries ≡ []) ⊎ HadContent tells.cabinet tells.disk before.cabinet after.cabinet names.journal (BeginsWith (digest_of network) is.entries)
+          at : (is.entries ≡ []) ⊎ HadContent tells.cabinet tells.disk read names.journal (BeginsWith (digest_of network) is.entries) → (is.entries ≡ []) ⊎ HadContent tells.cabinet tells.disk before.cabinet names.journal (BeginsWith (digest_of network) is.entries)
           at (inl none) = inl none
           at (inr held) = inr (held_before tells.cabinet tells.disk before.cabinet read after.cabinet reads.only_texts names.journal _ held)
 
       not_before : (why : Fault) → IsNotServed tells.cabinet tells.disk names.journal read after.cabinet network (Err why) → IsNotServed tells.cabinet tells.disk names.journal before.cabinet after.cabinet network (Err why)
       not_before why not = not_served_before tells.cabinet tells.disk before.cabinet read after.cabinet reads.only_texts reads.text.1 names.journal network why not
+
+      without_before : IsLeftWithoutRecord tells names.journal from (record before { cabinet = read }) after network → IsLeftWithoutRecord tells names.journal from before after network
+      without_before (inl same) = inl (same ∙ reads.only_texts.disks)
+      without_before (inr has) = inr (has_before tells.cabinet tells.disk before.cabinet read after.cabinet reads.only_texts names.journal _ has)
 
       ships_before : (done : Result ⊤ Fault) → ShipsJournal tells names.journal from (record before { cabinet = read }) after network done → ShipsJournal tells names.journal from before after network done
       ships_before (Ok value) ships = record {
@@ -130,10 +140,10 @@ module _ {I O C E : Type 0} (tells : Tellings I O C E) (from : ℕ) where
         read = has_before tells.cabinet tells.disk before.cabinet read after.cabinet reads.only_texts names.journal _ ships.read;
       }
       ships_before (Err fault.Write) ships = (part_before _ ships.0, ships.1, has_before tells.cabinet tells.disk before.cabinet read after.cabinet reads.only_texts names.journal _ ships.2)
-      ships_before (Err (fault.Other kept given)) ships = (not_before (fault.Other kept given) ships.0, part_before _ ships.1, ships.2)
-      ships_before (Err (fault.Damaged at)) ships = (not_before (fault.Damaged at) ships.0, part_before _ ships.1, ships.2)
-      ships_before (Err fault.Cabinet) ships = (not_before fault.Cabinet ships.0, part_before _ ships.1, ships.2)
-      ships_before (Err fault.Memory) ships = (not_before fault.Memory ships.0, part_before _ ships.1, ships.2)
+      ships_before (Err (fault.Other kept given)) ships = (not_before (fault.Other kept given) ships.0, part_before _ ships.1, ships.2, without_before ships.3)
+      ships_before (Err (fault.Damaged at)) ships = (not_before (fault.Damaged at) ships.0, part_before _ ships.1, ships.2, without_before ships.3)
+      ships_before (Err fault.Cabinet) ships = (not_before fault.Cabinet ships.0, part_before _ ships.1, ships.2, without_before ships.3)
+      ships_before (Err fault.Memory) ships = (not_before fault.Memory ships.0, part_before _ ships.1, ships.2, without_before ships.3)
       ships_before (Err another) ships = absurd ships.0
 
     module _ (left : O) (after : Parts I O C) (network : Network) (stays : Stays (tells.sink.frame left) (tells.sink.frame after.output)) where
@@ -142,7 +152,7 @@ module _ {I O C E : Type 0} (tells : Tellings I O C E) (from : ℕ) where
 
       -- the journal was told to be so
       abbrev Told : (List ℕ → Type 0) → Type 0
-      Told Is = JournalIsTold tells.cabinet tells.disk before.cabinet after.cabinet (Some names.journal) Is
+      Told Is = JournalIsTold tells.cabinet tells.disk before.cabinet (Some names.journal) Is
 
       completes : (status : ℕ) (done : Result ⊤ Fault) → status ≡ status_of_done done → Ended done → Told (λ bytes. (history : List Entry) × IsHistoryOf network history bytes) → NoneFailed tells before after ⊤ → (status ≡ 0) ⊎ (status ≡ 7)
       completes status (Ok value) is ships told held = inl is

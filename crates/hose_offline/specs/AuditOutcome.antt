@@ -72,7 +72,7 @@ module _ {I O C E : Type 0} (tells : Tellings I O C E) (names : PricedNames)
   -- the journal is told, and is so for each network with whose text the topology begins
   abbrev pub JournalIs : (Network → List ℕ → Type 0) → Type 0
   JournalIs Is = IsFor (notation_of names.topology) names.prices (named_text tells names before)
-      (λ network. JournalIsTold tells.cabinet tells.disk before.cabinet after.cabinet
+      (λ network. JournalIsTold tells.cabinet tells.disk before.cabinet
       (Some names.journal) (Is network))
 
   -- What comes of reading the text and opening the journal, of which this is told. Of the text

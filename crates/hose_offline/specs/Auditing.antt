@@ -93,7 +93,7 @@ module _ {C E : Type 0} (cabinet : CabinetGhosts C E) (old new : C) where
 pub record HasAudited {I O C E : Type 0} (tells : Tellings I O C E) (name : List ℕ)
     (before after : Parts I O C) (network : Network) (history : List Entry)
     (closing : Result ⊤ Failed) : Type 0 where
-  pub begun : HadContent tells.cabinet tells.disk before.cabinet after.cabinet name
+  pub begun : HadContent tells.cabinet tells.disk before.cabinet name
       (IsHistoryOf network history)
   pub sound : IsSound network 0 history
   pub met : Met (object_of (tells.cabinet.frame before.cabinet))

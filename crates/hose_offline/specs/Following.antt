@@ -51,21 +51,21 @@ pub record IsOtherAt (network : Network) (history : List Entry) (packet : Packet
 
 -- The answer to a packet by a journal of this history, and the history then. An entry is added
 -- where it was due, and committed; where the disk failed at that, it is not in the history.
-abbrev pub AnswersAt : Network → List Entry → Packet → Offered → List Entry → Type 0
-AnswersAt network old packet (Have n) new =
+abbrev pub AnswersPacket : Network → List Entry → Packet → Offered → List Entry → Type 0
+AnswersPacket network old packet (Have n) new =
     ((packet.epoch ≤ length old) × (n ≡ length old) × (new ≡ old))
     ⊎ ((entry : Entry) × IsDueAt network old packet × BringsAt network old packet entry
     × (n ≡ length new) × (new ≡ old ++ entry ∷ []))
-AnswersAt network old packet (Want n) new =
+AnswersPacket network old packet (Want n) new =
     (length old + 1 < packet.epoch) × (n ≡ length old + 1) × (new ≡ old)
-AnswersAt network old packet (Differs at own given) new =
+AnswersPacket network old packet (Differs at own given) new =
     IsOtherAt network old packet own given × (at ≡ length old) × (new ≡ old)
-AnswersAt network old packet Memory new = IsDueAt network old packet
+AnswersPacket network old packet Memory new = IsDueAt network old packet
     × ((entry : Entry) × IsSpelling entry packet.body) × (new ≡ old)
-AnswersAt network old packet (Unsound epoch) new = IsDueAt network old packet
+AnswersPacket network old packet (Unsound epoch) new = IsDueAt network old packet
     × ((entry : Entry) → ¬ BringsAt network old packet entry)
     × (epoch ≡ packet.epoch) × (new ≡ old)
-AnswersAt network old packet (Disk at) new =
+AnswersPacket network old packet (Disk at) new =
     ((entry : Entry) × IsDueAt network old packet × BringsAt network old packet entry)
     × (at ≡ length old) × (new ≡ old)
 
@@ -76,7 +76,7 @@ pub data ArePacketsAnswered (network : Network) (since : List Entry) : List Pack
   none_yet : ArePacketsAnswered network since [] [] since
   packet_more : {packets : List Packet} {answers : List Offered} {middle history : List Entry}
       (packet : Packet) (answer : Offered) → ArePacketsAnswered network since packets answers middle
-      → AnswersAt network middle packet answer history
+      → AnswersPacket network middle packet answer history
       → ArePacketsAnswered network since (packets ++ packet ∷ []) (answers ++ answer ∷ []) history
 
 -- The packet's body spells the entry of its epoch, which is sound at the book.
@@ -146,7 +146,7 @@ pub record HasFollowed {I O C E : Type 0} (tells : Tellings I O C E) (name : Lis
     (closing : Result ⊤ Failed) : Type 0 where
   pub since : List Entry
   pub history : List Entry
-  pub begun : HadContent tells.cabinet tells.disk before.cabinet after.cabinet name
+  pub begun : HadContent tells.cabinet tells.disk before.cabinet name
       (IsHistoryOf network since)
   pub follows : FollowsFrom tells before after network since history ended
   pub disks : TellsDiskAnswers 0 follows.answers (tells.cabinet.frame after.cabinet).returned

@@ -14,7 +14,7 @@ use Rattle.hose_store.specs.Beginning.{HasLeft, StandsFor}
 use Rattle.hose_store.specs.Commit.{Closes, store_books}
 use Rattle.hose_store.specs.Opening.{IsAtOpening, IsOpenedOn}
 use Rattle.hose_store.specs.Recovery.{IsHistoryOf}
-use Rattle.hose_store.specs.Store.{Kept}
+use Rattle.hose_store.specs.Store.{KeptStore}
 use Rattle.hose_offline.specs.OnDisk.{opening_of}
 
 -- ---- the store on a disk
@@ -32,7 +32,7 @@ pub record IsLeftWith {E : Type 0} (disk : DiskGhosts E) (old : E) (network : Ne
 -- before anything is added, and else with the one that entries of this kind lead to, as `HasLeft`
 -- says.
 pub record IsJustOpened {E : Type 0} (disk : DiskGhosts E) (Kind : EntryKind) (old : E)
-    (network : Network) (store : Kept E) : Type 0 where
+    (network : Network) (store : KeptStore E) : Type 0 where
   pub opened : IsOpenedOn disk old network store
   pub images : LeavesOnly disk old store.journal.disk (IsAtOpening disk old network)
   pub count : KeepsCount disk old store.journal.disk
@@ -40,7 +40,7 @@ pub record IsJustOpened {E : Type 0} (disk : DiskGhosts E) (Kind : EntryKind) (o
       opened.history store
   pub unused : (left : E) (closing : Result ⊤ Failed) → Closes disk store left closing
       → IsLeftWith disk old network opened.history left
-  pub leaves : (history : List Entry) (last : Kept E) (left : E) (closing : Result ⊤ Failed)
+  pub leaves : (history : List Entry) (last : KeptStore E) (left : E) (closing : Result ⊤ Failed)
       → GoesOn (store_books disk) Kind network opened.history store history last
       → Closes disk last left closing
       → HasLeft disk Kind (disk.may_leave old) (opening_of disk network opened.history old) history
@@ -70,13 +70,14 @@ module _ {C E : Type 0} (cabinet : CabinetGhosts C E) (disk : DiskGhosts E) wher
 
   -- The disk of a name was taken out, and the store was opened on it.
   pub record OpensJournal (Kind : EntryKind) (name : List ℕ) (old new : C) (network : Network)
-      (store : Kept E) : Type 0 where
+      (store : KeptStore E) : Type 0 where
     pub was : E
     pub taken : IsTakenOut name old new was
     pub opens : IsJustOpened disk Kind was network store
 
   -- The store was closed, and its disk was put back.
-  pub record ClosesJournal (old new : C) (store : Kept E) (closing : Result ⊤ Failed) : Type 0 where
+  pub record ClosesJournal (old new : C) (store : KeptStore E) (closing : Result ⊤ Failed) :
+      Type 0 where
     pub left : E
     pub closes : Closes disk store left closing
     pub call : IsCalled (disk.frame store.journal.disk) (disk.frame left) closing

@@ -11,6 +11,9 @@ pub mod Generating
 pub mod Journal
 pub mod JsonRead
 pub mod Limits
+pub mod MoveEnd
+pub mod MoveOutcome
+pub mod Moving
 pub mod Named
 pub mod OnDisk
 pub mod Parts

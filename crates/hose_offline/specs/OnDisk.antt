@@ -5,7 +5,7 @@ use Rattle.hose_io.specs.declared.Failed.{Failed}
 use Rattle.hose_graph.specs.Network.{Network}
 use Rattle.hose_graph.specs.declared.entry.Entry.{Entry}
 use Rattle.hose_graph.specs.declared.command.Reply.{Reply}
-use Rattle.hose_law.specs.History.{IsDecidedAt}
+use Rattle.hose_law.specs.Script.{ReadLine}
 use Rattle.hose_disk.specs.Cabinet.{Has, object_of}
 use Rattle.hose_disk.specs.declared.cabinet.Cabinet.{Ghosts as CabinetGhosts}
 use Rattle.hose_disk.specs.declared.disk.Disk.{Ghosts as DiskGhosts}
@@ -14,7 +14,7 @@ use Rattle.hose_store.specs.Beginning.{Beginning, HasLeft}
 use Rattle.hose_store.specs.Opening.{IsAtOpening}
 use Rattle.hose_store.specs.Recovery.{IsHistoryOf, IsRecoveredAs}
 use Rattle.hose_offline.specs.Run.{Keeping, in_memory}
-use Rattle.hose_offline.specs.Talking.{TellsDisks}
+use Rattle.hose_offline.specs.Talking.{IsAskedBy, TellsDisks}
 
 -- the opening of a disk that stood for a history then
 abbrev pub opening_of : {E : Type 0} → DiskGhosts E → Network → List Entry → E → Beginning
@@ -27,16 +27,17 @@ opening_of disk network since was = record {
 
 -- Failures of a disk were told no more often than the disk has failed. The cabinet failed where
 -- closing did. What is left of the disk stands for the history, as `HasLeft` says, beside what it
--- had at its opening.
+-- had at its opening. Where an image of the disk has one entry more than a part of the history, one
+-- of the lines asked for it.
 pub record KeptOnDisk {C E : Type 0} (cabinet : CabinetGhosts C E) (disk : DiskGhosts E)
     (name : List ℕ) (old new : C) (closing : Result ⊤ Failed) (network : Network)
-    (since history : List Entry) (replies : List Reply) : Type 0 where
+    (since history : List Entry) (lines : List ReadLine) (replies : List Reply) : Type 0 where
   pub told : TellsDisks 0 replies (cabinet.frame new).returned
   pub met : Met (object_of (cabinet.frame old)) (object_of (cabinet.frame new)) closing
   pub left : Has (cabinet.frame old).tells (cabinet.held old name) (λ was.
       Has (cabinet.frame new).tells (cabinet.held new name) (λ left.
-      HasLeft disk IsDecidedAt (disk.may_leave was) (opening_of disk network since was) history
-      left closing))
+      HasLeft disk (IsAskedBy lines replies) (disk.may_leave was)
+      (opening_of disk network since was) history left closing))
 
 -- no call of the cabinet failed
 abbrev pub CabinetWorked : {C E : Type 0} → CabinetGhosts C E → C → C → Type 0
@@ -46,16 +47,23 @@ CabinetWorked cabinet old new = object_of (cabinet.frame new) ≡ object_of (cab
 abbrev pub CabinetFailed : {C E : Type 0} → CabinetGhosts C E → C → C → Type 0
 CabinetFailed cabinet old new = Rose (object_of (cabinet.frame old)) (object_of (cabinet.frame new))
 
-module _ {C E : Type 0} (cabinet : CabinetGhosts C E) (disk : DiskGhosts E) (old new : C) where
+module _ {C E : Type 0} (cabinet : CabinetGhosts C E) (disk : DiskGhosts E) (old : C) where
   -- as it was read at its opening, the disk of this name held bytes of this kind
   abbrev pub HadContent : List ℕ → (List ℕ → Type 0) → Type 0
   HadContent name Is = Has (cabinet.frame old).tells (cabinet.held old name) (λ was.
       IfSome (disk.content was) Is)
 
+  -- The disk of the journal, if there is one, is told, and this holds of what is read of it.
+  abbrev pub JournalIsTold : Option (List ℕ) → (List ℕ → Type 0) → Type 0
+  JournalIsTold journal Is = MatchOption journal ⊤ (λ name. IsTrue (cabinet.frame old).tells
+      × (was : E) × (cabinet.held old name ≡ Some was)
+      × (bytes : List ℕ) × (disk.content was ≡ Some bytes) × Is bytes)
+
+module _ {C E : Type 0} (cabinet : CabinetGhosts C E) (disk : DiskGhosts E) (old new : C) where
   -- the book on the disk of this name, once closing came to this
   abbrev pub on_disk : List ℕ → Result ⊤ Failed → Keeping
   on_disk name closing = record {
-    Begins = λ network since. HadContent name (IsHistoryOf network since);
+    Begins = λ network since. HadContent cabinet disk old name (IsHistoryOf network since);
     Keeps = KeptOnDisk cabinet disk name old new closing;
   }
 
@@ -75,13 +83,7 @@ module _ {C E : Type 0} (cabinet : CabinetGhosts C E) (disk : DiskGhosts E) (old
   -- The journal is not one of the network: it means this, and so it stands for no history.
   pub record IsRefusedOnDisk (network : Network) (name : List ℕ) (meaning : Meaning Entry) :
       Type 0 where
-    pub means : HadContent name (λ bytes. IsRecoveredAs network bytes meaning)
-    pub none : HadContent name
+    pub means : HadContent cabinet disk old name (λ bytes. IsRecoveredAs network bytes meaning)
+    pub none : HadContent cabinet disk old name
         (λ bytes. (history : List Entry) → ¬ IsHistoryOf network history bytes)
     pub unopened : IsUnopened network name
-
-  -- The disk of the journal, if there is one, is told, and this holds of what is read of it.
-  abbrev pub JournalIsTold : Option (List ℕ) → (List ℕ → Type 0) → Type 0
-  JournalIsTold journal Is = MatchOption journal ⊤ (λ name. IsTrue (cabinet.frame old).tells
-      × (was : E) × (cabinet.held old name ≡ Some was)
-      × (bytes : List ℕ) × (disk.content was ≡ Some bytes) × Is bytes)

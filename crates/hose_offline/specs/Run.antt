@@ -24,16 +24,16 @@ use Rattle.hose_offline.specs.declared.notation.Notation.{Notation}
 use Rattle.hose_offline.specs.declared.notation.Refusal.{Refusal}
 
 -- Where a run keeps its book: the history with which it may begin, and what holds of that history,
--- the one at the end and the replies.
+-- the one at the end, the lines and the replies.
 pub record Keeping : Type 1 where
   pub Begins : Network → List Entry → Type 0
-  pub Keeps : Network → List Entry → List Entry → List Reply → Type 0
+  pub Keeps : Network → List Entry → List Entry → List ReadLine → List Reply → Type 0
 
 -- a run keeps its book in memory: it begins with nothing, and no reply is for a failure of a disk
 abbrev pub in_memory : Keeping
 in_memory = record {
   Begins = λ network since. since ≡ [];
-  Keeps = λ network since history replies. WithoutDisk replies;
+  Keeps = λ network since history lines replies. WithoutDisk replies;
 }
 
 -- This output is right for this input, a book of this history, and this network: the input is the
@@ -79,7 +79,7 @@ pub record HasRun (prices : Network → Network → Type 0) (keeping : Keeping)
   pub left : Holdings
   pub script : IsScript network 0 since nothing_held lines replies history left
   pub decided : IsDecided network 0 (length since) history
-  pub keeps : keeping.Keeps network since history replies
+  pub keeps : keeping.Keeps network since history lines replies
   pub none_oversold : (place l : ℕ) → ¬ IsOversold network (book_of 0 (take place history)) l
   pub held : (place : ℕ) → place ≤ length history → AreLiveUnreleased 0 history place
   pub kept : (place : ℕ) → StaysLive 0 history place

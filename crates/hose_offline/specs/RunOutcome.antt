@@ -125,7 +125,7 @@ module _ {I O C E : Type 0} (tells : Tellings I O C E) (prices : Network → Net
   -- begins
   abbrev pub AnyJournalIs : (Network → List ℕ → Type 0) → Type 0
   AnyJournalIs Is = IsFor Lines prices (tells.source.content before.input) (λ network.
-      JournalIsTold tells.cabinet tells.disk before.cabinet after.cabinet journal (Is network))
+      JournalIsTold tells.cabinet tells.disk before.cabinet journal (Is network))
 
 -- The run left the output as `left` is, and then the last line was put, which tells the fault, if
 -- there is one.

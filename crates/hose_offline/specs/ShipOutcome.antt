@@ -7,6 +7,7 @@ use Rattle.hose_graph.specs.Network.{Network}
 use Rattle.hose_graph.specs.declared.entry.Entry.{Entry}
 use Rattle.hose_law.specs.History.{IsSound}
 use Rattle.hose_disk.specs.Cabinet.{Has}
+use Rattle.hose_journal.specs.Opening.{AddsNoRecord}
 use Rattle.hose_store.specs.Entries.{BeginsWith}
 use Rattle.hose_store.specs.Recovery.{IsHistoryOf, digest_of}
 use Rattle.hose_store.specs.Replaying.{KeepsRead}
@@ -37,11 +38,22 @@ module _ {I O C E : Type 0} (tells : Tellings I O C E) (journal : List ℕ) (fro
       (λ was. Has (tells.cabinet.frame after.cabinet).tells
       (tells.cabinet.held after.cabinet journal) (λ left. KeepsRead tells.disk was left network))
 
+  -- The journal's disk was not taken; or no record was written on it: what is read of it is as
+  -- before, or none was begun there, and none is there, or one that was begun and has no record.
+  abbrev pub IsLeftWithoutRecord : Network → Type 0
+  IsLeftWithoutRecord network =
+      (tells.cabinet.held after.cabinet ≡ tells.cabinet.held before.cabinet)
+      ⊎ Has (tells.cabinet.frame before.cabinet).tells (tells.cabinet.held before.cabinet journal)
+      (λ was. Has (tells.cabinet.frame after.cabinet).tells
+      (tells.cabinet.held after.cabinet journal)
+      (λ left. AddsNoRecord (tells.disk.content was) (tells.disk.content left)
+      (digest_of network)))
+
   -- The packets, from an epoch on, of all entries of the journal are out, as it was read at its
   -- opening. No call on its disk failed.
   pub record ShipsWhole (network : Network) : Type 0 where
     pub history : List Entry
-    pub held : HadContent tells.cabinet tells.disk before.cabinet after.cabinet journal
+    pub held : HadContent tells.cabinet tells.disk before.cabinet journal
         (IsHistoryOf network history)
     pub out : Grows (tells.sink.content before.output) (tells.sink.content after.output)
         (packets_bytes (packets_from network from history))
@@ -55,12 +67,13 @@ module _ {I O C E : Type 0} (tells : Tellings I O C E) (journal : List ℕ) (fro
   pub record ShipsPart (network : Network) (Puts : List ℕ → Type 0) : Type 0 where
     pub entries : List Entry
     pub sound : IsSound network 0 entries
-    pub held : (entries ≡ []) ⊎ HadContent tells.cabinet tells.disk before.cabinet after.cabinet
+    pub held : (entries ≡ []) ⊎ HadContent tells.cabinet tells.disk before.cabinet
         journal (BeginsWith (digest_of network) entries)
     pub out : Puts (packets_bytes (packets_from network from entries))
 
   -- What shipping comes to, before its last line. At a fault of the journal packets of entries with
-  -- which it begins are out; where the output failed, a part of such packets is.
+  -- which it begins are out; where the output failed, a part of such packets is. No record and no
+  -- seal was written.
   abbrev pub ShipsJournal : Network → Result ⊤ Fault → Type 0
   ShipsJournal network (Ok _) = ShipsWhole network
   ShipsJournal network (Err Write) = ShipsPart network
@@ -72,6 +85,7 @@ module _ {I O C E : Type 0} (tells : Tellings I O C E) (journal : List ℕ) (fro
       × ShipsPart network
       (Grows (tells.sink.content before.output) (tells.sink.content after.output))
       × OutputWorked tells.sink before.output after.output
+      × IsLeftWithoutRecord network
 
 -- The journal was shipped, which left the output so, and then the last line was put, which tells
 -- the fault, if there is one. Nothing was entered in the journal.

@@ -1,5 +1,5 @@
 -- What the lines after a topology say, and what is answered to them.
-use Rattle.std.specs.Prelude.{◌≡◌, ◌≢◌, ◌⊎◌, ℕ, ◌+◌, ◌-◌, ◌^◌, ◌<◌, ◌≤◌, IsFalse, List, [], ◌++◌, length, None, Some, Result, Ok, Err, ⊤}
+use Rattle.std.specs.Prelude.{◌≡◌, ◌≢◌, ◌⊎◌, ℕ, ◌+◌, ◌-◌, ◌^◌, ◌<◌, ◌≤◌, IsFalse, List, [], ◌++◌, length, slice_get, None, Some, Result, Ok, Err, ⊤}
 use Rattle.std.specs.List.{before_first, after_first}
 use mathlib.Core.List.{IsPrefix}
 use Rattle.hose_io.specs.Frame.{Rose, Stays}
@@ -16,10 +16,13 @@ use Rattle.hose_words.specs.declared.lines.LineFault.TheVariants as line_fault
 use Rattle.hose_words.specs.declared.lines.Line.{Line}
 use Rattle.hose_words.specs.declared.lines.Line.TheVariants as line
 use Rattle.hose_graph.specs.declared.entry.Entry.{Entry}
+use Rattle.hose_graph.specs.declared.command.Command.{Command}
 use Rattle.hose_graph.specs.declared.command.Reply.{Reply}
 use Rattle.hose_graph.specs.Network.{Network}
-use Rattle.hose_law.specs.History.{IsDecided, IsDecidedAt}
-use Rattle.hose_law.specs.Quotes.{Holdings, nothing_held}
+use Rattle.hose_law.specs.Answer.{IsStepOf}
+use Rattle.hose_law.specs.Book.{Book}
+use Rattle.hose_law.specs.History.{IsDecided, IsDecidedAt, book_of}
+use Rattle.hose_law.specs.Quotes.{Held, Holdings, nothing_held}
 use Rattle.hose_law.specs.Script.{ReadLine, IsFixedReply, IsScript, disks_in}
 use Rattle.hose_law.specs.Script.ReadLine.{Asks, IsBad, IsLong, Unread}
 use Rattle.hose_offline.specs.Ending.{OutputWorked}
@@ -96,9 +99,29 @@ AnswersLine books old new line answer = IsFixedReply line answer × (new ≡ old
 abbrev pub TellsDisks : ℕ → List Reply → ℕ → Type 0
 TellsDisks before replies after = (before + disks_in replies ≤ after) ⊎ (2 ^ 64 - 1 ≤ after)
 
+-- The entry is decided at the book, and one of the lines asks for it: the reply to that line is
+-- that of a step at a history of this book, whose answer has this entry. So its commit was answered
+-- as the book answers, or as one that the disk failed to keep.
+pub record IsAskedBy (lines : List ReadLine) (replies : List Reply) (network : Network)
+    (book : Book) (entry : Entry) : Type 0 where
+  pub decided : IsDecidedAt network book entry
+  pub place : ℕ
+  pub customer : List ℕ
+  pub command : Command
+  pub reply : Reply
+  pub line : slice_get lines place ≡ Some (Asks customer command)
+  pub answer : slice_get replies place ≡ Some reply
+  pub history : List Entry
+  pub is_book : book_of 0 history ≡ book
+  pub held : Held
+  pub next : List Entry
+  pub after : Held
+  pub step : IsStepOf network 0 history customer held command reply (Some entry) next after
+
 -- Lines that were answered from a history on, where no customer held a quote: the replies are those
--- of a script, whose history goes on from the first one by entries that are decided and were
--- committed. Failures of a disk were told no more often than the count of the books rose.
+-- of a script, whose history goes on from the first one by entries that are decided, that the lines
+-- ask for and that were committed. Failures of a disk were told no more often than the count of the
+-- books rose.
 pub record AreAnswered {K R : Type 0} (books : BooksGhosts K R) (network : Network)
     (since : List Entry) (first last : K) (lines : List ReadLine) (replies : List Reply) :
     Type 0 where
@@ -107,7 +130,7 @@ pub record AreAnswered {K R : Type 0} (books : BooksGhosts K R) (network : Netwo
   pub script : IsScript network 0 since nothing_held lines replies history left
   pub decided : IsDecided network 0 (length since) history
   pub begins : IsPrefix since history
-  pub goes_on : GoesOn books IsDecidedAt network since first history last
+  pub goes_on : GoesOn books (IsAskedBy lines replies) network since first history last
   pub stays : Stays (books.frame first) (books.frame last)
   pub disks : TellsDisks (books.frame first).faults replies (books.frame last).faults
 
@@ -137,7 +160,7 @@ module _ {S O K R : Type 0} (tells : TalkTellings S O K R) (network : Network) (
   -- Lines that were to come were answered. `stops` says how the text that was to come stands to
   -- what comes after them and to what the source has left, and `puts` how much is out of the
   -- replies.
-  pub record TalksUpTo (stops : List ℕ → List ℕ → List ℕ → Type 0) (puts : List Reply → Type 0) :
+  pub record AnswersUpTo (stops : List ℕ → List ℕ → List ℕ → Type 0) (puts : List Reply → Type 0) :
       Type 0 where
     pub lines : List ReadLine
     pub replies : List Reply
@@ -152,7 +175,7 @@ module _ {S O K R : Type 0} (tells : TalkTellings S O K R) (network : Network) (
 
   -- Lines that were to come were answered, until reading met a fault.
   pub record TalksUntil (fault : LineFault) : Type 0 where
-    pub talks : TalksUpTo (StopsAfterLines fault) RepliesOut
+    pub talks : AnswersUpTo (StopsAfterLines fault) RepliesOut
     pub before_end : IsFalse before.lines.ended
     pub kept : after.lines.fault ≡ Some fault
     pub held : OutputWorked tells.sink before.output after.output
@@ -160,7 +183,7 @@ module _ {S O K R : Type 0} (tells : TalkTellings S O K R) (network : Network) (
   -- What answering all lines comes to: each has its reply and says one thing, and no more is to
   -- come; or reading met a fault, or the output failed in a reply.
   abbrev pub Talks : {T : Type 0} → Result T Fault → Type 0
-  Talks (Ok _) = TalksUpTo IsAllTaken RepliesOut
+  Talks (Ok _) = AnswersUpTo IsAllTaken RepliesOut
       × (after.lines.fault ≡ None) × OutputWorked tells.sink before.output after.output
       × WhereTold (tells.source.content before.lines.source)
       (tells.source.content after.lines.source)
@@ -168,7 +191,7 @@ module _ {S O K R : Type 0} (tells : TalkTellings S O K R) (network : Network) (
   Talks (Err fault.Read) = TalksUntil line_fault.Read
       × Rose (tells.source.frame before.lines.source) (tells.source.frame after.lines.source)
   Talks (Err fault.TooLong) = TalksUntil line_fault.TooLong
-  Talks (Err fault.Write) = TalksUpTo IsLeftOver
+  Talks (Err fault.Write) = AnswersUpTo IsLeftOver
       (CutsLast network (tells.sink.content before.output) (tells.sink.content after.output))
       × (after.lines.fault ≡ None)
       × Rose (tells.sink.frame before.output) (tells.sink.frame after.output)

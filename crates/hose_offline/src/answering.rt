@@ -1,21 +1,30 @@
 // A run: a topology, and then a reply for each line.
-ghost use Rattle.std.specs.Prelude.{◌≡◌, ◌≢◌, ◌↔◌, ◌+◌, [], ◌<◌, ◌≤◌, ℕ, List, length, None, Err};
+ghost use Rattle.std.specs.Prelude.{◌≡◌, ◌≢◌, ◌↔◌, ◌+◌, [], ◌<◌, ◌≤◌, ℕ, List, length, None, Err, Result, ⊤};
 ghost use Rattle.std.specs.Prelude.{option_map};
 ghost use Rattle.hose_io.specs.Frame.{Stays};
 ghost use Rattle.hose_io.specs.Stream.{Gives};
-ghost use Rattle.hose_law.specs.History.{IsSound};
+ghost use Rattle.hose_law.specs.History.{IsDecidedAt, IsSound};
 ghost use Rattle.hose_law.specs.Quotes.{nothing_held};
 ghost use Rattle.hose_law.specs.Script.{ReadLine};
 ghost use Rattle.hose_words.specs.Lines.{Shows};
 ghost use Rattle.hose_words.specs.Reading.{ReadsOn};
 ghost use Rattle.hose_graph.specs.Naming.{NamesPlaces};
+ghost use Rattle.hose_graph.specs.Network.{Network};
 ghost use Rattle.hose_graph.specs.declared.entry.Entry.{Entry};
+ghost use Rattle.hose_graph.specs.declared.command.Reply.{Reply};
+ghost use Rattle.hose_io.specs.declared.Failed.{Failed};
+ghost use Rattle.hose_book.specs.GoingOn.{GoesOn};
+ghost use Rattle.hose_store.specs.Beginning.{HasLeft};
+ghost use Rattle.hose_store.specs.Commit.{Closes, store_books};
+ghost use Rattle.hose_store.specs.Store.{KeptStore};
 ghost use Rattle.hose_core.specs.Stepping.{FitsHistory};
 ghost use Rattle.hose_disk.specs.Cabinet.{object_of};
+ghost use Rattle.hose_offline.specs.Journal.{IsJustOpened};
+ghost use Rattle.hose_offline.specs.OnDisk.{opening_of};
 ghost use Rattle.hose_offline.specs.Parts.{KeepsAll, held, parts, tellings};
 ghost use Rattle.hose_offline.specs.RunOutcome.{RunLeaves, RunOutcome};
 ghost use Rattle.hose_offline.specs.Talk.{talk};
-ghost use Rattle.hose_offline.specs.Talking.{AnswersLine, SaysOneThing, SaysRead, Talks, TalksInMemory, plain_books, talk_tellings};
+ghost use Rattle.hose_offline.specs.Talking.{AnswersLine, IsAskedBy, SaysOneThing, SaysRead, Talks, TalksInMemory, plain_books, talk_tellings};
 ghost use Rattle.hose_offline.specs.TalkingOnDisk.{TalksInCabinet};
 
 use crate::fault::{Fault, done_of_talk, end};
@@ -24,7 +33,7 @@ use crate::journal::{close_journal, first_fault, open_journal};
 use crate::outside::Outside;
 use hose_book::{Book, Books, Plain};
 use hose_core::Core;
-use hose_disk::Cabinet;
+use hose_disk::{Cabinet, Disk};
 use hose_graph::{Reply, Topology};
 use hose_io::{Failed, Sink, Source};
 use hose_paths::{RowMaker, RowTable, TableRows};
@@ -180,6 +189,8 @@ fn answer_in_cabinet<S: Source, O: Sink, C: Cabinet>(
     ensures output { Stays (O.frame output.old) (O.frame output.new) }
     ensures cabinet { Stays (object_of (C.frame cabinet.old)) (object_of (C.frame cabinet.new)) }
 {
+    // What is told of entries that lines ask for comes from the law.
+    law_asked::<C::Disk>();
     let store = open_journal::<C, Decided>(alloc, name, topology, cabinet)?;
     let Ok(table) = RowTable::of_all(alloc, store.book().topology()) else {
         let _ = close_journal(store, cabinet);
@@ -194,6 +205,18 @@ fn answer_in_cabinet<S: Source, O: Sink, C: Cabinet>(
     let closed = close_journal(clerk.core.into_books(), cabinet);
     first_fault(answered, closed.0)
 }
+
+// What is left of the disk of a store that was just opened, after commits of entries that lines ask
+// for.
+fn law_asked<D: Disk>()
+    ensures { (lines : List ReadLine) → (replies : List Reply) → (old : D) → (network : Network) →
+        (store : KeptStore D) → (opens : IsJustOpened D.Disk IsDecidedAt old network store) →
+        (history : List Entry) → (last : KeptStore D) → (left : D) → (closing : Result ⊤ Failed) →
+        GoesOn (store_books D.Disk) (IsAskedBy lines replies) network opens.opened.history store
+        history last → Closes D.Disk last left closing →
+        HasLeft D.Disk (IsAskedBy lines replies) (D.may_leave old)
+        (opening_of D.Disk network opens.opened.history old) history left closing }
+{}
 
 // Who answers the lines of a script: where memory is taken, a core of books, and what makes rows.
 #[derive(Drop)]

@@ -2,7 +2,7 @@
 ghost use Rattle.std.specs.Prelude.{◌≡◌, ◌≢◌, List, None};
 ghost use Rattle.hose_graph.specs.Network.{Network};
 ghost use Rattle.hose_law.specs.History.{IsSoundAt};
-ghost use Rattle.hose_store.specs.Store.{Kept};
+ghost use Rattle.hose_store.specs.Store.{KeptStore};
 ghost use Rattle.hose_follow.specs.Packet.{Packet};
 ghost use Rattle.hose_offline.specs.Auditing.{priced_names};
 ghost use Rattle.hose_offline.specs.FollowOutcome.{FollowOutcome};
@@ -74,7 +74,7 @@ fn follow_journal<I: Source, O: Sink, C: Cabinet>(
 
 // A store that was just opened for sound entries is so for entries that packets bring.
 fn law_brought<D: Disk>()
-    ensures { (packets : List Packet) → (old : D) → (network : Network) → (store : Kept D) →
+    ensures { (packets : List Packet) → (old : D) → (network : Network) → (store : KeptStore D) →
         IsJustOpened D.Disk IsSoundAt old network store →
         IsJustOpened D.Disk (IsBrought packets) old network store }
 {}

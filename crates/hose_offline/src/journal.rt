@@ -10,7 +10,7 @@ use hose_book::Book;
 use hose_disk::{Cabinet, Disk};
 use hose_graph::Topology;
 use hose_io::Failed;
-use hose_store::{Premises, Store, law_closed, law_one_meaning, law_opened, law_run};
+use hose_store::{Premises, Store, law_one_meaning};
 use std::alloc::Global;
 
 /// Takes the disk of a name out of the cabinet and opens the store on it; where none is opened, the
@@ -73,11 +73,8 @@ pub fn open_store<D: Disk, P: Premises>(
     ensures refused { IfErr result (λ refused.
         IsNotOpened D.Disk disk refused.1 topology (Err refused.0)) }
 {
-    // What is known of each image of the disk comes from the laws of stores.
+    // What is known of each image of the disk comes from the law.
     law_one_meaning(&topology);
-    law_opened::<D, P>();
-    law_run::<D, P>();
-    law_closed::<D, P>();
     match Store::open(alloc, disk, topology) {
         Ok(store) => Ok(store),
         Err(refused) => Err((Fault::from(refused.0), refused.1)),

@@ -2,7 +2,8 @@
 //! book in memory or in a journal, `audit` tells the book of a journal as a text, `run_generated`
 //! sums up the script of a seed, `prove` writes a certificate of least cost, `check` judges one,
 //! and `price` prices hoses under all tariffs; `ship` writes the entries of a journal as packets,
-//! and `follow` takes packets into a journal that follows it. `hosed` chooses between them by the
+//! and `follow` takes packets into a journal that follows it; `move_journal` writes what a journal
+//! of one network holds into a journal of another one. `hosed` chooses between them by the
 //! program's words; where it serves customers it reads topologies, opens journals and tells books
 //! as they do:
 //!
@@ -18,6 +19,7 @@
 //! let status = price(alloc, &tariffs, "star.txt", outside);
 //! let status = ship(alloc, &OwnCosts, names, 1, outside);
 //! let status = follow(alloc, &OwnCosts, names, outside);
+//! let status = move_journal(alloc, &OwnCosts, Move { from, to, live: false }, outside);
 //! ```
 #![tactic(auto)]
 
@@ -31,6 +33,8 @@ mod generating;
 mod input_line;
 mod journal;
 mod json_text;
+mod move_end;
+mod moving;
 mod notation;
 mod outside;
 mod pricing;
@@ -47,6 +51,7 @@ pub use following::follow;
 pub use generating::{Sizes, run_generated};
 pub use journal::open_store;
 pub use json_text::JSON_LIMIT;
+pub use moving::{Move, move_journal};
 pub use notation::{Notation, Refusal};
 pub use outside::Outside;
 pub use pricing::price;

@@ -1,7 +1,9 @@
-use Rattle.std.proofs.Common.{◌≡◌, ◌∙◌, inl, inr, Err, refl, ap, arith}
+use Rattle.std.proofs.Common.{◌≡◌, ◌∙◌, inl, inr, Err, List, refl, ap, arith}
 use Rattle.std.proofs.lemmas.Result.{err_from_is_err_and}
 use Rattle.hose_words.proofs.OnReading.{ReadsOn-start}
+use Rattle.hose_graph.specs.declared.command.Reply.{Reply}
 use Rattle.hose_law.specs.History.{IsDecidedAt}
+use Rattle.hose_law.specs.Script.{ReadLine}
 use Rattle.hose_offline.proofs.Journals.{first_long, first_sound, not_too_long, talked_in, unused_in}
 use Rattle.hose_offline.proofs.answering.answer_in_cabinet.Goals as goal
 
@@ -37,8 +39,9 @@ returns-clause-talks g c =
     let served = c.answer_all-answered in
     let closed = c.close_journal-closed in
     let sound = first_sound first.result.books c.in_ok-store.store since first.ensures.books opens.opens.opened.has.sound in
+    let asked = λ (lines : List ReadLine) (replies : List Reply). c.law_asked.ensures lines replies opens.was c.args.topology c.in_ok-store.store opens.opens in
     let has = talked_in g.C.Cabinet g.C.Disk.Disk c.args.name.now c.args.cabinet.now c.open_journal.new.cabinet closed.new.cabinet c.args.topology c.in_ok-store.store g.S.Source g.O.Sink c.args.lines.now served.new.lines c.args.output.now served.new.output first.result.books served.new.clerk.core.books served.result closed.result.0
-    opens (rw c.into_books.ensures at closed.ensures.closes) first.ensures.books (served.ensures.talks since sound (first.ensures.fits 0 since opens.opens.opened.has.book)) in
+    opens (rw c.into_books.ensures at closed.ensures.closes) asked first.ensures.books (served.ensures.talks since sound (first.ensures.fits 0 since opens.opens.opened.has.book)) in
     inr (served.result, closed.result.0, has, c.first_fault.ensures)
 
 pub returns-clause-too_long : goal.returns-clause-too_long

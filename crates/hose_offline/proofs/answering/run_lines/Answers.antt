@@ -7,7 +7,7 @@ use Rattle.hose_offline.specs.declared.fault.Fault.TheVariants.{Read}
 use Rattle.std.specs.Prelude.{option_map}
 use Rattle.hose_offline.specs.Parts.{parts, tellings}
 use Rattle.hose_offline.specs.RunOutcome.{RunLeaves}
-use Rattle.hose_topo.specs.Reading.{KeepsFault}
+use Rattle.hose_topo.specs.Reading.{KeepsLineFault}
 use Rattle.hose_offline.proofs.Leaving.{leaves_in_cabinet, leaves_in_memory}
 use Rattle.hose_offline.proofs.Running.{leaves_topology, not_read, stopped_told, wrong_told}
 use Rattle.hose_words.proofs.Saying.{rose_now}
@@ -26,7 +26,7 @@ returns-in_err-told-clause-leaves g c =
     (λ line word wrong. wrong_told g.S.Source start last line word c.requires.pending (read.wrong line word (at ∙ ap Err wrong)) (read.no_text line word (at ∙ ap Err wrong)))
     (λ fault stopped. stopped_told g.S.Source start last fault c.requires.pending (read.front c.requires.fault fault (at ∙ ap Err stopped)))
     (λ failed. rose_now g.S.Source start last c.requires.fault (read.read (at ∙ ap Err failed)))
-    (λ other. read.reads_on.unfailed (not_read topology start.fault last.fault c.requires.fault (subst (KeepsFault start.fault last.fault) at read.fault) other))
+    (λ other. read.reads_on.unfailed (not_read topology start.fault last.fault c.requires.fault (subst (KeepsLineFault start.fault last.fault) at read.fault) other))
     (λ none. read.memory (at ∙ ap Err none)))
 
 pub returns-in-None-clause-leaves : goal.returns-in-None-clause-leaves

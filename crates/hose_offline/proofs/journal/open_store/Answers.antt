@@ -1,4 +1,6 @@
 use Rattle.std.proofs.Common.{Err, refl, sym, subst, le_refl}
+use Rattle.std.specs.Prelude.{⊤}
+use Rattle.hose_store.proofs.Standing.{closed_left, opened_stands, run_stands}
 use Rattle.hose_offline.specs.OnDisk.{opening_of}
 use Rattle.hose_offline.specs.ServingOnDisk.{IsNotOpened}
 use Rattle.hose_offline.specs.declared.fault.Fault.{Fault}
@@ -12,14 +14,16 @@ returns-in-Ok-clause-opens g c =
     let found = c.in-Ok.ensures in
     let since = found.opened.history in
     let begins = opening_of g.D.Disk c.args.topology since old in
-    let stands = c.law_opened.ensures begins old old store found.opened refl found.any_moment found.keeps.tells refl (le_refl _) (g.met.D.Disk.only_now old) in
+    let counts = g.met.D.Disk.counts_now in
+    let stands = opened_stands g.D.Disk g.P.Premises.kind (g.D.Disk.may_leave old) begins old store found.opened refl found.any_moment found.keeps.tells refl (counts old) (g.met.D.Disk.untold store.journal.disk) (le_refl _) (g.met.D.Disk.only_now old) in
     record {
       opened = found.opened;
       images = found.any_moment;
       count = found.count;
       stands = stands;
-      unused = λ left closing closes. left_unused g.D.Disk c.args.topology old left store closing g.met.D.Disk.counts_now found.opened found.any_moment closes;
-      leaves = λ history last left closing goes closes. c.law_closed.ensures begins old left history last closing (c.law_run.ensures begins old since history store last stands goes) closes;
+      unused = λ left closing closes. left_unused g.D.Disk c.args.topology old left store closing counts found.opened found.any_moment closes;
+      leaves = λ history last left closing goes closes. closed_left g.D.Disk g.P.Premises.kind (g.D.Disk.may_leave old) begins ⊤ last left history closing (counts left)
+          (run_stands g.D.Disk g.P.Premises.kind (g.D.Disk.may_leave old) begins since store history last stands goes) closes;
     }
 
 pub returns-in-Err-clause-refused : goal.returns-in-Err-clause-refused

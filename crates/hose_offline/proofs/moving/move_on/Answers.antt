@@ -1,0 +1,9 @@
+use Rattle.std.proofs.Common.{inl, inr, refl, subst}
+use Rattle.hose_move.specs.Changing.{IsFirstChange}
+use Rattle.hose_offline.proofs.moving.move_on.Goals as goal
+
+pub returns-in-Some-clause-moves : goal.returns-in-Some-clause-moves
+returns-in-Some-clause-moves g c = inl (c.in-Some.change, refl, subst (IsFirstChange c.args.old.now c.args.new.now) c.in-Some.is c.first_change.ensures, refl, refl)
+
+pub returns-in-None-clause-moves : goal.returns-in-None-clause-moves
+returns-in-None-clause-moves g c = inr (subst (IsFirstChange c.args.old.now c.args.new.now) c.in-None.is c.first_change.ensures, c.move_stated.ensures.moves)

@@ -1,0 +1,193 @@
+-- What moving a journal to another network comes to, step by step.
+use Rattle.std.specs.Prelude.{◌≡◌, ◌≢◌, ◌⊎◌, ℕ, List, length, Bool, true, false, Some, IsSome, IsTrue, Result, IsOk, Ok, Err}
+use Rattle.hose_io.specs.Frame.{Rose}
+use Rattle.hose_io.specs.Stream.{Grows}
+use Rattle.hose_io.specs.Writing.{GrowsInPart}
+use Rattle.hose_graph.specs.Network.{Network}
+use Rattle.hose_graph.specs.declared.entry.Entry.{Entry}
+use Rattle.hose_disk.specs.declared.cabinet.Cabinet.{Ghosts as CabinetGhosts}
+use Rattle.hose_disk.specs.declared.disk.Disk.{Ghosts as DiskGhosts}
+use Rattle.hose_move.specs.Changing.{GoesOnFrom, IsFirstChange}
+use Rattle.hose_law.specs.History.{IsSound}
+use Rattle.hose_move.specs.Moving.{HasEnough, Moves, OnlyMoves, StandsForPart}
+use Rattle.hose_move.specs.Stating.{ReadsJournal}
+use Rattle.hose_move.specs.declared.changing.Change.{Change}
+use Rattle.hose_move.specs.declared.fault.MoveFault.{MoveFault}
+use Rattle.hose_move.specs.declared.stating.Scope.{Scope}
+use Rattle.hose_move.specs.declared.stating.Scope.TheVariants as scope
+use Rattle.hose_move.specs.declared.stating.Stated.{Stated}
+use Rattle.hose_store.specs.Opening.{IsUnchanged}
+use Rattle.hose_store.specs.declared.fault.StoreFault.{StoreFault}
+use Rattle.hose_offline.specs.Auditing.{ReadsTopology}
+use Rattle.hose_offline.specs.CabinetText.{OnlyTextsRead}
+use Rattle.hose_offline.specs.Ending.{OutputWorked}
+use Rattle.hose_offline.specs.Fault.{of_store}
+use Rattle.hose_offline.specs.Journal.{IsPutIn, IsTakenOut}
+use Rattle.hose_offline.specs.MoveEnd.{moved_done, number_lines}
+use Rattle.hose_offline.specs.OnDisk.{CabinetFailed, CabinetWorked}
+use Rattle.hose_offline.specs.Parts.{Parts, Tellings}
+use Rattle.hose_offline.specs.declared.fault.Fault.{Fault}
+use Rattle.hose_offline.specs.declared.fault.Fault.TheVariants.{Cabinet, Write}
+use Rattle.hose_offline.specs.declared.move_end.MoveStop.{MoveStop}
+use Rattle.hose_offline.specs.declared.move_end.MoveStop.TheVariants.{Old, New, Network as Changed}
+use Rattle.hose_offline.specs.declared.move_end.Moved.{Moved}
+use Rattle.hose_offline.specs.declared.moving.Move.{Move}
+
+-- ---- what is moved
+
+-- What a move names, the prices of networks, and whether all entries are moved or what is live.
+pub record MoveNames : Type 1 where
+  pub prices : Network → Network → Type 0
+  pub scope : Scope
+  pub topology : List ℕ
+  pub journal : List ℕ
+  pub new_topology : List ℕ
+  pub new_journal : List ℕ
+
+-- which entries are moved, by whether the live VPNs alone are
+abbrev pub scope_of : Bool → Scope
+scope_of true = scope.Live
+scope_of false = scope.All
+
+-- what a move of the program names, at such prices
+abbrev pub names_of : (Network → Network → Type 0) → Move → MoveNames
+names_of prices of = record {
+  prices = prices;
+  scope = scope_of of.live;
+  topology = of.from.topology.now;
+  journal = of.from.journal.now;
+  new_topology = of.to.topology.now;
+  new_journal = of.to.journal.now;
+}
+
+-- what came of reading a journal that is moved, as a fault of the program
+abbrev pub read_done : Result Stated StoreFault → Result Stated Fault
+read_done (Ok stated) = Ok stated
+read_done (Err fault) = Err (of_store fault)
+
+-- Where a disk stood for a part of the entries, each of which is sound, they were all moved, but
+-- for a fault of the disk or want of memory.
+abbrev pub IsComplete : {E : Type 0} → DiskGhosts E → E → Network → List Entry
+    → Result ℕ MoveFault → Type 0
+IsComplete disk opened network entries moved = (bytes : List ℕ)
+    → disk.content opened ≡ Some bytes → StandsForPart network entries bytes
+    → IsSound network 0 entries → HasEnough moved → IsOk moved
+
+-- ---- the disks of a cabinet
+
+module _ {C E : Type 0} (cabinet : CabinetGhosts C E) where
+  -- no disk was taken out, and the cabinet failed
+  pub record IsNotLent (old new : C) : Type 0 where
+    pub same : cabinet.held new ≡ cabinet.held old
+    pub tells : (cabinet.frame new).tells ≡ (cabinet.frame old).tells
+    pub failed : CabinetFailed cabinet old new
+
+  -- A name was looked for among the texts, and is there where they are told.
+  pub record IsLookedFor (name : List ℕ) (old new : C) : Type 0 where
+    pub only_texts : OnlyTextsRead cabinet old new
+    pub worked : CabinetWorked cabinet old new
+    pub there : IsTrue (cabinet.frame old).tells → IsSome (cabinet.text old name)
+
+  -- a name was not found among the texts, or to look for it failed
+  pub record IsNotFound (old new : C) : Type 0 where
+    pub only_texts : OnlyTextsRead cabinet old new
+    pub failed : CabinetFailed cabinet old new
+
+module _ {C E : Type 0} (cabinet : CabinetGhosts C E) (disk : DiskGhosts E) where
+  -- The disk of a name was taken out of the cabinet, as it was held there, and put back, with this
+  -- done to it; the disks of other names are as they were.
+  pub record IsLent (name : List ℕ) (old new : C) (Done : E → E → Type 0) : Type 0 where
+    pub mid : C
+    pub opened : E
+    pub left : E
+    pub out : IsTakenOut cabinet disk name old mid opened
+    pub done : Done opened left
+    pub in_place : IsPutIn cabinet disk mid new left
+    pub others : (other : List ℕ) → other ≢ name
+        → cabinet.held new other ≡ cabinet.held old other
+    pub texts : cabinet.text new ≡ cabinet.text old
+
+  module _ (name : List ℕ) (which : Scope) (old new : C) (network : Network) where
+    -- What reading the journal of a name comes to: its disk is not taken out, or its images are as
+    -- before at each moment, and it states entries or is refused.
+    abbrev pub ReadsThere : Result Stated Fault → Type 0
+    ReadsThere result = ((result ≡ Err Cabinet) × IsNotLent cabinet old new)
+        ⊎ ((read : Result Stated StoreFault) × (result ≡ read_done read)
+        × IsLent name old new (λ opened left.
+        ReadsJournal disk opened left network which read × IsUnchanged disk opened left))
+
+  -- What reading the journal of a name comes to, which has to be there.
+  abbrev pub ReadsOld : List ℕ → Scope → C → C → Network → Result Stated Fault → Type 0
+  ReadsOld name which old new network result =
+      ((result ≡ Err Cabinet) × IsNotFound cabinet old new)
+      ⊎ ((found : C) × IsLookedFor cabinet name old found
+      × ReadsThere name which found new network result)
+
+  -- What moving entries into the journal of a name comes to: its disk is not taken out, or its
+  -- images at each moment are of the move, and all entries are in it or it is told why not.
+  abbrev pub MovesNew : List ℕ → C → C → Network → List Entry → Result Moved MoveStop → Type 0
+  MovesNew name old new network entries result =
+      ((result ≡ Err (New Cabinet)) × IsNotLent cabinet old new)
+      ⊎ ((moved : Result ℕ MoveFault) × (result ≡ moved_done (length entries) moved)
+      × IsLent name old new (λ opened left. Moves disk opened network entries left moved
+      × OnlyMoves disk opened network entries left
+      × IsComplete disk opened network entries moved))
+
+-- ---- step by step
+
+module _ {I O C E : Type 0} (tells : Tellings I O C E) where
+  -- The numbers are out, and then the entries were moved into the journal of a name; or the output
+  -- failed, a part of the numbers is out, and nothing was done to the cabinet.
+  abbrev pub Enters : List ℕ → Parts I O C → Parts I O C → Network → Stated
+      → Result Moved MoveStop → Type 0
+  Enters name before after network stated result = ((result ≡ Err (Old Write))
+      × Rose (tells.sink.frame before.output) (tells.sink.frame after.output)
+      × GrowsInPart (tells.sink.content before.output) (tells.sink.content after.output)
+      (number_lines stated.numbers.items) × (after.cabinet ≡ before.cabinet))
+      ⊎ (Grows (tells.sink.content before.output) (tells.sink.content after.output)
+      (number_lines stated.numbers.items) × OutputWorked tells.sink before.output after.output
+      × MovesNew tells.cabinet tells.disk name before.cabinet after.cabinet network
+      stated.entries.items result)
+
+  -- The old journal was read, and what it states was entered in the new one; or it was not read,
+  -- and nothing is out.
+  abbrev pub MovesStated : List ℕ → List ℕ → Scope → Parts I O C → Parts I O C → Network
+      → Network → Result Moved MoveStop → Type 0
+  MovesStated journal new_journal which before after old new result =
+      ((why : Fault) × (result ≡ Err (Old why))
+      × ReadsOld tells.cabinet tells.disk journal which before.cabinet after.cabinet old (Err why)
+      × (after.output ≡ before.output))
+      ⊎ ((stated : Stated) × (read : C)
+      × ReadsOld tells.cabinet tells.disk journal which before.cabinet read old (Ok stated)
+      × Enters new_journal (record before { cabinet = read }) after new stated result)
+
+  -- The new network goes on from the old one, and the journal was moved; or it does not, the first
+  -- change is told, and nothing else was done.
+  abbrev pub MovesOn : List ℕ → List ℕ → Scope → Parts I O C → Parts I O C → Network → Network
+      → Result Moved MoveStop → Type 0
+  MovesOn journal new_journal which before after old new result = ((change : Change)
+      × (result ≡ Err (Changed change)) × IsFirstChange old new (Some change)
+      × (after.output ≡ before.output) × (after.cabinet ≡ before.cabinet))
+      ⊎ (GoesOnFrom old new
+      × MovesStated journal new_journal which before after old new result)
+
+  -- The new topology was read, and the journal was moved on to its network; or it was not read, and
+  -- nothing is out.
+  abbrev pub MovesFrom : MoveNames → Parts I O C → Parts I O C → Network
+      → Result Moved MoveStop → Type 0
+  MovesFrom names before after old result = ((why : Fault) × (result ≡ Err (New why))
+      × ReadsTopology tells.cabinet before.cabinet after.cabinet names.prices names.new_topology
+      (Err why) × (after.output ≡ before.output))
+      ⊎ ((new : Network) × (read : C)
+      × ReadsTopology tells.cabinet before.cabinet read names.prices names.new_topology (Ok new)
+      × MovesOn names.journal names.new_journal names.scope (record before { cabinet = read }) after
+      old new result)
+
+  -- The old topology was read, and its journal was moved; or it was not read, and nothing is out.
+  abbrev pub MovesNamed : MoveNames → Parts I O C → Parts I O C → Result Moved MoveStop → Type 0
+  MovesNamed names before after result = ((why : Fault) × (result ≡ Err (Old why))
+      × ReadsTopology tells.cabinet before.cabinet after.cabinet names.prices names.topology
+      (Err why) × (after.output ≡ before.output))
+      ⊎ ((old : Network) × (read : C)
+      × ReadsTopology tells.cabinet before.cabinet read names.prices names.topology (Ok old)
+      × MovesFrom names (record before { cabinet = read }) after old result)
