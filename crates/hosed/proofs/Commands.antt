@@ -1,6 +1,6 @@
 -- The program's words, one after the other.
 use Rattle.std.specs.Prelude.{MatchOption, ⊤}
-use Rattle.std.proofs.Common.{◌≡◌, ◌≢◌, ◌∙◌, ◌⊎◌, ℕ, ◌+◌, ◌<◌, ◌≤◌, ◌-◌, ◌^◌, List, [], ◌∷◌, ◌++◌, Option, None, Some, IfNone, IfSome, decimal, inl, inr, suc, zero, length, take, drop, get_or, map, refl, sym, ap, subst, arith}
+use Rattle.std.proofs.Common.{◌≡◌, ◌≢◌, ◌∙◌, ◌⊎◌, ℕ, ◌+◌, ◌<◌, ◌≤◌, ◌-◌, ◌^◌, List, [], ◌∷◌, ◌++◌, Bool, true, false, Option, None, Some, IfNone, IfSome, decimal, inl, inr, suc, zero, length, take, drop, get_or, map, refl, sym, ap, subst, arith}
 use Rattle.std.proofs.lemmas.Bool.{cases_lt}
 use Rattle.std.proofs.lemmas.Fmt.{decimal_injective}
 use Rattle.std.proofs.lemmas.List.{drop-map, drop_more, get_or-map, length-drop, length-map, take_rest}
@@ -11,15 +11,17 @@ use Rattle.hose_words.specs.Grammar.{IsFirst, IsFirstNotAllowed}
 use Rattle.hose_words.proofs.DecimalLemmas.{decimal_told, told_decimal}
 use Rattle.hose_words.specs.Number.{IsNumber}
 use Rattle.hose_words.proofs.Keywords.{choice_of}
-use Rattle.hose_words.proofs.Forms.{AreApart, Misses-stronger, after_place, front_wrong, wrong_at_start, wrong_choice, wrong_chosen, wrong_later, wrong_maybe, wrong_place}
+use Rattle.hose_words.proofs.Forms.{AreApart, Misses-stronger, after_branch, after_place, front_wrong, wrong_at_start, wrong_choice, wrong_chosen, wrong_later, wrong_maybe, wrong_place}
 use Rattle.hose_words.proofs.Passing.{Passes, pass_branch, pass_finish, pass_list, pass_maybe, pass_nothing, pass_place}
 use Rattle.hose_proto.specs.EndWords.{end_words_form}
 use Rattle.hose_proto.proofs.EndWords.{end_words_closed}
 use Rattle.hose_offline.specs.declared.generating.Sizes.{Sizes}
-use Rattle.hosed.specs.ProgramWords.{ArePriceable, AreWords, AsksFor, CheckTask, IsAvailable, IsChosen, IsFileName, IsFirstNamed, IsFirstWrong, IsGenerateTask, IsNodeCount, IsOfJournal, IsOfTopology, IsProveTask, IsRunTask, IsServeTask, IsShipTask, IsStart, IsTariffName, JournalTask, MayDo, ProveTask, RunTask, ServeTask, ShipTask, Start, Task, Verb, at_word, chosen_of, first_end, from_form, name_words, named_form, server_form, sizes_form, start_word, tariff_option, tariff_words, task_words, topology_form, program_form, program_word, with_tariff, words_form}
+use Rattle.hosed.specs.ProgramWords.{ArePriceable, AreWords, AsksFor, CheckTask, IsAvailable, IsChosen, IsFileName, IsFirstNamed, IsFirstWrong, IsGenerateTask, IsMoveStart, IsMoveTask, IsNodeCount, IsOfJournal, IsOfTopology, IsProveTask, IsRunTask, IsServeTask, IsShipTask, IsStart, IsTariffName, JournalTask, MayDo, MoveStart, MoveTask, ProveTask, RunTask, ServeTask, ShipTask, Start, Task, Verb, at_word, chosen_of, first_end, from_form, live_form, live_option, live_words, move_word, moved_form, name_words, named_form, new_form, server_form, sizes_form, start_form, start_word, tariff_option, tariff_words, task_words, topology_form, program_form, program_word, with_option, with_tariff, words_form}
+use Rattle.hosed.specs.ProgramWords.MoveStart.{by_tariff, without}
 use Rattle.hosed.specs.ProgramWords.Start.{named, option}
-use Rattle.hosed.specs.ProgramWords.Verb.{audit, check, follow, generate, price, prove, run, serve, ship}
-use Rattle.hosed.specs.Reading.{AreJournalWords, Chooses, NamesJournal, NamesNoJournal, NamesNoTariff, NamesNoTopology, NamesTopology}
+use Rattle.hosed.specs.ProgramWords.Verb.{audit, check, follow, generate, move, price, prove, run, serve, ship}
+use Rattle.hose_offline.specs.declared.auditing.Names.{Names}
+use Rattle.hosed.specs.Reading.{AreJournalWords, Chooses, ChoosesLive, NamesFile, NamesJournal, NamesMove, NamesNoJournal, NamesNoTariff, NamesNoTopology, NamesTopology}
 
 -- ---- words of a slice
 
@@ -74,7 +76,7 @@ seed_none most bytes word None all same none = λ tells. none tells.0 (all tells
 
 -- each command has a word of its own, by which it is found again
 abbrev verb_of : List ℕ → Verb
-verb_of word = choice_of program_word (run ∷ audit ∷ generate ∷ prove ∷ check ∷ price ∷ ship ∷ follow ∷ serve ∷ []) run word
+verb_of word = choice_of program_word (run ∷ audit ∷ generate ∷ prove ∷ check ∷ price ∷ ship ∷ follow ∷ move ∷ serve ∷ []) run word
 
 verb_back : (verb : Verb) → verb_of (program_word verb) ≡ verb
 verb_back run = refl
@@ -86,18 +88,28 @@ verb_apart one other same = sym (verb_back one) ∙ (ap verb_of same ∙ verb_ba
 verbs_apart : (names : List (List ℕ)) → AreApart (IsAvailable names) program_word
 verbs_apart names = record { apart = λ one other here there same. verb_apart one other same }
 
--- the option names no file
+-- no option names a file
 no_file : IsFileName tariff_option → ⊥
 no_file is = is.no_option refl
 
-starts_apart : AreApart IsStart start_word
-starts_apart = record { apart = at }
+no_live_file : IsFileName live_option → ⊥
+no_live_file is = is.no_option refl
+
+-- an option that names no file is told from the files
+starts_apart : (word : List ℕ) → (IsFileName word → ⊥) → AreApart IsStart (start_word word)
+starts_apart word no_name = record { apart = at }
   where
-    at : (one other : Start) → IsStart one → IsStart other → start_word one ≡ start_word other → one ≡ other
+    at : (one other : Start) → IsStart one → IsStart other → start_word word one ≡ start_word word other → one ≡ other
     at option option here there same = refl
-    at option (named name) here there same = absurd (no_file (subst IsFileName (sym same) there))
-    at (named name) option here there same = absurd (no_file (subst IsFileName same here))
+    at option (named name) here there same = absurd (no_name (subst IsFileName (sym same) there))
+    at (named name) option here there same = absurd (no_name (subst IsFileName same here))
     at (named name) (named other) here there same = ap named same
+
+tariff_apart : AreApart IsStart (start_word tariff_option)
+tariff_apart = starts_apart tariff_option no_file
+
+live_apart : AreApart IsStart (start_word live_option)
+live_apart = starts_apart live_option no_live_file
 
 -- numbers of nodes are told apart
 pub counts_apart : AreApart IsNodeCount decimal
@@ -154,38 +166,38 @@ one_too_many words at some there = record {
     extra (word ∷ left) more = inr (λ follows. follows, refl)
 
 -- where the option does not stand, what is wrong of the form without it is wrong
-file_wrong : (names : List (List ℕ)) (form after : Form) (old : Position) (number : ℕ) → (IsFirst (λ word. word ≡ tariff_option) old.left → ⊥) → IsWrong (named_form after) old number → IsWrong (with_tariff names form after) old number
-file_wrong names form after old number none wrong = at old.left refl
+file_wrong : (choice : List ℕ) → (IsFileName choice → ⊥) → (then after : Form) (old : Position) (number : ℕ) → (IsFirst (λ word. word ≡ choice) old.left → ⊥) → IsWrong (named_form after) old number → IsWrong (with_option choice then after) old number
+file_wrong choice no_name then after old number none wrong = at old.left refl
   where
     -- the name of a file came
-    later : (word : List ℕ) (words : List (List ℕ)) → old.left ≡ word ∷ words → IsFileName word → IsFirstNotAllowed (grammar_of (named_form after)) (word ∷ []) words wrong.place → IsWrong (with_tariff names form after) old number
+    later : (word : List ℕ) (words : List (List ℕ)) → old.left ≡ word ∷ words → IsFileName word → IsFirstNotAllowed (grammar_of (named_form after)) (word ∷ []) words wrong.place → IsWrong (with_option choice then after) old number
     later word words is file behind =
         let back = front_wrong (grammar_of (named_form after)) (grammar_of after) (word ∷ []) [] words wrong.place (after_place IsFileName after word) behind in
-        wrong_chosen {new = record { left = words; read = old.read + 1 }} (named word) file starts_apart (record { cut = is; counted = refl })
+        wrong_chosen {new = record { left = words; read = old.read + 1 }} (named word) file (starts_apart choice no_name) (record { cut = is; counted = refl })
         (record { place = back.0; at = omega (arith, wrong.at, back.1); wrong = back.2 })
 
-    at : (left : List (List ℕ)) → old.left ≡ left → IsWrong (with_tariff names form after) old number
+    at : (left : List (List ℕ)) → old.left ≡ left → IsWrong (with_option choice then after) old number
     at [] is = wrong_choice (record {
-      none = λ first. subst (IsFirst (IsChoice IsStart start_word)) is first;
+      none = λ first. subst (IsFirst (IsChoice IsStart (start_word choice))) is first;
       at = wrong.at ∙ ap (λ n. old.read + n) (subst (λ (words : List (List ℕ)). IsFirstNotAllowed (grammar_of (named_form after)) [] words wrong.place) is wrong.wrong).1;
     })
     at (word ∷ words) is = by (subst (λ (words : List (List ℕ)). IsFirstNotAllowed (grammar_of (named_form after)) [] words wrong.place) is wrong.wrong)
       where
-        no_choice : (IsFileName word → ⊥) → IsChoice IsStart start_word word → ⊥
-        no_choice never (option, here, same) = none (subst (IsFirst (λ w. w ≡ tariff_option)) (sym is) same)
+        no_choice : (IsFileName word → ⊥) → IsChoice IsStart (start_word choice) word → ⊥
+        no_choice never (option, here, same) = none (subst (IsFirst (λ w. w ≡ choice)) (sym is) same)
         no_choice never (named name, here, same) = never (subst IsFileName (sym same) here)
 
-        by : (IsFileName word × IsFirstNotAllowed (grammar_of (named_form after)) (word ∷ []) words wrong.place) ⊎ ((IsFileName word → ⊥) × (wrong.place ≡ 1)) → IsWrong (with_tariff names form after) old number
+        by : (IsFileName word × IsFirstNotAllowed (grammar_of (named_form after)) (word ∷ []) words wrong.place) ⊎ ((IsFileName word → ⊥) × (wrong.place ≡ 1)) → IsWrong (with_option choice then after) old number
         by (inl (file, behind)) = later word words is file behind
         by (inr (never, here)) = wrong_choice (record {
-          none = λ first. no_choice never (subst (IsFirst (IsChoice IsStart start_word)) is first);
+          none = λ first. no_choice never (subst (IsFirst (IsChoice IsStart (start_word choice))) is first);
           at = wrong.at ∙ ap (λ n. old.read + n) here;
         })
 
 -- the option is there, and a later word is wrong
 option_wrong : (names : List (List ℕ)) (form after : Form) (words : List (List ℕ)) (number : ℕ) → Took (at_word 2 words) (at_word 3 words) tariff_option → IsWrong (place (IsTariffName names) form) (at_word 3 words) number
     → IsWrong (with_tariff names form after) (at_word 2 words) number
-option_wrong names form after words number took wrong = wrong_chosen option tt starts_apart took wrong
+option_wrong names form after words number took wrong = wrong_chosen option tt tariff_apart took wrong
 
 is_named : (names : List (List ℕ)) (which : ℕ) → IsFirstNamed names which → IsTariffName names (get_or names which [])
 is_named names which is = record { place = which; within = is.within; is = refl }
@@ -197,7 +209,7 @@ no_tariff names form after words number none = option_wrong names form after wor
 -- what is wrong of the words after a tariff, if one was chosen, where the name of a file has to follow
 chosen_wrong : (names : List (List ℕ)) (after : Form) (words : List (List ℕ)) (tariff : Option ℕ) (at number : ℕ) → Chooses names words tariff at → IsWrong (named_form after) (at_word at words) number
     → IsWrong (topology_form names after) (at_word 2 words) number
-chosen_wrong names after words None at number chosen wrong = file_wrong names (named_form after) after (at_word 2 words) number chosen.none (subst (λ n. IsWrong (named_form after) (at_word n words) number) chosen.at_once wrong)
+chosen_wrong names after words None at number chosen wrong = file_wrong tariff_option no_file (place (IsTariffName names) (named_form after)) after (at_word 2 words) number chosen.none (subst (λ n. IsWrong (named_form after) (at_word n words) number) chosen.at_once wrong)
 chosen_wrong names after words (Some which) at number chosen wrong = option_wrong names (named_form after) after words number chosen.option
     (wrong_later chosen.name (is_named names which chosen.is) (subst (λ n. IsWrong (named_form after) (at_word n words) number) chosen.later wrong))
 
@@ -205,7 +217,7 @@ chosen_wrong names after words (Some which) at number chosen wrong = option_wron
 pub run_wrong : (names words : List (List ℕ)) (tariff : Option ℕ) (at number : ℕ) → Chooses names words tariff at → ((at_word at words).left ≡ [] → ⊥) → IsWrong (named_form finish) (at_word at words) number
     → IsWrong (program_form names run) (at_word 2 words) number
 run_wrong names words None at number chosen some wrong = wrong_maybe (subst (λ n. (at_word n words).left ≡ [] → ⊥) chosen.at_once some)
-    (file_wrong names (maybe (named_form finish)) finish (at_word 2 words) number chosen.none (subst (λ n. IsWrong (named_form finish) (at_word n words) number) chosen.at_once wrong))
+    (file_wrong tariff_option no_file (place (IsTariffName names) (maybe (named_form finish))) finish (at_word 2 words) number chosen.none (subst (λ n. IsWrong (named_form finish) (at_word n words) number) chosen.at_once wrong))
 run_wrong names words (Some which) at number chosen some wrong = wrong_maybe (took_left chosen.option)
     (option_wrong names (maybe (named_form finish)) finish words number chosen.option (wrong_later chosen.name (is_named names which chosen.is)
     (wrong_maybe (subst (λ n. (at_word n words).left ≡ [] → ⊥) chosen.later some) (subst (λ n. IsWrong (named_form finish) (at_word n words) number) chosen.later wrong))))
@@ -271,13 +283,124 @@ ends_at_journal names words task at naming none = record {
   may = journal_may names words task at naming;
 }
 
+-- ---- names of a move
+
+files_apart : AreApart IsFileName (λ name. name)
+files_apart = record { apart = λ one other here there same. same }
+
+-- no option is the other one
+options_apart : tariff_option ≡ live_option → ⊥
+options_apart same = omega (arith, ap length same)
+
+moves_apart : AreApart IsMoveStart move_word
+moves_apart = record { apart = at }
+  where
+    at : (one other : MoveStart) → IsMoveStart one → IsMoveStart other → move_word one ≡ move_word other → one ≡ other
+    at by_tariff by_tariff here there same = refl
+    at by_tariff (without option) here there same = absurd (options_apart same)
+    at by_tariff (without (named name)) here there same = absurd (no_file (subst IsFileName (sym same) there))
+    at (without option) by_tariff here there same = absurd (options_apart (sym same))
+    at (without (named name)) by_tariff here there same = absurd (no_file (subst IsFileName same here))
+    at (without one) (without other) here there same = ap without (live_apart.apart one other here there same)
+
+-- what is wrong of the words behind the name of a file is wrong of those from it on
+pub later_file : {form : Form} (words : List (List ℕ)) (at next number : ℕ) (name : List ℕ) → at + 1 ≡ next → NamesFile words at name → IsWrong form (at_word next words) number → IsWrong (named_form form) (at_word at words) number
+later_file {form} words at next number name same file wrong = wrong_later file.took file.is (subst (λ n. IsWrong form (at_word n words) number) (sym same) wrong)
+
+-- and so it is of those behind the name of the journal that is moved
+pub later_journal : (words : List (List ℕ)) (at next number : ℕ) (name : List ℕ) → at + 1 ≡ next → NamesFile words at name → IsWrong (new_form name) (at_word next words) number → IsWrong moved_form (at_word at words) number
+later_journal words at next number name same file wrong = wrong_chosen name file.is files_apart file.took (subst (λ n. IsWrong (new_form name) (at_word n words) number) (sym same) wrong)
+
+-- no journal is named that is to be moved
+pub none_moved : (words : List (List ℕ)) (at number : ℕ) → Misses IsFileName (at_word at words) number → IsWrong moved_form (at_word at words) number
+none_moved words at number misses = wrong_choice (Misses-stronger (λ word choice. subst IsFileName (sym choice.2) choice.1) misses)
+
+-- what is wrong of the words after the four names
+pub moved_then : (words : List (List ℕ)) (at next number : ℕ) (of to : Names) → NamesMove words at next of to → IsWrong finish (at_word next words) number → IsWrong (named_form moved_form) (at_word at words) number
+moved_then words at next number of to naming wrong =
+    later_file words at (at + 1) number of.topology.now refl naming.topology
+    (later_journal words (at + 1) (at + 2) number of.journal.now (omega arith) naming.journal
+    (later_file words (at + 2) (at + 3) number to.topology.now (omega arith) naming.new_topology
+    (wrong_later naming.new_journal naming.is_other (subst (λ n. IsWrong finish (at_word n words) number) (naming.after ∙ omega arith) wrong))))
+
+-- what is wrong of the names is wrong of the words from the choice of live VPNs on
+pub live_then : (words : List (List ℕ)) (from at number : ℕ) (live : Bool) → ChoosesLive words from live at → IsWrong (named_form moved_form) (at_word at words) number → IsWrong live_form (at_word from words) number
+live_then words from at number true chosen wrong = wrong_chosen option tt live_apart chosen.0 wrong
+live_then words from at number false chosen wrong = file_wrong live_option no_live_file (named_form moved_form) moved_form (at_word from words) number chosen.0 (subst (λ n. IsWrong (named_form moved_form) (at_word n words) number) chosen.1 wrong)
+
+-- where no tariff stands, what is wrong of the words after it is wrong of a move's
+without_wrong : (names : List (List ℕ)) (old : Position) (number : ℕ) → (IsFirst (λ word. word ≡ tariff_option) old.left → ⊥) → IsWrong live_form old number → IsWrong (program_form names move) old number
+without_wrong names old number none wrong = at old.left refl
+  where
+    at : (left : List (List ℕ)) → old.left ≡ left → IsWrong (program_form names move) old number
+    at [] is = wrong_choice (record {
+      none = λ first. subst (IsFirst (IsChoice IsMoveStart move_word)) is first;
+      at = wrong.at ∙ ap (λ n. old.read + n) (subst (λ (words : List (List ℕ)). IsFirstNotAllowed (grammar_of live_form) [] words wrong.place) is wrong.wrong).1;
+    })
+    at (word ∷ words) is = by (subst (λ (words : List (List ℕ)). IsFirstNotAllowed (grammar_of live_form) [] words wrong.place) is wrong.wrong)
+      where
+        no_choice : (IsChoice IsStart (start_word live_option) word → ⊥) → IsChoice IsMoveStart move_word word → ⊥
+        no_choice never (by_tariff, here, same) = none (subst (IsFirst (λ w. w ≡ tariff_option)) (sym is) same)
+        no_choice never (without start, here, same) = never (start, here, same)
+
+        by : (IsChoice IsStart (start_word live_option) word × IsFirstNotAllowed (grammar_of live_form) (word ∷ []) words wrong.place) ⊎ ((IsChoice IsStart (start_word live_option) word → ⊥) × (wrong.place ≡ 1)) → IsWrong (program_form names move) old number
+        by (inl ((start, here, same), behind)) =
+            let forms = start_form (named_form moved_form) moved_form in
+            let back = front_wrong (grammar_of live_form) (grammar_of (forms start)) (start_word live_option start ∷ []) [] words wrong.place (after_branch IsStart (start_word live_option) forms start here live_apart) (subst (λ (w : List ℕ). IsFirstNotAllowed (grammar_of live_form) (w ∷ []) words wrong.place) same behind) in
+            wrong_chosen {new = record { left = words; read = old.read + 1 }} (without start) here moves_apart (record { cut = is ∙ ap (λ (w : List ℕ). w ∷ words) same; counted = refl })
+            (record { place = back.0; at = omega (arith, wrong.at, back.1); wrong = back.2 })
+        by (inr (never, here)) = wrong_choice (record {
+          none = λ first. no_choice never (subst (IsFirst (IsChoice IsMoveStart move_word)) is first);
+          at = wrong.at ∙ ap (λ n. old.read + n) here;
+        })
+
+-- what is wrong of the words after a tariff, if one was chosen, is wrong of a move's
+pub move_then : (names words : List (List ℕ)) (tariff : Option ℕ) (from number : ℕ) → Chooses names words tariff from → IsWrong live_form (at_word from words) number → IsWrong (program_form names move) (at_word 2 words) number
+move_then names words None from number chosen wrong = without_wrong names (at_word 2 words) number chosen.none (subst (λ n. IsWrong live_form (at_word n words) number) chosen.at_once wrong)
+move_then names words (Some which) from number chosen wrong =
+    wrong_chosen by_tariff tt moves_apart chosen.option (wrong_later chosen.name (is_named names which chosen.is) (subst (λ n. IsWrong live_form (at_word n words) number) chosen.later wrong))
+
+-- no tariff is of the name that follows the option of a move
+pub move_no_tariff : (names words : List (List ℕ)) (number : ℕ) → NamesNoTariff names words number → IsWrong (program_form names move) (at_word 2 words) number
+move_no_tariff names words number none = wrong_chosen by_tariff tt moves_apart none.option (wrong_place none.misses)
+
+-- the names of a move are the last of the words, after the choice of live VPNs
+pub ends_at_names : (words : List (List ℕ)) (from at next : ℕ) (live : Bool) (of to : Names) → ChoosesLive words from live at → NamesMove words at next of to → (at_word next words).left ≡ []
+    → (at_word from words).left ≡ live_words live ++ of.topology.now ∷ of.journal.now ∷ to.topology.now ∷ to.journal.now ∷ []
+ends_at_names words from at next live of to chosen naming none = by live chosen
+  where
+    left_at : (one other : ℕ) → one ≡ other → (at_word one words).left ≡ (at_word other words).left
+    left_at one other same = ap (λ n. (at_word n words).left) same
+
+    names : (at_word at words).left ≡ of.topology.now ∷ of.journal.now ∷ to.topology.now ∷ to.journal.now ∷ []
+    names = naming.topology.took.cut ∙ ap (λ (w : List (List ℕ)). of.topology.now ∷ w) (naming.journal.took.cut
+        ∙ ap (λ (w : List (List ℕ)). of.journal.now ∷ w) (left_at (at + 1 + 1) (at + 2) (omega arith) ∙ (naming.new_topology.took.cut
+        ∙ ap (λ (w : List (List ℕ)). to.topology.now ∷ w) (left_at (at + 2 + 1) (at + 3) (omega arith) ∙ (naming.new_journal.cut
+        ∙ ap (λ (w : List (List ℕ)). to.journal.now ∷ w) (left_at (at + 3 + 1) next (omega (arith, naming.after)) ∙ none))))))
+
+    by : (live : Bool) → ChoosesLive words from live at → (at_word from words).left ≡ live_words live ++ of.topology.now ∷ of.journal.now ∷ to.topology.now ∷ to.journal.now ∷ []
+    by true chosen = chosen.0.cut ∙ ap (λ (w : List (List ℕ)). live_option ∷ w) names
+    by false chosen = left_at from at (sym chosen.1) ∙ names
+
+-- the words are those of a move
+pub are_move_words : (names words : List (List ℕ)) (tariff : Option ℕ) (from at next : ℕ) (live : Bool) (of to : Names) → AsksFor move words → Chooses names words tariff from → ChoosesLive words from live at → NamesMove words at next of to → (at_word next words).left ≡ []
+    → AreWords names words move (record { tariff = tariff; live = live; topology = of.topology.now; journal = of.journal.now; new_topology = to.topology.now; new_journal = to.journal.now })
+are_move_words names words tariff from at next live of to asks chosen lives naming none = record {
+  are = all_words names move words tariff from asks chosen ∙ ap (λ (left : List (List ℕ)). program_word move ∷ tariff_words names tariff ++ left) (ends_at_names words from at next live of to lives naming none);
+  may = record {
+    of = record { of = record { is_tariff = is_chosen names words tariff from chosen; is_topology = naming.topology.is }; is_journal = naming.journal.is };
+    is_new_topology = naming.new_topology.is;
+    is_new_journal = naming.is_other;
+  };
+}
+
 -- ---- right words
 
 -- those of a tariff and of a form that begins with a file
 passes_with : (names : List (List ℕ)) (tariff : Option ℕ) (form after : Form) (file : List ℕ) (words : List (List ℕ)) → IsChosen names tariff → IsFileName file → Passes form (file ∷ words) → Passes after words
     → Passes (with_tariff names form after) (tariff_words names tariff ++ file ∷ words)
-passes_with names None form after file words is named_file whole rest = pass_branch (named file) named_file starts_apart rest
-passes_with names (Some which) form after file words is named_file whole rest = pass_branch option tt starts_apart (pass_place (is_named names which is) whole)
+passes_with names None form after file words is named_file whole rest = pass_branch (named file) named_file tariff_apart rest
+passes_with names (Some which) form after file words is named_file whole rest = pass_branch option tt tariff_apart (pass_place (is_named names which is) whole)
 
 -- those of a tariff, and then the name of a file and a form
 topology_passes : (names : List (List ℕ)) (tariff : Option ℕ) (form : Form) (file : List ℕ) (words : List (List ℕ)) → IsOfTopology names tariff file → Passes form words
@@ -291,9 +414,23 @@ journal_passes names tariff form file journal words is rest = topology_passes na
 
 run_passes : (names : List (List ℕ)) (tariff : Option ℕ) (journal : Option (List ℕ)) → IsChosen names tariff → MatchOption journal ⊤ IsFileName → Passes (program_form names run) (tariff_words names tariff ++ name_words journal)
 run_passes names None None is named_file = pass_nothing
-run_passes names (Some which) None is named_file = pass_maybe (pass_branch option tt starts_apart (pass_place (is_named names which is) pass_nothing))
+run_passes names (Some which) None is named_file = pass_maybe (pass_branch option tt tariff_apart (pass_place (is_named names which is) pass_nothing))
 run_passes names None (Some name) is named_file = pass_maybe (passes_with names None (maybe (named_form finish)) finish name [] tt named_file (pass_maybe (pass_place named_file pass_finish)) pass_finish)
 run_passes names (Some which) (Some name) is named_file = pass_maybe (passes_with names (Some which) (maybe (named_form finish)) finish name [] is named_file (pass_maybe (pass_place named_file pass_finish)) pass_finish)
+
+-- those of the names of a move, and of the choice before them
+moved_passes : (task : MoveTask) (names : List (List ℕ)) → IsMoveTask names task → Passes moved_form (task.journal ∷ task.new_topology ∷ task.new_journal ∷ [])
+moved_passes task names may = pass_branch task.journal may.of.is_journal files_apart (pass_place may.is_new_topology (pass_place may.is_new_journal pass_finish))
+
+live_passes : (live : Bool) (file : List ℕ) (words : List (List ℕ)) → IsFileName file → Passes moved_form words → Passes live_form (live_words live ++ file ∷ words)
+live_passes true file words is rest = pass_branch option tt live_apart (pass_place is rest)
+live_passes false file words is rest = pass_branch (named file) is live_apart rest
+
+move_passes : (names : List (List ℕ)) (tariff : Option ℕ) (live : Bool) (file : List ℕ) (words : List (List ℕ)) → IsChosen names tariff → IsFileName file → Passes moved_form words
+    → Passes (program_form names move) (tariff_words names tariff ++ (live_words live ++ file ∷ words))
+move_passes names None true file words chosen is rest = pass_branch (without option) tt moves_apart (pass_place is rest)
+move_passes names None false file words chosen is rest = pass_branch (without (named file)) is moves_apart rest
+move_passes names (Some which) live file words chosen is rest = pass_branch by_tariff tt moves_apart (pass_place (is_named names which chosen) (live_passes live file words is rest))
 
 task_passes : (names : List (List ℕ)) (verb : Verb) (task : Task verb) → MayDo names verb task → Passes (program_form names verb) (task_words names verb task)
 task_passes names run task may = run_passes names task.tariff task.journal may.is_tariff may.is_journal
@@ -305,6 +442,7 @@ task_passes names check task may = topology_passes names task.tariff finish task
 task_passes names price task may = pass_place may.is_topology pass_finish
 task_passes names ship task may = journal_passes names task.tariff from_form task.topology task.journal (decimal task.from ∷ []) may.of (pass_place (task.from, refl, may.is_from) pass_finish)
 task_passes names follow task may = journal_passes names task.tariff finish task.topology task.journal [] may pass_finish
+task_passes names move task may = move_passes names task.tariff task.live task.topology (task.journal ∷ task.new_topology ∷ task.new_journal ∷ []) may.of.of.is_tariff may.of.of.is_topology (moved_passes task names may)
 task_passes names serve task may = journal_passes names task.tariff server_form task.topology task.journal (decimal task.port ∷ decimal task.connections ∷ decimal task.workers ∷ []) may.of
     (pass_place (task.port, refl, may.is_port) (pass_place (task.connections, refl, may.connections_within) (pass_place (task.workers, refl, may.workers_within) pass_finish)))
 
@@ -415,6 +553,40 @@ ship_once names one other may may' same =
     let froms = decimal_injective one.from other.from (omega (arith, may.is_from)) (omega (arith, may'.is_from)) (ap (word_of 1) is.rests) in
     λ i. record { tariff = is.tariffs i; topology = is.topologies i; journal = ap (word_of 0) is.rests i; from = froms i }
 
+-- the choice of live VPNs, and the same words after it
+record IsSameChoice (one other : Bool) (rest rest' : List (List ℕ)) : Type 0 where
+  pub lives : one ≡ other
+  pub rests : rest ≡ rest'
+
+one_live : (one other : Bool) (file file' : List ℕ) (rest rest' : List (List ℕ)) → IsFileName file → IsFileName file' → live_words one ++ file ∷ rest ≡ live_words other ++ file' ∷ rest' → IsSameChoice one other (file ∷ rest) (file' ∷ rest')
+one_live true true file file' rest rest' is is' same = record { lives = refl; rests = ap (drop 1) same }
+one_live false false file file' rest rest' is is' same = record { lives = refl; rests = same }
+one_live true false file file' rest rest' is is' same = absurd (no_live_file (subst IsFileName (sym (ap (word_of 0) same)) is'))
+one_live false true file file' rest rest' is is' same = absurd (no_live_file (subst IsFileName (ap (word_of 0) same) is))
+
+move_once : (names : List (List ℕ)) (one other : MoveTask) → IsMoveTask names one → IsMoveTask names other → task_words names move one ≡ task_words names move other → one ≡ other
+move_once names one other may may' same =
+    let is = one_tariff names one.tariff other.tariff (all one) (all other) may.of.of.is_tariff may'.of.of.is_tariff (plain one.live one.topology (rest one) may.of.of.is_topology) (plain other.live other.topology (rest other) may'.of.of.is_topology) same in
+    let lives = one_live one.live other.live one.topology other.topology (rest one) (rest other) may.of.of.is_topology may'.of.of.is_topology is.rests in
+    λ i. record {
+      tariff = is.tariffs i;
+      live = lives.lives i;
+      topology = ap (word_of 0) lives.rests i;
+      journal = ap (word_of 1) lives.rests i;
+      new_topology = ap (word_of 2) lives.rests i;
+      new_journal = ap (word_of 3) lives.rests i;
+    }
+  where
+    rest : MoveTask → List (List ℕ)
+    rest task = task.journal ∷ task.new_topology ∷ task.new_journal ∷ []
+
+    all : MoveTask → List (List ℕ)
+    all task = live_words task.live ++ task.topology ∷ rest task
+
+    plain : (live : Bool) (file : List ℕ) (words : List (List ℕ)) → IsFileName file → NoOption (live_words live ++ file ∷ words)
+    plain true file words is first = options_apart (sym first)
+    plain false file words is first = file_first file words is first
+
 serve_once : (names : List (List ℕ)) (one other : ServeTask) → IsServeTask names one → IsServeTask names other → task_words names serve one ≡ task_words names serve other → one ≡ other
 serve_once names one other may may' same =
     let is = one_file names one.tariff other.tariff one.topology other.topology (rest one) (rest other) may.of.of may'.of.of same in
@@ -436,6 +608,7 @@ one_task names check = check_once names
 one_task names price = λ one other may may' same. λ i. record { topology = ap (word_of 0) same i }
 one_task names ship = ship_once names
 one_task names follow = journal_once names
+one_task names move = move_once names
 one_task names serve = serve_once names
 
 -- what is so of a task that words tell is so of each of the same command

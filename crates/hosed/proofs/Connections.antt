@@ -17,7 +17,7 @@ use Rattle.hose_offline.specs.Parts.{Tellings}
 use Rattle.hose_offline.specs.declared.fault.Fault.{Fault}
 use Rattle.hose_offline.proofs.Audits.{has_before, held_before}
 use Rattle.hose_offline.proofs.PutBack.{IsPutBack, counts, held_as, left_in}
-use Rattle.hosed.specs.ServerDoor.{IsKeptIn, IsKeptOn, IsMadeAlong, Progress, ServesBook, ServesByJournal, ServesByStore, from_to}
+use Rattle.hosed.specs.ServerDoor.{IsKeptIn, IsKeptOn, IsMadeAlong, ServerProgress, ServesBook, ServesByJournal, ServesByStore, from_to}
 use Rattle.hosed.specs.declared.server.ServerEnd.{ServerEnd}
 
 -- lists that are the same begin alike
@@ -25,7 +25,7 @@ pub same_first : (one other : ℕ) (ones others : List ℕ) → one ∷ ones ≡
 same_first one other ones others same = cc same
 
 -- what serving comes to where a journal is kept one way, it comes to where it is so kept another way
-serves_as : (network : Network) (One Other : Progress → Result ⊤ Failed → Type 0) (faults faults' : ℕ) (Along : Known → Result ⊤ Failed → Type 0) (came : Result ServerEnd Fault) → ((since history : List Entry) (closing : Result ⊤ Failed) → One (from_to network since history) closing → Other (from_to network since history) closing)
+serves_as : (network : Network) (One Other : ServerProgress → Result ⊤ Failed → Type 0) (faults faults' : ℕ) (Along : Known → Result ⊤ Failed → Type 0) (came : Result ServerEnd Fault) → ((since history : List Entry) (closing : Result ⊤ Failed) → One (from_to network since history) closing → Other (from_to network since history) closing)
     → faults ≡ faults' → ServesBook network One faults Along came → ServesBook network Other faults' Along came
 serves_as network One Other faults faults' Along (Ok end) kept same serves = record {
   since = serves.since;

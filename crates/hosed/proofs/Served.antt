@@ -109,7 +109,7 @@ module _ {I O C E : Type 0} (tells : Tellings I O C E) (names : PricedNames) (ta
         completes (Err Write) held is says out = absurd (held.writing (subst (λ (o : O). Rose (tells.sink.frame before.others.output) (tells.sink.frame o)) (sym out.1) says.2))
         completes (Err another) held is says out = absurd says
 
-        refuses : (one : Result ServerEnd Fault) → Failing → JournalIsTold tells.cabinet tells.disk before.others.cabinet after.others.cabinet (Some names.journal) (λ bytes. (history : List Entry) → ¬ IsHistoryOf network history bytes)
+        refuses : (one : Result ServerEnd Fault) → Failing → JournalIsTold tells.cabinet tells.disk before.others.cabinet (Some names.journal) (λ bytes. (history : List Entry) → ¬ IsHistoryOf network history bytes)
             → Serves one → Speaks tells.sink task.port (spoken before) middle one → EndsServed tells.sink mid after.others.output status one → (status ≡ 5) ⊎ (status ≡ 7)
         refuses (Ok end) held told kept says out = absurd (clash tells.cabinet tells.disk before.others.cabinet after.others.cabinet names.journal _ _ (λ image is none. none kept.since is) kept.kept.begun told)
         refuses (Err Memory) held told is says out = inr out.0

@@ -13,7 +13,7 @@ use Rattle.hose_disk.specs.declared.disk.Disk.{Ghosts as DiskGhosts}
 use Rattle.hose_shared.specs.Closing.{HasShared}
 use Rattle.hose_store.specs.Beginning.{Beginning, HasLeft, StandsFor}
 use Rattle.hose_store.specs.Commit.{Closes}
-use Rattle.hose_store.specs.Store.{Kept}
+use Rattle.hose_store.specs.Store.{KeptStore}
 use Rattle.hose_turn.specs.Faults.{end_of_count}
 use Rattle.hose_turn.specs.Known.{Known}
 use Rattle.hose_turn.specs.Places.{HasPlaces}
@@ -21,7 +21,7 @@ use Rattle.hose_offline.specs.OnDisk.{opening_of}
 use Rattle.hose_offline.specs.Journal.{IsJustOpened}
 use Rattle.hose_offline.specs.declared.fault.Fault.{Fault}
 use Rattle.hose_offline.specs.declared.fault.Fault.TheVariants.{Memory}
-use Rattle.hosed.specs.ServerDoor.{IsAnnounced, IsKeptOn, IsOpening, OpensAt, OutputDoor, Progress, ServesBook, Speaks, StaysAsRead, from_to}
+use Rattle.hosed.specs.ServerDoor.{IsAnnounced, IsKeptOn, IsOpening, OpensAt, OutputDoor, ServerProgress, ServesBook, Speaks, StaysAsRead, from_to}
 use Rattle.hosed.specs.declared.server.ServerEnd.{ServerEnd}
 
 -- a history without a place after its beginning is that beginning
@@ -36,11 +36,11 @@ no_more since history (entry ∷ more, same) none = absurd (at (nat_lt (length s
     at one is = let here = none (length since) in grind (arith, longer, here)
 
 -- a store that was just opened stands for the history for which its disk stood
-pub just_opened : {E : Type 0} (disk : DiskGhosts E) (was : E) (network : Network) (store : Kept E) (opens : IsJustOpened disk IsDecidedAt was network store) → IsOpening disk was network opens.opened.history store
+pub just_opened : {E : Type 0} (disk : DiskGhosts E) (was : E) (network : Network) (store : KeptStore E) (opens : IsJustOpened disk IsDecidedAt was network store) → IsOpening disk was network opens.opened.history store
 just_opened disk was network store opens = record { read = opens.opened.read; stands = opens.stands }
 
 -- what a server that gave up comes to: the journal stays as it was read
-pub given_up : (network : Network) (IsKept : Progress → Result ⊤ Failed → Type 0) (faults : ℕ) (Along : Known → Result ⊤ Failed → Type 0) (came : Result ServerEnd Fault) (why : Fault) → came ≡ Err why → StaysAsRead network IsKept → ServesBook network IsKept faults Along came
+pub given_up : (network : Network) (IsKept : ServerProgress → Result ⊤ Failed → Type 0) (faults : ℕ) (Along : Known → Result ⊤ Failed → Type 0) (came : Result ServerEnd Fault) (why : Fault) → came ≡ Err why → StaysAsRead network IsKept → ServesBook network IsKept faults Along came
 given_up network IsKept faults Along came why is stays = subst (ServesBook network IsKept faults Along) (sym is) stays
 
 -- and it says why the door was not opened or not announced
@@ -54,7 +54,7 @@ gave_up {O} sink port before mid after came why is same announced =
     subst (Speaks sink port before after) (sym is) (subst (λ (now : OutputDoor O). Speaks sink port before now (Err why)) (sym same) (not_announced sink port before mid why announced))
 
 -- a store stands for a history since any images that are no fewer
-stands_had : {E : Type 0} (disk : DiskGhosts E) (Had Has : List ℕ → Type 0) (beginning : Beginning) (history : List Entry) (store : Kept E) → ((image : List ℕ) → Had image → Has image) → StandsFor disk IsDecidedAt Had beginning history store
+stands_had : {E : Type 0} (disk : DiskGhosts E) (Had Has : List ℕ → Type 0) (beginning : Beginning) (history : List Entry) (store : KeptStore E) → ((image : List ℕ) → Had image → Has image) → StandsFor disk IsDecidedAt Had beginning history store
     → StandsFor disk IsDecidedAt Has beginning history store
 stands_had disk Had Has beginning history store more stands = record {
   doubt = stands.doubt;
@@ -70,7 +70,7 @@ stands_had disk Had Has beginning history store more stands = record {
 
 -- a disk that is named by its images, its content and its moment
 module _ {E : Type 0} (disk : DiskGhosts E) (was : E) (Had : List ℕ → Type 0) (content : Option (List ℕ)) (moment : ℕ) (named network : Network) (had : (image : List ℕ) → Had image ↔ disk.may_leave was image) (is_content : content ≡ disk.content was)
-    (is_moment : moment ≡ disk.moment was) (is_network : named ≡ network) (since : List Entry) (store : Kept E) where
+    (is_moment : moment ≡ disk.moment was) (is_network : named ≡ network) (since : List Entry) (store : KeptStore E) where
   abbrev beginning : Beginning
   beginning = record { since = since; network = named; moment = moment; tells = is_some content }
 
@@ -92,9 +92,9 @@ module _ {E : Type 0} (disk : DiskGhosts E) (was : E) (Had : List ℕ → Type 0
   }
 
 module _ {E : Type 0} (disk : DiskGhosts E) (was left : E) (network : Network) (closing : Result ⊤ Failed)
-    (law : (since history : List Entry) (store : Kept E) → StandsFor disk IsDecidedAt (disk.may_leave was) (opening_of disk network since was) history store → Closes disk store left closing
+    (law : (since history : List Entry) (store : KeptStore E) → StandsFor disk IsDecidedAt (disk.may_leave was) (opening_of disk network since was) history store → Closes disk store left closing
     → HasLeft disk IsDecidedAt (disk.may_leave was) (opening_of disk network since was) history left closing) where
-  kept_from : (since history : List Entry) (first store : Kept E) → IsOpening disk was network since first → StandsFor disk IsDecidedAt (disk.may_leave was) (opening_of disk network since was) history store → Closes disk store left closing
+  kept_from : (since history : List Entry) (first store : KeptStore E) → IsOpening disk was network since first → StandsFor disk IsDecidedAt (disk.may_leave was) (opening_of disk network since was) history store → Closes disk store left closing
       → IsCalled (disk.frame store.journal.disk) (disk.frame left) closing → IsKeptOn disk was left (from_to network since history) closing
   kept_from since history first store opening stands closes call = record {
     read = opening.read;
@@ -105,11 +105,11 @@ module _ {E : Type 0} (disk : DiskGhosts E) (was left : E) (network : Network) (
   }
 
   -- a store that was opened and closed
-  pub closed_at_once : (since : List Entry) (store : Kept E) → IsOpening disk was network since store → Closes disk store left closing → IsCalled (disk.frame store.journal.disk) (disk.frame left) closing → StaysAsRead network (IsKeptOn disk was left)
+  pub closed_at_once : (since : List Entry) (store : KeptStore E) → IsOpening disk was network since store → Closes disk store left closing → IsCalled (disk.frame store.journal.disk) (disk.frame left) closing → StaysAsRead network (IsKeptOn disk was left)
   closed_at_once since store opening closes call = record { since = since; closing = closing; kept = kept_from since since store store opening opening.stands closes call }
 
   -- a store that was shared between
-  module _ (Begins : List Entry → Kept E → Type 0) (named : (since : List Entry) (store : Kept E) → Begins since store → IsOpening disk was network since store) (pass : Known) (first store : Kept E)
+  module _ (Begins : List Entry → KeptStore E → Type 0) (named : (since : List Entry) (store : KeptStore E) → Begins since store → IsOpening disk was network since store) (pass : Known) (first store : KeptStore E)
       (of : pass.origin.network ≡ network) (began : Begins pass.origin.since first) (shared : HasShared disk Begins pass store)
       (met : (pass.faults ≤ (disk.frame store.journal.disk).faults) ⊎ (end_of_count ≤ (disk.frame store.journal.disk).faults))
       (closes : Closes disk store left closing) (call : IsCalled (disk.frame store.journal.disk) (disk.frame left) closing) where

@@ -9,14 +9,16 @@ use Rattle.hose_offline.specs.Ending.{IsOut}
 use Rattle.hose_offline.specs.Fault.{last_line}
 use Rattle.hose_offline.specs.FollowOutcome.{FollowOutcome}
 use Rattle.hose_offline.specs.GenOutcome.{GenOutcome}
+use Rattle.hose_offline.specs.MoveOutcome.{MoveOutcome}
+use Rattle.hose_offline.specs.Moving.{MoveNames, scope_of}
 use Rattle.hose_offline.specs.Parts.{Parts, Tellings}
 use Rattle.hose_offline.specs.PriceOutcome.{IsSheetBy, PriceOutcome}
 use Rattle.hose_offline.specs.ProveOutcome.{ProveOutcome, ends_from}
 use Rattle.hose_offline.specs.RunOutcome.{RunOutcome}
 use Rattle.hose_offline.specs.ShipOutcome.{ShipOutcome}
 use Rattle.hose_offline.specs.declared.fault.Fault.TheVariants.{Words}
-use Rattle.hosed.specs.ProgramWords.{AreWords, AreWrongWords, IsFirstWrong, Task, Verb, costs_at, first_end}
-use Rattle.hosed.specs.ProgramWords.Verb.{audit, check, follow, generate, price, prove, run, serve, ship}
+use Rattle.hosed.specs.ProgramWords.{AreWords, AreWrongWords, IsFirstWrong, MoveTask, Task, Verb, costs_at, first_end}
+use Rattle.hosed.specs.ProgramWords.Verb.{audit, check, follow, generate, move, price, prove, run, serve, ship}
 
 -- ---- the program's tariffs
 
@@ -34,6 +36,17 @@ offer_of prices name base per tariffs = record {
   names = map name tariffs;
   prices = costs_at prices tariffs;
   makes = IsSheetBy prices base per tariffs;
+}
+
+-- what a move names, at such prices
+abbrev pub moved_by : (Network → Network → Type 0) → MoveTask → MoveNames
+moved_by prices task = record {
+  prices = prices;
+  scope = scope_of task.live;
+  topology = task.topology;
+  journal = task.journal;
+  new_topology = task.new_topology;
+  new_journal = task.new_journal;
 }
 
 -- ---- what comes of a command
@@ -56,6 +69,8 @@ module _ {I O C E : Type 0} (tells : Tellings I O C E) (offer : Offer)
       task.journal) task.from before after status
   Does follow task = FollowOutcome tells (priced_names (offer.prices task.tariff) task.topology
       task.journal) before after status
+  Does move task =
+      MoveOutcome tells (moved_by (offer.prices task.tariff) task) before after status
   Does serve task = ⊤
 
   -- Words that are wrong end with the status 1 and take nothing of the input and of the cabinet;

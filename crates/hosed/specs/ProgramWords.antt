@@ -1,5 +1,5 @@
 -- The words that the program is run with.
-use Rattle.std.specs.Prelude.{◌≡◌, ◌≢◌, ℕ, ◌-◌, ◌<◌, ◌≤◌, List, [], ◌∷◌, ◌++◌, codes, decimal, drop, get_or, length, map, Option, MatchOption, None, Some, option_map, suc, zero, ⊤}
+use Rattle.std.specs.Prelude.{◌≡◌, ◌≢◌, ℕ, ◌-◌, ◌<◌, ◌≤◌, List, [], ◌∷◌, ◌++◌, codes, decimal, drop, get_or, length, map, Bool, true, false, Option, MatchOption, None, Some, option_map, suc, zero, ⊤}
 use Rattle.hose_words.specs.Cursor.{Position}
 use Rattle.hose_words.specs.Form.{Fits64, Form, IsWithin, TellsNumber, branch, finish, grammar_of, maybe, number, place}
 use Rattle.hose_words.specs.Grammar.{IsFirst, IsFirstNotAllowed}
@@ -13,7 +13,7 @@ use Rattle.std.specs.String.{string_bytes}
 use Rattle.hose_pool.specs.Limits.{most_workers}
 use Rattle.hose_price.specs.Limits.{most_tariffs}
 use Rattle.hosed.specs.declared.words.Request.{Request}
-use Rattle.hosed.specs.declared.words.Request.TheVariants.{Audit, Check, Follow, Generate, Price, Prove, Run, Ship}
+use Rattle.hosed.specs.declared.words.Request.TheVariants.{Audit, Check, Follow, Generate, Move, Price, Prove, Run, Ship}
 use Rattle.hosed.specs.declared.words.OfJournal.{OfJournal}
 use Rattle.hosed.specs.declared.words.OfTopology.{OfTopology}
 use Rattle.hosed.specs.declared.words.ServeRequest.{ServeRequest}
@@ -30,6 +30,15 @@ pub record IsFileName (word : List ℕ) : Type 0 where
 -- the word that stands before the name of a tariff
 abbrev pub tariff_option : List ℕ
 tariff_option = codes "--tariff"
+
+-- the word by which a move takes the live VPNs alone
+abbrev pub live_option : List ℕ
+live_option = codes "--live"
+
+-- a word names a file, and another one than this name does
+pub record IsOtherFile (name word : List ℕ) : Type 0 where
+  pub is_name : IsFileName word
+  pub other : word ≢ name
 
 -- a word is the name of a tariff, of tariffs with these names
 pub record IsTariffName (names : List (List ℕ)) (word : List ℕ) : Type 0 where
@@ -81,6 +90,7 @@ pub data Verb : Type 0 where
   price : Verb
   ship : Verb
   follow : Verb
+  move : Verb
   serve : Verb
 
 -- the word that a command begins with
@@ -93,6 +103,7 @@ program_word check = codes "check"
 program_word price = codes "price"
 program_word ship = codes "ship"
 program_word follow = codes "follow"
+program_word move = codes "move"
 program_word serve = codes "serve"
 
 -- a tariff, if one is chosen, and a journal, if the book is to be kept in one
@@ -128,6 +139,16 @@ pub record ShipTask : Type 0 where
   pub journal : List ℕ
   pub from : ℕ
 
+-- a tariff, if one is chosen, whether the live VPNs alone are moved, the text of a topology and a
+-- journal of it, and the same of the network that the journal is moved to
+pub record MoveTask : Type 0 where
+  pub tariff : Option ℕ
+  pub live : Bool
+  pub topology : List ℕ
+  pub journal : List ℕ
+  pub new_topology : List ℕ
+  pub new_journal : List ℕ
+
 -- a tariff, if one is chosen, the text of a topology, a journal, the port of a door, how many
 -- connections it accepts, and how many workers answer them
 pub record ServeTask : Type 0 where
@@ -148,6 +169,7 @@ Task check = CheckTask
 Task price = PriceTask
 Task ship = ShipTask
 Task follow = JournalTask
+Task move = MoveTask
 Task serve = ServeTask
 
 -- ---- the words of each command
@@ -157,8 +179,13 @@ abbrev pub name_words : Option (List ℕ) → List (List ℕ)
 name_words None = []
 name_words (Some name) = name ∷ []
 
+-- the words by which the live VPNs alone are chosen, or all entries
+abbrev pub live_words : Bool → List (List ℕ)
+live_words true = live_option ∷ []
+live_words false = []
+
 -- the words that tell what a command is to do: after its own word those of a tariff, if one is
--- chosen, and then names, endpoints and numbers
+-- chosen, that of the choice of live VPNs, if they are, and then names, endpoints and numbers
 abbrev pub task_words : List (List ℕ) → (verb : Verb) → Task verb → List (List ℕ)
 task_words names run task = tariff_words names task.tariff ++ name_words task.journal
 task_words names audit task =
@@ -172,6 +199,8 @@ task_words names ship task =
     tariff_words names task.tariff ++ task.topology ∷ task.journal ∷ decimal task.from ∷ []
 task_words names follow task =
     tariff_words names task.tariff ++ task.topology ∷ task.journal ∷ []
+task_words names move task = tariff_words names task.tariff ++ (live_words task.live
+    ++ task.topology ∷ task.journal ∷ task.new_topology ∷ task.new_journal ∷ [])
 task_words names serve task = tariff_words names task.tariff
     ++ task.topology ∷ task.journal ∷ decimal task.port ∷ decimal task.connections
     ∷ decimal task.workers ∷ []
@@ -239,6 +268,12 @@ pub record IsShipTask (names : List (List ℕ)) (task : ShipTask) : Type 0 where
   pub of : IsOfJournal names task.tariff task.topology task.journal
   pub is_from : IsFromEpoch task.from
 
+-- those of a move: the new journal has another name
+pub record IsMoveTask (names : List (List ℕ)) (task : MoveTask) : Type 0 where
+  pub of : IsOfJournal names task.tariff task.topology task.journal
+  pub is_new_topology : IsFileName task.new_topology
+  pub is_new_journal : IsOtherFile task.journal task.new_journal
+
 -- those of a server
 pub record IsServeTask (names : List (List ℕ)) (task : ServeTask) : Type 0 where
   pub of : IsOfJournal names task.tariff task.topology task.journal
@@ -256,6 +291,7 @@ MayDo names check task = IsOfTopology names task.tariff task.topology
 MayDo names price task = IsPriceTask names task
 MayDo names ship task = IsShipTask names task
 MayDo names follow task = IsOfJournal names task.tariff task.topology task.journal
+MayDo names move task = IsMoveTask names task
 MayDo names serve task = IsServeTask names task
 
 -- the words are that of the command, and then those of its task, which it may be given
@@ -302,6 +338,14 @@ AreWordsOf names words (Ship of from) = AreWords names words ship (record {
   from = from;
 })
 AreWordsOf names words (Follow of) = AreWords names words follow (journal_task of)
+AreWordsOf names words (Move tariff of) = AreWords names words move (record {
+  tariff = tariff;
+  live = of.live;
+  topology = of.from.topology.now;
+  journal = of.from.journal.now;
+  new_topology = of.to.topology.now;
+  new_journal = of.to.journal.now;
+})
 
 -- what a server is to do
 abbrev pub task_of : ServeRequest → ServeTask
@@ -333,29 +377,34 @@ AsksFor verb words = IsFirst (λ word. word ≡ program_word verb) words
 abbrev pub AsksToServe : List (List ℕ) → Type 0
 AsksToServe words = AsksFor serve words
 
--- what may stand first after a command's word: the option, or the name of a file
+-- what may stand first after a command's word: an option, or the name of a file
 pub data Start : Type 0 where
   option : Start
   named : List ℕ → Start
 
--- the option may stand first after a command's word, and so may each name of a file
+-- an option may stand first after a command's word, and so may each name of a file
 abbrev pub IsStart : Start → Type 0
 IsStart option = ⊤
 IsStart (named name) = IsFileName name
 
--- the word of what may stand first after a command's word
-abbrev pub start_word : Start → List ℕ
-start_word option = tariff_option
-start_word (named name) = name
+-- the word of what may stand first after a command's word, where this is the option
+abbrev pub start_word : List ℕ → Start → List ℕ
+start_word word option = word
+start_word word (named name) = name
 
--- what may stand after that: the name of a tariff and the whole form, or the form after the file
-abbrev pub start_form : List (List ℕ) → Form → Form → Start → Form
-start_form names form after option = place (IsTariffName names) form
-start_form names form after (named name) = after
+-- what may stand after that: one form after the option, and another one after the name of a file
+abbrev pub start_form : Form → Form → Start → Form
+start_form then after option = then
+start_form then after (named name) = after
 
--- a form that begins with the name of a file, and before it a tariff if one is chosen
+-- this option and a form after it, or the name of a file and another form
+abbrev pub with_option : List ℕ → Form → Form → Form
+with_option word then after = branch IsStart (start_word word) (start_form then after)
+
+-- A form that begins with the name of a file, and before it a tariff if one is chosen. The first
+-- form is the whole of it, and the second what stands after the file.
 abbrev pub with_tariff : List (List ℕ) → Form → Form → Form
-with_tariff names form after = branch IsStart start_word (start_form names form after)
+with_tariff names form after = with_option tariff_option (place (IsTariffName names) form) after
 
 -- a name and this
 abbrev pub named_form : Form → Form
@@ -379,10 +428,42 @@ abbrev pub sizes_form : ℕ → Form
 sizes_form nodes =
     place (TellsNumber (IsLinkCount nodes)) (place (TellsNumber IsHoseCount) finish)
 
+-- the names of a new topology, and of a journal that is not this one
+abbrev pub new_form : List ℕ → Form
+new_form journal = named_form (place (IsOtherFile journal) finish)
+
+-- the name of a journal, and those of a new topology and a new journal
+abbrev pub moved_form : Form
+moved_form = branch IsFileName (λ name. name) new_form
+
+-- the choice of live VPNs alone, or of all entries, and the names of a move
+abbrev pub live_form : Form
+live_form = with_option live_option (named_form moved_form) moved_form
+
+-- what may stand first after the word of a move: a tariff, or what may stand after one
+pub data MoveStart : Type 0 where
+  by_tariff : MoveStart
+  without : Start → MoveStart
+
+-- a tariff may stand first after the word of a move, and so may what may stand after one
+abbrev pub IsMoveStart : MoveStart → Type 0
+IsMoveStart by_tariff = ⊤
+IsMoveStart (without start) = IsStart start
+
+-- the word of what may stand first after the word of a move
+abbrev pub move_word : MoveStart → List ℕ
+move_word by_tariff = tariff_option
+move_word (without start) = start_word live_option start
+
+-- what may stand after that
+abbrev pub move_form : List (List ℕ) → MoveStart → Form
+move_form names by_tariff = place (IsTariffName names) live_form
+move_form names (without start) = start_form (named_form moved_form) moved_form start
+
 -- What may stand after the word of a command: a tariff or none, and then a journal or none; the
 -- names of a topology and of a journal; four numbers; the name of a topology and endpoints, after a
--- tariff or none; the name of a topology, after a tariff or none, or alone; or those of a topology
--- and of a journal, and an epoch, nothing more, or the numbers of a server.
+-- tariff or none; the name of a topology, after a tariff or none, or alone; those of a topology and
+-- of a journal, and an epoch, nothing more, or the numbers of a server; or those of a move.
 abbrev pub program_form : List (List ℕ) → Verb → Form
 program_form names run = maybe (with_tariff names (maybe (named_form finish)) finish)
 program_form names audit = topology_form names (named_form finish)
@@ -392,6 +473,7 @@ program_form names check = topology_form names finish
 program_form names price = named_form finish
 program_form names ship = topology_form names (named_form from_form)
 program_form names follow = topology_form names (named_form finish)
+program_form names move = branch IsMoveStart move_word (move_form names)
 program_form names serve = topology_form names (named_form server_form)
 
 -- what the words may be

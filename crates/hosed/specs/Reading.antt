@@ -1,9 +1,10 @@
 -- What is read of the program's words.
-use Rattle.std.specs.Prelude.{◌≡◌, ◌⊎◌, ℕ, ◌+◌, List, [], ◌∷◌, get_or, Option, None, Some, MatchResult, Result}
+use Rattle.std.specs.Prelude.{◌≡◌, ◌⊎◌, ℕ, ◌+◌, List, [], ◌∷◌, get_or, Bool, true, false, Option, None, Some, MatchResult, Result}
 use Rattle.hose_words.specs.Cursor.{Misses, Took}
 use Rattle.hose_words.specs.Grammar.{IsFirst}
-use Rattle.hosed.specs.ProgramWords.{AreWordsOf, AsksFor, CheckTask, IsFileName, IsFirstNamed, IsFirstWrong, IsTariffName, JournalTask, MayDo, Verb, at_word, program_word, tariff_option, task_words}
+use Rattle.hosed.specs.ProgramWords.{AreWordsOf, AsksFor, CheckTask, IsFileName, IsFirstNamed, IsFirstWrong, IsTariffName, JournalTask, IsOtherFile, MayDo, Verb, at_word, live_option, program_word, tariff_option, task_words}
 use Rattle.hosed.specs.ProgramWords.Verb.{audit}
+use Rattle.hose_offline.specs.declared.auditing.Names.{Names}
 use Rattle.hosed.specs.declared.words.Request.{Request}
 
 -- the request of the words, or the first of them that is not allowed
@@ -61,6 +62,29 @@ abbrev pub NamesNoJournal : List (List ℕ) → List (List ℕ) → ℕ → Type
 NamesNoJournal names words number = NamesNoTopology names words number
     ⊎ ((task : CheckTask) × (from : ℕ) × NamesTopology names words task from
     × Misses IsFileName (at_word from words) number)
+
+-- the word of this number is the name of this file
+pub record NamesFile (words : List (List ℕ)) (at : ℕ) (name : List ℕ) : Type 0 where
+  pub took : Took (at_word at words) (at_word (at + 1) words) name
+  pub is : IsFileName name
+
+-- The word of a number says that the live VPNs alone are moved, and the others follow; or it does
+-- not, and they follow from it on.
+abbrev pub ChoosesLive : List (List ℕ) → ℕ → Bool → ℕ → Type 0
+ChoosesLive words from true at =
+    Took (at_word from words) (at_word at words) live_option × (at ≡ from + 1)
+ChoosesLive words from false at =
+    (¬ IsFirst (λ word. word ≡ live_option) (at_word from words).left) × (at ≡ from)
+
+-- the words from a number on name a topology, a journal, a new topology, and a journal of another
+-- name, and the others follow
+pub record NamesMove (words : List (List ℕ)) (at next : ℕ) (of to : Names) : Type 0 where
+  pub after : next ≡ at + 4
+  pub topology : NamesFile words at of.topology.now
+  pub journal : NamesFile words (at + 1) of.journal.now
+  pub new_topology : NamesFile words (at + 2) to.topology.now
+  pub new_journal : Took (at_word (at + 3) words) (at_word (at + 3 + 1) words) to.journal.now
+  pub is_other : IsOtherFile of.journal.now to.journal.now
 
 -- the words are that of such a command and those of this task, and no more
 pub record AreJournalWords (names words : List (List ℕ)) (task : JournalTask) : Type 0 where

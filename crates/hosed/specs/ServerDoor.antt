@@ -22,7 +22,7 @@ use Rattle.hose_proto.specs.ReplyText.{line_of}
 use Rattle.hose_store.specs.Beginning.{HasLeft, StandsFor}
 use Rattle.hose_store.specs.Commit.{Closes}
 use Rattle.hose_store.specs.Recovery.{IsHistoryOf}
-use Rattle.hose_store.specs.Store.{Kept}
+use Rattle.hose_store.specs.Store.{KeptStore}
 use Rattle.hose_turn.specs.Faults.{end_of_count}
 use Rattle.hose_turn.specs.Known.{Known}
 use Rattle.hose_turn.specs.Places.{HasPlaces}
@@ -127,7 +127,7 @@ IsServedAlong count was now pass accepting = AreServed was.told now.told count p
 
 -- the store was just opened on a disk, which stood for this history as it was read
 pub record IsOpening {E : Type 0} (disk : DiskGhosts E) (was : E) (network : Network)
-    (since : List Entry) (store : Kept E) : Type 0 where
+    (since : List Entry) (store : KeptStore E) : Type 0 where
   pub read : IfSome (disk.content was) (IsHistoryOf network since)
   pub stands : StandsFor disk IsDecidedAt (disk.may_leave was) (opening_of disk network since was)
       since store
@@ -136,7 +136,7 @@ pub record IsOpening {E : Type 0} (disk : DiskGhosts E) (was : E) (network : Net
 -- stood for this history.
 pub record OpensAt {E : Type 0} (disk : DiskGhosts E) (Had : List ℕ → Type 0)
     (content : Option (List ℕ)) (moment : ℕ) (network : Network) (since : List Entry)
-    (store : Kept E) : Type 0 where
+    (store : KeptStore E) : Type 0 where
   pub read : IfSome content (IsHistoryOf network since)
   pub stands : StandsFor disk IsDecidedAt Had (record {
     since = since;
@@ -146,7 +146,7 @@ pub record OpensAt {E : Type 0} (disk : DiskGhosts E) (Had : List ℕ → Type 0
   }) since store
 
 -- The store was closed, which left the disk so.
-pub record IsClosedOn {E : Type 0} (disk : DiskGhosts E) (store : Kept E) (left : E) :
+pub record IsClosedOn {E : Type 0} (disk : DiskGhosts E) (store : KeptStore E) (left : E) :
     Type 0 where
   pub closing : Result ⊤ Failed
   pub closes : Closes disk store left closing
@@ -155,18 +155,18 @@ pub record IsClosedOn {E : Type 0} (disk : DiskGhosts E) (store : Kept E) (left 
 -- ---- the book that is kept
 
 -- how the history of a network went on: the one with which it begins, and what it is now
-pub record Progress : Type 0 where
+pub record ServerProgress : Type 0 where
   pub network : Network
   pub since : List Entry
   pub history : List Entry
 
 -- how the history of a network went on, of the network, the history at first and the history now
-abbrev pub from_to : Network → List Entry → List Entry → Progress
+abbrev pub from_to : Network → List Entry → List Entry → ServerProgress
 from_to network since history = record { network = network; since = since; history = history }
 
 -- The history was made along one pass: it begins with what the pass has seen, and each of its
 -- entries since the first history is the pass's own. The disk has met as many faults as the pass.
-pub record IsMadeAlong (made : Progress) (pass : Known) (faults : ℕ) : Type 0 where
+pub record IsMadeAlong (made : ServerProgress) (pass : Known) (faults : ℕ) : Type 0 where
   pub of : pass.origin.network ≡ made.network
   pub began : pass.origin.since ≡ made.since
   pub seen : IsPrefix pass.seen made.history
@@ -175,7 +175,7 @@ pub record IsMadeAlong (made : Progress) (pass : Known) (faults : ℕ) : Type 0 
 
 -- Connections were served along a pass, and its entries are in the journal, which is kept so. The
 -- book is that of its history.
-pub record ServesAlong (network : Network) (IsKept : Progress → Result ⊤ Failed → Type 0)
+pub record ServesDoorAlong (network : Network) (IsKept : ServerProgress → Result ⊤ Failed → Type 0)
     (faults : ℕ) (Along : Known → Type 0) (end : ServerEnd) : Type 0 where
   pub since : List Entry
   pub history : List Entry
@@ -186,24 +186,24 @@ pub record ServesAlong (network : Network) (IsKept : Progress → Result ⊤ Fai
   pub is : IsLedgerOf network 0 history end.book
 
 -- The journal was opened and closed, and stands for what it stood for.
-pub record StaysAsRead (network : Network) (IsKept : Progress → Result ⊤ Failed → Type 0) :
+pub record StaysAsRead (network : Network) (IsKept : ServerProgress → Result ⊤ Failed → Type 0) :
     Type 0 where
   pub since : List Entry
   pub closing : Result ⊤ Failed
   pub kept : IsKept (from_to network since since) closing
 
 -- what serving by a store that was opened comes to: connections were served, or nothing was entered
-abbrev pub ServesBook : Network → (Progress → Result ⊤ Failed → Type 0) → ℕ
+abbrev pub ServesBook : Network → (ServerProgress → Result ⊤ Failed → Type 0) → ℕ
     → (Known → Result ⊤ Failed → Type 0) → Result ServerEnd Fault → Type 0
 ServesBook network IsKept faults Along (Ok end) =
-    ServesAlong network IsKept faults (λ pass. Along pass end.accepting) end
+    ServesDoorAlong network IsKept faults (λ pass. Along pass end.accepting) end
 ServesBook network IsKept faults Along (Err why) = StaysAsRead network IsKept
 
 -- ---- on a disk
 
 -- A disk was kept from its opening, when it stood for the first history, to its closing, when it
 -- stands for what this is now. All entries since are decided.
-pub record IsKeptOn {E : Type 0} (disk : DiskGhosts E) (was left : E) (made : Progress)
+pub record IsKeptOn {E : Type 0} (disk : DiskGhosts E) (was left : E) (made : ServerProgress)
     (closing : Result ⊤ Failed) : Type 0 where
   pub read : IfSome (disk.content was) (IsHistoryOf made.network made.since)
   pub begins : IsPrefix made.since made.history
@@ -226,8 +226,8 @@ module _ {I O C E : Type 0} (tells : Tellings I O C E) (name : List ℕ) (old ne
   -- link is oversold, and exactly those VPNs are live that were admitted before it and not released
   -- since; what each later admission reserves carries every matrix within the rates of its hose,
   -- and no tree over the links allowed at the book before it carries them at less cost.
-  pub record IsKeptIn (made : Progress) (closing : Result ⊤ Failed) : Type 0 where
-    pub begun : HadContent tells.cabinet tells.disk old new name
+  pub record IsKeptIn (made : ServerProgress) (closing : Result ⊤ Failed) : Type 0 where
+    pub begun : HadContent tells.cabinet tells.disk old name
         (IsHistoryOf made.network made.since)
     pub begins : IsPrefix made.since made.history
     pub decided : IsDecided made.network 0 (length made.since) made.history

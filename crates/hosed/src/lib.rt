@@ -10,7 +10,8 @@
 //! `price TOPOLOGY` prices hoses under all tariffs, and `gen SEED NODES LINKS HOSES` runs a script
 //! that it makes of four numbers. A standby is kept by `ship TOPOLOGY JOURNAL FROM`, which writes
 //! the entries of a journal as packets, and `follow TOPOLOGY JOURNAL`, which takes packets into
-//! another one:
+//! another one. `move TOPOLOGY JOURNAL NEW_TOPOLOGY NEW_JOURNAL` writes what a journal of one
+//! network holds into a journal of another one:
 //!
 //! ```
 //! let input = &mut StdSource::new(stdin);
@@ -45,7 +46,8 @@ pub use hose_crew::Context;
 use hose_disk::Cabinet;
 use hose_io::{Door, Sink, Source};
 use hose_offline::{
-    EndWords, Fault, Outside, audit, check, end, follow, price, prove, run, run_generated, ship,
+    EndWords, Fault, Outside, audit, check, end, follow, move_journal, price, prove, run,
+    run_generated, ship,
 };
 use hose_pool::Gate;
 use hose_tariff::{Prices, Tariff};
@@ -63,10 +65,11 @@ use words::{Request, asks_to_serve, request_of, serve_of};
 /// same names, a port, how many connections are to be served, and by how many workers; `prove`, the
 /// name of a text with a topology, and the endpoints of a hose; `check` or `price`, and the name of
 /// a text with a topology; `ship`, the names of `audit`, and an epoch; `follow`, and the names of
-/// `audit`; or `gen`, and four numbers. After the first of them, but for `price` and `gen`,
-/// `--tariff` may stand, and the name of one of the tariffs, of which the first with that name is
-/// meant. `price` takes all tariffs, of which there have to be 1 to 16. A text whose name ends in
-/// `.json` is JSON.
+/// `audit`; `move`, `--live` or nothing, the names of `audit`, and the same of another network,
+/// whose journal has another name; or `gen`, and four numbers. After the first of them, but for
+/// `price` and `gen`, `--tariff` may stand, and the name of one of the tariffs, of which the first
+/// with that name is meant. `price` takes all tariffs, of which there have to be 1 to 16. A text
+/// whose name ends in `.json` is JSON.
 ///
 /// The status is 0 where all was read to its end, and the journal closed. Else it tells the first
 /// fault, and the last line of the output tells it too: 1 `words K`, the number of the first word
@@ -77,7 +80,11 @@ use words::{Request, asks_to_serve, request_of, serve_of};
 /// that could not be opened or closed; 7 `no memory`; 8 `too long`, an input or a topology of more
 /// than 1 GiB, or JSON of more than 16 MiB; 9 `door`, a port that could not be opened, or a
 /// connection that could not be accepted; 10 `no K`, a certificate whose rule K fails; 11
-/// `packet P`, an input in which no whole packet begins at byte P.
+/// `packet P`, an input in which no whole packet begins at byte P; 12 `network node K` or
+/// `network link K`, the first change by which a new network does not go on from the old one; 13
+/// `unsound N`, the epoch of an entry that is not sound on a new network; 14 `differs at N`, that
+/// of an entry that a new journal has and should not have. Of a move that came to its end
+/// `moved N live V` is the last line, and a fault of what is new is told after `new `.
 ///
 /// With `serve` it waits for customers, and for threads of its own: what it promises it keeps if it
 /// returns. It writes `ready` once the port is open, and what the book holds once all is closed.
@@ -197,6 +204,10 @@ fn do_command<I: Source, O: Sink, C: Cabinet>(
         Ok(Request::Follow(of)) => {
             let by = costs_of(tariffs, of.tariff);
             follow(alloc, &by, of.names, outside)
+        }
+        Ok(Request::Move { tariff, of }) => {
+            let by = costs_of(tariffs, tariff);
+            move_journal(alloc, &by, of, outside)
         }
         Err(wrong) => end(Err(Fault::Words(wrong)), outside.output),
     }

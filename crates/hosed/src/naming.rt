@@ -1,10 +1,11 @@
 // What the program's words name, for whoever tells why it ended.
-ghost use Rattle.std.specs.Prelude.{◌≡◌, ℕ, List, None, MatchResult, map};
+ghost use Rattle.std.specs.Prelude.{◌≡◌, ℕ, List, None, Some, MatchResult, map};
 ghost use Rattle.std.specs.String.{string_bytes};
 ghost use Rattle.hosed.specs.Naming.{AreNamed};
 ghost use Rattle.hosed.specs.ProgramWords.{AreWordsOf, IsFirstWrong};
 
 use crate::words::{OfJournal, Request, asks_to_serve, request_of, serve_of};
+use hose_offline::Move;
 use hose_tariff::Tariff;
 
 /// The files and the port that words name, where they name one.
@@ -12,6 +13,8 @@ use hose_tariff::Tariff;
 pub struct Named<'w> {
     pub topology: Option<&'w str>,
     pub journal: Option<&'w str>,
+    pub new_topology: Option<&'w str>,
+    pub new_journal: Option<&'w str>,
     pub port: Option<u16>,
 }
 
@@ -31,6 +34,8 @@ pub fn named_by<'w>(words: &'w [String], tariffs: &[Tariff]) -> Result<Named<'w>
         Ok(request) => Ok(Named {
             topology: Some(request.topology),
             journal: Some(request.journal),
+            new_topology: None,
+            new_journal: None,
             port: Some(request.port),
         }),
         Err(wrong) => Err(wrong),
@@ -51,6 +56,7 @@ fn named_of(request: Request<'_>) -> Named<'_>
         Request::Price { topology } => files(Some(topology), None),
         Request::Ship { of, from: _ } => files(Some(of.names.topology), Some(of.names.journal)),
         Request::Follow(of) => files(Some(of.names.topology), Some(of.names.journal)),
+        Request::Move { tariff: _, of } => moved_files(of),
     }
 }
 
@@ -58,12 +64,34 @@ fn files<'w>(topology: Option<&'w str>, journal: Option<&'w str>) -> Named<'w>
     ensures { result ≡ record {
       topology = topology.entry;
       journal = journal.entry;
+      new_topology = None;
+      new_journal = None;
       port = None;
     } }
 {
     Named {
         topology,
         journal,
+        new_topology: None,
+        new_journal: None,
+        port: None,
+    }
+}
+
+fn moved_files(of: Move<'_>) -> Named<'_>
+    ensures { result ≡ record {
+      topology = Some of.entry.from.topology;
+      journal = Some of.entry.from.journal;
+      new_topology = Some of.entry.to.topology;
+      new_journal = Some of.entry.to.journal;
+      port = None;
+    } }
+{
+    Named {
+        topology: Some(of.from.topology),
+        journal: Some(of.from.journal),
+        new_topology: Some(of.to.topology),
+        new_journal: Some(of.to.journal),
         port: None,
     }
 }

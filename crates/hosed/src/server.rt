@@ -12,7 +12,7 @@ ghost use Rattle.hosed.specs.ServerDoor.{IsAnnounced, IsClosedOn, IsServedAlong,
 
 use crate::words::ServeRequest;
 use hose_book::{Book, Books};
-use hose_crew::{Context, Crew, CrewEnd, Start, Work};
+use hose_crew::{Context, Crew, CrewEnd, DoorStart, Work};
 use hose_disk::{Cabinet, Disk};
 use hose_graph::Topology;
 use hose_io::{Door, Failed, Sink, Source, write_all};
@@ -39,7 +39,7 @@ pub struct ServerEnd {
 
 /// What came of serving connections by a store that was opened, its disk, once it was closed, and
 /// the door.
-pub struct Served<D, L> {
+pub struct ServedDoor<D, L> {
     pub came: Result<ServerEnd, Fault>,
     pub disk: D,
     pub door: L,
@@ -47,7 +47,7 @@ pub struct Served<D, L> {
 
 /// On which disk a store was opened, as it was then, and of which network. A caller names them
 /// here, since a lock has no other way to tell for what its store stood.
-pub trait AtOpening: Start {
+pub trait AtOpening: DoorStart {
     /// The images that a stop might have left of the disk.
     ghost had: { List ℕ → Type 0 };
 
@@ -94,7 +94,7 @@ pub struct OpenedStore<D: Disk> {
 
 /// Workers, and the rows of all nodes that they plan with.
 #[derive(Drop)]
-pub struct Staff<L: Door, N: Start> {
+pub struct Staff<L: Door, N: DoorStart> {
     pub crew: Crew<L, N>,
     pub table: RowTable,
 }
@@ -123,13 +123,13 @@ fn announce<O: Sink, L: Door>(door: &mut L, port: u16, output: &mut O) -> Result
 }
 
 // Closes a store by which no connection was served, and says why none was.
-fn give_up<D: Disk, L>(store: Store<D>, why: Fault, door: L) -> Served<D, L>
+fn give_up<D: Disk, L>(store: Store<D>, why: Fault, door: L) -> ServedDoor<D, L>
     ensures came { result.came ≡ Err why }
     ensures door { result.door ≡ door }
     ensures closes { IsClosedOn D.Disk store result.disk }
 {
     let (_, disk, _) = store.close();
-    Served {
+    ServedDoor {
         came: Err(why),
         disk,
         door,
@@ -151,7 +151,7 @@ fn serve_store<
     request: ServeRequest<'_>,
     output: &mut O,
     door: L,
-) -> Served<D, L>
+) -> ServedDoor<D, L>
     requires workers { (1 ≤ request.workers) × (request.workers ≤ MOST_WORKERS) }
     requires name { opening.blank.name ≡ N.name }
     requires parts { (opening.blank.parts ≡ N.parts) × (opening.blank.parts ≡ request.workers) }
@@ -215,11 +215,11 @@ fn serve_store<
         accepting,
         closing,
     });
-    Served { came, disk, door }
+    ServedDoor { came, disk, door }
 }
 
 // The workers, and the rows of all nodes, which as many threads make.
-fn begin<R: Threads + Sync, L: Door + Send, N: Start + Send + Sync>(
+fn begin<R: Threads + Sync, L: Door + Send, N: DoorStart + Send + Sync>(
     rt: &R,
     alloc: Global,
     network: &Topology,
@@ -280,7 +280,7 @@ fn serve_in_cabinet<
     };
     let blank = Blank::new(u64::from(request.workers));
     let opening = OpenedStore { store, was, blank };
-    let Served {
+    let ServedDoor {
         came,
         disk,
         door: _door,

@@ -4,14 +4,14 @@ ghost use Rattle.std.specs.String.{string_bytes};
 ghost use Rattle.hose_words.specs.Cursor.{IsWrong, Misses, Took};
 ghost use Rattle.hose_words.specs.Form.{Fits64, IsWithin, TellsNumber, finish};
 ghost use Rattle.hose_words.specs.Grammar.{IsFirst};
-ghost use Rattle.hosed.specs.ProgramWords.{ArePriceable, AreServeWords, AsksFor, AsksToServe, IsFileName, IsFirstNamed, IsFirstWrong, IsTariffName, at_word, journal_task, program_form, topology_task};
-ghost use Rattle.hosed.specs.Reading.{AreJournalWords, Chooses, NamesJournal, NamesNoJournal, NamesNoTariff, NamesNoTopology, NamesTopology, Reads};
-ghost use Rattle.hosed.specs.ProgramWords.Verb.{audit, check, generate, price, prove, run, ship};
+ghost use Rattle.hosed.specs.ProgramWords.{ArePriceable, AreServeWords, AsksFor, AsksToServe, IsFileName, IsFirstNamed, IsFirstWrong, IsOtherFile, IsTariffName, at_word, journal_task, moved_form, named_form, program_form, topology_task};
+ghost use Rattle.hosed.specs.Reading.{AreJournalWords, Chooses, ChoosesLive, NamesFile, NamesJournal, NamesMove, NamesNoJournal, NamesNoTariff, NamesNoTopology, NamesTopology, Reads};
+ghost use Rattle.hosed.specs.ProgramWords.Verb.{audit, check, generate, move, price, prove, run, ship};
 
 use crate::end_words::ends_at;
 use hose_gen::{LEAST_NODES, MOST_HOSES};
 use hose_graph::{MOST_EPOCH, MOST_LINKS, MOST_NODES};
-use hose_offline::{Names, Sizes};
+use hose_offline::{Move, Names, Sizes};
 use hose_pool::MOST_WORKERS;
 use hose_price::MOST_TARIFFS;
 use hose_tariff::{Tariff, find};
@@ -52,6 +52,11 @@ pub enum Request<'w> {
     },
     /// Answers packets by a journal that follows the one that they come from.
     Follow(OfJournal<'w>),
+    /// Writes what a journal of one network holds into a journal of another one.
+    Move {
+        tariff: Option<usize>,
+        of: Move<'w>,
+    },
 }
 
 /// The tariff that is chosen, and the name of the text of a topology.
@@ -113,6 +118,8 @@ pub fn request_of<'w>(words: &'w [String], tariffs: &[Tariff]) -> Result<Request
         ship_of(words, tariffs)
     } else if begin_with(words, "follow") {
         Ok(Request::Follow(journal_of(words, tariffs)?))
+    } else if begin_with(words, "move") {
+        move_of(words, tariffs)
     } else {
         Err(1)
     }
@@ -239,6 +246,81 @@ fn ship_of<'w>(words: &'w [String], tariffs: &[Tariff]) -> Result<Request<'w>, u
         of,
         from: u64::from(from),
     })
+}
+
+// The move that the words ask for: after a tariff, if one is chosen, the choice of live VPNs alone
+// or of all entries, then the names of a topology and of a journal, twice, and nothing else.
+fn move_of<'w>(words: &'w [String], tariffs: &[Tariff]) -> Result<Request<'w>, u64>
+    requires { AsksFor move (map string_bytes words.now) }
+    ensures { Reads (map (λ tariff. tariff.name) tariffs.now) (map string_bytes words.now) result }
+{
+    let (tariff, from) = tariff_at(words, tariffs)?;
+    let (live, at) = live_at(words, from);
+    let (of, to) = moved_at(words, at)?;
+    none_at(words, at + 4)?;
+    Ok(Request::Move {
+        tariff,
+        of: Move { live, from: of, to },
+    })
+}
+
+// Whether this word, counted from 1, says that the live VPNs alone are moved, and the number of the
+// word after it; or its own number.
+fn live_at(words: &[String], from: u64) -> (bool, u64)
+    requires some { 1 ≤ from }
+    requires few { from ≤ 4 }
+    ensures chooses { ChoosesLive (map string_bytes words.now) from result.0 result.1 }
+    ensures at { (from ≤ result.1) × (result.1 ≤ from + 1) }
+{
+    match word_at(words, from) {
+        Some(option) if option == "--live" => (true, from + 1),
+        _ => (false, from),
+    }
+}
+
+// The names of a topology and of a journal from this word on, counted from 1, and after them those
+// of a new topology and of a journal of another name.
+fn moved_at(words: &[String], at: u64) -> Result<(Names<'_>, Names<'_>), u64>
+    requires some { 1 ≤ at }
+    requires few { at ≤ 5 }
+    ensures ok { IfOk result (λ found. NamesMove (map string_bytes words.now) at
+        (at + 4) found.0 found.1) }
+    ensures wrong { IfErr result (IsWrong (named_form moved_form)
+        (at_word at (map string_bytes words.now))) }
+{
+    let topology = name_at(words, at)?;
+    let journal = name_at(words, at + 1)?;
+    let new_topology = name_at(words, at + 2)?;
+    let new_journal = other_at(words, at + 3, journal)?;
+    let from = Names { topology, journal };
+    let to = Names {
+        topology: new_topology,
+        journal: new_journal,
+    };
+    Ok((from, to))
+}
+
+// The name of a file that this word is, counted from 1, where it is another one than that of this
+// name; else its number is told.
+fn other_at<'w>(words: &'w [String], at: u64, name: &str) -> Result<&'w str, u64>
+    requires { 1 ≤ at }
+    ensures ok { IfOk result (λ other. Took (at_word at (map string_bytes words.now))
+        (at_word (at + 1) (map string_bytes words.now)) other.now) }
+    ensures named { IfOk result (λ other. IsOtherFile name.now other.now) }
+    ensures wrong { IfErr result
+        (Misses (IsOtherFile name.now) (at_word at (map string_bytes words.now))) }
+{
+    match word_at(words, at) {
+        Some(other) if is_other_file(other, name) => Ok(other),
+        _ => Err(at),
+    }
+}
+
+// Whether a word may name a file, and another one than this name does.
+fn is_other_file(word: &str, name: &str) -> bool
+    ensures { IsTrue result ↔ IsOtherFile name.now word.now }
+{
+    is_file_name(word.as_bytes()) && word != name
 }
 
 /// The server that the words ask for, or the first of them that is not allowed.

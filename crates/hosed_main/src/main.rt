@@ -8,14 +8,14 @@ use hose_door::TcpDoor;
 use hose_io::{StdSink, StdSource};
 use hose_pool::PlainGate;
 use hosed_program::{
-    Context, Returning, Watched, World, flat, hops, long, no_memory, program, program_words,
+    Context, OwnedOutside, Returning, Watched, flat, hops, long, no_memory, program, program_words,
     returning_line, tariffs, tell_reason,
 };
 use std::process::ExitCode;
 
 fn main(rt: HostRuntime) -> ExitCode {
     let alloc = rt.alloc();
-    let mut world = World {
+    let mut world = OwnedOutside {
         input: Watched::new(StdSource::new(rt.stdin())),
         output: StdSink::new(rt.stdout()),
         cabinet: DirCabinet::new(rt),

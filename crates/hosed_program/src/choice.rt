@@ -31,7 +31,7 @@ pub enum TextOrCommand {
 
 /// What the program reads, writes and serves.
 #[derive(Drop)]
-pub struct World<I: Source, O: Sink, C: Cabinet, L: Door> {
+pub struct OwnedOutside<I: Source, O: Sink, C: Cabinet, L: Door> {
     pub input: I,
     pub output: O,
     pub cabinet: C,
@@ -50,7 +50,7 @@ pub fn program<
     context: Context<'_, R, G>,
     words: &[String],
     tariffs: &[Tariff],
-    world: &mut World<I, O, C, L>,
+    world: &mut OwnedOutside<I, O, C, L>,
 ) -> u8
     requires { (C.frame world.old.cabinet).out ≡ None }
     ensures help { text_or_command (map string_bytes words.now) ≡ TextOrCommand.Help

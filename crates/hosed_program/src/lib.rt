@@ -5,7 +5,7 @@
 //! let words = program_words(&rt, alloc)?;
 //! let tariffs = tariffs(alloc, by_flat, by_hops, by_long)?;
 //! let context = Context { rt: &rt, alloc, gate: &PlainGate };
-//! let mut world = World { input, output, cabinet, door };
+//! let mut world = OwnedOutside { input, output, cabinet, door };
 //! let status = program(context, &words, &tariffs, &mut world);
 //! ```
 #![tactic(auto)]
@@ -18,7 +18,7 @@ mod texts;
 mod watched;
 mod words;
 
-pub use choice::{TextOrCommand, World, no_memory, program};
+pub use choice::{OwnedOutside, TextOrCommand, no_memory, program};
 pub use hosed::Context;
 pub use reasons::tell_reason;
 pub use returns::{Returning, returning_line};

@@ -25,11 +25,15 @@ pub fn tell_reason<R: Eprint>(
     let none = Named {
         topology: None,
         journal: None,
+        new_topology: None,
+        new_journal: None,
         port: None,
     };
     // The output tells it too, so a standard error that fails is passed over.
     let _ = match named_by(words, tariffs) {
-        Ok(named) if status == 2 => tell_refused_topology(rt, named, returning),
+        Ok(named) if status == 2 && named.new_topology.is_none() => {
+            tell_refused_topology(rt, named, returning)
+        }
         Ok(named) => tell_of_named(rt, status, named),
         Err(wrong) if status == 1 => tell_wrong_word(rt, words, wrong),
         Err(_) => tell_of_named(rt, status, none),
@@ -63,6 +67,74 @@ fn word_at(words: &[String], number: u64) -> Option<&str> {
 
 // Words that are allowed, or ask for a text of the program, came to this status.
 fn tell_of_named<R: Eprint>(rt: &R, status: u8, named: Named<'_>) -> io::Result<()> {
+    match (named.new_topology, named.new_journal) {
+        (Some(topology), Some(journal)) => tell_of_move(rt, status, named, topology, journal),
+        _ => tell_of_one(rt, status, named),
+    }
+}
+
+// The move of a journal to another network came to this status.
+fn tell_of_move<R: Eprint>(
+    rt: &R,
+    status: u8,
+    named: Named<'_>,
+    new_topology: &str,
+    new_journal: &str,
+) -> io::Result<()> {
+    let topology = named.topology.unwrap_or("");
+    let journal = named.journal.unwrap_or("");
+    match status {
+        2 | 5 | 6 | 8 => tell_moved_files(rt, status, named, new_topology, new_journal),
+        12 => eprintln!(rt;
+            "hosed: the topology {new_topology:?} does not go on from {topology:?}: the last line \
+            of the output tells the first node or link that is not where it was"
+        ),
+        13 => eprintln!(rt;
+            "hosed: the topology {new_topology:?} has no room for an order of the journal \
+            {journal:?}, whose epoch the last line of the output tells; {new_journal:?} ends \
+            before it"
+        ),
+        14 => eprintln!(rt;
+            "hosed: the journal {new_journal:?} has another order than is to be moved, at the \
+            epoch that the last line of the output tells"
+        ),
+        _ => tell_of_one(rt, status, named),
+    }
+}
+
+// One of the files of a move is wrong: the last line tells by `new` which of two it is.
+fn tell_moved_files<R: Eprint>(
+    rt: &R,
+    status: u8,
+    named: Named<'_>,
+    new_topology: &str,
+    new_journal: &str,
+) -> io::Result<()> {
+    let topology = named.topology.unwrap_or("");
+    let journal = named.journal.unwrap_or("");
+    match status {
+        2 => eprintln!(rt;
+            "hosed: the topology {topology:?}, or {new_topology:?}, is not allowed at the place \
+            that the last line of the output tells"
+        ),
+        5 => eprintln!(rt;
+            "hosed: the journal {journal:?}, or {new_journal:?}, is damaged, or it is that of \
+            another network, or of other costs, than its topology tells"
+        ),
+        6 => eprintln!(rt;
+            "hosed: the topology {topology:?} or {new_topology:?} could not be read: {OF_TEXT}; or \
+            the journal {journal:?}, which has to be there, or {new_journal:?} could not be \
+            opened: {OF_JOURNAL}"
+        ),
+        _ => eprintln!(rt;
+            "hosed: the topology {topology:?}, or {new_topology:?}, is longer than 1 GiB, or it \
+            is in JSON and longer than 16 MiB"
+        ),
+    }
+}
+
+// Words that name one network at most came to this status.
+fn tell_of_one<R: Eprint>(rt: &R, status: u8, named: Named<'_>) -> io::Result<()> {
     match status {
         0 => Ok(()),
         1 => tell_no_node(rt, named),

@@ -10,6 +10,7 @@ usage: hosed run [--tariff NAME] [JOURNAL] < FILE
        hosed price TOPOLOGY < SHEET
        hosed ship [--tariff NAME] TOPOLOGY JOURNAL FROM > PACKETS
        hosed follow [--tariff NAME] TOPOLOGY JOURNAL < PACKETS
+       hosed move [--tariff NAME] [--live] TOPOLOGY JOURNAL NEW_TOPOLOGY NEW_JOURNAL
        hosed gen SEED NODES LINKS HOSES
        hosed --help | --version
 
@@ -20,19 +21,22 @@ each command of a customer:
     link A B CAPACITY LENGTH [COST]     the next link, between two nodes named before
     end                                 the end of the topology
     CUSTOMER admit NAME:RATE ..         2 to 64 endpoints
+    CUSTOMER admit-after K NAME:RATE .. the same where K is the newest VPN of the customer
     CUSTOMER quote NAME:RATE ..         the same, held under a number and not reserved
     CUSTOMER take Q                     admits what was quoted
     CUSTOMER release ID
     CUSTOMER show ID
+    CUSTOMER vpns                       which VPNs the customer has
     CUSTOMER link L
     operator down L                     takes the link out of service: no new tree uses it
     operator up L                       puts it back into service
 
-and writes one line for each of the last eight. JOURNAL is a file that keeps the book: an order is
+and writes one line for each of the last ten. JOURNAL is a file that keeps the book: an order is
 in it before its line is written, and a later run with it goes on from there. It is begun where it
 is not there. Without it the book is gone at the end.
 
     admitted ID cost C at N links L:R ..
+    newest M at N                       another one is the newest than K; 0 where there is none
     quoted Q cost C at N links L:R ..
     refused at N side NAME ..
     stale S N                           quoted at the epoch S, and what decided has changed since
@@ -41,6 +45,7 @@ is not there. Without it the book is gone at the end.
     released ID at N
     no vpn ID at N
     vpn ID cost C at N ends NAME:RATE .. links L:R ..
+    vpns ID .. at N                     the live VPNs of the customer, ascending
     link L A B capacity C cost K load X at N
     link L A B capacity C cost K load X out at N            it is out of service
     down L at N, up L at N
@@ -106,6 +111,17 @@ its own, which audit and serve read as any other, and writes one line for each:
     disk at N                           the journal's disk failed, and nothing was entered
     memory                              there was none, and nothing was done
 
+hosed move reads two topologies, as audit does, and JOURNAL, which has to be there and is only read,
+and writes what JOURNAL holds into NEW_JOURNAL, which is one of the network of NEW_TOPOLOGY: each
+VPN with its tree and what is reserved for it. That network has the nodes and links of the old one
+first, in their order; more may follow, and capacities, lengths and costs may be others. NEW_JOURNAL
+has the same entries, with the same numbers; or, with --live, the VPNs that are live alone, with
+other numbers, and then the links that are out of service. It goes on from what is there. The last
+line tells how many entries NEW_JOURNAL has, and how many VPNs are live:
+
+    vpn OLD is NEW                      with --live, each VPN that is live
+    moved N live V
+
 hosed gen makes a network of NODES nodes and LINKS links, and HOSES admissions with a release after
 each fifth, all by the number SEED. It runs them as run does without a journal, and writes how many
 were admitted, refused and released, the last epoch, and what the admitted cost together:
@@ -150,8 +166,8 @@ status  comes                           last line
         that another program holds,
         or a file that failed           cabinet
 7       no memory to begin,
-        or in prove, check, ship
-        or gen                          no memory
+        or in prove, check, ship,
+        move or gen                     no memory
 8       input or TOPOLOGY longer
         than 1 GiB, in JSON than
         16 MiB                          too long
@@ -160,6 +176,13 @@ status  comes                           last line
 10      the certificate is not valid    no K
 11      at this byte of the input no
         whole packet begins             packet P
+12      NEW_TOPOLOGY has not this
+        node or link first              network node I | network link I
+13      the entry of this epoch is
+        not sound there                 unsound N
+14      NEW_JOURNAL has another one     differs at N
+
+What is wrong with NEW_TOPOLOGY or NEW_JOURNAL at a status up to 8 is told after `new `.
 ";
 
 /// What `--version` is answered with.

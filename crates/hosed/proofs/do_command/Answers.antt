@@ -1,6 +1,6 @@
 use Rattle.std.proofs.Common.{arith, refl}
 use Rattle.std.proofs.lemmas.List.{length-map}
-use Rattle.hosed.specs.ProgramWords.Verb.{audit, check, follow, generate, price, run, ship}
+use Rattle.hosed.specs.ProgramWords.Verb.{audit, check, follow, generate, move, price, run, ship}
 use Rattle.hosed.proofs.Commands.{first_small}
 use Rattle.hosed.proofs.Outcomes.{proof_words, right_words, wrong_words}
 use Rattle.hosed.proofs.do_command.Goals as goal
@@ -69,6 +69,11 @@ pub returns-in-Ok-Follow-clause-outcome : goal.returns-in-Ok-Follow-clause-outco
 returns-in-Ok-Follow-clause-outcome g c =
     let are = rw c.in-Ok-Follow.field-0-is at c.in-Ok-Follow.ensures in
     right_words _ _ _ _ _ _ follow _ are c.follow.ensures.not_words (rw c.costs_of-by-in-Ok-Follow.ensures at c.follow.ensures.outcome)
+
+pub returns-in-Ok-Move-clause-outcome : goal.returns-in-Ok-Move-clause-outcome
+returns-in-Ok-Move-clause-outcome g c =
+    let are = rw c.in-Ok-Move.field-0-is at c.in-Ok-Move.ensures in
+    right_words _ _ _ _ _ _ move _ are c.move_journal.ensures.not_words (rw c.costs_of-by-in-Ok-Move.ensures at c.move_journal.ensures.outcome)
 
 pub returns-in-Err-clause-outcome : goal.returns-in-Err-clause-outcome
 returns-in-Err-clause-outcome g c = wrong_words _ _ _ _ _ _ _ c.in-Err.ensures refl refl c.end.ensures.status c.end.ensures.last_line

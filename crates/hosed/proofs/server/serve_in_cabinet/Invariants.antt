@@ -1,8 +1,8 @@
 use Rattle.std.proofs.Common.{◌∷◌, Some}
 use Rattle.hosed.proofs.server.serve_in_cabinet.Given as goal
 
-abbrev pub ghosts-serve_store-N-Start : goal.ghosts-serve_store-N-Start
-ghosts-serve_store-N-Start g a = record {
+abbrev pub ghosts-serve_store-N-DoorStart : goal.ghosts-serve_store-N-DoorStart
+ghosts-serve_store-N-DoorStart g a = record {
   start = record {
     frame = record (g.L.Door.frame a.door.now) { loan = a.door.ghost_name ∷ (g.L.Door.frame a.door.now).loan };
     told = g.L.Door.told a.door.now;

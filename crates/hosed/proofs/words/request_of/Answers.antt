@@ -32,3 +32,6 @@ returns-in_err-journal_of-2 g c =
     let asks : AsksFor follow (map string_bytes c.args.words.now) = search rules in
     let is : c.from_residual-in_err-journal_of-2.result ≡ Err c.in_err-journal_of-2.field-0.0 = search rules in
     rw is (verb_wrong _ follow (map string_bytes c.args.words.now) _ tt asks c.in_err-journal_of-2.ensures.wrong)
+
+pub returns-then-begin_with-9 : goal.returns-then-begin_with-9
+returns-then-begin_with-9 g c = c.move_of.ensures
