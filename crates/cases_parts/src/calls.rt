@@ -50,7 +50,7 @@ fn of_network(alloc: Global, top: &Topology, call: &str, words: &str) -> Result<
         "copies" => values::copies(alloc, top),
         "canonical" => topologies::canonical(alloc, top),
         "row" | "weight" | "tree" | "heaviest" | "attain" => of_root(alloc, top, call, words),
-        "reserve" | "endpoints" | "long" | "gather" | "lines" | "ended" | "generate" => {
+        "reserve" | "endpoints" | "long" | "vpns" | "gather" | "lines" | "ended" | "generate" => {
             of_numbers(alloc, top, call, words)
         }
         _ => alone(alloc, call, words),
@@ -87,6 +87,7 @@ fn of_numbers(alloc: Global, top: &Topology, call: &str, words: &str) -> Result<
     match call {
         "endpoints" => lines::endpoints(alloc, one),
         "long" => lines::long(alloc, one),
+        "vpns" => lines::vpns(alloc, top, one),
         "gather" => Ok(streams::gathered(alloc, one)?),
         "ended" => topologies::ended(alloc, one),
         "generate" => topologies::generated(alloc, one),

@@ -69,7 +69,14 @@ pub fn admit(alloc: Global, books: &mut Plain, line: &str) -> Result<String, Tro
     ensures ledger { IsSameOrNext books.old.book books.new.book }
 {
     let hose = hose(alloc, books.book().topology(), line)?;
-    let (reply, _entered) = admit_now(alloc, books, &name("acme")?, hose, &mut PlainRows::new());
+    let (reply, _entered) = admit_now(
+        alloc,
+        books,
+        &name("acme")?,
+        None,
+        hose,
+        &mut PlainRows::new(),
+    );
     Ok(debugged(alloc, &reply)?)
 }
 

@@ -74,6 +74,31 @@ fn put_failing(
     Ok((done, sink.bytes().len()))
 }
 
+/// Whether a reply with so many numbers of VPNs is written as it was read, and its bytes.
+pub fn vpns(alloc: Global, top: &Topology, count: u64) -> Result<String, Trouble> {
+    let mut line = String::from_str(alloc, "vpns")?;
+    for id in 0..count {
+        line.push_str(format!(in alloc; " {id}")?.as_str())?;
+    }
+    line.push_str(" at 7")?;
+    let reply = read_reply(alloc, top, line.as_bytes())?;
+    line.push_str("\n")?;
+    Ok(debugged(alloc, &put_same(alloc, top, &reply, line.as_bytes())?)?)
+}
+
+fn put_same(
+    alloc: Global,
+    top: &Topology,
+    reply: &Reply,
+    line: &[u8],
+) -> Result<(bool, usize), Trouble>
+    requires { NamesPlaces top.now reply.now }
+{
+    let mut sink = MemSink::new(alloc)?;
+    put_reply(&mut sink, top, reply)?;
+    Ok((sink.bytes() == line, line.len()))
+}
+
 /// Whether a line is split into its words, which may hold a tab; and numbers of at most 512.
 pub fn words(alloc: Global) -> Result<String, AllocError> {
     let words: [&[u8]; 2] = [b"link\ta", b"512"];

@@ -81,6 +81,17 @@ pub struct Journal {
     pub failing: Vec<(DiskCall, u64)>,
 }
 
+/// Another network, which the journal is moved to.
+#[derive(Drop)]
+pub struct Moved {
+    /// The text `u` of the cabinet. Where it has no byte, it is not there.
+    pub text: Vec<u8>,
+    /// What the disk `k` of the cabinet holds at first.
+    pub bytes: Vec<u8>,
+    /// What it holds afterwards.
+    pub left: Option<Vec<u8>>,
+}
+
 /// Stops of the program after so many calls of its disk.
 #[derive(Drop)]
 pub struct Stop {
@@ -134,6 +145,7 @@ pub struct Case {
     /// The number of the cabinet's call for a text or a disk that fails, counted from 1.
     pub failing: Option<u64>,
     pub journal: Journal,
+    pub moved: Moved,
     pub door: Door,
     pub wanted: Wanted,
     /// Whether the gate holds sessions up.
@@ -240,6 +252,25 @@ impl Journal {
     }
 }
 
+impl Moved {
+    fn new(alloc: Global) -> Moved {
+        Moved {
+            text: Vec::new(alloc),
+            bytes: Vec::new(alloc),
+            left: None,
+        }
+    }
+
+    fn set(&mut self, alloc: Global, word: &str, rest: &str) -> Result<bool, Trouble> {
+        match word {
+            "new-journal" => self.bytes = bytes_of(alloc, rest)?,
+            "new-left" => self.left = Some(bytes_of(alloc, rest)?),
+            _ => return Ok(false),
+        }
+        Ok(true)
+    }
+}
+
 impl Wanted {
     fn new(alloc: Global) -> Wanted {
         Wanted {
@@ -279,6 +310,7 @@ impl Case {
             text: Vec::new(alloc),
             failing: None,
             journal: Journal::new(alloc),
+            moved: Moved::new(alloc),
             door: Door::new(alloc),
             wanted: Wanted::new(alloc),
             holds: false,
@@ -292,6 +324,7 @@ impl Case {
             Line::Nothing | Line::Case(_) => Ok(()),
             Line::Input(pattern) => pattern.add_to(&mut self.input.bytes),
             Line::Text(pattern) => pattern.add_to(&mut self.text),
+            Line::NewText(pattern) => pattern.add_to(&mut self.moved.text),
             Line::Says(nth, pattern) => self.door.add_said(alloc, nth, pattern),
             Line::Book(nth, pattern) => { add_audited(alloc, &mut self.wanted.books, nth, pattern) }
             Line::Output(pattern) => {
@@ -318,6 +351,9 @@ impl Case {
             return Ok(());
         }
         if self.journal.set(alloc, word, rest)? {
+            return Ok(());
+        }
+        if self.moved.set(alloc, word, rest)? {
             return Ok(());
         }
         if self.wanted.set(alloc, word, rest)? {

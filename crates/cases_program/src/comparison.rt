@@ -241,6 +241,12 @@ fn add_journal<R: Threads + Wait + Sync>(
             told.push_str(format!(in alloc; "the journal has {is}\n")?.as_str())?;
         }
     }
+    if let Some(wanted) = &case.moved.left {
+        if *wanted != outcome.moved {
+            let is = hex::encode(alloc, &outcome.moved)?;
+            told.push_str(format!(in alloc; "the new journal has {is}\n")?.as_str())?;
+        }
+    }
     if let Some(at) = case.wanted.at {
         let found = epoch_of(rt, alloc, topology_of(&case.text), &left)?;
         if found != Some(at) {

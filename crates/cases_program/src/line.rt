@@ -15,6 +15,8 @@ pub enum Line<'a> {
     Output(Pattern<'a>),
     /// Bytes of the text `t` of the cabinet.
     Text(Pattern<'a>),
+    /// Bytes of the text `u` of the cabinet.
+    NewText(Pattern<'a>),
     /// Bytes that the connection of this number gives.
     Says(u64, Pattern<'a>),
     /// Bytes that the connection of this number is given.
@@ -39,6 +41,9 @@ impl<'a> Line<'a> {
         }
         if let Some(rest) = line.strip_prefix('=') {
             return Ok(Line::Text(Pattern::read(rest)?));
+        }
+        if let Some(rest) = line.strip_prefix('+') {
+            return Ok(Line::NewText(Pattern::read(rest)?));
         }
         if let Some((connection, rest)) = numbered(line, '<') {
             return Ok(Line::Says(connection, Pattern::read(rest)?));

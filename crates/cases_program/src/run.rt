@@ -1,5 +1,5 @@
 // The run of a case that calls the program.
-ghost use Rattle.std.specs.Prelude.{◌≡◌, ◌≢◌, All, IfOk, None};
+ghost use Rattle.std.specs.Prelude.{◌≡◌, ◌≢◌, All, IfOk, IsOk, None};
 ghost use Rattle.hose_disk.specs.CabinetState.{cabinet_frame};
 ghost use Rattle.hose_io.specs.DoorState.{IsFresh};
 
@@ -9,7 +9,7 @@ use hose_disk::{Cabinet, Disk, DiskCall, MemCabinet, MemDisk};
 use hose_io::{Door, MemDoor, MemSink, MemSource, Sink, Source};
 use hose_pool::Gate;
 use hose_tariff::Tariff;
-use hosed_program::{Context, World, flat, hops, long, program, tariffs};
+use hosed_program::{Context, OwnedOutside, flat, hops, long, program, tariffs};
 use std::alloc::{AllocError, Global};
 use std::sync::Wait;
 use std::thread::Threads;
@@ -19,6 +19,11 @@ pub const JOURNAL: &str = "j";
 
 /// The name of the text in it.
 pub const TEXT: &str = "t";
+
+// The names of another network's text and of its journal.
+const NEW_TEXT: &str = "u";
+
+const NEW_JOURNAL: &str = "k";
 
 // The status at which the disk of the journal may be gone: there was no memory to share it.
 const NO_MEMORY: u8 = 7;
@@ -38,6 +43,8 @@ pub struct Outcome {
     pub taken: u64,
     /// The disk of the journal, as it was put back.
     pub disk: Option<MemDisk>,
+    /// What the journal of another network holds.
+    pub moved: Vec<u8>,
     /// What each connection was given, in their order: nothing where it did not end.
     pub given: Vec<Vec<u8>>,
 }
@@ -50,6 +57,7 @@ impl Outcome {
             output: Vec::new(alloc),
             taken: 0,
             disk,
+            moved: Vec::new(alloc),
             given: Vec::new(alloc),
         }
     }
@@ -79,14 +87,16 @@ fn run_by<R: Threads + Wait + Sync, G: Gate + Sync>(
     let mut world = world_of(alloc, case)?;
     let context = Context { rt, alloc, gate };
     let status = run_in(context, &case.words, &mut world, tariffs);
+    let moved = moved_after(alloc, status, &mut world.cabinet)?;
     let disk = disk_after(status, &mut world.cabinet);
     let mut outcome = Outcome::new(alloc, u64::from(status), disk);
+    outcome.moved = moved;
     tell_streams(alloc, &world, case.door.connections.len(), &mut outcome)?;
     Ok(outcome)
 }
 
 // What the program is handed of a case.
-type MemWorld = World<LongSource, NarrowSink, MemCabinet, MemDoor>;
+type MemWorld = OwnedOutside<LongSource, NarrowSink, MemCabinet, MemDoor>;
 
 fn world_of(alloc: Global, case: &Case) -> Result<MemWorld, AllocError>
     ensures { IfOk result (λ world. (cabinet_frame world.cabinet).out ≡ None) }
@@ -95,7 +105,7 @@ fn world_of(alloc: Global, case: &Case) -> Result<MemWorld, AllocError>
     let output = sink_of(alloc, &case.output, 0)?;
     let cabinet = cabinet_of(alloc, case)?;
     let door = door_of(alloc, case)?;
-    Ok(World {
+    Ok(OwnedOutside {
         input,
         output,
         cabinet,
@@ -107,13 +117,37 @@ fn world_of(alloc: Global, case: &Case) -> Result<MemWorld, AllocError>
 fn run_in<R: Threads + Wait + Sync, I: Source, O: Sink, C: Cabinet, L: Door + Send, G: Gate + Sync>(
     context: Context<'_, R, G>,
     words: &[String],
-    world: &mut World<I, O, C, L>,
+    world: &mut OwnedOutside<I, O, C, L>,
     tariffs: &[Tariff],
 ) -> u8
     requires { (C.frame world.old.cabinet).out ≡ None }
     ensures { result ≢ 7 → (C.frame world.new.cabinet).out ≡ None }
 {
     program(context, words, tariffs, world)
+}
+
+// What the journal of another network holds after this status.
+fn moved_after(alloc: Global, status: u8, cabinet: &mut MemCabinet) -> Result<Vec<u8>, AllocError>
+    requires { status ≢ 7 → (cabinet_frame cabinet.old).out ≡ None }
+    ensures { IfOk result (λ _. status ≢ 7 → (cabinet_frame cabinet.new).out ≡ None) }
+{
+    if status == NO_MEMORY {
+        return Ok(Vec::new(alloc));
+    }
+    held_in(alloc, cabinet, NEW_JOURNAL)
+}
+
+// What the disk of a name in a cabinet holds.
+fn held_in(alloc: Global, cabinet: &mut MemCabinet, name: &str) -> Result<Vec<u8>, AllocError>
+    requires { (cabinet_frame cabinet.old).out ≡ None }
+    ensures { IfOk result (λ _. (cabinet_frame cabinet.new).out ≡ None) }
+{
+    let Ok(mut disk) = cabinet.disk(name) else {
+        return Ok(Vec::new(alloc));
+    };
+    let bytes = held(alloc, &mut disk)?;
+    cabinet.back(disk);
+    Ok(bytes)
 }
 
 // The journal's disk after this status, where it was put back.
@@ -201,10 +235,30 @@ fn cabinet_of(alloc: Global, case: &Case) -> Result<MemCabinet, AllocError>
         cabinet.add_text(alloc, b"t.json", &case.text)?;
         cabinet.add_text(alloc, b".json", &case.text)?;
     }
+    if !case.moved.text.is_empty() {
+        add_network(alloc, &mut cabinet, case)?;
+    }
     if let Some(nth) = case.failing {
         cabinet.fail(nth)?;
     }
     Ok(cabinet)
+}
+
+// Adds another network's text and journal. A journal that is moved is looked for as a text first,
+// as in a folder, where both are files.
+fn add_network(alloc: Global, cabinet: &mut MemCabinet, case: &Case) -> Result<(), AllocError>
+    requires { (cabinet_frame cabinet.old).out ≡ None }
+    ensures { IsOk result → (cabinet_frame cabinet.new).out ≡ None }
+{
+    cabinet.add_text(alloc, NEW_TEXT.as_bytes(), &case.moved.text)?;
+    if !case.journal.bytes.is_empty() {
+        cabinet.add_text(alloc, JOURNAL.as_bytes(), &case.journal.bytes)?;
+    }
+    if let Ok(mut disk) = cabinet.disk(NEW_JOURNAL) {
+        write_durably(&mut disk, &case.moved.bytes);
+        cabinet.back(disk);
+    }
+    Ok(())
 }
 
 /// A disk on which a journal is durable, and of which calls fail as its case says.

@@ -147,7 +147,7 @@ fn comes(flag: &AtomicBool) -> bool {
 /// What two threads tell each other.
 #[derive(Drop)]
 struct Flags {
-    /// A row of the first thread is asked for.
+    /// The first thread plans.
     is_planning: AtomicBool,
     /// The second thread was answered.
     is_answered: AtomicBool,
@@ -162,7 +162,7 @@ impl Flags {
     }
 }
 
-/// Makes plain rows. Before the first one it waits until the other thread was answered.
+/// Makes plain rows. At the first plan it waits until the other thread was answered.
 #[derive(Drop)]
 struct WaitingRows<'a> {
     flags: &'a Flags,
@@ -178,11 +178,17 @@ impl RowMaker for WaitingRows<'_> {
         links: &LinkSet,
         root: u32,
     ) -> Result<Row, AllocError> {
+        PlainRows::new().row(alloc, top, links, root)
+    }
+
+    fn expect(&mut self, alloc: Global, top: &Topology, links: &LinkSet) {
+        let _ = alloc;
+        let _ = top;
+        let _ = links;
         if self.was_answered.is_none() {
             self.flags.is_planning.store(true, Ordering::SeqCst);
             self.was_answered = Some(comes(&self.flags.is_answered));
         }
-        PlainRows::new().row(alloc, top, links, root)
     }
 }
 
@@ -238,7 +244,7 @@ fn ask_slowly<W: Wait>(
     Answered { reply, is_met }
 }
 
-/// Admits a hose once the other thread asked for a row.
+/// Admits a hose once the other thread plans.
 fn admit_meanwhile<W: Wait>(
     rt: &W,
     alloc: Global,

@@ -3,7 +3,7 @@ ghost use Rattle.std.specs.Prelude.{◌≡◌, ◌+◌, ◌∷◌, [], ◌++◌,
 
 use crate::passes::there_and_back;
 use hose_graph::{Entry, Name};
-use hose_turn::{ALL_SHARES, Pass, Stands, Turn};
+use hose_turn::{ALL_SHARES, HoldsHistory, Pass, Turn};
 use std::alloc::{AllocError, Global};
 use std::snapshot::Snapshot;
 use std::sync::Wait;
@@ -16,7 +16,7 @@ struct Log {
     entries: Vec<Entry>,
 }
 
-impl Stands for Log {
+impl HoldsHistory for Log {
     ghost stands = { λ origin history log. (log.entries.items ≡ history) × (origin.first ≡ 0) };
 
     ghost faults = { λ log. 0 };
