@@ -11,7 +11,8 @@ and so on. `ConnectionLost` is raised where the server is not there or closes th
 kind `NoAnswer` where it does not answer in time, and `MalformedReply` where what it says is no
 reply to the command. After these the session is over, and nothing connects again; `unanswered` is
 the line that was sent and has no reply, and an order in it may have been entered all the same.
-A session ends with its `with`, which says `bye`. In place of a port the path of a Unix socket may
+`order_once` of a `Customer` gives an order that stands once for all that, by sessions of its own. A
+session ends with its `with`, which says `bye`. In place of a port the path of a Unix socket may
 stand.
 """
 import argparse
@@ -26,7 +27,9 @@ import networks
 
 HOST = "127.0.0.1"
 TIMEOUT = 60.0  # seconds for a connection and for each reply
-LONGEST_REPLY = 1 << 16  # bytes; those of the server have fewer than 10,000
+LONGEST_REPLY = 1 << 18  # bytes; a list of 20,000 VPNs has 220,018, other replies below 10,000
+TRIES = 10  # at an order that is to stand once, a connection each
+PAUSE = 0.2  # seconds before the second of them, and twice as long before each one after it
 
 
 # ---- Replies.
@@ -89,6 +92,18 @@ class Vpn(Reply):
 
 
 @dataclass
+class Vpns(Reply):
+    form = "vpns<ids> at <epoch>"
+    ids: Tuple[int, ...]
+    """The numbers of the customer's live VPNs, ascending."""
+    epoch: int
+
+    def newest(self) -> int:
+        """The number of the newest live VPN; 0 where there is none."""
+        return self.ids[-1] if self.ids else 0
+
+
+@dataclass
 class LinkState(Reply):
     form = "link <link> <a> <b> capacity <capacity> cost <cost> load <load><out> at <epoch>"
     link: int
@@ -133,6 +148,16 @@ class Refused(Refusal):
 class Stale(Refusal):
     form = "stale <quoted_at> <epoch>"
     quoted_at: int
+    epoch: int
+
+
+@dataclass(eq=False)
+class Newest(Refusal):
+    """Another VPN is the customer's newest than was known when the order was given."""
+
+    form = "newest <id> at <epoch>"
+    id: int
+    """The newest live VPN of the customer; 0 where there is none."""
     epoch: int
 
 
@@ -241,6 +266,7 @@ TEXTS = {
     "b": NAME,
     "out": "(?: out)?",
     "side": f"{NAME}(?: {NAME})*",
+    "ids": f"(?: {NUMBER})*",
     "ends": f"{NAME}:{NUMBER}(?: {NAME}:{NUMBER})*",
     "links": f"{NUMBER}:{NUMBER}(?: {NUMBER}:{NUMBER})*",
 }
@@ -255,11 +281,20 @@ def table(text: str, key: Callable) -> Dict:
     return found
 
 
+def ascending(text: str) -> Tuple[int, ...]:
+    """Numbers, each above the one before it."""
+    ids = tuple(map(int, text.split()))
+    if any(after <= before for before, after in zip(ids, ids[1:])):
+        raise ValueError("numbers do not ascend")
+    return ids
+
+
 VALUES = {
     "a": str,
     "b": str,
     "out": bool,
     "side": lambda text: tuple(text.split(" ")),
+    "ids": ascending,
     "ends": lambda text: table(text, str),
     "links": lambda text: table(text, int),
 }
@@ -271,7 +306,11 @@ def spelled(value) -> str:
         return " out" if value else ""
     if isinstance(value, dict):
         return " ".join(f"{one}:{amount}" for one, amount in value.items())
-    return " ".join(value) if isinstance(value, tuple) else str(value)
+    if not isinstance(value, tuple):
+        return str(value)
+    # Of numbers there may be none, so a space stands before each.
+    is_numbers = all(isinstance(one, int) for one in value)
+    return "".join(f" {one}" for one in value) if is_numbers else " ".join(value)
 
 
 def reader_of(kind):
@@ -281,11 +320,12 @@ def reader_of(kind):
 
 
 KINDS = [
-    Welcome, Admitted, Quoted, Released, Vpn, LinkState, Down, Up, Bye, *Refusal.__subclasses__(),
+    Welcome, Admitted, Quoted, Released, Vpn, Vpns, LinkState, Down, Up, Bye,
+    *Refusal.__subclasses__(),
 ]
 READERS = {}  # by the first word
 for _kind in KINDS:
-    READERS.setdefault(_kind.form.split(" ")[0], []).append(reader_of(_kind))
+    READERS.setdefault(re.split("[ <]", _kind.form)[0], []).append(reader_of(_kind))
 
 
 def read_reply(line: str) -> Optional[Reply]:
@@ -296,7 +336,7 @@ def read_reply(line: str) -> Optional[Reply]:
             if found:
                 return kind(*(read(text) for read, text in zip(values, found.groups())))
         except ValueError:
-            pass  # a pair repeats
+            pass  # a pair repeats, or numbers do not ascend
     return None
 
 
@@ -397,14 +437,15 @@ class Lines:
 
 # The reply to each command where it is not refused, and the field that repeats a reply's number.
 DONE = {
-    "hello": Welcome, "admit": Admitted, "quote": Quoted, "take": Admitted, "release": Released,
-    "show": Vpn, "link": LinkState, "down": Down, "up": Up, "bye": Bye,
+    "hello": Welcome, "admit": Admitted, "admit-after": Admitted, "quote": Quoted,
+    "take": Admitted, "release": Released, "show": Vpn, "vpns": Vpns, "link": LinkState,
+    "down": Down, "up": Up, "bye": Bye,
 }
 REPEATS = {
     Released: "id", Vpn: "id", NoVpn: "id", NoQuote: "quote",
     LinkState: "link", Down: "link", Up: "link", Already: "link",
 }
-ORDERS = ("admit", "take", "release", "down", "up")
+ORDERS = ("admit", "admit-after", "take", "release", "down", "up")
 
 
 def answers(reply: Reply, line: str) -> bool:
@@ -413,6 +454,8 @@ def answers(reply: Reply, line: str) -> bool:
     repeated = REPEATS.get(type(reply))
     if repeated and str(getattr(reply, repeated)) != number:
         return False
+    if isinstance(reply, Newest):
+        return command == "admit-after" and str(reply.id) != number
     return isinstance(reply, Refusal) or type(reply) is DONE.get(command)
 
 
@@ -444,6 +487,11 @@ class Session:
         """A VPN between nodes, each with a rate that bounds what it sends and is sent."""
         return self._do("admit", hose(ends))
 
+    def admit_after(self, known: int, ends: Mapping[str, int]) -> Admitted:
+        """The same where `known` is the customer's newest live VPN, or 0 and there is none; else
+        `Newest` is raised, and nothing is done."""
+        return self._do("admit-after", known, hose(ends))
+
     def quote(self, ends: Mapping[str, int]) -> Quoted:
         """What `admit` would give now; the server keeps it for `take`, and reserves nothing."""
         return self._do("quote", hose(ends))
@@ -456,6 +504,10 @@ class Session:
 
     def show(self, id: int) -> Vpn:
         return self._do("show", id)
+
+    def vpns(self) -> Vpns:
+        """The customer's live VPNs."""
+        return self._do("vpns")
 
     def link(self, link: int) -> LinkState:
         return self._do("link", link)
@@ -519,6 +571,118 @@ class Session:
             self._end()
 
 
+# ---- Orders that stand once, whatever becomes of connections.
+
+
+class InDoubt(Exception):
+    """An order of which no answer says whether it stands, or will."""
+
+    def __init__(self, known: int, fault: Exception):
+        super().__init__(str(fault))
+        self.known = known
+        """The number by which a later call of `order_once` goes on from there."""
+
+
+class Customer:
+    """A customer whose connections may break off, at a server that may be gone for some time.
+
+        customer = Customer("127.0.0.1", 7000, "acme")
+        vpn = customer.order_once({"a": 3, "b": 4})
+
+    A call opens a session, and another one wherever that is lost, until there were `tries` of them.
+    """
+
+    def __init__(self, host: str, port: Place, customer: str, timeout: Optional[float] = TIMEOUT,
+                 tries: int = TRIES, pause: float = PAUSE):
+        self._words = host, port, customer, timeout
+        self._tries, self._pause = tries, pause
+
+    def newest(self) -> int:
+        """The number of the newest live VPN; 0 where there is none."""
+        return self._again(lambda session: session.vpns().newest())
+
+    def order_once(self, ends: Mapping[str, int], known: Optional[int] = None) -> Admitted:
+        """Admits one VPN between these nodes, and no second one where a reply is lost.
+
+        The order is bound to the newest VPN that is known. Where its reply is lost and that VPN is
+        still the newest, the same line is given again: of both one at most is admitted, whichever
+        comes first. Where another one is the newest, the first after that which was known is shown;
+        with these ends it is the one that was ordered, and else another session's order came
+        before, and this one is given anew.
+
+        That holds where no VPN of the customer is released meanwhile, and no other session of the
+        customer orders the same ends. Raises what an answer refuses; where it is not known whether
+        the order stands `InDoubt`, after which a call with its `known` goes on; and else, where no
+        session came about, `ConnectionLost` or `MalformedReply`."""
+        order = Order(self.newest() if known is None else known, dict(ends), known is not None)
+        try:
+            return self._again(order.give)
+        except FAULTS as fault:
+            if order.is_in_doubt:
+                raise InDoubt(order.known, fault) from fault
+            raise
+
+    def _again(self, step: Callable):
+        """What a step in a session gives, in a new session wherever one is lost."""
+        pause = self._pause
+        for left in reversed(range(self._tries)):
+            found = None
+            try:
+                with Session(*self._words) as session:
+                    found = step(session)
+            except (ConnectionLost, MalformedReply, DiskFailed):
+                if found is None and not left:
+                    raise
+            if found is not None:
+                return found
+            time.sleep(pause)
+            pause *= 2
+        raise ValueError("no session is allowed")
+
+
+class Order:
+    """An order that is to stand once, and what is known of it."""
+
+    def __init__(self, known: int, ends: Dict[str, int], is_in_doubt: bool):
+        self.known, self.ends = known, ends
+        self.is_in_doubt = is_in_doubt
+        """Whether it was given, and no answer says whether it stands, or will."""
+        self._done: Optional[Admitted] = None
+
+    def give(self, session: Session) -> Admitted:
+        """Gives the order in this session, where it does not stand by now."""
+        while not self._done:
+            if self.is_in_doubt:
+                self._look(session)
+            if not self._done:
+                self._try(session)
+        return self._done
+
+    def _try(self, session: Session) -> None:
+        was_in_doubt, self.is_in_doubt = self.is_in_doubt, True
+        try:
+            self._done = session.admit_after(self.known, self.ends)
+        except Newest as newest:
+            # Of an order in doubt it tells nothing: the first line may stand by now.
+            self.is_in_doubt = was_in_doubt
+            self.known = self.known if was_in_doubt else newest.id
+        except DiskFailed:
+            raise
+        except Refusal:
+            self.is_in_doubt = was_in_doubt
+            raise
+
+    def _look(self, session: Session) -> None:
+        """Looks whether the first VPN after the one that was known is the one that was ordered."""
+        vpns = session.vpns()
+        after = [id for id in vpns.ids if id > self.known][:1]
+        vpn = session.show(after[0]) if after else None
+        if vpn and vpn.ends == self.ends:
+            self._done = Admitted(vpn.id, vpn.cost, vpn.id, vpn.links)
+        elif vpns.newest() != self.known:
+            self.known, self.is_in_doubt = vpns.newest(), False
+
+
 # ---- The program.
 
 DESCRIPTION = """\
@@ -528,8 +692,11 @@ a COMMAND, each line of standard input up to `bye`, all in one session, as a `ta
 """
 EPILOG = """\
 commands:
-  admit NAME:RATE ..    quote NAME:RATE ..    take Q    release ID    show ID    link L
-  down L    up L    (these two as the customer operator)
+  admit NAME:RATE ..    admit-after K NAME:RATE ..    quote NAME:RATE ..    take Q    release ID
+  show ID    vpns    link L    down L    up L    (the last two as the customer operator)
+
+with --once COMMAND is an `admit`, and one VPN comes of it, whatever becomes of connections: it is
+given as `admit-after K`, and looked for where a reply is lost (docs/OPERATING.md, "Stop").
 
 examples, with a server that was started by `./hosed serve demo/star.txt port.journal 7000 9 2`:
   python3 tools/client.py 7000 acme admit a:3 b:4
@@ -568,6 +735,10 @@ def parser_of_words() -> argparse.ArgumentParser:
     parser.add_argument(
         "--timeout", type=seconds, default=TIMEOUT, metavar="SECONDS",
         help=f"for the connection and for each reply ({TIMEOUT:g})",
+    )
+    parser.add_argument("--once", action="store_true", help="see below")
+    parser.add_argument(
+        "--known", type=int, metavar="K", help="with --once, the K of a call that ended in doubt"
     )
     parser.add_argument("port", type=place, metavar="PORT")
     parser.add_argument("customer", metavar="CUSTOMER")
@@ -611,6 +782,33 @@ def talk(given) -> bool:
     return done
 
 
+def ends_of(words) -> Dict[str, int]:
+    """The endpoints of an `admit` that is to stand once."""
+    found = {}
+    for word in words[1:]:
+        name, _, rate = word.partition(":")
+        if not re.fullmatch(f"{NAME}:{NUMBER}", word) or name in found:
+            raise networks.WrongInput(f"{ascii(word)} is no further endpoint, as a:3")
+        found[name] = int(rate)
+    if words[:1] != ["admit"] or len(found) < 2:
+        raise networks.WrongInput("with --once stands `admit NAME:RATE ..`, of two nodes or more")
+    return found
+
+
+def order_once(given) -> bool:
+    """Whether a VPN came of an order that is to stand once."""
+    customer = Customer(given.host, given.port, given.customer, given.timeout)
+    try:
+        print(customer.order_once(ends_of(given.command), given.known), flush=True)
+    except InDoubt as fault:
+        what = f"it may have been done; --known {fault.known} goes on from there"
+        raise networks.WrongInput(f"{fault}; {what}") from None
+    except Refusal as refusal:
+        print(refusal, flush=True)
+        return False
+    return True
+
+
 def doubt_of(line: Optional[str]) -> str:
     """What is to be said of a line without a reply."""
     is_order = (line or "").split(" ")[0] in ORDERS
@@ -623,7 +821,7 @@ def main() -> None:
     if any("\n" in word for word in given.command):
         parser.error("a command is one line")
     try:
-        done = talk(given)
+        done = order_once(given) if given.once else talk(given)
     except (ConnectionLost, MalformedReply) as fault:
         raise networks.WrongInput(f"{fault}{doubt_of(fault.unanswered)}") from None
     except ValueError as fault:

@@ -33,7 +33,10 @@ class FakeBook:
         customer, command = (words + [""])[:2]
         number = words[2] if len(words) > 2 else ""
         held = self.quotes.setdefault(customer, [])
-        if command == "admit" or command == "take" and number in held:
+        own = [one for one, name in self.live.items() if name == customer]
+        if command == "admit-after" and number != (own or ["0"])[-1]:
+            return f"newest {(own or ['0'])[-1]} at {self.epoch}"
+        if command in ("admit", "admit-after") or command == "take" and number in held:
             self.epoch += 1
             self.live[str(self.epoch)] = customer
             if command == "take":
@@ -51,6 +54,7 @@ class FakeBook:
         return {
             "take": f"no quote {number} at {self.epoch}",
             "release": f"no vpn {number} at {self.epoch}",
+            "vpns": " ".join(["vpns", *own, f"at {self.epoch}"]),
             "show": f"no vpn {number} at {self.epoch}",
             "link": f"link 0 a b capacity 9 cost 1 load 0 at {self.epoch}",
         }.get(command, "bad 2")

@@ -94,7 +94,10 @@ class FakeHosed(FakeServer):
                 return
 
     def reply(self, command, number="1"):
-        if command in ("admit", "take"):
+        newest = max(self.live, default=0)
+        if command == "admit-after" and number != str(newest):
+            return f"newest {newest} at {self.epoch}"
+        if command in ("admit", "admit-after", "take"):
             self.epoch += 1
             self.live.add(self.epoch)
             return f"admitted {self.epoch} cost 1 at {self.epoch} links 0:1"
@@ -106,6 +109,7 @@ class FakeHosed(FakeServer):
             return "bad 2"
         return {
             "hello": f"welcome at {self.epoch}",
+            "vpns": " ".join(["vpns", *map(str, sorted(self.live)), f"at {self.epoch}"]),
             "quote": f"quoted 1 cost 1 at {self.epoch} links 0:1",
             "show": f"vpn {number} cost 1 at {self.epoch} ends a:1 b:1 links 0:1",
             "link": f"link 0 a b capacity 9 cost 1 load 0 at {self.epoch}",

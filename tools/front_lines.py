@@ -11,8 +11,8 @@ LINE_LIMIT = 4_096  # bytes of a line that is read, without its line feed
 PIECE = 4_096  # bytes that a pipe takes whole or not at all; no line for `run` is longer
 LONG = b"\n"  # in place of a line that has more than it may, since no line has a line feed
 MOST_WORDS, MOST_WORD = 67, 32
-"""Of a line that is shortened: `admit` and 64 endpoints are 65 words of at most 24 bytes, so the
-first word that is not allowed is among these, and stays one that is not allowed."""
+"""Of a line that is shortened: `admit-after`, its number and 64 endpoints are 66 words of at most 24
+bytes, so the first word that is not allowed is among these, and stays one that is not allowed."""
 
 NAME = re.compile(rb"[a-z0-9-]{1,16}")
 EPOCH_QUESTION = b"show 0"  # no VPN has the number 0, so `no vpn 0 at N` tells the epoch
@@ -110,16 +110,18 @@ def first_words(text: str) -> FrozenSet[bytes]:
 # The first words of the replies to each command.
 ANSWERS = {
     b"admit": first_words("admitted refused spent full disk memory bad"),
+    b"admit-after": first_words("admitted newest refused spent full disk memory bad"),
     b"quote": first_words("quoted too refused memory bad"),
     b"take": first_words("admitted no stale spent full disk memory bad"),
     b"release": first_words("released no spent disk memory bad"),
     b"show": first_words("vpn no memory bad"),
+    b"vpns": first_words("vpns memory bad"),
     b"link": first_words("link bad"),
     b"down": first_words("down denied already spent disk memory bad"),
     b"up": first_words("up denied already spent disk memory bad"),
 }
 NO_COMMAND = first_words("bad")
-ORDERS = frozenset((b"admit", b"take", b"release", b"down", b"up"))
+ORDERS = frozenset((b"admit", b"admit-after", b"take", b"release", b"down", b"up"))
 REFUSED_WORDS = frozenset((b"bad", b"long"))  # which say that a line is no command
 
 

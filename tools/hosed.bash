@@ -24,8 +24,8 @@ _hosed_files() {
 }
 
 _hosed() {
-    local commands="run audit serve prove check price ship follow gen"
-    local with_tariff=" run audit serve prove check ship follow "
+    local commands="run audit serve prove check price ship follow move gen"
+    local with_tariff=" run audit serve prove check ship follow move "
     local typed verb place words=() line=$COMP_LINE
     COMPREPLY=()
     # Bash parts words at `:`, so the words up to the cursor are read anew.
@@ -45,9 +45,14 @@ _hosed() {
         fi
         [[ ${words[2]} == --tariff ]] && ((place > 2)) && place=$((place - 2))
     fi
+    if [[ $verb == move ]]; then
+        ((place == 2)) && _hosed_words --live
+        [[ ${words[${#words[@]} - place + 1]} == --live ]] && ((place > 2)) && place=$((place - 1))
+    fi
     [[ $typed == -* ]] && return
     case $verb:$place in
-        run:2 | audit:[23] | serve:[23] | prove:2 | check:2 | price:2 | ship:[23] | follow:[23])
+        run:2 | audit:[23] | serve:[23] | prove:2 | check:2 | price:2 | ship:[23] | follow:[23] | \
+            move:[2-5])
             _hosed_files
             ;;
         prove:*)

@@ -3,9 +3,11 @@
 PORT is a number, or the path of a Unix socket, which has a `/` then, as in ./socket.
 
 Each customer is a process with one session, who waits for each reply before the next command.
-Which commands come how often is told by `--mix`; hoses are random ones of the network, which is
-learned from the server by `link`, with a connection more. The VPNs are real orders of the customers
-load-1, load-2 and so on: each holds 100 at most, and gives up all at the end, or at an interrupt.
+Which commands come how often is told by `--mix`, with `admit-after` and `vpns` where it has them;
+an `admit-after` names the newest VPN that the replies so far told of. Hoses are
+random ones of the network, which is learned from the server by `link`, with a connection more. The
+VPNs are real orders of the customers load-1, load-2 and so on: each holds 100 at most, and gives up
+all at the end, or at an interrupt.
 No customer asks for `down` or `up`, which take links of the real network out of service and back.
 
 Printed are, for each kind of command and for all, the replies, how many came a second and how many
@@ -41,7 +43,7 @@ MOST_CUSTOMERS = 256
 MOST_HELD, MOST_QUOTES = 100, 16  # of each customer
 MOST_ENDS, MOST_RATE = 4, 10  # of each hose
 MIX = "admit:4,quote:3,take:3,release:4,show:3,link:3"
-KINDS = ("admit", "quote", "take", "release", "show", "link")
+KINDS = ("admit", "admit-after", "quote", "take", "release", "show", "vpns", "link")
 FORK = multiprocessing.get_context("fork")
 
 
@@ -162,6 +164,7 @@ class Customer:
         self.kinds, self.weights = list(load.mix), list(load.mix.values())
         self.tallies = {kind: Tally() for kind in KINDS}
         self.held: List[int] = []
+        self.known = 0  # the newest VPN of this customer, as far as the replies tell
         self.quotes: List[int] = []
 
     def kind(self) -> str:
@@ -173,16 +176,19 @@ class Customer:
             kind = "admit" if kind == "release" else "link"
         if kind == "quote" and len(self.quotes) == MOST_QUOTES:
             kind = "take"
-        if kind in ("admit", "take") and len(self.held) == MOST_HELD:
+        if kind in ("admit", "admit-after", "take") and len(self.held) == MOST_HELD:
             kind = "release"
         return kind
 
     def line(self, kind: str) -> str:
         draw = self.draw
-        if kind in ("admit", "quote"):
+        if kind in ("admit", "admit-after", "quote"):
             most = min(MOST_ENDS, len(self.network.nodes))
             nodes = draw.sample(self.network.nodes, draw.randint(2, most))
-            return f"{kind} {client.hose({node: draw.randint(1, MOST_RATE) for node in nodes})}"
+            ends = client.hose({node: draw.randint(1, MOST_RATE) for node in nodes})
+            return f"{kind} {self.known} {ends}" if kind == "admit-after" else f"{kind} {ends}"
+        if kind == "vpns":
+            return kind
         if kind == "link":
             return f"link {draw.randrange(self.network.links)}"
         if kind == "show":
@@ -200,8 +206,13 @@ class Customer:
             tally.refused += 1
         elif isinstance(reply, client.Admitted):
             self.held.append(reply.id)
+            self.known = reply.id
         elif isinstance(reply, client.Quoted):
             self.quotes.append(reply.quote)
+        elif isinstance(reply, client.Vpns):
+            self.known = reply.newest()
+        if isinstance(reply, client.Newest):
+            self.known = reply.id
 
     def serve(self, session: client.Session, end: float, number: int, shared: Shared) -> int:
         """Gives commands until the time is up; 0 where it was before the first one, else 1."""
@@ -320,8 +331,9 @@ HEAD = ("command", "replies", "a second", "refused", "median us", "99 % us", "wo
 
 def table(found: Found) -> str:
     lines = [HEAD] + [(one.kind, *(f"{figure:,.0f}" for figure in one[1:])) for one in rows(found)]
+    width = max(8, *(len(words[0]) for words in lines))
     return "\n".join(
-        f"{words[0]:8}" + "".join(f"{word:>12}" for word in words[1:]) for words in lines
+        f"{words[0]:{width}}" + "".join(f"{word:>12}" for word in words[1:]) for words in lines
     )
 
 

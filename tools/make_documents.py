@@ -32,7 +32,7 @@ TEXTS = "crates/hosed_program/src/texts.rt"
 PARTS = {"README.md": ["statement"], "docs/DEFINITIONS.md": ["statement", "definitions"],
          "docs/ARCHITECTURE.md": ["crates", "imports"], "docs/GUIDE.md": ["glossary", "usage"],
          "CONTRIBUTING.md": ["places"]}
-EXAMPLES = [("Reply", "NoQuote"), ("Command", "Take"), ("Entry", "Release")]
+EXAMPLES = [("Reply", "NoQuote"), ("Command", "Take"), ("Command", "Vpns"), ("Entry", "Release")]
 
 
 class MarkerMissing(Exception):

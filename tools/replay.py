@@ -1,6 +1,12 @@
 #!/usr/bin/env python3
-"""Moves the VPNs of an audit to a changed network: writes the script that admits them, and then
+"""Plans the VPNs of an audit anew in another network: writes the script that admits them, and then
 tells what became of each.
+
+It is for a network that is any other, as where nodes or links are gone, or where VPNs are to have
+the trees that are cheapest now; some may be refused. Where the new network goes on from the old
+one, with more nodes and links or other capacities and costs, `hosed move` moves the journal itself:
+each VPN keeps its tree and what is reserved, and its number too, or none but its number with
+`--live`, and none is refused (docs/OPERATING.md, "Move to another network").
 
 With AUDIT alone the script is written: an `admit` for each VPN of the audit, in the order in which
 they were admitted. With OUTPUT too, which is what `hosed run` wrote to this script, a line is
@@ -13,7 +19,8 @@ written for each VPN, and one for all:
 With --topology the text of a network stands before the script, whose file is JSON where its name
 ends in `.json`: then the whole is what `hosed run` reads. With --down L, once for each link that is
 to be out of service, an `operator down L` stands before the first VPN. In OUTPUT the replies to
-such lines, before the first VPN's, are passed over; where one tells that the link is in service, as
+such lines are passed over, and those to an `operator up L`, also where they were put between the
+VPNs' lines or behind them. Where the first reply of all tells that a link was not taken out, as
 `bad 3` for one that the network has not, that is said.
 
 example, for a network in new.json of which link 3 is out:
@@ -31,7 +38,7 @@ status:
 """
 import argparse
 import sys
-from typing import List, NamedTuple, Union
+from typing import List, NamedTuple, Tuple, Union
 
 import client
 import networks
@@ -73,8 +80,9 @@ def may_answer(reply, vpn: networks.Vpn) -> bool:
 def moves(audit: networks.Audit, output: str) -> List[Move]:
     """What became of each VPN of an audit, by what `hosed run` wrote to the script."""
     lines, vpns, found = networks.lines_of(output), audit.vpns, []
-    before = replies_before(lines, len(vpns))
-    for at, line in enumerate(lines[before:], before + 1):
+    replies = [(at, line) for at, line in enumerate(lines, 1) if not answers_change(line)]
+    check_first(replies, len(vpns))
+    for at, line in replies:
         if len(found) == len(vpns):
             what = f"{networks.shown(line)} stands after the replies to all {len(vpns)} VPNs"
             raise networks.WrongText(at, what)
@@ -89,15 +97,18 @@ def moves(audit: networks.Audit, output: str) -> List[Move]:
     return found
 
 
-def replies_before(lines: List[str], vpns: int) -> int:
-    """How many replies to `operator down` stand before those to so many VPNs."""
-    kinds = client.Down, client.Already
-    before = next((at for at, line in enumerate(lines)
-                   if not isinstance(client.read_reply(line), kinds)), len(lines))
-    if len(lines) > before + vpns and may_refuse_down(client.read_reply(lines[before])):
-        what = f"{networks.shown(lines[before])} answers an `operator down`: that link is in service"
-        raise networks.WrongText(before + 1, what)
-    return before
+def answers_change(line: str) -> bool:
+    """Whether a line is a reply to an `operator down` or `operator up` that was done or was so
+    already, which no VPN's line is answered."""
+    return isinstance(client.read_reply(line), (client.Down, client.Up, client.Already))
+
+
+def check_first(replies: List[Tuple[int, str]], vpns: int) -> None:
+    """Raises where the first of more replies than VPNs tells that a link was not taken out."""
+    if len(replies) > vpns and may_refuse_down(client.read_reply(replies[0][1])):
+        at, line = replies[0]
+        what = f"{networks.shown(line)} answers an `operator down`: that link is in service"
+        raise networks.WrongText(at, what)
 
 
 def may_refuse_down(reply) -> bool:

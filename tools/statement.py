@@ -29,7 +29,8 @@ from resolve import Repository, definition_key
 CALLS = [("call", "hosed", "lib", "offline"), ("call", "hosed", "lib", "hosed")]
 OUTCOMES = {"run": "RunOutcome", "audit": "AuditOutcome", "gen": "GenOutcome",
             "prove": "ProveOutcome", "check": "CheckOutcome", "price": "PriceOutcome",
-            "ship": "ShipOutcome", "follow": "FollowOutcome", "serve": "ServeOutcome"}
+            "ship": "ShipOutcome", "follow": "FollowOutcome",
+            "move": "MoveOutcome", "serve": "ServeOutcome"}
 
 # Chapters, and the crates whose definitions stand in them. hose_law stands in four, by module. What
 # is of one command alone, and of no crate that is named here, stands in a chapter of the command.

@@ -23,6 +23,8 @@ REPLIES = [
     ("quoted 16 cost 6 at 3 links 0:2 11:2", client.Quoted(16, 6, 3, {0: 2, 11: 2})),
     ("released 1 at 2", client.Released(1, 2)),
     ("vpn 1 cost 9 at 2 ends a:3 b-2:6 links 0:3", client.Vpn(1, 9, 2, {"a": 3, "b-2": 6}, {0: 3})),
+    ("vpns 1 5 9 at 12", client.Vpns((1, 5, 9), 12)),
+    ("vpns at 0", client.Vpns((), 0)),
     (
         "link 0 a h capacity 10 cost 1 load 3 at 1",
         LinkState(0, "a", "h", 10, 1, 3, False, 1),
@@ -36,6 +38,8 @@ REPLIES = [
     ("bye", client.Bye()),
     ("refused at 1 side a b", client.Refused(1, ("a", "b"))),
     ("stale 3 4", client.Stale(3, 4)),
+    ("newest 5 at 7", client.Newest(5, 7)),
+    ("newest 0 at 7", client.Newest(0, 7)),
     ("no vpn 9 at 4000000000", client.NoVpn(9, 4_000_000_000)),
     ("no quote 1 at 2", client.NoQuote(1, 2)),
     ("too many quotes at 2", client.TooManyQuotes(2)),
@@ -52,7 +56,9 @@ NO_REPLIES = [
     "", "welcome", "welcome at 01", "welcome at -1", "welcome at 0 ", "welcome  at 0", "bye bye",
     "admitted 1 cost 1 at 1 links", "admitted 1 cost 1 at 1 links 0:1 0:1",
     "admitted 1 cost 1 at 1 links 0", "refused at 1 side",
-    "link 0 a h capacity 10 cost 1 load 3 down at 1", "down at 1", "up 1 2", "already 3", "denied", "bad x", "HTTP/1.1 400 Bad Request\r",
+    "link 0 a h capacity 10 cost 1 load 3 down at 1", "down at 1", "up 1 2", "already 3", "denied",
+    "bad x", "vpns", "vpns 1 5 9", "vpns 5 1 at 9", "vpns 5 5 at 9", "vpns  at 9", "vpns 01 at 9",
+    "newest at 7", "newest -1 at 7", "HTTP/1.1 400 Bad Request\r",
 ]
 WELCOME, BYE = b"welcome at 0\n", b"bye\n"
 
@@ -97,6 +103,35 @@ class Sessions(unittest.TestCase):
             "hello acme", "admit a:3 b:4", "quote a:2 b:2", "take 1", "show 2", "release 2",
             "link 1", "bye",
         ])
+
+    def test_the_own_list_and_an_order_bound_to_it(self):
+        texts = [
+            WELCOME, b"vpns at 4\n", b"admitted 5 cost 9 at 5 links 0:3\n", b"vpns 5 at 5\n",
+            b"newest 5 at 6\n", b"newest 0 at 7\n", b"newest 0 at 7\n",
+        ]
+        with FakeServer(texts) as server:
+            session = Session("127.0.0.1", server.port, "acme")
+            self.assertEqual(session.vpns().newest(), 0)
+            self.assertEqual(session.admit_after(0, {"a": 3, "b": 4}).id, 5)
+            self.assertEqual(session.vpns().ids, (5,))
+            for newest in (5, 0):
+                with self.assertRaises(client.Newest) as refused:
+                    session.admit_after(1, {"a": 3, "b": 4})
+                self.assertEqual(refused.exception.id, newest)
+            with self.assertRaisesRegex(MalformedReply, "'newest 0 at 7', which is no reply"):
+                session.admit_after(0, {"a": 3, "b": 4})
+        self.assertEqual(server.lines, [
+            "hello acme", "vpns", "admit-after 0 a:3 b:4", "vpns", "admit-after 1 a:3 b:4",
+            "admit-after 1 a:3 b:4", "admit-after 0 a:3 b:4",
+        ])
+
+    def test_a_list_of_as_many_as_may_be(self):
+        ids = " ".join(str(4_000_000_000 - 20_000 + number) for number in range(20_000))
+        with FakeServer([WELCOME, f"vpns {ids} at 4000000000\n".encode(), BYE]) as server:
+            with Session("127.0.0.1", server.port, "acme") as session:
+                vpns = session.vpns()
+        self.assertEqual((len(vpns.ids), vpns.newest()), (20_000, 3_999_999_999))
+        self.assertLess(len(str(vpns)), client.LONGEST_REPLY)
 
     def test_a_link_out_of_service_and_back(self):
         texts = [WELCOME, b"down 1 at 1\n", b"already 1 at 1\n", b"up 1 at 2\n", BYE]
@@ -205,7 +240,106 @@ class Sessions(unittest.TestCase):
         self.assertIsNone(lost.exception.unanswered)
 
 
+ENDS, ADMIT = {"a": 3, "b": 4}, "admit-after 2 a:3 b:4"
+ADMITTED = b"admitted 7 cost 9 at 7 links 0:3\n"
+SHOWN = b"vpn 7 cost 9 at 8 ends a:3 b:4 links 0:3\n"
+OTHER = b"vpn 7 cost 9 at 8 ends a:3 b:5 links 0:3\n"
+TWO = [WELCOME, b"vpns 1 2 at 6\n"]  # at first
+
+
+class Once(unittest.TestCase):
+    """Orders that stand once: each server here says what one would whose connections break off."""
+
+    def order(self, *connections, tries=4, known=None):
+        """What is raised or answered, and the lines after each `hello`."""
+        with FakeServer(*connections) as server:
+            customer = client.Customer("127.0.0.1", server.port, "acme", 5, tries, 0.001)
+            try:
+                found = customer.order_once(ENDS, known)
+            except (*client.FAULTS, client.InDoubt) as fault:
+                found = fault
+        self.assertEqual(server.lines.count("hello acme"), len(connections))
+        return found, [line for line in server.lines if line not in ("hello acme", "bye")]
+
+    def test_without_a_fault(self):
+        found, lines = self.order([*TWO, BYE], [WELCOME, ADMITTED, BYE])
+        self.assertEqual((str(found), lines), (ADMITTED.decode()[:-1], ["vpns", ADMIT]))
+
+    def test_a_lost_reply_to_an_order_that_stands(self):
+        found, lines = self.order([*TWO, BYE], [WELCOME, b"admitted 7 co"],
+                                  [WELCOME, b"vpns 1 2 7 9 at 9\n", SHOWN, BYE])
+        self.assertEqual((found, lines), (client.Admitted(7, 9, 7, {0: 3}),
+                                          ["vpns", ADMIT, "vpns", "show 7"]))
+
+    def test_a_lost_reply_to_one_that_does_not(self):
+        """The same line is given again, and so where it was lost on its way again."""
+        again = [WELCOME, b"vpns 1 2 at 6\n", b""]
+        found, lines = self.order([*TWO, BYE], [WELCOME, b""], again,
+                                  [WELCOME, b"vpns 1 2 at 6\n", ADMITTED, BYE])
+        self.assertEqual((found.id, lines), (7, ["vpns", *[ADMIT, "vpns"] * 2, ADMIT]))
+
+    def test_the_line_that_was_lost_comes_first_after_all(self):
+        found, lines = self.order(
+            [*TWO, BYE], [WELCOME, b""],
+            [WELCOME, b"vpns 1 2 at 6\n", b"newest 7 at 7\n", b"vpns 1 2 7 at 7\n", SHOWN, BYE])
+        self.assertEqual((found.id, lines), (7, ["vpns", ADMIT, "vpns", ADMIT, "vpns", "show 7"]))
+
+    def test_another_session_orders_meanwhile(self):
+        """Before the order is given, and after its reply was lost."""
+        found, lines = self.order([*TWO, BYE], [
+            WELCOME, b"newest 7 at 7\n", b"admitted 8 cost 9 at 8 links 0:3\n", BYE])
+        self.assertEqual((found.id, lines), (8, ["vpns", ADMIT, "admit-after 7 a:3 b:4"]))
+        found, lines = self.order([*TWO, BYE], [WELCOME, b""], [
+            WELCOME, b"vpns 1 2 7 9 at 9\n", OTHER, b"admitted 10 cost 9 at 10 links 0:3\n", BYE])
+        self.assertEqual((found.id, lines), (10, ["vpns", ADMIT, "vpns", "show 7",
+                                                  "admit-after 9 a:3 b:4"]))
+
+    def test_a_refusal(self):
+        """It is in doubt where the line before it has no reply, and may be done later."""
+        refused = b"refused at 6 side a\n"
+        found, lines = self.order([*TWO, BYE], [WELCOME, refused, BYE])
+        self.assertEqual((type(found), lines), (client.Refused, ["vpns", ADMIT]))
+        found, lines = self.order([*TWO, BYE], [WELCOME, b""],
+                                  [WELCOME, b"vpns 1 2 at 6\n", refused, BYE])
+        self.assertEqual((type(found), found.known), (client.InDoubt, 2))
+
+    def test_a_disk_that_fails(self):
+        disk = [WELCOME, b"disk at 6\n", BYE]
+        found, lines = self.order([*TWO, BYE], disk,
+                                  [WELCOME, b"vpns 1 2 at 6\n", ADMITTED, BYE])
+        self.assertEqual((found.id, lines), (7, ["vpns", ADMIT, "vpns", ADMIT]))
+
+    def test_enough_tries_and_a_later_call(self):
+        found, _ = self.order([*TWO, BYE], [WELCOME, b""], [WELCOME, b"vpns 1"], tries=2)
+        self.assertEqual((type(found), found.known), (client.InDoubt, 2))
+        found, lines = self.order([WELCOME, b"vpns 1 2 7 at 7\n", SHOWN, BYE], known=found.known)
+        self.assertEqual((found.id, lines), (7, ["vpns", "show 7"]))
+        found, _ = self.order([WELCOME, b""], [b""], tries=2)
+        self.assertIsInstance(found, ConnectionLost)
+
+    def test_a_bye_without_a_reply(self):
+        found, lines = self.order([*TWO, b""], [WELCOME, ADMITTED, b""], tries=1)
+        self.assertEqual((found.id, lines), (7, ["vpns", ADMIT]))
+
+
 class Program(unittest.TestCase):
+    def test_once(self):
+        """An order, one that is refused, one in doubt, and what is no `admit` of two nodes."""
+        words = ("--once", "acme", "admit", "a:3", "b:4")
+        with FakeServer([*TWO, BYE], [WELCOME, ADMITTED, BYE]) as server:
+            self.assertEqual(run(server.port, *words), (0, ADMITTED.decode(), ""))
+        with FakeServer([*TWO, BYE], [WELCOME, b"full at 6\n", BYE]) as server:
+            self.assertEqual(run(server.port, *words), (1, "full at 6\n", ""))
+        with FakeServer(*[[WELCOME, b""]] * client.TRIES) as server:
+            with mock.patch.object(client.time, "sleep"):
+                status, output, error = run(server.port, "--known", "2", *words)
+            self.assertEqual((status, output), (2, ""))
+            self.assertIn("it may have been done; --known 2 goes on from there", error)
+        for wrong in (["quote", "a:3", "b:4"], ["admit", "a:3"], ["admit", "a:3", "a:4"],
+                      ["admit", "a:3", "b"]):
+            status, output, error = run(7000, "--once", "acme", *wrong)
+            self.assertEqual((status, output, error.count("\n")), (2, "", 1))
+
     def test_status_of_a_reply_and_of_a_refusal(self):
         admitted, refused = b"admitted 1 cost 9 at 1 links 0:3 1:3\n", b"refused at 1 side a\n"
         with FakeServer([WELCOME, admitted, BYE], [WELCOME, refused, BYE]) as server:

@@ -91,11 +91,13 @@ class Answered(unittest.TestCase):
     def test_replies(self):
         for verb, answer, reply in (
             (b"admit", b"bad 4", b"bad 3"), (b"fly", b"bad 2", b"bad 1"), (b"", b"bad 2", b"bad 1"),
+            (b"vpns", b"bad 3", b"bad 2"), (b"admit-after", b"newest 0 at 2", b"newest 0 at 2"),
             (b"take", b"no quote 1 at 2", b"no quote 1 at 2"), (b"quote", b"memory", b"memory"),
         ):
             self.assertEqual(front_lines.reply_to(verb, answer), reply)
         for verb, answer in (
-            (b"fly", b"released 1 at 1"), (b"show", b"released 1 at 1"), (b"take", b"bad 1"),
+            (b"vpns", b"vpn 1 at 1"), (b"admit", b"newest 0 at 2"), (b"take", b"bad 1"),
+            (b"fly", b"released 1 at 1"), (b"show", b"released 1 at 1"),
             (b"admit", b"bad"), (b"admit", b"bad x"), (b"admit", b"long"), (b"admit", b""),
         ):
             with self.subTest(answer=answer), self.assertRaises(NoReply):
@@ -103,8 +105,9 @@ class Answered(unittest.TestCase):
 
     def test_every_reply(self):
         """Each reply of docs/GUIDE.md to a line of `run` but `long` comes to some command."""
-        told = front_lines.first_words("admitted quoted refused stale released no too vpn link down"
-                                       " up already denied full spent disk memory bad")
+        told = front_lines.first_words("admitted newest quoted refused stale released no too vpn"
+                                       " vpns link down up already denied full spent disk memory"
+                                       " bad")
         self.assertEqual(frozenset().union(*front_lines.ANSWERS.values()), told)
 
     def test_places(self):
@@ -112,6 +115,7 @@ class Answered(unittest.TestCase):
         for reply, place in (
             (b"admitted 7 cost 26 at 7 links 0:3", 7), (b"stale 0 2", 2), (b"bad 2", None),
             (b"link 0 at b capacity 4 cost 1 load 3 out at 9", 9), (b"memory", None),
+            (b"vpns 1 5 9 at 12", 12), (b"vpns at 0", 0), (b"newest 5 at 7", 7),
             (b"refused at 3 side at b", 3), (b"vpn 1 cost 9 at 2 ends at:3 b:6 links 0:3", 2),
             (b"welcome at 4", 4), (b"full at 5", 5), (b"disk at 6", 6), (b"no vpn 1 at 8", 8),
         ):

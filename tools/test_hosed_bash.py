@@ -51,6 +51,11 @@ class Completion(unittest.TestCase):
             (f"hosed prove {STAR} a:3 b", ["b:"]), (f"hosed prove {STAR} a:3", []),
             (f"hosed prove --tariff hops {ALPS} mil", ["milan:", "milan-2:"]),
             ("hosed prove demo/nothing ", []), ("hosed fly ", []),
+            ("hosed move --l", ["--live"]), ("hosed move --tariff hops --l", ["--live"]),
+            ("hosed move --live READ", ["README.md"]),
+            (f"hosed move {STAR} a {STAR} READ", ["README.md"]),
+            (f"hosed move --tariff hops --live {STAR} a {STAR} READ", ["README.md"]),
+            (f"hosed move --live {STAR} a {STAR} b READ", []),
         ):
             self.assertEqual(offered(line), words, line)
 

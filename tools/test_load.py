@@ -69,7 +69,8 @@ class Loads(unittest.TestCase):
     def test_each_command_is_given_and_all_is_given_up(self):
         with FakeHosed(workers=3) as server, tempfile.TemporaryDirectory() as folder:
             picture = os.path.join(folder, "load.svg")
-            status, output, error = run("--plot", picture, server.port, 2, 0.5)
+            mix = ",".join(f"{kind}:2" for kind in load.KINDS)
+            status, output, error = run("--plot", picture, "--mix", mix, server.port, 2, 0.5)
             ElementTree.parse(picture)
         self.assertEqual((status, error), (0, ""))
         told = {line.split()[0]: int(line.split()[1].replace(",", ""))

@@ -48,14 +48,20 @@ class Replays(unittest.TestCase):
         self.assertEqual([str(move) for move in found], MOVES)
         self.assertEqual(replay.total(found), "moved 2 of 3 cost 14 now 28")
 
-    def test_replies_to_down_before_the_first(self):
+    def test_replies_to_changes_of_links(self):
+        """Before the first VPN, between two, and behind the last one."""
         for before in ("down 3 at 1\n", "down 3 at 1\nalready 3 at 1\n"):
             found = replay.moves(AUDIT, before + OUTPUT)
             self.assertEqual([str(move) for move in found], MOVES)
-        lines = OUTPUT.splitlines()
-        for wrong, at in ((["denied at 0", *lines], 1), ([lines[0], "down 3 at 2", *lines[1:]], 2),
-                          (["down 3 at 1", *lines[:2]], 4), (["down 3 at 1"], 2),
-                          (["down 3 at 1", *lines, "down 4 at 9"], 5)):
+        first, second, third = OUTPUT.splitlines()
+        for lines in ([first, "down 3 at 2", second, third], [first, second, third, "down 4 at 9"],
+                      ["down 3 at 1", first, "up 3 at 3", second, "already 3 at 3", third],
+                      ["already 1 at 0", first, second, "down 2 at 2", "down 3 at 3", third]):
+            found = replay.moves(AUDIT, "\n".join(lines) + "\n")
+            self.assertEqual([str(move) for move in found], MOVES)
+        for wrong, at in ((["denied at 0", first, second, third], 1), (["down 3 at 1"], 2),
+                          (["down 3 at 1", first, second], 4),
+                          ([first, "down 3 at 2", second, third, third], 5)):
             with self.assertRaises(networks.WrongText) as caught:
                 replay.moves(AUDIT, "\n".join(wrong) + "\n")
             self.assertEqual(caught.exception.line, at)
