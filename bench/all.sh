@@ -15,8 +15,8 @@ if [ "${1-}" = -l ]; then
     logs=$2
     shift 2
 fi
-all=(admits book codec commands decisions journal json long_lines maintenance orders puts quotes
-    serve standby store takes topology)
+all=(admits book codec commands decisions journal json long_lines maintenance moves orders puts
+    quotes serve standby store takes topology)
 scripts=("$@")
 if (($# == 0)); then scripts=("${all[@]/%/.sh}"); fi
 mkdir -p "$logs"

@@ -316,13 +316,29 @@ class Server:
         self.live[self.epoch] = Vpn(customer, hose, plan, cost)
         return f"admitted {self.epoch} cost {cost} at {self.epoch} links {pairs_text(plan)}"
 
-    def admit(self, customer, hose):
+    def admit(self, customer, hose, command="admit"):
         hose = sorted(hose)
         kind, found = decide(self.network, self.service(), self.loads(), hose)
         if kind == "refused":
-            return self.refused("admit", found)
-        self.kinds[f"admit, admitted with the {kind} plan"] += 1
+            return self.refused(command, found)
+        self.kinds[f"{command}, admitted with the {kind} plan"] += 1
         return self.enter(customer, hose, found, self.cost(hose, kind, found))
+
+    def vpns_of(self, customer):
+        """The numbers of the customer's live VPNs, in the order of admission."""
+        return [number for number in self.live if self.of_customer(customer, number)]
+
+    def vpns(self, customer):
+        ids = self.vpns_of(customer)
+        self.kinds[f"vpns, {'some' if ids else 'none'}"] += 1
+        return " ".join(["vpns", *map(str, ids), f"at {self.epoch}"])
+
+    def admit_after(self, customer, known, hose):
+        newest = (self.vpns_of(customer) or [0])[-1]
+        if newest != known:
+            self.kinds["admit-after, newest"] += 1
+            return f"newest {newest} at {self.epoch}"
+        return self.admit(customer, hose, "admit-after")
 
     def quote(self, customer, hose):
         hose = sorted(hose)
@@ -471,6 +487,14 @@ def random_vpn(draw, server):
     return draw.choice(CUSTOMERS), draw.randint(0, server.epoch + 1)
 
 
+def random_known(draw, server, customer):
+    """What a customer knows as the newest own VPN, which it mostly is."""
+    own = server.vpns_of(customer) or [0]
+    if draw.random() < 0.7:
+        return own[-1]
+    return draw.choice((0, own[0], server.epoch, draw.randint(0, server.epoch + 1)))
+
+
 def random_quote(draw, server):
     """A customer and a number, mostly those of a quote that is held."""
     held = [(name, number) for name in CUSTOMERS for number in sorted(server.quotes[name])]
@@ -491,10 +515,12 @@ def random_change(draw, server, kind):
 
 # How often each command comes beside the others.
 WEIGHTS = {
-    "admit": 10, "quote": 9, "take": 9, "release": 6, "show": 2, "link": 3, "down": 2, "up": 4,
+    "admit": 8, "admit-after": 4, "quote": 9, "take": 9, "release": 6, "show": 2, "vpns": 3,
+    "link": 3, "down": 2, "up": 4,
 }
 HOARDING = {
-    "admit": 2, "quote": 40, "take": 2, "release": 2, "show": 1, "link": 1, "down": 1, "up": 1,
+    "admit": 1, "admit-after": 1, "quote": 40, "take": 2, "release": 2, "show": 1, "vpns": 1,
+    "link": 1, "down": 1, "up": 1,
 }
 
 
@@ -510,6 +536,12 @@ def random_command(draw, server, size, weights):
         hose = random_hose(draw, server.network, size)
         reply = server.admit if kind == "admit" else server.quote
         return f"{customer} {kind} {server.ends_text(hose)}", reply(customer, hose)
+    if kind == "admit-after":
+        hose, known = random_hose(draw, server.network, size), random_known(draw, server, customer)
+        line = f"{customer} {kind} {known} {server.ends_text(hose)}"
+        return line, server.admit_after(customer, known, hose)
+    if kind == "vpns":
+        return f"{customer} vpns", server.vpns(customer)
     if kind == "link":
         number = draw.randint(0, len(server.network.links))
         return f"{customer} link {number}", server.link(number)
@@ -607,6 +639,24 @@ SCRIPTS = [
         ("operator", "up", 0, "up 0 at 4"),
         ("zeta", "take", 1, "stale 3 4"),
     ]),
+    (STAR, [
+        ("acme", "vpns", "vpns at 0"),
+        ("acme", "admit_after", 1, AB, "newest 0 at 0"),
+        ("acme", "admit_after", 0, AB, "admitted 1 cost 3 at 1 links 0:1 1:1"),
+        ("acme", "admit_after", 0, AB, "newest 1 at 1"),
+        ("zeta", "vpns", "vpns at 1"),
+        ("zeta", "admit_after", 0, BC, "admitted 2 cost 10 at 2 links 1:2 2:2"),
+        ("acme", "admit_after", 1, AB, "admitted 3 cost 3 at 3 links 0:1 1:1"),
+        ("acme", "vpns", "vpns 1 3 at 3"),
+        ("acme", "admit_after", 1, ABOVE, "newest 3 at 3"),
+        ("acme", "admit_after", 3, ABOVE, "refused at 3 side a"),
+        ("acme", "release", 3, "released 3 at 4"),
+        ("acme", "admit_after", 3, AB, "newest 1 at 4"),
+        ("acme", "vpns", "vpns 1 at 4"),
+        ("acme", "admit_after", 1, AB, "admitted 5 cost 3 at 5 links 0:1 1:1"),
+        ("acme", "release", 1, "released 1 at 6"),
+        ("acme", "vpns", "vpns 5 at 6"),
+    ]),
 ]
 
 
@@ -617,10 +667,10 @@ def check_by_hand():
         assert kind == "refused" or plan_cost(network, found) == cost, f"the cost of {found}"
     for network, commands in SCRIPTS:
         server = Server(network)
-        for customer, command, asked, want in commands:
-            reply = getattr(server, command)(customer, asked)
+        for customer, command, *asked, want in commands:
+            reply = getattr(server, command)(customer, *asked)
             assert reply == want, f"{customer} {command} {asked}: {reply} in place of {want}"
-    print(f"by hand: {len(HAND)} decisions, {len(SCRIPTS)} scripts with quotes")
+    print(f"by hand: {len(HAND)} decisions, {len(SCRIPTS)} scripts")
 
 
 # ---- The comparison.

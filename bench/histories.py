@@ -39,7 +39,8 @@ import client
 SESSIONS, WORKERS, COMMANDS = 12, 6, 40
 NAMES = ("acme", "beta", "zeta", OPERATOR)  # some sessions have one customer
 KINDS = {
-    "admit": 16, "quote": 16, "take": 14, "release": 12, "show": 4, "link": 4, "down": 2, "up": 6,
+    "admit": 12, "admit-after": 8, "quote": 16, "take": 14, "release": 12, "show": 4, "vpns": 6,
+    "link": 4, "down": 2, "up": 6,
 }
 TRIES = 10  # at ports that another program may take meanwhile
 HANGS = 60  # seconds
@@ -67,13 +68,20 @@ class Session(threading.Thread):
         self.said, self.fault = [], None  # pairs of a command and its reply
         self.times = []  # when each was said, and answered
         self.out = set()  # the links that it took out of service and has not put back
+        self.known = 0  # the customer's newest VPN, as far as this session was told
 
     def line(self, own):
         draw = self.draw
         kind = draw.choices(list(KINDS), list(KINDS.values()))[0]
         if kind in ("admit", "quote"):
             hose = random_hose(draw, self.network, COMPARED)
-            return kind, hose, " ".join(f"{self.network.nodes[n]}:{rate}" for n, rate in hose)
+            return kind, hose, self.ends(hose)
+        if kind == "admit-after":
+            known = self.known if draw.random() < 0.8 else draw.choice([0, *own])
+            hose = random_hose(draw, self.network, COMPARED)
+            return kind, (known, hose), f"{known} {self.ends(hose)}"
+        if kind == "vpns":
+            return kind, None, ""
         if kind == "up" and self.out and draw.random() < 0.8:
             number = draw.choice(sorted(self.out))
         elif kind in ("link", "down", "up"):
@@ -83,6 +91,9 @@ class Session(threading.Thread):
         else:
             number = draw.choice(own) if own and draw.random() < 0.8 else draw.randint(0, 60)
         return kind, number, str(number)
+
+    def ends(self, hose):
+        return " ".join(f"{self.network.nodes[n]}:{rate}" for n, rate in hose)
 
     def run(self):
         try:
@@ -111,6 +122,10 @@ class Session(threading.Thread):
             self.out.add(value)
         elif isinstance(reply, client.Up):
             self.out.discard(value)
+        elif isinstance(reply, (client.Admitted, client.Newest)):
+            self.known = reply.id
+        elif isinstance(reply, client.Vpns):
+            self.known = reply.newest()
         return reply
 
 
@@ -146,6 +161,11 @@ class History:
     def decided(self, epoch, hose):
         service = in_service(self.network, self.books[epoch].out)
         return decide(self.network, service, self.loads(epoch), sorted(hose))
+
+    def vpns_of(self, epoch, customer):
+        """The numbers of a customer's live VPNs, in the order of admission."""
+        live = self.books[epoch].live
+        return [number for number, vpn in live.items() if vpn.customer == customer]
 
     def grounds(self, epoch, hose):
         service = in_service(self.network, self.books[epoch].out)
@@ -210,6 +230,13 @@ class Judge:
         customer = self.session.customer
         if kind == "hello":
             return f"welcome at {epoch}"
+        if kind == "vpns":
+            own = self.history.vpns_of(epoch, customer)
+            return " ".join(["vpns", *map(str, own), f"at {epoch}"])
+        if kind == "admit-after":
+            known, hose = value
+            newest = (self.history.vpns_of(epoch, customer) or [0])[-1]
+            return f"newest {newest} at {epoch}" if newest != known else self.refused(epoch, hose)
         if kind == "admit":
             return self.refused(epoch, value)
         if kind == "quote":
@@ -258,8 +285,9 @@ class Judge:
             raise Differs(f"{where}\nwent back: {reply}")
         if reply.split()[0] not in ENTERED:
             same(reply, self.expected(kind, value, reply, place), where)
-        elif kind == "take":
-            # What was quoted is admitted only on equal grounds.
+        elif kind in ("take", "admit-after"):
+            # What was quoted is admitted only on equal grounds, and what is bound to a VPN only
+            # while that is the newest.
             same(self.expected(kind, value, reply, before), None, where)
         self.last = place
         kinds[" ".join(word for word in reply.split()[:2] if word.isalpha())] += 1
@@ -368,6 +396,13 @@ class Order:
         return found[::-1]
 
 
+def hose_of(kind, value, quoted):
+    """The hose of an admission, or the number of another order."""
+    if kind == "take":
+        return quoted[value]
+    return value[1] if kind == "admit-after" else value
+
+
 def entries(orders):
     """The entries of all lines by their epochs."""
     found = {}
@@ -378,7 +413,7 @@ def entries(orders):
             if words[0] == "quoted":
                 quoted[int(words[1])] = value
             if words[0] in ENTERED:
-                hose = quoted[value] if kind == "take" else value
+                hose = hose_of(kind, value, quoted)
                 if place_of(reply) in found:
                     raise Differs(f"two entries at one epoch: {reply}")
                 found[place_of(reply)] = (session, words[0], hose, reply)

@@ -96,12 +96,25 @@ class Desk(Server):
             raise Refused(before + 2)
         return number
 
+    def admit_after_words(self, customer, words, before):
+        """The reply to the words behind an `admit-after`."""
+        known = number_of(words[0], MOST) if words else None
+        if known is None:
+            raise Refused(before + 1)
+        return self.admit_after(customer, known, self.hose_of(words[1:], before + 1))
+
     def command(self, customer, words, before):
         """The reply to the words of a command, before which so many stand."""
         word, rest = words[0] if words else b"", words[1:]
         if word in (b"admit", b"quote"):
             hose = self.hose_of(rest, before + 1)
             return (self.admit if word == b"admit" else self.quote)(customer, hose)
+        if word == b"admit-after":
+            return self.admit_after_words(customer, rest, before + 1)
+        if word == b"vpns":
+            if rest:
+                raise Refused(before + 2)
+            return self.vpns(customer)
         if word == b"link":
             return self.link(self.one_number(rest, before + 1, len(self.network.links) - 1))
         if word in (b"down", b"up"):

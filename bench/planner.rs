@@ -1,5 +1,6 @@
-// Plain Rust that does the work of `hosed run` on admissions and releases, to measure against: it
-// decides by the same rules, gives the same replies and proves nothing. The rows of all nodes over
+// Plain Rust that does the work of `hosed run` on admissions, also those that are bound to a number,
+// releases and lists of a customer's VPNs, to measure against: it decides by the same rules, gives
+// the same replies and proves nothing. The rows of all nodes over
 // all links are made once, before the first command; those over safe links are made for each plan.
 // usage: rustc -O -o planner planner.rs; planner run < TEXT
 use std::cmp::Reverse;
@@ -137,11 +138,31 @@ fn main() {
             writeln!(out, "released {id} at {epoch}").unwrap();
             continue;
         }
+        let own = || {
+            let own = live.iter().filter(|vpn| vpn.1.0 == words[0]).map(|vpn| *vpn.0);
+            own.collect::<std::collections::BTreeSet<_>>()
+        };
+        if words[1] == "vpns" {
+            write!(out, "vpns").unwrap();
+            for id in own() {
+                write!(out, " {id}").unwrap();
+            }
+            writeln!(out, " at {epoch}").unwrap();
+            continue;
+        }
+        let is_bound = words[1] == "admit-after";
+        if is_bound {
+            let newest = own().last().copied().unwrap_or(0);
+            if newest != words[2].parse::<u64>().unwrap() {
+                writeln!(out, "newest {newest} at {epoch}").unwrap();
+                continue;
+            }
+        }
         let end = |word: &&str| {
             let (name, rate) = word.split_once(':').unwrap();
             (network.places[name], rate.parse().unwrap())
         };
-        let mut hose: Hose = words[2..].iter().map(end).collect();
+        let mut hose: Hose = words[2 + usize::from(is_bound)..].iter().map(end).collect();
         hose.sort_unstable();
         let free = |link: usize| network.links[link].capacity - loads[link];
         let mut plan = network

@@ -186,6 +186,35 @@ def inputs(trials):
                  f"the input has no whole packet at the byte that {LAST}", "packet")
 
 
+def moves(trials):
+    def comes(status, sentence, new="big.txt", to="moved", old="net.txt"):
+        trials.comes(["move", old, "kept", new, to], status, sentence)
+
+    trials.write("big.txt", TWO_NODES.replace("10 7", "20 7"))
+    trials.write("small.txt", TWO_NODES.replace("10 7", "1 7"))
+    trials.write("other.txt", TWO_NODES.replace("node b", "node c").replace("a b", "a c"))
+    trials.comes(["run", "kept"], 0, None, TWO_NODES + "acme admit a:2 b:2\n")
+    comes(0, None)
+    comes(0, None)
+    comes(2, f'the topology "net.txt", or "bad.txt", is not allowed at the place that {LAST}',
+          "bad.txt")
+    comes(5, 'the journal "kept", or "moved", is damaged, or it is that of another network, or of '
+          "other costs, than its topology tells", "small.txt")
+    for new, old in (("none.txt", "net.txt"), ("big.txt", "none.txt")):
+        comes(6, f'the topology "{old}" or "{new}" {TEXT}; or the journal "kept", which has to be '
+              f'there, or "moved" could not be opened: {JOURNAL.partition(": ")[2]}', new, old=old)
+    comes(8, 'the topology "net.txt", or "long.json", is longer than 1 GiB, or it is in JSON and '
+          "longer than 16 MiB", "long.json")
+    comes(12, f'the topology "other.txt" does not go on from "net.txt": {LAST} the first node or '
+          "link that is not where it was", "other.txt")
+    comes(13, 'the topology "small.txt" has no room for an order of the journal "kept", whose '
+          f'epoch {LAST}; "low" ends before it', "small.txt", "low")
+    trials.comes(["run", "another"], 0, None, TWO_NODES.replace("10 7", "20 7")
+                 + "acme admit a:3 b:3\n")
+    comes(14, 'the journal "another" has another order than is to be moved, at the epoch that '
+          f"{LAST}", to="another")
+
+
 def main(words):
     if "--help" in words or "-h" in words or len(words) > 1:
         print(__doc__.strip())
@@ -196,7 +225,7 @@ def main(words):
         trials = Trials(program, folder)
         trials.write("net.txt", TWO_NODES)
         for part in (words_that_are_wrong, topologies, streams, journals, closed_error, files,
-                     limits, ports, inputs):
+                     limits, ports, inputs, moves):
             part(trials)
         trials.comes(["--version"], 0, None)
     finally:

@@ -248,6 +248,14 @@ class Server:
         at = len(self.journal.entries)
         if command == "admit":
             return self.admit(customer, hose_of(words))
+        own = [number for number in range(1, at + 1) if self.is_live(customer, number)]
+        if command == "vpns":
+            return " ".join(["vpns", *map(str, own), f"at {at}"])
+        if command == "admit-after":
+            newest = own[-1] if own else 0
+            if newest != int(words[0]):
+                return f"newest {newest} at {at}"
+            return self.admit(customer, hose_of(words[1:]))
         if command == "quote":
             self.quotes[1] = hose_of(words)
             links, cost = plan(self.quotes[1])
